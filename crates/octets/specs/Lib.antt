@@ -1,0 +1,4 @@
+pub mod Causes
+pub mod Numbers
+pub mod Refusals
+pub mod Rules

@@ -1,0 +1,113 @@
+// A list over a Vec, which contracts see as the list of its items.
+ghost use Rattle.std.specs.Prelude.{◌≡◌, [], ◌∷◌, ◌++◌, length, IfOk, OnOk, OnErr};
+
+use std::alloc::{AllocError, AllocFailed, Global};
+use std::marker::Model;
+
+/// An allocation was refused.
+#[derive(Clone, Copy, Debug, PartialEq, Eq)]
+pub struct NoMemory;
+
+impl From<AllocError> for NoMemory {
+    fn from(_: AllocError) -> Self {
+        NoMemory
+    }
+}
+
+impl<T: Drop> From<AllocFailed<T>> for NoMemory {
+    fn from(_: AllocFailed<T>) -> Self {
+        NoMemory
+    }
+}
+
+/// A list that keeps its own allocator.
+#[derive(Debug, Drop)]
+pub struct Items<T> {
+    vec: Vec<T>,
+}
+
+/// A list of octets.
+pub type Octets = Items<u8>;
+
+impl<T> Model for Items<T> {
+    ghost use Rattle.std.specs.Prelude.{List};
+
+    ghost Value = { List T };
+
+    ghost view = { λ list. list.vec.items };
+}
+
+impl<T> Items<T> {
+    /// A list with no items. Takes no memory.
+    pub fn new(alloc: Global) -> Self
+        ensures { result ≡ [] }
+    {
+        Items {
+            vec: Vec::new(alloc),
+        }
+    }
+
+    pub fn len(&self) -> usize
+        ensures { result ≡ length self.now }
+    {
+        self.vec.len()
+    }
+
+    pub fn as_slice(&self) -> &[T]
+        ensures { result.now ≡ self.now }
+    {
+        self.vec.as_slice()
+    }
+}
+
+impl<T: Drop> Items<T> {
+    /// Adds an item at the end.
+    pub fn push(&mut self, item: T) -> Result<(), NoMemory>
+        ensures ok { OnOk result (self.new ≡ self.old ++ item ∷ []) }
+        ensures err { OnErr result (self.new ≡ self.old) }
+    {
+        self.vec.push(item)?;
+        Ok(())
+    }
+}
+
+impl Items<u8> {
+    /// Adds octets at the end: all of them, or none.
+    pub fn append(&mut self, more: &[u8]) -> Result<(), NoMemory>
+        ensures ok { OnOk result (self.new ≡ self.old ++ more.now) }
+        ensures err { OnErr result (self.new ≡ self.old) }
+    {
+        self.vec.extend_from_slice(more)?;
+        Ok(())
+    }
+
+    /// Adds two runs of octets at the end: both, or none.
+    pub fn append_both(&mut self, first: &[u8], second: &[u8]) -> Result<(), NoMemory>
+        ensures ok { OnOk result (self.new ≡ self.old ++ (first.now ++ second.now)) }
+        ensures err { OnErr result (self.new ≡ self.old) }
+    {
+        let before = self.vec.len();
+        self.vec.extend_from_slice(first)?;
+        if self.vec.extend_from_slice(second).is_err() {
+            self.vec.truncate(before);
+            return Err(NoMemory);
+        }
+        Ok(())
+    }
+
+    /// The octets of a slice.
+    pub fn copied(alloc: Global, octets: &[u8]) -> Result<Self, NoMemory>
+        ensures { IfOk result (λ copy. copy ≡ octets.now) }
+    {
+        let mut copy = Items::new(alloc);
+        copy.append(octets)?;
+        Ok(copy)
+    }
+
+    /// The same octets, as a list.
+    pub fn from_vec(vec: Vec<u8>) -> Self
+        ensures { result ≡ vec.items }
+    {
+        Items { vec }
+    }
+}
