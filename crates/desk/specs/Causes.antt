@@ -1,0 +1,10 @@
+-- The cause of a fault: the desk's count of faults.
+use Rattle.std.specs.Prelude.{ℕ, ◌≤◌, Result, IsErrOf}
+use Rattle.octets.specs.Causes.{Rose}
+use Rattle.desk.specs.declared.fault.DeskFault.{DeskFault}
+use Rattle.desk.specs.declared.fault.DeskFault.TheVariants.{Failed}
+
+-- the count didn't fall, and the call failed only where it rose
+pub record HasCause {T : Type 0} (before now : ℕ) (result : Result T DeskFault) : Type 0 where
+  pub later : before ≤ now
+  pub failed : IsErrOf result Failed → Rose before now

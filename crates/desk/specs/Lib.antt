@@ -1,0 +1,4 @@
+pub mod Causes
+pub mod Host
+pub mod Memory
+pub mod World

@@ -1,0 +1,39 @@
+// Why a call of the desk failed.
+ghost use Rattle.std.specs.Prelude.{◌≡◌};
+ghost use Rattle.desk.specs.declared.fault.DeskFault.TheVariants.{Memory};
+
+use octets::NoMemory;
+use std::alloc::{AllocError, AllocFailed};
+
+/// A call of the desk that failed. Derived texts are not for a report.
+#[derive(Clone, Copy, Debug, PartialEq, Eq)]
+pub enum DeskFault {
+    /// The outside failed; the desk's count of faults rose.
+    Failed,
+    /// An allocation was refused.
+    Memory,
+}
+
+impl From<NoMemory> for DeskFault {
+    ghost from_gives = { λ _ fault. fault ≡ Memory };
+
+    fn from(_: NoMemory) -> Self {
+        DeskFault::Memory
+    }
+}
+
+impl From<AllocError> for DeskFault {
+    ghost from_gives = { λ _ fault. fault ≡ Memory };
+
+    fn from(_: AllocError) -> Self {
+        DeskFault::Memory
+    }
+}
+
+impl<T: Drop> From<AllocFailed<T>> for DeskFault {
+    ghost from_gives = { λ _ fault. fault ≡ Memory };
+
+    fn from(_: AllocFailed<T>) -> Self {
+        DeskFault::Memory
+    }
+}

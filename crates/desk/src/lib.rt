@@ -1,0 +1,20 @@
+//! The desk: the files by name and the report, as a router's run sees them.
+#![tactic(auto)]
+
+mod desk;
+mod fault;
+mod file;
+mod full;
+mod host;
+mod memory;
+mod slots;
+mod source;
+#[cfg(test)]
+mod tests;
+
+pub use desk::{Desk, FileId};
+pub use fault::DeskFault;
+pub use file::{Files, NamedFile};
+pub use full::read_full;
+pub use host::{HostDesk, HostFile};
+pub use memory::{Calls, MemoryDesk};
