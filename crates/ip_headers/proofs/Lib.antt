@@ -1,0 +1,9 @@
+pub mod Cleared
+pub mod CutPacket
+pub mod DatagramLemmas
+pub mod OneValue
+pub mod ReadAgain
+pub mod Spelled
+pub mod SumLemmas
+pub mod UdpLemmas
+pub mod UdpReadAgain

@@ -1,0 +1,42 @@
+-- Octets spell one header.
+use Rattle.std.proofs.Common.{◌≡◌, ℕ, List, None, inl, inr, refl, sym, ap, ◌∙◌, arith}
+use Rattle.std.proofs.lemmas.Bool.{cases_Bool, eqb-true}
+use Rattle.octets.specs.Rules.{first_failing}
+use Rattle.ip_headers.specs.Ip.{header_at, ip_rules, is_v4, v4_at, v6_at, version, Spells, SpellsV4, SpellsV6}
+use Rattle.ip_headers.specs.Udp.{SpellsUdp}
+use Rattle.ip_headers.specs.declared.header.IpHeader.{IpHeader}
+use Rattle.ip_headers.specs.declared.header.IpHeader.TheVariants.{V4, V6}
+use Rattle.ip_headers.specs.declared.header.UdpHeader.{UdpHeader}
+use Rattle.ip_headers.specs.declared.header.V4Header.{V4Header}
+use Rattle.ip_headers.specs.declared.header.V6Header.{V6Header}
+use Rattle.ip_headers.proofs.CutPacket.{is_six}
+
+v4_at-spelled : (octets : List ℕ) (h : V4Header) → SpellsV4 octets h → v4_at octets ≡ h
+v4_at-spelled octets h s =
+    rw (s.source, s.dest, s.tos, s.total, s.id, s.dont_fragment, s.more, s.offset, s.ttl, s.protocol, s.words) refl
+
+v6_at-spelled : (octets : List ℕ) (h : V6Header) → SpellsV6 octets h → v6_at octets ≡ h
+v6_at-spelled octets h s = rw (s.source, s.dest, s.class, s.flow, s.payload, s.next, s.hops) refl
+
+pub one_header : (octets : List ℕ) (a b : IpHeader) → Spells octets a → Spells octets b → a ≡ b
+one_header octets (V4 a) (V4 b) s t = ap V4 (sym (v4_at-spelled octets a s) ∙ v4_at-spelled octets b t)
+one_header octets (V6 a) (V6 b) s t = ap V6 (sym (v6_at-spelled octets a s) ∙ v6_at-spelled octets b t)
+one_header octets (V4 a) (V6 b) s t = absurd (omega (arith, s.version, t.version))
+one_header octets (V6 a) (V4 b) s t = absurd (omega (arith, s.version, t.version))
+
+spelled_v4 : (octets : List ℕ) → version octets ≡ 4 → SpellsV4 octets (v4_at octets)
+spelled_v4 octets four = record { version = four; words = refl; tos = refl; total = refl; id = refl; dont_fragment = refl; more = refl; offset = refl; ttl = refl; protocol = refl; source = refl; dest = refl }
+
+spelled_v6 : (octets : List ℕ) → version octets ≡ 6 → SpellsV6 octets (v6_at octets)
+spelled_v6 octets six = record { version = six; class = refl; flow = refl; payload = refl; next = refl; hops = refl; source = refl; dest = refl }
+
+pub spelled : (base : ℕ) (octets : List ℕ) → first_failing (ip_rules base octets) ≡ None → Spells octets (header_at octets)
+spelled base octets none =
+    elim (cases_Bool (is_v4 octets)) [
+      | inl four ↦ rw four (spelled_v4 octets (eqb-true _ _ four))
+      | inr other ↦ rw other (spelled_v6 octets (eqb-true _ _ (is_six base octets none other)))
+    ]
+
+pub one_udp_header : (octets : List ℕ) (a b : UdpHeader) → SpellsUdp octets a → SpellsUdp octets b → a.at ≡ b.at → a ≡ b
+one_udp_header octets a b s t place =
+    rw (sym s.source ∙ t.source, sym s.dest ∙ t.dest, sym s.length ∙ t.length, sym s.checksum ∙ t.checksum, place) refl

@@ -1,0 +1,31 @@
+-- IP addresses and their first bits.
+use Rattle.std.specs.Prelude.{ℕ, Bool, ◌-◌, ◌*◌, ◌/◌, ◌^◌, ◌%◌, ◌&&◌, ◌==◌, nat_le}
+use Rattle.ip_headers.specs.declared.addr.Addr.{Addr}
+use Rattle.ip_headers.specs.declared.addr.Addr.TheVariants.{V4, V6}
+
+-- the bits of an address of that family
+abbrev pub width : Addr → ℕ
+width (V4 n) = 32
+width (V6 n) = 128
+
+-- the address as a number
+abbrev pub number : Addr → ℕ
+number (V4 n) = n
+number (V6 n) = n
+
+-- the first len bits of the address, as a number
+abbrev pub first_bits : Addr → ℕ → ℕ
+first_bits addr len = number addr / 2 ^ (width addr - len)
+
+-- the address with the bits past the first len set to 0
+abbrev pub cleared : Addr → ℕ → Addr
+cleared (V4 n) len = V4 (n / 2 ^ (32 - len) * 2 ^ (32 - len))
+cleared (V6 n) len = V6 (n / 2 ^ (128 - len) * 2 ^ (128 - len))
+
+-- the length suits the family, and the bits past it are 0
+abbrev pub is_prefix : Addr → ℕ → Bool
+is_prefix addr len = nat_le len (width addr) && (number addr % 2 ^ (width addr - len) == 0)
+
+-- the prefix of a covers that of b: same family, not longer, and b begins with its bits
+abbrev pub covers : Addr → ℕ → Addr → ℕ → Bool
+covers a a_len b b_len = (width a == width b) && nat_le a_len b_len && (first_bits a a_len == first_bits b a_len)

@@ -1,0 +1,20 @@
+-- The Internet checksum, RFC 1071.
+use Rattle.std.specs.Prelude.{ℕ, ◌+◌, ◌-◌, ◌*◌, nat_lt, List, [], ◌∷◌, fold, if◌then◌else◌}
+
+-- the 16 bit words of octets, an odd last octet padded with zero
+abbrev pub words : List ℕ → List ℕ
+words [] = []
+words (last ∷ []) = last * 256 ∷ []
+words (high ∷ low ∷ octets) = (high * 256 + low) ∷ words octets
+
+-- ones' complement addition: a carry out of the word comes in again at its end
+abbrev pub ones_add : ℕ → ℕ → ℕ
+ones_add a b = if nat_lt 65535 (a + b) then a + b - 65535 else a + b
+
+-- the ones' complement sum of the words
+abbrev pub ones_sum : List ℕ → ℕ
+ones_sum octets = fold ones_add 0 (words octets)
+
+-- the complement of the sum
+abbrev pub checksum : List ℕ → ℕ
+checksum octets = 65535 - ones_sum octets

@@ -1,0 +1,80 @@
+// The fields of IP headers.
+ghost use Rattle.std.specs.Prelude.{◌≡◌};
+
+/// An IPv4 header (RFC 791). Reserved flag, checksum and options are left out.
+#[derive(Clone, Copy, Debug, PartialEq, Eq)]
+pub struct V4Header {
+    pub source: u32,
+    pub dest: u32,
+    /// DSCP and ECN.
+    pub tos: u8,
+    /// Octets of the packet, the header among them.
+    pub total: u16,
+    pub id: u16,
+    pub dont_fragment: bool,
+    pub more: bool,
+    /// In units of eight octets, below 2^13.
+    pub offset: u16,
+    pub ttl: u8,
+    pub protocol: u8,
+    /// In octets, options among them.
+    pub header_len: u8,
+}
+
+/// An IPv6 header (RFC 8200).
+#[derive(Clone, Copy, Debug, PartialEq, Eq)]
+pub struct V6Header {
+    pub source: u128,
+    pub dest: u128,
+    /// DSCP and ECN.
+    pub class: u8,
+    /// Below 2^20.
+    pub flow: u32,
+    /// Octets after the header.
+    pub payload: u16,
+    pub next: u8,
+    pub hops: u8,
+}
+
+/// The header of a packet of either version.
+#[derive(Clone, Copy, Debug, PartialEq, Eq)]
+pub enum IpHeader {
+    V4(V4Header),
+    V6(V6Header),
+}
+
+impl IpHeader {
+    ghost use Rattle.ip_headers.specs.Ip.{class_of, ttl_of};
+
+    /// DSCP and ECN.
+    pub fn class(&self) -> u8
+        ensures { result ≡ class_of self.now }
+    {
+        match self {
+            IpHeader::V4(header) => header.tos,
+            IpHeader::V6(header) => header.class,
+        }
+    }
+
+    /// The Time to Live, or the Hop Limit.
+    pub fn ttl(&self) -> u8
+        ensures { result ≡ ttl_of self.now }
+    {
+        match self {
+            IpHeader::V4(header) => header.ttl,
+            IpHeader::V6(header) => header.hops,
+        }
+    }
+}
+
+/// A UDP header (RFC 768), and where it stands.
+#[derive(Clone, Copy, Debug, PartialEq, Eq)]
+pub struct UdpHeader {
+    pub source: u16,
+    pub dest: u16,
+    /// Octets of the header and its payload.
+    pub length: u16,
+    pub checksum: u16,
+    /// The place of the header in its packet.
+    pub at: u32,
+}

@@ -1,0 +1,67 @@
+// The Internet checksum.
+ghost use Rattle.std.specs.Prelude.{◌≡◌, fold};
+ghost use Rattle.ip_headers.specs.Udp.{addr_octets, pseudo_header};
+ghost use Rattle.ip_headers.specs.Checksum.{checksum as checksum_of, ones_add, ones_sum, words};
+
+use crate::Addr;
+
+/// The protocol number of UDP.
+const UDP: u16 = 17;
+
+/// The checksum of RFC 1071, an odd last octet padded with zero.
+pub fn checksum(octets: &[u8]) -> u16
+    ensures { result ≡ checksum_of octets.now }
+{
+    0xffff - ones_sum(octets)
+}
+
+/// The ones' complement sum.
+pub(crate) fn ones_sum(octets: &[u8]) -> u16
+    ensures { result ≡ ones_sum octets.now }
+{
+    sum_from(0, octets)
+}
+
+/// The ones' complement sum that goes on from an earlier one.
+pub(crate) fn sum_from(start: u16, octets: &[u8]) -> u16
+    ensures { result ≡ fold ones_add start (words octets.now) }
+{
+    let mut sum = start;
+    let mut rest = octets;
+    while let [high, low, after @ ..] = rest {
+        sum = ones_add(sum, u16::from(*high) * 256 + u16::from(*low));
+        rest = after;
+    }
+    if let [last] = rest {
+        sum = ones_add(sum, u16::from(*last) * 256);
+    }
+    sum
+}
+
+/// The sum of a UDP pseudo-header: the addresses, the protocol and the length.
+pub(crate) fn pseudo_sum(from: Addr, to: Addr, length: u16) -> u16
+    ensures { result ≡ ones_sum (pseudo_header from to length) }
+{
+    let addresses = addr_sum(addr_sum(0, from), to);
+    ones_add(ones_add(addresses, UDP), length)
+}
+
+fn addr_sum(start: u16, addr: Addr) -> u16
+    ensures { result ≡ fold ones_add start (words (addr_octets addr)) }
+{
+    match addr {
+        Addr::V4(n) => sum_from(start, &n.to_be_bytes()),
+        Addr::V6(n) => sum_from(start, &n.to_be_bytes()),
+    }
+}
+
+pub(crate) fn ones_add(a: u16, b: u16) -> u16
+    ensures { result ≡ ones_add a b }
+{
+    let sum = u32::from(a) + u32::from(b);
+    if sum > 0xffff {
+        (sum - 0xffff) as u16
+    } else {
+        sum as u16
+    }
+}
