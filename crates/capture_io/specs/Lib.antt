@@ -1,0 +1,7 @@
+pub mod Answers
+pub mod Capture
+pub mod Frame
+pub mod Frames
+pub mod Link
+pub mod Output
+pub mod Reading

@@ -1,0 +1,19 @@
+-- The captures that are written: little-endian, with nanoseconds, and raw IP packets.
+use Rattle.std.specs.Prelude.{ℕ, ◌/◌, ◌%◌, List, ◌++◌, length}
+use Rattle.octets.specs.Numbers.{little_octets}
+
+-- magic number, version 2.4, zone, accuracy, snap length, link type
+abbrev pub out_header : List ℕ
+out_header =
+    little_octets 4 0xa1b23c4d ++ (little_octets 2 2 ++ (little_octets 2 4
+    ++ (little_octets 4 0 ++ (little_octets 4 0 ++ (little_octets 4 262144 ++ little_octets 4 101)))))
+
+-- seconds, nanoseconds, kept and original length
+abbrev pub record_header : ℕ → ℕ → List ℕ
+record_header moment size =
+    little_octets 4 (moment / 1000000000) ++ (little_octets 4 (moment % 1000000000)
+    ++ (little_octets 4 size ++ little_octets 4 size))
+
+-- the record of a packet
+abbrev pub packet_record : ℕ → List ℕ → List ℕ
+packet_record moment packet = record_header moment (length packet) ++ packet

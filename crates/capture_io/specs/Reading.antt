@@ -1,0 +1,58 @@
+-- A reader of a capture, as contracts see it.
+use Rattle.std.specs.Prelude.{◌≡◌, ◌≤◌, ◌<◌, ◌+◌, ◌*◌, ◌^◌, ℕ, Bool, true, ◌&&◌, nat_le, nat_lt, List, length, Option, Some, None, unwrap_or, Result}
+use Rattle.octets.specs.Rules.{first_failing}
+use Rattle.capture_io.specs.Answers.{unless}
+use Rattle.capture_io.specs.Capture.{header_rules, format_of, begin}
+use Rattle.capture_io.specs.Frame.{Frame}
+use Rattle.capture_io.specs.declared.format.Format.{Format}
+use Rattle.capture_io.specs.declared.position.Position.{Position}
+use Rattle.capture_io.specs.declared.fault.CaptureFault.{CaptureFault}
+use Rattle.capture_io.specs.declared.fault.CaptureFault.TheVariants.{Memory}
+
+-- the file's id, its format, where the reader stands, and the fault that it answered
+pub record Reading : Type 0 where
+  pub id : ℕ
+  pub format : Format
+  pub position : Position
+  pub fault : Option CaptureFault
+
+-- a reader that has read the header, and no record
+abbrev pub beginning : ℕ → Format → Reading
+beginning id format = record { id = id; format = format; position = begin; fault = None }
+
+-- the answer after the header of a file of these octets
+abbrev pub started : ℕ → List ℕ → Result Reading CaptureFault
+started id file = unless (first_failing (header_rules file)) (beginning id (format_of file))
+
+-- no moment is of 2^32 seconds or more
+abbrev pub is_moment : Option ℕ → Bool
+is_moment None = true
+is_moment (Some m) = nat_lt m (2 ^ 32 * 1000000000)
+
+-- where a reader can stand
+abbrev pub is_reachable : Position → Bool
+is_reachable at =
+    (nat_le at.count 1000000000 && nat_le at.place (24 + 262160 * at.count)) && is_moment at.greatest
+
+-- a frame that a reader of that format gives after that position, whatever the file holds
+pub record IsNext (format : Format) (at : Position) (f : Frame) : Type 0 where
+  pub number : f.number ≡ at.count + 1
+  pub most : f.number ≤ 1000000000
+  pub later : unwrap_or at.greatest 0 ≤ f.moment
+  pub moment : f.moment < 2 ^ 32 * 1000000000
+  pub link : f.link ≡ format.link
+  pub size : length f.octets ≤ 262144
+
+-- where a reader stands after a frame
+abbrev pub passed : Position → Frame → Position
+passed at f =
+    record { count = f.number; greatest = Some f.moment; place = at.place + 16 + length f.octets }
+
+-- what a reader is after a frame
+abbrev pub after_frame : Reading → Frame → Reading
+after_frame r f = record r { position = passed r.position f }
+
+-- what it is after a fault, which it keeps, unless memory was refused
+abbrev pub after_fault : Reading → CaptureFault → Reading
+after_fault r Memory = r
+after_fault r fault = record r { fault = Some fault }

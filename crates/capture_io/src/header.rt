@@ -1,0 +1,110 @@
+// The rules of a file's header and of a record's header, over the octets that were read.
+ghost use Rattle.std.specs.Prelude.{◌≡◌, ◌≤◌, ◌<◌, ◌*◌, ◌^◌, length, IsTrue};
+ghost use Rattle.octets.specs.Rules.{first_failing};
+ghost use Rattle.capture_io.specs.Answers.{unless};
+ghost use Rattle.capture_io.specs.Capture.{header_rules, is_magic, order_of, fraction_of, link_of, link_type, format_of, head_rules, moment, fraction, in_span, per_second};
+ghost use Rattle.capture_io.specs.Reading.{is_moment};
+
+use crate::format::{Format, Fraction};
+use crate::order::Order;
+use crate::position::Position;
+use crate::{CaptureFault, Link};
+use octets::little_32;
+
+// The magic numbers, which name the unit of the fractions.
+const MICROSECONDS: u32 = 0xa1b2_c3d4;
+
+const NANOSECONDS: u32 = 0xa1b2_3c4d;
+
+fn is_magic(number: u32) -> bool
+    ensures { result ≡ is_magic number }
+{
+    number == MICROSECONDS || number == NANOSECONDS
+}
+
+// The order that makes the first number a magic one, or else the second.
+fn order_of(file: &[u8]) -> Order
+    requires { 4 ≤ length file.now }
+    ensures { result ≡ order_of file.now }
+{
+    if is_magic(little_32(file, 0)) {
+        Order::Little
+    } else {
+        Order::Big
+    }
+}
+
+/// The format that a file's header names, or the first rule that the header breaks.
+pub fn read_format(file: &[u8]) -> Result<Format, CaptureFault>
+    ensures { result ≡ unless (first_failing (header_rules file.now)) (format_of file.now) }
+{
+    if file.len() < 24 {
+        return Err(CaptureFault::CutHeader(file.len() as u64));
+    }
+    let order = order_of(file);
+    let magic = order.number_32(file, 0);
+    if !is_magic(magic) {
+        return Err(CaptureFault::BadMagic);
+    }
+    if order.number_16(file, 4) != 2 || order.number_16(file, 6) != 4 {
+        return Err(CaptureFault::BadVersion);
+    }
+    let link = match order.number_32(file, 20) % 0x1_0000 {
+        1 => Link::Ethernet,
+        101 => Link::Raw,
+        _ => return Err(CaptureFault::BadLink),
+    };
+    let fraction = if magic == NANOSECONDS {
+        Fraction::Nanoseconds
+    } else {
+        Fraction::Microseconds
+    };
+    Ok(Format {
+        order,
+        fraction,
+        link,
+    })
+}
+
+/// The first rule that a record's header breaks.
+pub fn head_fault(format: Format, at: Position, head: &[u8]) -> Option<CaptureFault>
+    ensures { result ≡ first_failing (head_rules format at head.now) }
+{
+    if at.count >= 1_000_000_000 {
+        return Some(CaptureFault::TooManyRecords);
+    }
+    if head.len() < 16 {
+        return Some(CaptureFault::CutRecord(at.place));
+    }
+    if format.order.number_32(head, 4) >= format.fraction.per_second() {
+        return Some(CaptureFault::BadFraction(at.place));
+    }
+    let kept = format.order.number_32(head, 8);
+    if kept > 262_144 {
+        return Some(CaptureFault::TooLong(at.place, kept));
+    }
+    None
+}
+
+/// The moment that a record's header names, in nanoseconds.
+pub fn moment_of(format: Format, head: &[u8]) -> u64
+    requires { 16 ≤ length head.now }
+    ensures value { result ≡ moment format head.now }
+    ensures fits { fraction format head.now < per_second format.fraction →
+        result < 2 ^ 32 * 1000000000 }
+{
+    let seconds = u64::from(format.order.number_32(head, 0));
+    let fraction = u64::from(format.order.number_32(head, 4));
+    seconds * 1_000_000_000 + fraction * u64::from(format.fraction.nanoseconds())
+}
+
+/// Whether the moment lies within 1,000,000 seconds after the greatest so far.
+pub fn is_in_span(greatest: Option<u64>, moment: u64) -> bool
+    requires { IsTrue (is_moment greatest) }
+    ensures { result ≡ in_span greatest moment }
+{
+    match greatest {
+        Some(greatest) => moment <= greatest + 1_000_000_000_000_000,
+        None => true,
+    }
+}

@@ -1,0 +1,28 @@
+//! Captures (pcap): frames read record by record through a desk, the link layer below the packet,
+//! and records written.
+#![tactic(auto)]
+
+mod fault;
+mod format;
+mod frame;
+mod header;
+mod link;
+mod order;
+mod payload;
+mod position;
+mod reader;
+mod record;
+#[cfg(test)]
+mod tests;
+mod writing;
+
+pub use desk::{
+    Calls, Desk, DeskFault, FileId, Files, HostDesk, HostFile, MemoryDesk, NamedFile, read_full,
+};
+pub use fault::CaptureFault;
+pub use frame::Frame;
+pub use link::Link;
+pub use octets::{Items, Layer, NoMemory, Octets, Refused, Why};
+pub use payload::link_payload;
+pub use reader::CaptureReader;
+pub use writing::{write_header, write_packet};

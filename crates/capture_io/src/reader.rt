@@ -1,0 +1,113 @@
+// A capture that is read record by record.
+ghost use Rattle.std.specs.Prelude.{◌≡◌, ◌⊎◌, ◌≤◌, option_map, Some, Err, IfOk, IfErr, IfSome, IfNone, OnOk, IsErrOf, MatchOption};
+ghost use Rattle.octets.specs.Causes.{Rose};
+ghost use Rattle.desk.specs.World.{left_of, after_read, shown};
+ghost use Rattle.capture_io.specs.declared.fault.CaptureFault.TheVariants.{Host};
+ghost use Rattle.capture_io.specs.Answers.{IsAnswer};
+ghost use Rattle.capture_io.specs.Capture.{outcome, taken};
+ghost use Rattle.capture_io.specs.Reading.{started, beginning, IsNext, after_frame, after_fault};
+
+use crate::format::Format;
+use crate::header::read_format;
+use crate::position::Position;
+use crate::record::read_record;
+use crate::{CaptureFault, Frame};
+use desk::{Desk, FileId, read_full};
+use std::alloc::Global;
+use std::marker::Model;
+
+/// A reader of a capture, which has read its header.
+#[derive(Drop)]
+pub struct CaptureReader {
+    id: FileId,
+    format: Format,
+    position: Position,
+    fault: Option<CaptureFault>,
+}
+
+impl Model for CaptureReader {
+    ghost use Rattle.std.specs.Prelude.{IsTrue};
+    ghost use Rattle.capture_io.specs.Reading.{Reading, is_reachable};
+
+    ghost Value = { Reading };
+
+    ghost view = { λ r.
+        record { id = r.id.number; format = r.format; position = r.position; fault = r.fault } };
+
+    ghost invariant = { λ r. IsTrue (is_reachable r.position) };
+}
+
+impl CaptureReader {
+    /// Reads the 24 octets of the header, where the id stands; places count from there.
+    pub fn start<D: Desk>(
+        alloc: Global,
+        desk: &mut D,
+        id: FileId,
+    ) -> Result<CaptureReader, CaptureFault>
+        ensures answer { IfSome (D.told desk.old) (λ w.
+            IsAnswer result (started id.number (left_of id.number w))) }
+        ensures fresh { IfOk result (λ r. r ≡ beginning id.number r.format) }
+        ensures told { OnOk result
+            (D.told desk.new ≡ option_map (after_read id.number 24) (D.told desk.old)) }
+
+        // On any exit only the place in the file has moved.
+        ensures shown { shown (D.told desk.new) ≡ shown (D.told desk.old) }
+        ensures given { D.given desk.new ≡ D.given desk.old }
+        ensures later { D.faults desk.old ≤ D.faults desk.new }
+        ensures host { IsErrOf result Host → Rose (D.faults desk.old) (D.faults desk.new) }
+    {
+        let mut header = [0u8; 24];
+        let n = read_full(alloc, desk, id, &mut header)?;
+        let format = read_format(&header[..n])?;
+        Ok(CaptureReader {
+            id,
+            format,
+            position: Position::begin(),
+            fault: None,
+        })
+    }
+
+    /// The next frame, or none at the end of the file, and again at each later call. A fault other
+    /// than `Memory` is kept, and each later call answers it; after `Memory` a reader is dropped.
+    pub fn next<D: Desk>(
+        &mut self,
+        alloc: Global,
+        desk: &mut D,
+    ) -> Result<Option<Frame>, CaptureFault>
+        // After a fault nothing is called.
+        ensures again { IfSome self.old.fault (λ f.
+            (result ≡ Err f) × (self.new ≡ self.old) × (desk.new ≡ desk.old)) }
+        ensures answer { IfNone self.old.fault (IfSome (D.told desk.old) (λ w.
+            IsAnswer result (outcome self.old.format self.old.position (left_of self.old.id w)))) }
+        ensures next { IfOk result (λ o. IfSome o (IsNext self.old.format self.old.position)) }
+        ensures frame { IfOk result (λ o.
+            MatchOption o (self.new ≡ self.old) (λ f. self.new ≡ after_frame self.old f)) }
+        ensures fault { IfErr result (λ f. self.new ≡ after_fault self.old f) }
+        ensures told { IfOk result (λ o.
+            D.told desk.new ≡ option_map (after_read self.old.id (taken o)) (D.told desk.old)) }
+
+        // On any exit only the place in the file has moved.
+        ensures shown { shown (D.told desk.new) ≡ shown (D.told desk.old) }
+        ensures given { D.given desk.new ≡ D.given desk.old }
+        ensures later { D.faults desk.old ≤ D.faults desk.new }
+        ensures host { IsErrOf result Host →
+            (self.old.fault ≡ Some Host) ⊎ Rose (D.faults desk.old) (D.faults desk.new) }
+    {
+        if let Some(fault) = self.fault {
+            return Err(fault);
+        }
+        match read_record(alloc, desk, self.id, self.format, self.position) {
+            Ok(Some(frame)) => {
+                self.position = self.position.passed(&frame);
+                Ok(Some(frame))
+            }
+            Ok(None) => Ok(None),
+            Err(fault) => {
+                if fault != CaptureFault::Memory {
+                    self.fault = Some(fault);
+                }
+                Err(fault)
+            }
+        }
+    }
+}
