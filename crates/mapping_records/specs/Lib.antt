@@ -1,0 +1,4 @@
+pub mod Address
+pub mod Eid
+pub mod Locator
+pub mod Record

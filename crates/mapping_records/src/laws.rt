@@ -1,0 +1,56 @@
+// Laws of what is read and written. Each function only states its law.
+ghost use Rattle.std.specs.Prelude.{◌≡◌, ◌++◌, ℕ, List, Option, None, length};
+ghost use Rattle.octets.specs.Rules.{first_failing};
+ghost use Rattle.ip_headers.specs.declared.addr.Addr.{Addr};
+ghost use Rattle.mapping_records.specs.Record.{canonical_record, record_rules, record_size, IsLawful, IsRecordAt, SpellsRecord};
+ghost use Rattle.mapping_records.specs.declared.record.Record.{Record};
+ghost use Rattle.mapping_records.specs.Eid.{canonical_eid, eid_at, eid_rules, InRangeEid, SpellsEid};
+
+/// What is written of an EID spells it, whatever follows.
+pub fn canonical_eid_spells()
+    ensures { (iid : ℕ) (host : Option Addr) (rest : List ℕ) → InRangeEid iid host
+        → SpellsEid (canonical_eid iid host ++ rest) (iid, host, length (canonical_eid iid host)) }
+{}
+
+/// Octets that obey the rules begin with exactly one EID, of one size.
+pub fn one_eid_is_spelled()
+    ensures spells { (base : ℕ) (octets : List ℕ) → first_failing (eid_rules base octets) ≡ None
+        → SpellsEid octets (eid_at octets) }
+    ensures one { (octets : List ℕ) (a b : ℕ × Option Addr × ℕ)
+        → SpellsEid octets a → SpellsEid octets b → a ≡ b }
+{}
+
+/// An EID that was written is read again, with exactly its octets consumed, whatever follows.
+pub fn written_eid_is_read_again()
+    ensures rules { (base iid : ℕ) (host : Option Addr) (rest : List ℕ) → InRangeEid iid host
+        → first_failing (eid_rules base (canonical_eid iid host ++ rest)) ≡ None }
+    ensures value { (iid : ℕ) (host : Option Addr) (rest : List ℕ) → InRangeEid iid host
+        → eid_at (canonical_eid iid host ++ rest) ≡ (iid, host, length (canonical_eid iid host)) }
+{}
+
+/// What is written of a record spells it, whatever follows.
+pub fn canonical_record_spells()
+    ensures { (mapping : Record) (rest : List ℕ) → IsLawful mapping
+        → SpellsRecord (canonical_record mapping ++ rest) mapping (length (canonical_record mapping)) }
+{}
+
+/// Octets that obey the rules begin with exactly one record, of one size.
+pub fn one_record_is_spelled()
+    ensures some { (base : ℕ) (octets : List ℕ) → first_failing (record_rules base octets) ≡ None
+        → (mapping : Record) × IsRecordAt octets mapping }
+    ensures spells { (base : ℕ) (octets : List ℕ) (mapping : Record)
+        → first_failing (record_rules base octets) ≡ None → IsRecordAt octets mapping
+        → SpellsRecord octets mapping (record_size octets) }
+    ensures one { (octets : List ℕ) (a b : Record) (m n : ℕ)
+        → SpellsRecord octets a m → SpellsRecord octets b n → (a ≡ b) × (m ≡ n) }
+{}
+
+/// A record that was written is read again, with exactly its octets consumed, whatever follows.
+pub fn written_record_is_read_again()
+    ensures rules { (base : ℕ) (mapping : Record) (rest : List ℕ) → IsLawful mapping
+        → first_failing (record_rules base (canonical_record mapping ++ rest)) ≡ None }
+    ensures value { (mapping read : Record) (rest : List ℕ) → IsLawful mapping
+        → IsRecordAt (canonical_record mapping ++ rest) read → read ≡ mapping }
+    ensures size { (mapping : Record) (rest : List ℕ) → IsLawful mapping
+        → record_size (canonical_record mapping ++ rest) ≡ length (canonical_record mapping) }
+{}
