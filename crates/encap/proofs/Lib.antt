@@ -1,0 +1,7 @@
+pub mod Drops
+pub mod Hops
+pub mod Joined
+pub mod Lengths
+pub mod Renewed
+pub mod Sizes
+pub mod Tunnel

@@ -1,0 +1,3 @@
+pub mod Forwarded
+pub mod Rules
+pub mod Wrapped

@@ -1,0 +1,33 @@
+// Why a packet does not leave.
+ghost use Rattle.std.specs.Prelude.{◌≡◌};
+ghost use Rattle.encap.specs.declared.fault.EncapDrop.TheVariants.{Memory};
+
+use octets::NoMemory;
+use std::alloc::AllocError;
+
+/// Why a packet is not sent.
+#[derive(Clone, Copy, Debug, PartialEq, Eq)]
+pub enum EncapDrop {
+    /// Its TTL or Hop Limit is at most 1.
+    TtlExpired,
+    /// With the outer headers it would have more than 1,500 octets.
+    TooBig,
+    /// An allocation was refused.
+    Memory,
+}
+
+impl From<NoMemory> for EncapDrop {
+    ghost from_gives = { λ _ fault. fault ≡ Memory };
+
+    fn from(_: NoMemory) -> Self {
+        EncapDrop::Memory
+    }
+}
+
+impl From<AllocError> for EncapDrop {
+    ghost from_gives = { λ _ fault. fault ≡ Memory };
+
+    fn from(_: AllocError) -> Self {
+        EncapDrop::Memory
+    }
+}

@@ -1,0 +1,15 @@
+//! Packets into the tunnel (RFC 9300, section 5.3), and past it with their TTL one less.
+#![tactic(auto)]
+
+mod fault;
+mod forwarding;
+mod laws;
+mod outer;
+#[cfg(test)]
+mod tests;
+mod wrapping;
+
+pub use fault::EncapDrop;
+pub use forwarding::forward_native;
+pub use laws::{forwarded_goes_one_hop, wrapped_carries_the_packet};
+pub use wrapping::encapsulate;

@@ -1,0 +1,92 @@
+// The headers in front of a packet in its tunnel.
+ghost use Rattle.std.specs.Prelude.{◌≡◌, ◌≤◌, ◌+◌, ◌++◌, length, OnOk};
+ghost use Rattle.ip_headers.specs.Addr.{width};
+ghost use Rattle.ip_headers.specs.Ip.{ttl_of};
+ghost use Rattle.ip_headers.specs.Udp.{udp_octets};
+ghost use Rattle.encap.specs.Rules.{outer_len};
+ghost use Rattle.encap.specs.Wrapped.{outer_header, outer_v4, outer_v6};
+
+use ip_headers::{Addr, IpPacket, V4Header, V6Header, write_v4, write_v6};
+use octets::{NoMemory, Octets};
+
+const UDP: u8 = 17;
+/// The port of LISP data packets.
+const LISP_DATA: u16 = 4341;
+
+/// The octets of outer IP header, UDP header and LISP header.
+pub(crate) fn outer_len(from: Addr) -> usize
+    ensures { result ≡ outer_len from }
+{
+    match from {
+        Addr::V4(_) => 36,
+        Addr::V6(_) => 56,
+    }
+}
+
+/// Appends the outer IP header, whose TTL is that of the packet less one.
+pub(crate) fn append_outer(
+    inner: &IpPacket,
+    from: Addr,
+    to: Addr,
+    out: &mut Octets,
+) -> Result<(), NoMemory>
+    requires family { width from ≡ width to }
+    requires ttl { 1 ≤ ttl_of inner.now.header }
+    requires size { length inner.now.octets.now ≤ 1464 }
+    ensures { OnOk result (out.new ≡ out.old ++ outer_header inner.now.octets.now from to) }
+{
+    match (from, to) {
+        (Addr::V4(source), Addr::V4(dest)) => write_v4(&outer_v4(inner, source, dest), out),
+        (Addr::V6(source), Addr::V6(dest)) => write_v6(&outer_v6(inner, source, dest), out),
+        _ => unreachable!(),
+    }
+}
+
+fn outer_v4(inner: &IpPacket, source: u32, dest: u32) -> V4Header
+    requires ttl { 1 ≤ ttl_of inner.now.header }
+    requires size { length inner.now.octets.now ≤ 1464 }
+    ensures { result ≡ outer_v4 inner.now.octets.now source dest }
+{
+    V4Header {
+        source,
+        dest,
+        tos: inner.header.class(),
+        total: 36 + inner.octets.len() as u16,
+        id: 0,
+        dont_fragment: true,
+        more: false,
+        offset: 0,
+        ttl: inner.ttl() - 1,
+        protocol: UDP,
+        header_len: 20,
+    }
+}
+
+fn outer_v6(inner: &IpPacket, source: u128, dest: u128) -> V6Header
+    requires ttl { 1 ≤ ttl_of inner.now.header }
+    requires size { length inner.now.octets.now ≤ 1464 }
+    ensures { result ≡ outer_v6 inner.now.octets.now source dest }
+{
+    V6Header {
+        source,
+        dest,
+        class: inner.header.class(),
+        flow: 0,
+        payload: 16 + inner.octets.len() as u16,
+        next: UDP,
+        hops: inner.ttl() - 1,
+    }
+}
+
+/// The UDP header before `payload` octets of LISP header and packet, without a checksum.
+pub(crate) fn udp_header(port: u16, payload: u16) -> [u8; 8]
+    requires { payload ≤ 65527 }
+    ensures { result ≡ udp_octets port 4341 (8 + payload) 0 }
+{
+    let source = port.to_be_bytes();
+    let dest = LISP_DATA.to_be_bytes();
+    let length = (8 + payload).to_be_bytes();
+    [
+        source[0], source[1], dest[0], dest[1], length[0], length[1], 0, 0,
+    ]
+}
