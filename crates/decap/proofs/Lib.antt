@@ -1,0 +1,9 @@
+pub mod Drops
+pub mod Leaving
+pub mod Lengths
+pub mod Marks
+pub mod OpenRules
+pub mod Overwritten
+pub mod V4Marks
+pub mod V6Marks
+pub mod Versions

@@ -1,0 +1,5 @@
+use Rattle.std.proofs.lemmas.List.{take_rest}
+use Rattle.decap.proofs.opening.inner_packet.Goals as goal
+
+pub returns-clause-value : goal.returns-clause-value
+returns-clause-value c = rw (take_rest c.args.octets.now 8) at c.read_ip.ensures.packet

@@ -1,0 +1,4 @@
+pub mod Delivered
+pub mod Ecn
+pub mod Opened
+pub mod Unwrapped
