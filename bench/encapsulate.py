@@ -1,0 +1,69 @@
+#!/usr/bin/env python3
+"""Writes settings and captures of many frames, made from a number.
+
+usage: encapsulate.py FOLDER FRAMES SEED KIND
+KIND is raw (IPv4), ethernet (IPv4 behind Ethernet, every second frame tagged) or ipv6 (raw).
+Frames have packets of 64 to 1,400 octets from the site to the mapped prefix.
+"""
+import random
+import socket
+import struct
+import sys
+
+IPV4 = "10.1.0.0/16", "10.2.0.0/16"
+IPV6 = "2001:db8:1::/48", "2001:db8:2::/48"
+
+
+def settings(kind):
+    database, mapping = IPV6 if kind == "ipv6" else IPV4
+    return (
+        '[[locator]]\naddress = "192.0.2.1"\n[[attachment]]\nvlan = 0\niid = 0\n'
+        f'[[database]]\niid = 0\nprefix = "{database}"\n'
+        f'[[mapping]]\niid = 0\nprefix = "{mapping}"\n'
+        '[[mapping.locator]]\naddress = "198.51.100.7"\n'
+    )
+
+
+def checksum(header):
+    total = sum(struct.unpack(f">{len(header) // 2}H", header))
+    while total >> 16:
+        total = (total & 0xFFFF) + (total >> 16)
+    return 0xFFFF - total
+
+
+def ipv4(size, host, ports):
+    front = struct.pack(
+        ">BBHHHBBH4s4s", 0x45, 0, size, 0, 0, 64, 17, 0,
+        bytes([10, 1]) + struct.pack(">H", host), bytes([10, 2, 0, 9]))
+    front = front[:10] + struct.pack(">H", checksum(front)) + front[12:]
+    return front + struct.pack(">HHHH", ports, 2000, size - 20, 0)
+
+
+def ipv6(size, host, ports):
+    source = socket.inet_pton(socket.AF_INET6, f"2001:db8:1::{host:x}")
+    dest = socket.inet_pton(socket.AF_INET6, "2001:db8:2::9")
+    front = struct.pack(">IHBB", 6 << 28, size - 40, 17, 64) + source + dest
+    return front + struct.pack(">HHHH", ports, 2000, size - 40, 0)
+
+
+def main():
+    folder, frames, seed, kind = sys.argv[1], int(sys.argv[2]), int(sys.argv[3]), sys.argv[4]
+    numbers = random.Random(seed)
+    zeros = bytes(1400)
+    with open(f"{folder}/settings.toml", "w") as file:
+        file.write(settings(kind))
+    link = 1 if kind == "ethernet" else 101
+    with open(f"{folder}/capture.pcap", "wb") as file:
+        file.write(struct.pack("<IHHIIII", 0xA1B2C3D4, 2, 4, 0, 0, 262144, link))
+        for i in range(frames):
+            size, host, ports = numbers.randint(64, 1400), numbers.randrange(65536), numbers.randrange(65536)
+            packet = (ipv6 if kind == "ipv6" else ipv4)(size, host, ports)
+            packet += zeros[: size - len(packet)]
+            if link == 1:
+                tag = "81000000" if i % 2 else ""
+                packet = bytes.fromhex("0200000000010200000000ff" + tag + "0800") + packet
+            head = struct.pack("<IIII", 1_700_000_000 + i // 10_000, i % 10_000 * 100, len(packet), len(packet))
+            file.write(head + packet)
+
+
+main()

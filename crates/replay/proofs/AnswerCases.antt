@@ -1,0 +1,100 @@
+-- The answer, case by case, and how steps of a run make it.
+use Rattle.std.proofs.Common.{◌≡◌, ℕ, List, [], ◌∷◌, ◌++◌, length, map, Bool, true, false, Option, Some, None, Result, Ok, Err, append_assoc, refl, sym, ap, subst, ◌∙◌}
+use Rattle.std.specs.Option.{option_map, IfSome, IsSomeAnd}
+use Rattle.std.specs.Prelude.{codes}
+use Rattle.std.specs.Result.{IfOk, OnOk}
+use Rattle.std.proofs.lemmas.List.{append-nil, map-append}
+use Rattle.octets.specs.Rules.{first_failing}
+use Rattle.desk.specs.declared.file.NamedFile.{NamedFile}
+use Rattle.desk.specs.World.{World, Shown, content, left_of, found_at, changed_at, extended, after_say, after_make, after_write, shown, shown_of}
+use Rattle.desk.proofs.Entries.{changed_at-more}
+use Rattle.capture_io.specs.Capture.{header_rules, begin}
+use Rattle.capture_io.specs.Frames.{Run, read_on}
+use Rattle.capture_io.specs.Output.{out_header}
+use Rattle.capture_io.specs.declared.format.Format.{Format}
+use Rattle.replay.specs.Answer.{Answer, answer, after_words, after_settings, after_header, replayed, told_off, status_of, last_line, lines_of, records_of, written_of, made_files, Gives, Leaves}
+use Rattle.replay.specs.Runs.{Ends, with_run}
+use Rattle.replay.specs.Settings.{settings_of}
+use Rattle.replay.specs.Words.{Names, names_of}
+use Rattle.replay.specs.declared.frames.Ending.{Ending}
+use Rattle.replay.specs.declared.settings.Settings.{Settings}
+use Rattle.replay.specs.declared.status.Status.{Status}
+use Rattle.replay.specs.declared.status.Status.TheVariants as status
+
+pub answer-usage : (words : List (List ℕ)) (files : List NamedFile) → names_of words ≡ None → answer words files ≡ told_off status.Usage (codes "usage\n")
+unfolding answer
+answer-usage words files none = ap (after_words files) none
+
+pub answer-settings : (words : List (List ℕ)) (files : List NamedFile) (n : Names) (s : Option Settings) → names_of words ≡ Some n → s ≡ settings_of (content n.settings files)
+    → answer words files ≡ after_settings n.output (content n.input files) s
+unfolding answer
+answer-settings words files n s some is = ap (after_words files) some ∙ ap (after_settings n.output (content n.input files)) (sym is)
+
+-- the same answer by another name
+pub gives_as : (a b : Answer) (s : Status) (old : Shown) (new : Option Shown) → a ≡ b → Gives a s old new → Gives b s old new
+gives_as a b s old new same gives = subst (λ (x : Answer). Gives x s old new) same gives
+
+-- a line alone
+pub said_line : (s : Status) (line : List ℕ) (old new : Option World) → new ≡ option_map (after_say line) old → IfSome old (λ w. Gives (told_off s line) s (shown_of w) (shown new))
+said_line s line None new said = tt
+said_line s line (Some w) new said = rw said (record { status = refl; left = record { files = refl; said = refl; made = sym (append-nil (made_files w.writers)) } })
+
+-- what holds of what is shown holds as long as that stays
+pub shown_stays : (P : Shown → Type 0) (old mid : Option World) → shown mid ≡ shown old → IfSome mid (λ w. P (shown_of w)) → IfSome old (λ w. P (shown_of w))
+shown_stays P None mid same h = tt
+shown_stays P (Some w) None same h = cc
+shown_stays P (Some w) (Some v) same h = let e : shown_of v ≡ shown_of w = cc in subst P e h
+
+-- a file that was made, with its header
+output_made : (id : ℕ) (name : List ℕ) (w : World) → found_at id w.writers ≡ None
+    → shown_of (after_write id out_header (after_make id name w)) ≡ record (shown_of w) { writers = w.writers ++ (id, record { name = name; octets = out_header }) ∷ [] }
+output_made id name w fresh =
+    ap (λ (writers : List (ℕ × NamedFile)). record (shown_of w) { writers = writers }) (changed_at-more id (extended out_header) (record { name = name; octets = [] }) w.writers fresh)
+
+-- the frames after it
+run_shown : (settings : Settings) (id : ℕ) (name : List ℕ) (run : Run) (w : World) → found_at id w.writers ≡ None
+    → with_run settings id run (shown_of (after_write id out_header (after_make id name w)))
+    ≡ record (shown_of w) { said = w.said ++ lines_of settings run.frames; writers = w.writers ++ (id, record { name = name; octets = out_header ++ records_of settings run.frames }) ∷ [] }
+run_shown settings id name run w fresh =
+    ap (with_run settings id run) (output_made id name w fresh)
+    ∙ ap (λ (writers : List (ℕ × NamedFile)). record (shown_of w) { said = w.said ++ lines_of settings run.frames; writers = writers }) (changed_at-more id (extended (records_of settings run.frames)) (record { name = name; octets = out_header }) w.writers fresh)
+
+-- what the steps of a replay leave is its answer
+pub gives_replayed : (settings : Settings) (id : ℕ) (name : List ℕ) (run : Run) (w : World) (mid new : Option World) (ending : Ending) (s : Status)
+    → found_at id w.writers ≡ None → Ends settings run ending
+    → shown mid ≡ Some (with_run settings id run (shown_of (after_write id out_header (after_make id name w))))
+    → new ≡ option_map (after_say (last_line ending.fault ending.frames ending.written)) mid → s ≡ status_of ending.fault
+    → Gives (replayed settings name run) s (shown_of w) (shown new)
+unfolding replayed
+gives_replayed settings id name run w None new ending s fresh ends frames said is = cc
+gives_replayed settings id name run w (Some v) new ending s fresh ends frames said is =
+    let file : NamedFile = record { name = name; octets = out_header ++ records_of settings run.frames } in
+    let aim : Shown = record (shown_of w) { said = w.said ++ lines_of settings run.frames; writers = w.writers ++ (id, file) ∷ [] } in
+    let is_aim : shown_of v ≡ aim = cc (frames, run_shown settings id name run w fresh) in
+    let line : last_line ending.fault ending.frames ending.written ≡ last_line run.fault (length run.frames) (written_of settings run.frames) = rw (ends.fault, ends.frames, ends.written) refl in
+    let status : s ≡ status_of run.fault = is ∙ ap status_of ends.fault in
+    rw said (record {
+      status = status;
+      left = record {
+        files = ap (λ (x : Shown). x.files) is_aim;
+        said = ap (λ (x : Shown). x.said ++ last_line ending.fault ending.frames ending.written) is_aim ∙ append_assoc w.said (lines_of settings run.frames) _
+            ∙ ap (λ (l : List ℕ). w.said ++ (lines_of settings run.frames ++ l)) line;
+        made = ap (λ (x : Shown). made_files x.writers) is_aim ∙ map-append (λ (x : ℕ × NamedFile). x.1) w.writers ((id, file) ∷ []);
+      };
+    })
+
+-- the same, over what the desk tells
+pub frames_answered : (settings : Settings) (id reader : ℕ) (format : Format) (name : List ℕ) (old made now new : Option World) (ending : Ending) (s : Status)
+    → IfSome old (λ w. found_at id w.writers ≡ None) → made ≡ option_map (λ w. after_write id out_header (after_make id name w)) old
+    → IfSome made (λ w. Ends settings (read_on format begin (left_of reader w)) ending)
+    → IfSome made (λ w. shown now ≡ Some (with_run settings id (read_on format begin (left_of reader w)) (shown_of w)))
+    → new ≡ option_map (after_say (last_line ending.fault ending.frames ending.written)) now → s ≡ status_of ending.fault
+    → IfSome old (λ w. Gives (replayed settings name (read_on format begin (left_of reader w))) s (shown_of w) (shown new))
+frames_answered settings id reader format name None made now new ending s fresh makes ends frames said is = tt
+frames_answered settings id reader format name (Some w) made now new ending s fresh makes ends frames said is =
+    gives_replayed settings id name (read_on format begin (left_of reader w)) w now new ending s fresh (rw makes at ends) (rw makes at frames) said is
+
+-- two facts of a value make a third
+pub ok_both : {T E : Type 0} (r : Result T E) {P R : T → Type 0} {Q : Type 0} → IfOk r P → OnOk r Q → ((x : T) → P x → Q → R x) → IfOk r R
+ok_both (Ok x) p q both = both x p q
+ok_both (Err e) p q both = tt

@@ -1,0 +1,11 @@
+pub mod AnswerCases
+pub mod Drops
+pub mod FieldLemmas
+pub mod FrameLoop
+pub mod LawfulLemmas
+pub mod OutputLemmas
+pub mod PrefixLemmas
+pub mod Reading
+pub mod SettingsLemmas
+pub mod TextLemmas
+pub mod CaptureAnswers

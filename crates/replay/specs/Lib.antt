@@ -1,0 +1,12 @@
+pub mod AddressText
+pub mod Answer
+pub mod Fields
+pub mod Hash
+pub mod Lines
+pub mod Place
+pub mod Router
+pub mod Runs
+pub mod Settings
+pub mod Steps
+pub mod Text
+pub mod Words

@@ -1,0 +1,110 @@
+// Numbers and addresses as the report writes them.
+ghost use Rattle.std.specs.Prelude.{◌≡◌, ◌<◌, ◌+◌, ◌%◌, ◌++◌, OnOk, OnErr};
+ghost use Rattle.std.specs.Fmt.{decimal};
+ghost use Rattle.replay.specs.Text.{fixed_decimal, fixed_hex, four_groups, groups, address_text, hex_glyph, dotted};
+
+use ip_headers::Addr;
+use octets::{NoMemory, Octets};
+use std::alloc::Global;
+
+/// Appends a number in decimal digits.
+pub fn push_number(alloc: Global, number: u64, out: &mut Octets) -> Result<(), NoMemory>
+    ensures ok { OnOk result (out.new ≡ out.old ++ decimal number) }
+    ensures err { OnErr result (out.new ≡ out.old) }
+{
+    let text = format!(in alloc; "{number}")?;
+    out.append(text.as_bytes())
+}
+
+/// Appends nine decimal digits, with leading zeros.
+pub fn push_nine_digits(number: u32, out: &mut Octets) -> Result<(), NoMemory>
+    requires { number < 1000000000 }
+    ensures ok { OnOk result (out.new ≡ out.old ++ fixed_decimal 9 number) }
+    ensures err { OnErr result (out.new ≡ out.old) }
+{
+    let digits = [
+        digit(number / 100_000_000),
+        digit(number / 10_000_000),
+        digit(number / 1_000_000),
+        digit(number / 100_000),
+        digit(number / 10_000),
+        digit(number / 1000),
+        digit(number / 100),
+        digit(number / 10),
+        digit(number),
+    ];
+    out.append(&digits)
+}
+
+// The lowest decimal digit.
+fn digit(number: u32) -> u8
+    ensures { result ≡ 48 + number % 10 }
+{
+    b'0' + (number % 10) as u8
+}
+
+/// Appends an address: IPv4 dotted, IPv6 as eight groups of four hexadecimal digits.
+pub fn push_address(alloc: Global, address: Addr, out: &mut Octets) -> Result<(), NoMemory>
+    ensures { OnOk result (out.new ≡ out.old ++ address_text address) }
+{
+    match address {
+        Addr::V4(number) => push_dotted(alloc, number, out),
+        Addr::V6(number) => push_groups(number, out),
+    }
+}
+
+fn push_dotted(alloc: Global, number: u32, out: &mut Octets) -> Result<(), NoMemory>
+    ensures { OnOk result (out.new ≡ out.old ++ dotted number) }
+{
+    let a = number / 16_777_216;
+    let b = number / 65_536 % 256;
+    let c = number / 256 % 256;
+    let d = number % 256;
+    let text = format!(in alloc; "{a}.{b}.{c}.{d}")?;
+    out.append(text.as_bytes())
+}
+
+fn push_groups(number: u128, out: &mut Octets) -> Result<(), NoMemory>
+    ensures { OnOk result (out.new ≡ out.old ++ groups number) }
+{
+    out.append(&four_groups((number / 0x1_0000_0000_0000_0000) as u64))?;
+    out.push(b':')?;
+    out.append(&four_groups((number % 0x1_0000_0000_0000_0000) as u64))
+}
+
+#[tactic(auto, unfolding(crate::specs::Text::four_groups))]
+fn four_groups(half: u64) -> [u8; 19]
+    ensures { result ≡ four_groups half }
+{
+    let a = group_text((half / 0x1_0000_0000_0000) as u16);
+    let b = group_text((half / 0x1_0000_0000 % 0x1_0000) as u16);
+    let c = group_text((half / 0x1_0000 % 0x1_0000) as u16);
+    let d = group_text((half % 0x1_0000) as u16);
+    [
+        a[0], a[1], a[2], a[3], b':', b[0], b[1], b[2], b[3], b':', c[0], c[1], c[2], c[3], b':',
+        d[0], d[1], d[2], d[3],
+    ]
+}
+
+fn group_text(group: u16) -> [u8; 4]
+    ensures { result ≡ fixed_hex 4 group }
+{
+    [
+        hex_digit(group / 4096),
+        hex_digit(group / 256),
+        hex_digit(group / 16),
+        hex_digit(group),
+    ]
+}
+
+// The lowest hexadecimal digit, in lower case.
+fn hex_digit(number: u16) -> u8
+    ensures { result ≡ hex_glyph (number % 16) }
+{
+    let digit = (number % 16) as u8;
+    if digit < 10 {
+        b'0' + digit
+    } else {
+        b'a' - 10 + digit
+    }
+}
