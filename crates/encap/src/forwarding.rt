@@ -15,6 +15,7 @@ use std::alloc::Global;
 pub fn forward_native(alloc: Global, inner: &IpPacket) -> Result<Octets, EncapDrop>
     ensures ok { IfOk result (λ packet. packet ≡ forwarded inner.now.octets.now) }
     ensures refused { DropsBy (first_failing (forward_rules inner.now.octets.now)) result }
+    ensures size { IfOk result (λ packet. length packet ≡ length inner.now.octets.now) }
 {
     if inner.ttl() <= 1 {
         return Err(EncapDrop::TtlExpired);

@@ -34,7 +34,9 @@ fn has_ports(packet: &IpPacket) -> bool
         && packet.octets.len() >= packet.payload_at as usize + 4
 }
 
-fn is_fragment(header: &IpHeader) -> bool
+/// The packet is a part of another: an IPv4 packet with more fragments set, or with an offset
+/// (RFC 791 section 3.1).
+pub fn is_fragment(header: &IpHeader) -> bool
     ensures { result ≡ is_fragment header.now }
 {
     match header {

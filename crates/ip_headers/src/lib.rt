@@ -18,7 +18,7 @@ mod udp_writing;
 mod writing;
 
 pub use addr::Addr;
-pub use flow::five_tuple;
+pub use flow::{five_tuple, is_fragment};
 pub use header::{IpHeader, UdpHeader, V4Header, V6Header};
 pub use laws::{
     canonical_udp_spells, canonical_v4_spells, canonical_v6_spells, one_header_is_spelled,

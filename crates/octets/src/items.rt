@@ -47,6 +47,13 @@ impl<T> Items<T> {
         }
     }
 
+    /// The items of a vector, as a list. Takes no memory.
+    pub fn from_vec(vec: Vec<T>) -> Self
+        ensures { result ≡ vec.items }
+    {
+        Items { vec }
+    }
+
     pub fn len(&self) -> usize
         ensures { result ≡ length self.now }
     {
@@ -102,12 +109,5 @@ impl Items<u8> {
         let mut copy = Items::new(alloc);
         copy.append(octets)?;
         Ok(copy)
-    }
-
-    /// The same octets, as a list.
-    pub fn from_vec(vec: Vec<u8>) -> Self
-        ensures { result ≡ vec.items }
-    {
-        Items { vec }
     }
 }

@@ -1,5 +1,6 @@
-use Rattle.std.proofs.Common.{ap, arith, refl}
+use Rattle.std.proofs.Common.{◌∙◌, ap, arith, length, refl}
 use Rattle.ip_headers.specs.Ip.{ttl_of}
+use Rattle.encap.proofs.Lengths.{length-forwarded}
 use Rattle.encap.proofs.Drops.{forward_expired, forward_passes}
 use Rattle.encap.proofs.forwarding.forward_native.Goals as goal
 
@@ -12,3 +13,7 @@ pub returns-clause-refused : goal.returns-clause-refused
 returns-clause-refused c =
     let same = ap ttl_of c.args.inner.now.spells in
     rw (forward_passes c.args.inner.now.octets.now (omega arith)) tt
+
+pub returns-clause-size : goal.returns-clause-size
+returns-clause-size c =
+    ap length c.in_ok-lowered_packet.ensures ∙ length-forwarded c.args.inner.now.base c.args.inner.now.octets.now c.args.inner.now.lawful
