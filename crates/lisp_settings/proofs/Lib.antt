@@ -1,0 +1,11 @@
+pub mod AscendingLemmas
+pub mod EachLemmas
+pub mod EidLemmas
+pub mod FieldLemmas
+pub mod HexLemmas
+pub mod LawfulLemmas
+pub mod ListLemmas
+pub mod OrderLemmas
+pub mod PrefixLemmas
+pub mod ReadingLemmas
+pub mod TextLemmas

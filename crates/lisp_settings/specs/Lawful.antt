@@ -1,0 +1,61 @@
+-- What every settings file that is read keeps to: ranges, limits and orders.
+use Rattle.std.specs.Prelude.{◌≡◌, ◌≤◌, ◌<◌, ◌^◌, ◌==◌, ◌&&◌, false, true, IsTrue, IfSome, List, length, map}
+use Rattle.std.specs.List.{All, IsDistinct, list_any}
+use Rattle.std.specs.List.Sorted.{IsStrictlySortedBy}
+use Rattle.std.specs.Ordering.{eq_by_cmp, nat_cmp}
+use Rattle.ip_headers.specs.Addr.{width}
+use Rattle.ip_headers.specs.declared.addr.Addr.{Addr}
+use Rattle.mapping_records.specs.declared.record.Locator.{Locator}
+use Rattle.mapping_records.specs.declared.record.Record.{Record}
+use Rattle.lisp_settings.specs.Orders.{addr_order, eid_order}
+use Rattle.lisp_settings.specs.declared.settings.Attachment.{Attachment}
+use Rattle.lisp_settings.specs.declared.settings.Database.{Database}
+use Rattle.lisp_settings.specs.declared.settings.OwnLocator.{OwnLocator}
+use Rattle.lisp_settings.specs.declared.settings.Settings.{Settings}
+
+-- the instance of a VLAN, each in its bits
+pub record IsLawfulAttachment (attachment : Attachment) : Type 0 where
+  pub vlan : attachment.vlan ≤ 4095
+  pub iid : attachment.iid < 2 ^ 24
+
+-- an EID prefix of the site; its EID has its own ranges
+pub record IsLawfulDatabase (database : Database) : Type 0 where
+  pub version : database.version ≤ 4095
+
+-- a locator of a static mapping, which has no multicast and was told by nobody
+pub record IsLawfulLocator (locator : Locator) : Type 0 where
+  pub m_priority : locator.m_priority ≡ 255
+  pub m_weight : locator.m_weight ≡ 0
+  pub local : locator.local ≡ false
+  pub probed : locator.probed ≡ false
+
+-- a static mapping; its locators stand in the order of the file, and have different addresses
+pub record IsLawfulMapping (mapping : Record) : Type 0 where
+  pub ttl : mapping.ttl ≡ 1440
+  pub action : mapping.action ≤ 7
+  pub version : mapping.version ≤ 4095
+  pub authoritative : mapping.authoritative ≡ true
+  pub few_locators : length mapping.locators ≤ 32
+  pub locators : All IsLawfulLocator mapping.locators
+  pub distinct : IsDistinct (eq_by_cmp addr_order) (map (λ locator. locator.addr) mapping.locators)
+
+-- an own locator of that family is up
+abbrev pub IsReachable : List OwnLocator → Addr → Type 0
+IsReachable locators addr = IsTrue (list_any (λ own. own.up && (width own.addr == width addr)) locators)
+
+-- settings in their ranges, limits and orders; a list that ascends strictly has no duplicates
+pub record IsLawful (settings : Settings) : Type 0 where
+  pub resolver : IfSome settings.resolver (IsReachable settings.locators)
+  pub ttl : (1 ≤ settings.ttl) × (settings.ttl ≤ 4294967294)
+  pub some_locators : 1 ≤ length settings.locators
+  pub few_locators : length settings.locators ≤ 32
+  pub locators : IsStrictlySortedBy addr_order (map (λ own. own.addr) settings.locators)
+  pub few_attachments : length settings.attachments ≤ 4096
+  pub attachments : All IsLawfulAttachment settings.attachments
+  pub vlans : IsStrictlySortedBy nat_cmp (map (λ attachment. attachment.vlan) settings.attachments)
+  pub few_databases : length settings.databases ≤ 64
+  pub databases : All IsLawfulDatabase settings.databases
+  pub prefixes : IsStrictlySortedBy eid_order (map (λ database. database.eid) settings.databases)
+  pub few_mappings : length settings.mappings ≤ 65536
+  pub mappings : All IsLawfulMapping settings.mappings
+  pub eids : IsStrictlySortedBy eid_order (map (λ mapping. mapping.eid) settings.mappings)

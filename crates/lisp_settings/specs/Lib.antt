@@ -1,0 +1,11 @@
+pub mod AddressText
+pub mod Fields
+pub mod Hex
+pub mod Home
+pub mod Lawful
+pub mod Lists
+pub mod Nonces
+pub mod Orders
+pub mod Places
+pub mod Settings
+pub mod Values

@@ -1,0 +1,165 @@
+-- The settings file, a TOML document: its keys, each in its turn, and the first fault.
+use Rattle.std.specs.Prelude.{◌^◌, ℕ, true, false, nat_le, nat_lt, codes, List, [], ◌∷◌, length, replicate, Option, Some, None, Result, Ok, Err, if◌then◌else◌}
+use Rattle.std.specs.Ordering.{nat_cmp}
+use Rattle.std.specs.Str.{is_utf8}
+use Rattle.std.proofs.lemmas.Bool.{ltb-true}
+use Rattle.toml.specs.Data.{Members, as_bool}
+use Rattle.toml.specs.Parse.{parse_document}
+use Rattle.ip_headers.specs.declared.prefix.Prefix.{Prefix}
+use Rattle.mapping_records.specs.declared.eid.Eid.{Eid}
+use Rattle.mapping_records.specs.declared.record.Locator.{Locator}
+use Rattle.mapping_records.specs.declared.record.Record.{Record}
+use Rattle.lisp_settings.specs.AddressText.{some_if}
+use Rattle.lisp_settings.specs.Fields.{◌>>=◌, only_keys, taken, required, optional}
+use Rattle.lisp_settings.specs.Lists.{any_number, one_or_more, ascending, nonces_at}
+use Rattle.lisp_settings.specs.Orders.{addr_order, eid_order}
+use Rattle.lisp_settings.specs.Values.{number, address, prefix, seed, off, nothing}
+use Rattle.lisp_settings.specs.declared.fault.SettingsFault.{SettingsFault}
+use Rattle.lisp_settings.specs.declared.fault.SettingsFault.TheVariants.{NotToml, TooLong}
+use Rattle.lisp_settings.specs.declared.settings.OwnLocator.{OwnLocator}
+use Rattle.lisp_settings.specs.declared.settings.Attachment.{Attachment}
+use Rattle.lisp_settings.specs.declared.settings.Database.{Database}
+use Rattle.lisp_settings.specs.declared.settings.Settings.{Settings}
+
+-- a table of `locator`
+abbrev pub locator_in : Members → Result OwnLocator SettingsFault
+locator_in table = do
+  known ← only_keys (codes "address" ∷ codes "priority" ∷ codes "weight" ∷ codes "up" ∷ []) table
+  addr ← required (codes "address") address table
+  priority ← optional (codes "priority") (number 0 255) 1 table
+  weight ← optional (codes "weight") (number 0 255) 1 table
+  up ← optional (codes "up") as_bool true table
+  Ok (record { addr = addr; priority = priority; weight = weight; up = up })
+
+-- a table of `attachment`
+abbrev pub attachment_in : Members → Result Attachment SettingsFault
+attachment_in table = do
+  known ← only_keys (codes "vlan" ∷ codes "iid" ∷ []) table
+  vlan ← required (codes "vlan") (number 0 4095) table
+  iid ← required (codes "iid") (number 0 16777215) table
+  Ok (record { vlan = vlan; iid = iid })
+
+-- an EID, whose instance has 24 bits
+abbrev pub eid_of : ℕ → Prefix → Option Eid
+eid_of iid prefix = some_if (nat_lt iid (2 ^ 24)) (λ below. record { iid = iid; prefix = prefix; in_range = ltb-true iid (2 ^ 24) below })
+
+-- the EID at the keys `iid` and `prefix`
+abbrev pub eid_in : Members → Result Eid SettingsFault
+eid_in table = do
+  iid ← required (codes "iid") (number 0 16777215) table
+  prefix ← required (codes "prefix") prefix table
+  taken (codes "iid") (eid_of iid prefix)
+
+-- the Map-Version at the key `version`: only 0, as long as others aren't built
+abbrev pub version_in : Members → Result ℕ SettingsFault
+version_in table = optional (codes "version") (number 0 0) 0 table
+
+-- a table of `database`
+abbrev pub database_in : Members → Result Database SettingsFault
+database_in table = do
+  known ← only_keys (codes "iid" ∷ codes "prefix" ∷ codes "version" ∷ []) table
+  eid ← eid_in table
+  version ← version_in table
+  Ok (record { eid = eid; version = version })
+
+-- the locator of another site
+abbrev pub locator_of : OwnLocator → Locator
+locator_of own = record {
+  addr = own.addr;
+  priority = own.priority;
+  weight = own.weight;
+  m_priority = 255;
+  m_weight = 0;
+  local = false;
+  probed = false;
+  reachable = own.up;
+}
+
+-- a table of a mapping's `locator`
+abbrev pub mapped_in : Members → Result Locator SettingsFault
+mapped_in table = do
+  own ← locator_in table
+  Ok (locator_of own)
+
+-- the tables of a mapping's `locator`, which stay in the order of the file
+abbrev pub mapped_locators : Members → Result (List Locator) SettingsFault
+mapped_locators table = any_number (codes "locator") mapped_in (λ locator. locator.addr) addr_order 32 table
+
+-- a table of `mapping`
+abbrev pub mapping_in : Members → Result Record SettingsFault
+mapping_in table = do
+  known ← only_keys (codes "iid" ∷ codes "prefix" ∷ codes "version" ∷ codes "action" ∷ codes "locator" ∷ []) table
+  eid ← eid_in table
+  version ← version_in table
+  action ← optional (codes "action") (number 0 7) 0 table
+  locators ← mapped_locators table
+  Ok (record { ttl = 1440; action = action; authoritative = true; version = version; eid = eid; locators = locators })
+
+-- the tables of `locator`
+abbrev pub own_locators : Members → Result (List OwnLocator) SettingsFault
+own_locators top = do
+  locators ← one_or_more (codes "locator") locator_in (λ locator. locator.addr) addr_order 32 top
+  Ok (ascending (λ locator. locator.addr) addr_order locators)
+
+-- the tables of `attachment`
+abbrev pub attachments : Members → Result (List Attachment) SettingsFault
+attachments top = do
+  attachments ← any_number (codes "attachment") attachment_in (λ attachment. attachment.vlan) nat_cmp 4096 top
+  Ok (ascending (λ attachment. attachment.vlan) nat_cmp attachments)
+
+-- the tables of `database`
+abbrev pub databases : Members → Result (List Database) SettingsFault
+databases top = do
+  databases ← any_number (codes "database") database_in (λ database. database.eid) eid_order 64 top
+  Ok (ascending (λ database. database.eid) eid_order databases)
+
+-- the tables of `mapping`
+abbrev pub mappings : Members → Result (List Record) SettingsFault
+mappings top = do
+  mappings ← any_number (codes "mapping") mapping_in (λ mapping. mapping.eid) eid_order 65536 top
+  Ok (ascending (λ mapping. mapping.eid) eid_order mappings)
+
+-- the keys of the top table
+abbrev pub top_keys : List (List ℕ)
+top_keys =
+    codes "seed" ∷ codes "nonces" ∷ codes "resolver" ∷ codes "ttl" ∷ codes "probe" ∷ codes "echo" ∷ codes "locator"
+    ∷ codes "attachment" ∷ codes "database" ∷ codes "mapping" ∷ []
+
+-- the settings in the top table
+abbrev pub settings_in : Members → Result Settings SettingsFault
+settings_in top = do
+  known ← only_keys top_keys top
+  seed ← optional (codes "seed") seed (replicate 32 0) top
+  nonces ← nonces_at (codes "nonces") 4096 top
+  resolver ← optional (codes "resolver") nothing None top
+  ttl ← optional (codes "ttl") (number 1 4294967294) 1440 top
+  probe ← optional (codes "probe") off false top
+  echo ← optional (codes "echo") off false top
+  locators ← own_locators top
+  attachments ← attachments top
+  databases ← databases top
+  mappings ← mappings top
+  Ok (record {
+    seed = seed;
+    nonces = nonces;
+    resolver = resolver;
+    ttl = ttl;
+    probe = probe;
+    echo = echo;
+    locators = locators;
+    attachments = attachments;
+    databases = databases;
+    mappings = mappings;
+  })
+
+-- the settings in a document
+abbrev pub settings_from : Option Members → Result Settings SettingsFault
+settings_from (Some top) = settings_in top
+settings_from None = Err NotToml
+
+-- the settings in a text, or its first fault
+unfoldable pub settings_of : List ℕ → Result Settings SettingsFault
+settings_of text =
+    if nat_le (length text) 16777216
+    then settings_from (if is_utf8 text then parse_document text else None)
+    else Err TooLong

@@ -1,0 +1,55 @@
+-- The values of a settings file.
+use Rattle.std.specs.Prelude.{ℕ, ℤ, pos, negsuc, Bool, true, false, ◌&&◌, nat_le, List, Option, Some, None, is_some, if◌then◌else◌}
+use Rattle.toml.specs.Data.{Data, Items, no_items, item, as_str, as_integer, as_bool, as_array, as_table}
+use Rattle.ip_headers.specs.declared.addr.Addr.{Addr}
+use Rattle.ip_headers.specs.declared.prefix.Prefix.{Prefix}
+use Rattle.lisp_settings.specs.AddressText.{◌>>=◌, address_of, prefix_of}
+use Rattle.lisp_settings.specs.Hex.{hex_octets, hex_number}
+
+-- a whole number from the least to the greatest
+abbrev pub in_range : ℕ → ℕ → ℤ → Option ℕ
+in_range least greatest (pos n) = if nat_le least n && nat_le n greatest then Some n else None
+in_range least greatest (negsuc n) = None
+
+-- a whole number from the least to the greatest
+abbrev pub number : ℕ → ℕ → Data → Option ℕ
+number least greatest value = as_integer value >>= in_range least greatest
+
+-- a text with an address
+abbrev pub address : Data → Option Addr
+address value = as_str value >>= address_of
+
+-- a text with a prefix
+abbrev pub prefix : Data → Option Prefix
+prefix value = as_str value >>= prefix_of
+
+-- a text of 64 hexadecimal digits
+abbrev pub seed : Data → Option (List ℕ)
+seed value = as_str value >>= hex_octets 32
+
+-- a text of 16 hexadecimal digits
+abbrev pub nonce : Data → Option ℕ
+nonce value = as_str value >>= hex_number
+
+-- each item is a table
+abbrev pub are_tables : Items → Bool
+are_tables no_items = true
+are_tables (item value more) = is_some (as_table value) && are_tables more
+
+-- the items, where each is a table
+abbrev pub only_tables : Items → Option Items
+only_tables items = if are_tables items then Some items else None
+
+-- an array of tables
+abbrev pub tables : Data → Option Items
+tables value = as_array value >>= only_tables
+
+-- only false, as long as what the key turns on isn't built
+abbrev pub off : Data → Option Bool
+off value = do
+  on ← as_bool value
+  if on then None else Some false
+
+-- no value, as long as the key isn't built
+abbrev pub nothing : {A : Type 0} → Data → Option A
+nothing value = None

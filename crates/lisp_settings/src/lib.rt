@@ -1,0 +1,30 @@
+//! The settings of a router: its TOML file read exactly, or refused by its first fault; its site
+//! and its nonces.
+#![tactic(auto)]
+
+mod addresses;
+mod fault;
+mod fields;
+mod hex;
+mod items;
+mod lists;
+mod nonces;
+mod places;
+mod reading;
+mod settings;
+mod site;
+#[cfg(test)]
+mod tests;
+mod values;
+
+pub use fault::{Key, SettingsFault};
+pub use ip_headers::{Addr, Prefix};
+pub use mapping_records::{Eid, Locator, Locators, Record};
+pub use nonces::nonce_at;
+pub use octets::{Items, NoMemory, Octets};
+pub use reading::read_settings;
+pub use settings::{
+    Attachment, Attachments, Database, Databases, Nonces, OwnLocator, OwnLocators, Records,
+    Settings,
+};
+pub use site::home;

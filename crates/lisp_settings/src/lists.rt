@@ -1,0 +1,184 @@
+// Lists of tables at the keys of a table.
+ghost use Rattle.std.specs.Prelude.{◌≡◌, ◌≢◌, ℕ, IfOk, IfErr, OnOk, Result, Ok, Err, option_map, [], map};
+ghost use Rattle.std.specs.BTreeMap.{insert_entry};
+ghost use Rattle.std.specs.declared.cmp.Ordering.{Ordering};
+ghost use Rattle.toml.specs.Data.{Members, as_table, get_member, no_items};
+ghost use Rattle.toml.specs.View.{view, items_view, table_view};
+ghost use Rattle.lisp_settings.specs.Fields.{if_ok, taken, value_or};
+ghost use Rattle.lisp_settings.specs.Lists.{any_number, ascending, each, few_items, one_or_more, some_items};
+ghost use Rattle.lisp_settings.specs.Places.{within};
+ghost use Rattle.lisp_settings.specs.Values.{tables};
+ghost use Rattle.lisp_settings.specs.declared.fault.SettingsFault.{SettingsFault};
+ghost use Rattle.lisp_settings.specs.declared.fault.SettingsFault.TheVariants as fault;
+
+use crate::fault::{Key, SettingsFault};
+use crate::{fields, places, values};
+use octets::Items;
+use std::alloc::{AllocError, Global};
+use std::collections::{BTreeMap, BTreeSet};
+use toml::{Table, Value};
+
+/// An item of a list: a table, of which no two have one key.
+pub trait Item: Drop {
+    type Key: Ord + Drop;
+
+    ghost reads: { Members → Result Self SettingsFault };
+
+    ghost key: { Self → Self.Key };
+
+    ghost order: { Self.Key → Self.Key → Ordering };
+
+    /// The item in a table, or the first fault.
+    fn read(alloc: Global, table: &Table) -> Result<Self, SettingsFault>
+        ensures ok { IfOk result (λ item. reads (table_view table.now) ≡ Ok item) }
+        ensures err { IfErr result (λ e. e ≢ fault.Memory → reads (table_view table.now) ≡ Err e) };
+
+    fn key(&self) -> Self::Key
+        ensures { result ≡ key self.now };
+
+    ghost orders: { (a : Self.Key) (b : Self.Key) → Self.Key.cmp a b ≡ order a b };
+}
+
+/// The items of a list, in the order of the file.
+fn read_items<T: Item>(alloc: Global, list: &str, tables: &[Value]) -> Result<Vec<T>, SettingsFault>
+    ensures ok { IfOk result (λ items.
+        each list.now T.reads T.key T.order [] (items_view tables.now) ≡ Ok items.items) }
+    ensures err { IfErr result (λ e. e ≢ fault.Memory
+        → each list.now T.reads T.key T.order [] (items_view tables.now) ≡ Err e) }
+{
+    let mut seen = BTreeSet::new(alloc);
+    let mut items = Vec::new(alloc);
+    for value in tables {
+        let item: T = read_item(alloc, list, items.len(), value)?;
+        if !seen.insert(item.key())? {
+            let key = places::item_key(alloc, list, items.len())?;
+            return Err(SettingsFault::Duplicate(key));
+        }
+        items.push(item)?;
+    }
+    Ok(items)
+}
+
+/// The item at a position of a list.
+fn read_item<T: Item>(
+    alloc: Global,
+    list: &str,
+    position: usize,
+    value: &Value,
+) -> Result<T, SettingsFault>
+    ensures ok { IfOk result (λ item.
+        if_ok (λ table. within list.now position (T.reads table))
+        (taken list.now (as_table (view value.now)))
+        ≡ Ok item) }
+    ensures err { IfErr result (λ e. e ≢ fault.Memory
+        → if_ok (λ table. within list.now position (T.reads table))
+        (taken list.now (as_table (view value.now)))
+        ≡ Err e) }
+{
+    let Some(table) = value.as_table() else {
+        return Err(SettingsFault::BadValue(Key::copied(alloc, list)?));
+    };
+    match T::read(alloc, table) {
+        Ok(item) => Ok(item),
+        Err(inner) => Err(places::within(alloc, list, position, inner)?),
+    }
+}
+
+/// Items in ascending order of their keys, which differ.
+pub fn ascending<T: Item>(alloc: Global, items: Vec<T>) -> Result<Items<T>, SettingsFault>
+    ensures ok { IfOk result (λ sorted. sorted ≡ ascending T.key T.order items.items) }
+    ensures err { IfErr result (λ e. e ≡ fault.Memory) }
+{
+    Ok(Items::from_vec(sorted(alloc, items)?))
+}
+
+fn sorted<T: Item>(alloc: Global, items: Vec<T>) -> Result<Vec<T>, AllocError>
+    ensures { IfOk result (λ sorted. sorted.items ≡ ascending T.key T.Key.cmp items.items) }
+{
+    let mut sorted = BTreeMap::new(alloc);
+    for item in items {
+        sorted.insert(item.key(), item)?;
+    }
+    let in_order = sorted.into_values().collect(alloc)?;
+    Ok(in_order)
+}
+
+/// The tables of a list, none where the key isn't there.
+fn tables_at<'a>(alloc: Global, table: &'a Table, list: &str) -> Result<&'a [Value], SettingsFault>
+    ensures ok { IfOk result (λ items.
+        value_or list.now tables no_items (get_member list.now (table_view table.now))
+        ≡ Ok (items_view items.now)) }
+    ensures err { IfErr result (λ e. e ≢ fault.Memory
+        → value_or list.now tables no_items (get_member list.now (table_view table.now)) ≡ Err e) }
+{
+    match fields::value_at(table, list) {
+        Some(value) => fields::taken(alloc, list, values::tables(value)),
+        None => Ok(&[]),
+    }
+}
+
+/// Refuses a list with no items.
+fn some_items(alloc: Global, list: &str, items: &[Value]) -> Result<(), SettingsFault>
+    ensures ok { OnOk result (some_items list.now (items_view items.now)
+        ≡ Ok (items_view items.now)) }
+    ensures err { IfErr result (λ e. e ≢ fault.Memory
+        → some_items list.now (items_view items.now) ≡ Err e) }
+{
+    if items.len() == 0 {
+        return Err(SettingsFault::Missing(Key::copied(alloc, list)?));
+    }
+    Ok(())
+}
+
+/// Refuses a list with more items than that.
+pub fn few_items(
+    alloc: Global,
+    list: &str,
+    most: usize,
+    items: &[Value],
+) -> Result<(), SettingsFault>
+    ensures ok { OnOk result (few_items list.now most (items_view items.now)
+        ≡ Ok (items_view items.now)) }
+    ensures err { IfErr result (λ e. e ≢ fault.Memory
+        → few_items list.now most (items_view items.now) ≡ Err e) }
+{
+    if items.len() > most {
+        return Err(SettingsFault::TooMany(Key::copied(alloc, list)?));
+    }
+    Ok(())
+}
+
+/// The items of a list, in the order of the file. None of them is needed.
+pub fn any_number<T: Item>(
+    alloc: Global,
+    table: &Table,
+    list: &str,
+    most: usize,
+) -> Result<Vec<T>, SettingsFault>
+    ensures ok { IfOk result (λ items.
+        any_number list.now T.reads T.key T.order most (table_view table.now) ≡ Ok items.items) }
+    ensures err { IfErr result (λ e. e ≢ fault.Memory
+        → any_number list.now T.reads T.key T.order most (table_view table.now) ≡ Err e) }
+{
+    let items = tables_at(alloc, table, list)?;
+    few_items(alloc, list, most, items)?;
+    read_items(alloc, list, items)
+}
+
+/// The items of a list, in the order of the file. One at least is needed.
+pub fn one_or_more<T: Item>(
+    alloc: Global,
+    table: &Table,
+    list: &str,
+    most: usize,
+) -> Result<Vec<T>, SettingsFault>
+    ensures ok { IfOk result (λ items.
+        one_or_more list.now T.reads T.key T.order most (table_view table.now) ≡ Ok items.items) }
+    ensures err { IfErr result (λ e. e ≢ fault.Memory
+        → one_or_more list.now T.reads T.key T.order most (table_view table.now) ≡ Err e) }
+{
+    let items = tables_at(alloc, table, list)?;
+    some_items(alloc, list, items)?;
+    few_items(alloc, list, most, items)?;
+    read_items(alloc, list, items)
+}

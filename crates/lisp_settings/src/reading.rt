@@ -1,0 +1,136 @@
+// The settings in a text.
+ghost use Rattle.std.specs.Prelude.{◌≡◌, ◌≢◌, IfOk, IfErr, Ok, Err, Option, None, codes, replicate};
+ghost use Rattle.ip_headers.specs.declared.addr.Addr.{Addr};
+ghost use Rattle.toml.specs.View.{table_view};
+ghost use Rattle.lisp_settings.specs.Fields.{optional};
+ghost use Rattle.lisp_settings.specs.Lawful.{IsLawful};
+ghost use Rattle.lisp_settings.specs.Settings.{attachments, databases, mappings, own_locators, settings_in, settings_of};
+ghost use Rattle.lisp_settings.specs.Values.{nothing, seed};
+ghost use Rattle.lisp_settings.specs.declared.fault.SettingsFault.TheVariants as fault;
+
+use crate::fault::{Key, SettingsFault};
+use crate::fields::{number_or, off_at, only_keys, taken, value_at};
+use crate::items::MOST_LOCATORS;
+use crate::lists::{any_number, ascending, one_or_more};
+use crate::nonces::nonces_at;
+use crate::settings::{
+    Attachment, Attachments, Database, Databases, OwnLocator, OwnLocators, Records, Settings,
+};
+use crate::values;
+use ip_headers::Addr;
+use mapping_records::Record;
+use std::alloc::Global;
+use toml::Table;
+
+/// The most octets that the text may have.
+const MOST_OCTETS: usize = 16_777_216;
+
+const MOST_ATTACHMENTS: usize = 4096;
+
+const MOST_DATABASES: usize = 64;
+
+const MOST_MAPPINGS: usize = 65_536;
+
+/// The settings in a text, or its first fault.
+pub fn read_settings(alloc: Global, text: &[u8]) -> Result<Settings, SettingsFault>
+    ensures ok { IfOk result (λ settings. settings_of text.now ≡ Ok settings) }
+    ensures err { IfErr result (λ e. e ≢ fault.Memory → settings_of text.now ≡ Err e) }
+    ensures lawful { IfOk result (λ settings. IsLawful settings) }
+{
+    if text.len() > MOST_OCTETS {
+        return Err(SettingsFault::TooLong);
+    }
+    match toml::table_from_slice(alloc, text) {
+        Ok(top) => read_top(alloc, &top),
+        Err(error) if error.is_memory() => Err(SettingsFault::Memory),
+        Err(_) => Err(SettingsFault::NotToml),
+    }
+}
+
+fn read_top(alloc: Global, top: &Table) -> Result<Settings, SettingsFault>
+    ensures ok { IfOk result (λ settings. settings_in (table_view top.now) ≡ Ok settings) }
+    ensures err { IfErr result (λ e. e ≢ fault.Memory → settings_in (table_view top.now) ≡ Err e) }
+{
+    let known = [
+        "seed",
+        "nonces",
+        "resolver",
+        "ttl",
+        "probe",
+        "echo",
+        "locator",
+        "attachment",
+        "database",
+        "mapping",
+    ];
+    only_keys(alloc, top, &known)?;
+    Ok(Settings {
+        seed: seed_at(alloc, top)?,
+        nonces: nonces_at(alloc, top)?,
+        resolver: resolver_at(alloc, top)?,
+        ttl: number_or(alloc, top, "ttl", (1, 4_294_967_294), 1440)?,
+        probe: off_at(alloc, top, "probe")?,
+        echo: off_at(alloc, top, "echo")?,
+        locators: own_locators(alloc, top)?,
+        attachments: attachments(alloc, top)?,
+        databases: databases(alloc, top)?,
+        mappings: mappings(alloc, top)?,
+    })
+}
+
+fn seed_at(alloc: Global, top: &Table) -> Result<[u8; 32], SettingsFault>
+    ensures ok { IfOk result (λ read.
+        optional (codes "seed") seed (replicate 32 0) (table_view top.now) ≡ Ok read) }
+    ensures err { IfErr result (λ e. e ≢ fault.Memory
+        → optional (codes "seed") seed (replicate 32 0) (table_view top.now) ≡ Err e) }
+{
+    match value_at(top, "seed") {
+        Some(value) => taken(alloc, "seed", values::seed(value)),
+        None => Ok([0; 32]),
+    }
+}
+
+/// No resolver: Map-Requests aren't built yet, so its key has no value that is taken.
+fn resolver_at(alloc: Global, top: &Table) -> Result<Option<Addr>, SettingsFault>
+    ensures ok { IfOk result (λ read.
+        optional (codes "resolver") nothing None (table_view top.now) ≡ Ok read) }
+    ensures err { IfErr result (λ e. e ≢ fault.Memory
+        → optional {A = Option Addr} (codes "resolver") nothing None (table_view top.now) ≡ Err e) }
+{
+    match value_at(top, "resolver") {
+        Some(_) => Err(SettingsFault::BadValue(Key::copied(alloc, "resolver")?)),
+        None => Ok(None),
+    }
+}
+
+fn own_locators(alloc: Global, top: &Table) -> Result<OwnLocators, SettingsFault>
+    ensures ok { IfOk result (λ items. own_locators (table_view top.now) ≡ Ok items) }
+    ensures err { IfErr result (λ e. e ≢ fault.Memory → own_locators (table_view top.now) ≡ Err e) }
+{
+    let locators = one_or_more::<OwnLocator>(alloc, top, "locator", MOST_LOCATORS)?;
+    ascending(alloc, locators)
+}
+
+fn attachments(alloc: Global, top: &Table) -> Result<Attachments, SettingsFault>
+    ensures ok { IfOk result (λ items. attachments (table_view top.now) ≡ Ok items) }
+    ensures err { IfErr result (λ e. e ≢ fault.Memory → attachments (table_view top.now) ≡ Err e) }
+{
+    let attachments = any_number::<Attachment>(alloc, top, "attachment", MOST_ATTACHMENTS)?;
+    ascending(alloc, attachments)
+}
+
+fn databases(alloc: Global, top: &Table) -> Result<Databases, SettingsFault>
+    ensures ok { IfOk result (λ items. databases (table_view top.now) ≡ Ok items) }
+    ensures err { IfErr result (λ e. e ≢ fault.Memory → databases (table_view top.now) ≡ Err e) }
+{
+    let databases = any_number::<Database>(alloc, top, "database", MOST_DATABASES)?;
+    ascending(alloc, databases)
+}
+
+fn mappings(alloc: Global, top: &Table) -> Result<Records, SettingsFault>
+    ensures ok { IfOk result (λ items. mappings (table_view top.now) ≡ Ok items) }
+    ensures err { IfErr result (λ e. e ≢ fault.Memory → mappings (table_view top.now) ≡ Err e) }
+{
+    let mappings = any_number::<Record>(alloc, top, "mapping", MOST_MAPPINGS)?;
+    ascending(alloc, mappings)
+}
