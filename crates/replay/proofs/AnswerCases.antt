@@ -1,34 +1,42 @@
 -- The answer, case by case, and how steps of a run make it.
-use Rattle.std.proofs.Common.{◌≡◌, ℕ, List, [], ◌∷◌, ◌++◌, length, map, Bool, true, false, Option, Some, None, Result, Ok, Err, append_assoc, refl, sym, ap, subst, ◌∙◌}
-use Rattle.std.specs.Option.{option_map, IfSome, IsSomeAnd}
+use Rattle.octets.specs.Rules.{first_failing}
+use Rattle.std.proofs.Common.{◌≡◌, ℕ, List, [], ◌∷◌, ◌++◌, length, Option, Some, None, Result, Ok, Err, append_assoc, refl, sym, ap, subst, ◌∙◌}
+use Rattle.std.specs.Option.{option_map, IfSome}
 use Rattle.std.specs.Prelude.{codes}
 use Rattle.std.specs.Result.{IfOk, OnOk}
 use Rattle.std.proofs.lemmas.List.{append-nil, map-append}
-use Rattle.octets.specs.Rules.{first_failing}
 use Rattle.desk.specs.declared.file.NamedFile.{NamedFile}
-use Rattle.desk.specs.World.{World, Shown, content, left_of, found_at, changed_at, extended, after_say, after_make, after_write, shown, shown_of}
-use Rattle.desk.proofs.Entries.{changed_at-more}
-use Rattle.capture_io.specs.Capture.{header_rules, begin}
+use Rattle.desk.specs.World.{World, Shown, content, left_of, found_at, extended, after_say, after_make, after_write, shown, shown_of, changed_at}
+use Rattle.desk.proofs.Entries.{changed_at-more, changed_at-same}
+use Rattle.capture_io.specs.Capture.{begin, header_rules}
+use Rattle.capture_io.specs.Frame.{Frame}
 use Rattle.capture_io.specs.Frames.{Run, read_on}
 use Rattle.capture_io.specs.Output.{out_header}
 use Rattle.capture_io.specs.declared.format.Format.{Format}
-use Rattle.replay.specs.Answer.{Answer, answer, after_words, after_settings, after_header, replayed, told_off, status_of, last_line, lines_of, records_of, written_of, made_files, Gives, Leaves}
+use Rattle.replay.specs.Answer.{Answer, answer, after_words, after_settings, replayed, told_off, status_of, last_line, entries_of, replaying, made_files, Gives, after_header, messages_shown, show_end}
+use Rattle.replay.specs.Outputs.{lines_of, octets_of, written_of}
 use Rattle.replay.specs.Runs.{Ends, with_run}
-use Rattle.replay.specs.Settings.{settings_of}
-use Rattle.replay.specs.Words.{Names, names_of}
+use Rattle.lisp_settings.specs.Settings.{settings_of}
+use Rattle.replay.specs.Show.{showing}
+use Rattle.replay.specs.Words.{Names, Replay, Show, command_of}
 use Rattle.replay.specs.declared.frames.Ending.{Ending}
-use Rattle.replay.specs.declared.settings.Settings.{Settings}
+use Rattle.lisp_settings.specs.declared.settings.Settings.{Settings}
 use Rattle.replay.specs.declared.status.Status.{Status}
 use Rattle.replay.specs.declared.status.Status.TheVariants as status
 
-pub answer-usage : (words : List (List ℕ)) (files : List NamedFile) → names_of words ≡ None → answer words files ≡ told_off status.Usage (codes "usage\n")
+pub answer-usage : (words : List (List ℕ)) (files : List NamedFile) → command_of words ≡ None → answer words files ≡ told_off status.Usage (codes "usage\n")
 unfolding answer
 answer-usage words files none = ap (after_words files) none
 
-pub answer-settings : (words : List (List ℕ)) (files : List NamedFile) (n : Names) (s : Option Settings) → names_of words ≡ Some n → s ≡ settings_of (content n.settings files)
-    → answer words files ≡ after_settings n.output (content n.input files) s
+pub answer-replay : (words : List (List ℕ)) (files : List NamedFile) (n : Names) → command_of words ≡ Some (Replay n)
+    → answer words files ≡ after_settings n.output (content n.input files) (settings_of (content n.settings files))
 unfolding answer
-answer-settings words files n s some is = ap (after_words files) some ∙ ap (after_settings n.output (content n.input files)) (sym is)
+answer-replay words files n is = ap (after_words files) is
+
+pub answer-show : (words : List (List ℕ)) (files : List NamedFile) (input : List ℕ) → command_of words ≡ Some (Show input)
+    → answer words files ≡ after_header messages_shown (content input files) (first_failing (header_rules (content input files)))
+unfolding answer
+answer-show words files input is = ap (after_words files) is
 
 -- the same answer by another name
 pub gives_as : (a b : Answer) (s : Status) (old : Shown) (new : Option Shown) → a ≡ b → Gives a s old new → Gives b s old new
@@ -53,32 +61,32 @@ output_made id name w fresh =
 
 -- the frames after it
 run_shown : (settings : Settings) (id : ℕ) (name : List ℕ) (run : Run) (w : World) → found_at id w.writers ≡ None
-    → with_run settings id run (shown_of (after_write id out_header (after_make id name w)))
-    ≡ record (shown_of w) { said = w.said ++ lines_of settings run.frames; writers = w.writers ++ (id, record { name = name; octets = out_header ++ records_of settings run.frames }) ∷ [] }
+    → with_run (replaying settings) id run (shown_of (after_write id out_header (after_make id name w)))
+    ≡ record (shown_of w) { said = w.said ++ lines_of (replaying settings) run.frames; writers = w.writers ++ (id, record { name = name; octets = out_header ++ octets_of (replaying settings) run.frames }) ∷ [] }
 run_shown settings id name run w fresh =
-    ap (with_run settings id run) (output_made id name w fresh)
-    ∙ ap (λ (writers : List (ℕ × NamedFile)). record (shown_of w) { said = w.said ++ lines_of settings run.frames; writers = writers }) (changed_at-more id (extended (records_of settings run.frames)) (record { name = name; octets = out_header }) w.writers fresh)
+    ap (with_run (replaying settings) id run) (output_made id name w fresh)
+    ∙ ap (λ (writers : List (ℕ × NamedFile)). record (shown_of w) { said = w.said ++ lines_of (replaying settings) run.frames; writers = writers }) (changed_at-more id (extended (octets_of (replaying settings) run.frames)) (record { name = name; octets = out_header }) w.writers fresh)
 
 -- what the steps of a replay leave is its answer
 pub gives_replayed : (settings : Settings) (id : ℕ) (name : List ℕ) (run : Run) (w : World) (mid new : Option World) (ending : Ending) (s : Status)
-    → found_at id w.writers ≡ None → Ends settings run ending
-    → shown mid ≡ Some (with_run settings id run (shown_of (after_write id out_header (after_make id name w))))
-    → new ≡ option_map (after_say (last_line ending.fault ending.frames ending.written)) mid → s ≡ status_of ending.fault
+    → found_at id w.writers ≡ None → Ends (replaying settings) run ending
+    → shown mid ≡ Some (with_run (replaying settings) id run (shown_of (after_write id out_header (after_make id name w))))
+    → new ≡ option_map (after_say (last_line (entries_of settings) ending.fault ending.frames ending.written)) mid → s ≡ status_of ending.fault
     → Gives (replayed settings name run) s (shown_of w) (shown new)
 unfolding replayed
 gives_replayed settings id name run w None new ending s fresh ends frames said is = cc
 gives_replayed settings id name run w (Some v) new ending s fresh ends frames said is =
-    let file : NamedFile = record { name = name; octets = out_header ++ records_of settings run.frames } in
-    let aim : Shown = record (shown_of w) { said = w.said ++ lines_of settings run.frames; writers = w.writers ++ (id, file) ∷ [] } in
+    let file : NamedFile = record { name = name; octets = out_header ++ octets_of (replaying settings) run.frames } in
+    let aim : Shown = record (shown_of w) { said = w.said ++ lines_of (replaying settings) run.frames; writers = w.writers ++ (id, file) ∷ [] } in
     let is_aim : shown_of v ≡ aim = cc (frames, run_shown settings id name run w fresh) in
-    let line : last_line ending.fault ending.frames ending.written ≡ last_line run.fault (length run.frames) (written_of settings run.frames) = rw (ends.fault, ends.frames, ends.written) refl in
+    let line : last_line (entries_of settings) ending.fault ending.frames ending.written ≡ last_line (entries_of settings) run.fault (length run.frames) (written_of (replaying settings) run.frames) = rw (ends.fault, ends.frames, ends.written) refl in
     let status : s ≡ status_of run.fault = is ∙ ap status_of ends.fault in
     rw said (record {
       status = status;
       left = record {
         files = ap (λ (x : Shown). x.files) is_aim;
-        said = ap (λ (x : Shown). x.said ++ last_line ending.fault ending.frames ending.written) is_aim ∙ append_assoc w.said (lines_of settings run.frames) _
-            ∙ ap (λ (l : List ℕ). w.said ++ (lines_of settings run.frames ++ l)) line;
+        said = ap (λ (x : Shown). x.said ++ last_line (entries_of settings) ending.fault ending.frames ending.written) is_aim ∙ append_assoc w.said (lines_of (replaying settings) run.frames) _
+            ∙ ap (λ (l : List ℕ). w.said ++ (lines_of (replaying settings) run.frames ++ l)) line;
         made = ap (λ (x : Shown). made_files x.writers) is_aim ∙ map-append (λ (x : ℕ × NamedFile). x.1) w.writers ((id, file) ∷ []);
       };
     })
@@ -86,9 +94,9 @@ gives_replayed settings id name run w (Some v) new ending s fresh ends frames sa
 -- the same, over what the desk tells
 pub frames_answered : (settings : Settings) (id reader : ℕ) (format : Format) (name : List ℕ) (old made now new : Option World) (ending : Ending) (s : Status)
     → IfSome old (λ w. found_at id w.writers ≡ None) → made ≡ option_map (λ w. after_write id out_header (after_make id name w)) old
-    → IfSome made (λ w. Ends settings (read_on format begin (left_of reader w)) ending)
-    → IfSome made (λ w. shown now ≡ Some (with_run settings id (read_on format begin (left_of reader w)) (shown_of w)))
-    → new ≡ option_map (after_say (last_line ending.fault ending.frames ending.written)) now → s ≡ status_of ending.fault
+    → IfSome made (λ w. Ends (replaying settings) (read_on format begin (left_of reader w)) ending)
+    → IfSome made (λ w. shown now ≡ Some (with_run (replaying settings) id (read_on format begin (left_of reader w)) (shown_of w)))
+    → new ≡ option_map (after_say (last_line (entries_of settings) ending.fault ending.frames ending.written)) now → s ≡ status_of ending.fault
     → IfSome old (λ w. Gives (replayed settings name (read_on format begin (left_of reader w))) s (shown_of w) (shown new))
 frames_answered settings id reader format name None made now new ending s fresh makes ends frames said is = tt
 frames_answered settings id reader format name (Some w) made now new ending s fresh makes ends frames said is =
@@ -98,3 +106,46 @@ frames_answered settings id reader format name (Some w) made now new ending s fr
 pub ok_both : {T E : Type 0} (r : Result T E) {P R : T → Type 0} {Q : Type 0} → IfOk r P → OnOk r Q → ((x : T) → P x → Q → R x) → IfOk r R
 ok_both (Ok x) p q both = both x p q
 ok_both (Err e) p q both = tt
+
+-- showing writes nothing
+octets_of-showing : (frames : List Frame) → octets_of showing frames ≡ []
+octets_of-showing [] = refl
+octets_of-showing (frame ∷ frames) = octets_of-showing frames
+
+with_run-showing : (id : ℕ) (run : Run) (s : Shown) → with_run showing id run s ≡ record s { said = s.said ++ lines_of showing run.frames }
+with_run-showing id run s =
+    let shows : List (ℕ × NamedFile) → Shown = λ writers. record s { said = s.said ++ lines_of showing run.frames; writers = writers } in
+    ap (λ (o : List ℕ). shows (changed_at id (extended o) s.writers)) (octets_of-showing run.frames)
+    ∙ ap shows (changed_at-same id (extended []) s.writers (λ file. ap (λ (o : List ℕ). record file { octets = o }) (append-nil file.octets)))
+
+-- what the steps of a show leave is its answer
+gives_shown : (id : ℕ) (run : Run) (w : World) (mid new : Option World) (ending : Ending) (s : Status)
+    → Ends showing run ending → shown mid ≡ Some (with_run showing id run (shown_of w))
+    → new ≡ option_map (after_say (show_end ending.fault ending.frames)) mid → s ≡ status_of ending.fault
+    → Gives (messages_shown run) s (shown_of w) (shown new)
+unfolding messages_shown
+gives_shown id run w None new ending s ends frames said is = cc
+gives_shown id run w (Some v) new ending s ends frames said is =
+    let aim : Shown = record (shown_of w) { said = w.said ++ lines_of showing run.frames } in
+    let is_aim : shown_of v ≡ aim = cc (frames, with_run-showing id run (shown_of w)) in
+    let line : show_end ending.fault ending.frames ≡ show_end run.fault (length run.frames) = rw (ends.fault, ends.frames) refl in
+    let status : s ≡ status_of run.fault = is ∙ ap status_of ends.fault in
+    rw said (record {
+      status = status;
+      left = record {
+        files = ap (λ (x : Shown). x.files) is_aim;
+        said = ap (λ (x : Shown). x.said ++ show_end ending.fault ending.frames) is_aim ∙ append_assoc w.said (lines_of showing run.frames) _
+            ∙ ap (λ (l : List ℕ). w.said ++ (lines_of showing run.frames ++ l)) line;
+        made = ap (λ (x : Shown). made_files x.writers) is_aim ∙ sym (append-nil (made_files w.writers));
+      };
+    })
+
+-- the same, over what the desk tells
+pub messages_answered : (id reader : ℕ) (format : Format) (old now new : Option World) (ending : Ending) (s : Status)
+    → IfSome old (λ w. Ends showing (read_on format begin (left_of reader w)) ending)
+    → IfSome old (λ w. shown now ≡ Some (with_run showing id (read_on format begin (left_of reader w)) (shown_of w)))
+    → new ≡ option_map (after_say (show_end ending.fault ending.frames)) now → s ≡ status_of ending.fault
+    → IfSome old (λ w. Gives (messages_shown (read_on format begin (left_of reader w))) s (shown_of w) (shown new))
+messages_answered id reader format None now new ending s ends frames said is = tt
+messages_answered id reader format (Some w) now new ending s ends frames said is =
+    gives_shown id (read_on format begin (left_of reader w)) w now new ending s ends frames said is

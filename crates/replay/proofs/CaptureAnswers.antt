@@ -1,22 +1,20 @@
 -- The answer to a capture, by the first rule that its header fails.
-use Rattle.std.proofs.Common.{◌≡◌, ℕ, List, [], ◌∷◌, ◌++◌, drop, Bool, true, false, Option, Some, None, Result, Ok, Err, refl, sym, ap, subst, ◌∙◌}
+use Rattle.std.proofs.Common.{◌≡◌, ℕ, List, [], drop, false, Option, Some, None, Ok, Err, refl, sym, ap, ◌∙◌}
 use Rattle.std.specs.Option.{option_map, IfSome, unwrap_or}
 use Rattle.octets.specs.Rules.{first_failing}
 use Rattle.desk.specs.World.{World, Shown, content, left_of, found_at, after_open, after_read, after_say, shown, shown_of}
 use Rattle.desk.proofs.Entries.{found_at-more}
 use Rattle.desk.proofs.Reading.{left-after_read}
-use Rattle.capture_io.specs.Answers.{is_outside, is_outside_fault, unless}
+use Rattle.capture_io.specs.Answers.{is_outside, unless}
 use Rattle.capture_io.specs.Capture.{header_rules, format_of, begin}
-use Rattle.capture_io.specs.Frames.{capture, read_on}
+use Rattle.capture_io.specs.Frames.{Run, read_on}
 use Rattle.capture_io.specs.Reading.{Reading, started, beginning}
-use Rattle.capture_io.specs.declared.format.Format.{Format}
 use Rattle.capture_io.specs.declared.position.Position.{Position}
 use Rattle.capture_io.specs.declared.fault.CaptureFault.{CaptureFault}
 use Rattle.capture_io.specs.declared.fault.CaptureFault.TheVariants as fault
 use Rattle.capture_io.proofs.Runs.{capture-started}
-use Rattle.replay.specs.Answer.{Answer, after_header, replayed, told_off, Gives}
+use Rattle.replay.specs.Answer.{after_header, told_off, Gives, Answer}
 use Rattle.replay.specs.Lines.{fault_line}
-use Rattle.replay.specs.declared.settings.Settings.{Settings}
 use Rattle.replay.specs.declared.status.Status.{Status}
 use Rattle.replay.specs.declared.status.Status.TheVariants.{Capture}
 use Rattle.replay.proofs.AnswerCases.{gives_as, said_line, shown_stays}
@@ -53,13 +51,13 @@ shown-after_open id name None new opened = ap shown opened
 shown-after_open id name (Some w) new opened = ap shown opened
 
 -- a capture whose header obeys its rules
-pub capture_answered : (settings : Settings) (id : ℕ) (input output : List ℕ) (old mid now new : Option World) (r : Reading) (s : Status)
+pub capture_answered : (frames : Run → Answer) (id : ℕ) (input : List ℕ) (old mid now new : Option World) (r : Reading) (s : Status)
     → IfSome old (λ w. found_at id w.readers ≡ None) → mid ≡ option_map (after_open id input) old
     → IfSome mid (λ w. Ok r ≡ started id (left_of id w)) → now ≡ option_map (after_read id 24) mid → r ≡ beginning id r.format
-    → IfSome now (λ w. Gives (replayed settings output (read_on r.format begin (left_of r.id w))) s (shown_of w) (shown new))
-    → IfSome old (λ w. Gives (after_header settings output (content input w.files) (first_failing (header_rules (content input w.files)))) s (shown_of w) (shown new))
-capture_answered settings id input output None mid now new r s fresh opened is read fresh_reader gives = tt
-capture_answered settings id input output (Some w) mid now new r s fresh opened is read fresh_reader gives =
+    → IfSome now (λ w. Gives (frames (read_on r.format begin (left_of r.id w))) s (shown_of w) (shown new))
+    → IfSome old (λ w. Gives (after_header frames (content input w.files) (first_failing (header_rules (content input w.files)))) s (shown_of w) (shown new))
+capture_answered frames id input None mid now new r s fresh opened is read fresh_reader gives = tt
+capture_answered frames id input (Some w) mid now new r s fresh opened is read fresh_reader gives =
     let file = content input w.files in
     let left : left_of id (after_open id input w) ≡ file = left-opened id input w fresh in
     let begun : Ok r ≡ started id (left_of id (after_open id input w)) = rw opened at is in
@@ -67,22 +65,22 @@ capture_answered settings id input output (Some w) mid now new r s fresh opened 
     let none : None ≡ first_failing (header_rules file) = unless_none (first_failing (header_rules file)) r (beginning id (format_of file)) started_is in
     let after = after_read id 24 (after_open id input w) in
     let told : now ≡ Some after = read ∙ ap (option_map (after_read id 24)) opened in
-    let here : Gives (replayed settings output (read_on r.format begin (left_of r.id after))) s (shown_of w) (shown new) = rw told at gives in
+    let here : Gives (frames (read_on r.format begin (left_of r.id after))) s (shown_of w) (shown new) = rw told at gives in
     let rest : left_of r.id after ≡ drop 24 file = ap (λ (i : ℕ). left_of i after) (ap (λ (x : Reading). x.id) fresh_reader) ∙ left-after_read id 24 (after_open id input w) ∙ ap (drop 24) left in
     let run = ap (read_on r.format begin) rest ∙ ap (λ (p : Position). read_on r.format p (drop 24 file)) (sym (ap (λ (x : Reading). x.position) fresh_reader)) ∙ sym (capture-started id file r started_is) in
-    gives_as _ (after_header settings output file (first_failing (header_rules file))) s (shown_of w) (shown new)
-    (ap (replayed settings output) run ∙ ap (after_header settings output file) none) here
+    gives_as _ (after_header frames file (first_failing (header_rules file))) s (shown_of w) (shown new)
+    (ap frames run ∙ ap (after_header frames file) none) here
 
 -- a capture whose header fails one
-pub capture_refused : (settings : Settings) (id : ℕ) (input output : List ℕ) (old mid now new : Option World) (f : CaptureFault) (s : Status)
+pub capture_refused : (frames : Run → Answer) (id : ℕ) (input : List ℕ) (old mid now new : Option World) (f : CaptureFault) (s : Status)
     → IfSome old (λ w. found_at id w.readers ≡ None) → mid ≡ option_map (after_open id input) old
     → IfSome mid (λ w. Err f ≡ started id (left_of id w)) → shown now ≡ shown mid → new ≡ option_map (after_say (fault_line f)) now → s ≡ Capture
-    → IfSome old (λ w. Gives (after_header settings output (content input w.files) (first_failing (header_rules (content input w.files)))) s (shown_of w) (shown new))
-capture_refused settings id input output None mid now new f s fresh opened is same said status = tt
-capture_refused settings id input output (Some w) mid now new f s fresh opened is same said status =
+    → IfSome old (λ w. Gives (after_header frames (content input w.files) (first_failing (header_rules (content input w.files)))) s (shown_of w) (shown new))
+capture_refused frames id input None mid now new f s fresh opened is same said status = tt
+capture_refused frames id input (Some w) mid now new f s fresh opened is same said status =
     let file = content input w.files in
     let left : left_of id (after_open id input w) ≡ file = left-opened id input w fresh in
     let begun : Err f ≡ started id (left_of id (after_open id input w)) = rw opened at is in
     let some : Some f ≡ first_failing (header_rules file) = unless_some (first_failing (header_rules file)) f (beginning id (format_of file)) (begun ∙ ap (started id) left) in
     let gives = shown_stays (λ (o : Shown). Gives (told_off Capture (fault_line f)) Capture o (shown new)) (Some w) now (same ∙ shown-after_open id input (Some w) mid opened) (said_line Capture (fault_line f) now new said) in
-    rw status (gives_as (told_off Capture (fault_line f)) _ Capture (shown_of w) (shown new) (ap (after_header settings output file) some) gives)
+    rw status (gives_as (told_off Capture (fault_line f)) _ Capture (shown_of w) (shown new) (ap (after_header frames file) some) gives)

@@ -1,11 +1,8 @@
 pub mod AnswerCases
 pub mod Drops
-pub mod FieldLemmas
 pub mod FrameLoop
-pub mod LawfulLemmas
+pub mod MessageLemmas
 pub mod OutputLemmas
-pub mod PrefixLemmas
 pub mod Reading
-pub mod SettingsLemmas
-pub mod TextLemmas
+pub mod SiteLemmas
 pub mod CaptureAnswers

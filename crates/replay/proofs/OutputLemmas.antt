@@ -1,9 +1,9 @@
 -- What was said and written for a frame.
-use Rattle.std.proofs.Common.{◌≡◌, ℕ, List, [], ◌++◌, Option, Some, None, refl, sym, ap, ◌∙◌}
+use Rattle.std.proofs.Common.{◌≡◌, ℕ, List, [], ◌++◌, Option, Some, None, sym, ap, ◌∙◌}
 use Rattle.std.specs.Option.{option_map}
 use Rattle.std.proofs.lemmas.List.{append-nil}
 use Rattle.desk.specs.declared.file.NamedFile.{NamedFile}
-use Rattle.desk.specs.World.{World, after_say, after_write, changed_at, extended}
+use Rattle.desk.specs.World.{World, after_say, after_write, extended}
 use Rattle.desk.proofs.Entries.{changed_at-same}
 use Rattle.replay.specs.Steps.{after_outputs}
 

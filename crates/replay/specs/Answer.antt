@@ -1,5 +1,5 @@
 -- What a run answers, by its words and the files.
-use Rattle.std.specs.Prelude.{◌≡◌, ◌+◌, ℕ, Bool, true, false, List, [], ◌∷◌, ◌++◌, codes, length, map, Option, Some, None, IsSomeAnd}
+use Rattle.std.specs.Prelude.{◌≡◌, ℕ, Bool, true, false, List, [], ◌∷◌, ◌++◌, codes, length, map, Option, Some, None, Result, Ok, Err, IsSomeAnd, ◌≤◌, IfSome}
 use Rattle.octets.specs.Rules.{first_failing}
 use Rattle.desk.specs.declared.file.NamedFile.{NamedFile}
 use Rattle.desk.specs.World.{Shown, content}
@@ -8,15 +8,18 @@ use Rattle.capture_io.specs.Frames.{Run, capture}
 use Rattle.capture_io.specs.Capture.{header_rules}
 use Rattle.capture_io.specs.Output.{out_header, packet_record}
 use Rattle.capture_io.specs.declared.fault.CaptureFault.{CaptureFault}
-use Rattle.replay.specs.Lines.{frame_line, end_line, fault_line}
+use Rattle.replay.specs.Lines.{frame_line, count_line, end_line, fault_line, settings_line}
+use Rattle.replay.specs.Outputs.{Outputs, lines_of, octets_of, written_of}
 use Rattle.replay.specs.Router.{decide}
-use Rattle.replay.specs.Settings.{settings_of}
-use Rattle.replay.specs.Words.{Names, names_of}
-use Rattle.replay.specs.declared.settings.Settings.{Settings}
+use Rattle.lisp_settings.specs.Settings.{settings_of}
+use Rattle.lisp_settings.specs.declared.fault.SettingsFault.{SettingsFault}
+use Rattle.lisp_settings.specs.declared.settings.Settings.{Settings}
+use Rattle.replay.specs.Show.{showing}
+use Rattle.replay.specs.Words.{Command, Replay, Show, command_of}
 use Rattle.replay.specs.declared.status.Status.{Status}
 use Rattle.replay.specs.declared.status.Status.TheVariants.{Done, Usage, Settings as BadSettings, Capture, Host, Memory}
 use Rattle.replay.specs.declared.verdict.Verdict.{Verdict}
-use Rattle.replay.specs.declared.verdict.Verdict.TheVariants.{Own, Local, Encapsulated, Drop}
+use Rattle.replay.specs.declared.verdict.Verdict.TheVariants.{Encapsulated, Delivered, Native}
 
 -- a status, a report, and the file that was made, if one was
 pub record Answer : Type 0 where
@@ -27,7 +30,13 @@ pub record Answer : Type 0 where
 -- the packet that a verdict sends
 abbrev pub packet_of : Verdict → Option (List ℕ)
 packet_of (Encapsulated from to port packet) = Some packet
+packet_of (Delivered iid packet) = Some packet
+packet_of (Native packet) = Some packet
 packet_of _ = None
+
+-- the packet that it sends, if it sends one, fits a record
+abbrev pub FitsRecord : Verdict → Type 0
+FitsRecord verdict = IfSome (packet_of verdict) (λ packet. length packet ≤ 262144)
 
 -- how many packets it sends
 abbrev pub packets_if : Option (List ℕ) → ℕ
@@ -37,12 +46,12 @@ packets_if (Some packet) = 1
 abbrev pub packets_of : Verdict → ℕ
 packets_of verdict = packets_if (packet_of verdict)
 
--- the journal is the one static mapping
-abbrev pub entries : ℕ
-entries = 1
+-- the journal is the static mappings
+abbrev pub entries_of : Settings → ℕ
+entries_of settings = length settings.mappings
 
 abbrev pub line_of : Settings → Frame → List ℕ
-line_of settings frame = frame_line frame.number frame.moment entries (decide settings frame)
+line_of settings frame = frame_line frame.number frame.moment (entries_of settings) (decide settings frame)
 
 abbrev pub record_if : ℕ → Option (List ℕ) → List ℕ
 record_if moment None = []
@@ -52,23 +61,18 @@ record_if moment (Some packet) = packet_record moment packet
 abbrev pub record_of : Settings → Frame → List ℕ
 record_of settings frame = record_if frame.moment (packet_of (decide settings frame))
 
--- all lines, all records, and the number of packets
-abbrev pub lines_of : Settings → List Frame → List ℕ
-lines_of settings [] = []
-lines_of settings (frame ∷ frames) = line_of settings frame ++ lines_of settings frames
-
-abbrev pub records_of : Settings → List Frame → List ℕ
-records_of settings [] = []
-records_of settings (frame ∷ frames) = record_of settings frame ++ records_of settings frames
-
-abbrev pub written_of : Settings → List Frame → ℕ
-written_of settings [] = 0
-written_of settings (frame ∷ frames) = packets_of (decide settings frame) + written_of settings frames
+-- what a replay does for a frame
+abbrev pub replaying : Settings → Outputs
+replaying settings = record {
+  line = line_of settings;
+  octets = record_of settings;
+  packets = λ frame. packets_of (decide settings frame);
+}
 
 -- the last line, and the status, by the fault of the capture
-abbrev pub last_line : Option CaptureFault → ℕ → ℕ → List ℕ
-last_line None frames written = end_line frames written entries
-last_line (Some fault) frames written = fault_line fault
+abbrev pub last_line : ℕ → Option CaptureFault → ℕ → ℕ → List ℕ
+last_line entries None frames written = end_line frames written entries
+last_line entries (Some fault) frames written = fault_line fault
 
 abbrev pub status_of : Option CaptureFault → Status
 status_of None = Done
@@ -82,26 +86,40 @@ told_off status line = record { status = status; said = line; made = [] }
 unfoldable pub replayed : Settings → List ℕ → Run → Answer
 replayed settings output run = record {
   status = status_of run.fault;
-  said = lines_of settings run.frames ++ last_line run.fault (length run.frames) (written_of settings run.frames);
-  made = record { name = output; octets = out_header ++ records_of settings run.frames } ∷ [];
+  said = lines_of (replaying settings) run.frames ++ last_line (entries_of settings) run.fault (length run.frames) (written_of (replaying settings) run.frames);
+  made = record { name = output; octets = out_header ++ octets_of (replaying settings) run.frames } ∷ [];
 }
 
--- the answer after the settings, by the first rule that the capture's header fails
-abbrev pub after_header : Settings → List ℕ → List ℕ → Option CaptureFault → Answer
-after_header settings output file (Some fault) = told_off Capture (fault_line fault)
-after_header settings output file None = replayed settings output (capture file)
+-- the last line of a capture that was shown
+abbrev pub show_end : Option CaptureFault → ℕ → List ℕ
+show_end None frames = count_line frames
+show_end (Some fault) frames = fault_line fault
 
-abbrev pub after_settings : List ℕ → List ℕ → Option Settings → Answer
-after_settings output file None = told_off BadSettings (codes "settings not-built\n")
-after_settings output file (Some settings) = after_header settings output file (first_failing (header_rules file))
+-- the messages in the frames of a capture, shown
+unfoldable pub messages_shown : Run → Answer
+messages_shown run = record {
+  status = status_of run.fault;
+  said = lines_of showing run.frames ++ show_end run.fault (length run.frames);
+  made = [];
+}
 
-abbrev pub after_words : List NamedFile → Option Names → Answer
+-- the answer to a capture, by the first rule that its header fails
+abbrev pub after_header : (Run → Answer) → List ℕ → Option CaptureFault → Answer
+after_header frames file (Some fault) = told_off Capture (fault_line fault)
+after_header frames file None = frames (capture file)
+
+abbrev pub after_settings : List ℕ → List ℕ → Result Settings SettingsFault → Answer
+after_settings output file (Err fault) = told_off BadSettings (settings_line fault)
+after_settings output file (Ok settings) = after_header (replayed settings output) file (first_failing (header_rules file))
+
+abbrev pub after_words : List NamedFile → Option Command → Answer
 after_words files None = told_off Usage (codes "usage\n")
-after_words files (Some names) = after_settings names.output (content names.input files) (settings_of (content names.settings files))
+after_words files (Some (Replay names)) = after_settings names.output (content names.input files) (settings_of (content names.settings files))
+after_words files (Some (Show input)) = let file = content input files in after_header messages_shown file (first_failing (header_rules file))
 
 -- the answer to words, where these files are there
 unfoldable pub answer : List (List ℕ) → List NamedFile → Answer
-answer words files = after_words files (names_of words)
+answer words files = after_words files (command_of words)
 
 -- the status tells of the desk or of memory, and not of words and files
 abbrev pub is_outside : Status → Bool
@@ -123,6 +141,13 @@ pub record Leaves (a : Answer) (old new : Shown) : Type 0 where
 pub record Gives (a : Answer) (s : Status) (old : Shown) (new : Option Shown) : Type 0 where
   pub status : s ≡ a.status
   pub left : IsSomeAnd new (Leaves a old)
+
+-- the words were of a form
+abbrev pub is_of_form : Status → Bool
+is_of_form Done = true
+is_of_form BadSettings = true
+is_of_form Capture = true
+is_of_form _ = false
 
 -- the capture was read to its end, or to its fault
 abbrev pub is_end : Status → Bool

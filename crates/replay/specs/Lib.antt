@@ -1,12 +1,13 @@
-pub mod AddressText
 pub mod Answer
-pub mod Fields
 pub mod Hash
 pub mod Lines
+pub mod Messages
+pub mod Outputs
 pub mod Place
 pub mod Router
 pub mod Runs
-pub mod Settings
+pub mod Show
+pub mod Site
 pub mod Steps
 pub mod Text
 pub mod Words

@@ -8,6 +8,8 @@ use Rattle.octets.specs.declared.refused.Why.{Why}
 use Rattle.octets.specs.declared.refused.Why.TheVariants as why
 use Rattle.capture_io.specs.declared.fault.CaptureFault.{CaptureFault}
 use Rattle.capture_io.specs.declared.fault.CaptureFault.TheVariants as fault
+use Rattle.lisp_settings.specs.declared.fault.SettingsFault.{SettingsFault}
+use Rattle.lisp_settings.specs.declared.fault.SettingsFault.TheVariants as settings_fault
 use Rattle.replay.specs.Text.{fixed_decimal, address_text}
 use Rattle.replay.specs.declared.verdict.Reason.{Reason}
 use Rattle.replay.specs.declared.verdict.Reason.TheVariants as reason
@@ -48,11 +50,21 @@ refused_text r = layer_word r.layer ++ (32 ∷ (decimal r.place ++ (32 ∷ why_w
 abbrev pub reason_text : Reason → List ℕ
 reason_text reason.NotBuilt = codes "0 not-built"
 reason_text (reason.Refused r) = codes "1 refused " ++ refused_text r
+reason_text reason.NotTunnel = codes "2 not-tunnel"
+reason_text reason.Fragment = codes "3 fragment"
+reason_text reason.Encrypted = codes "4 encrypted"
+reason_text reason.NotOurs = codes "5 not-ours"
+reason_text reason.CongestionMark = codes "8 congestion-mark"
 reason_text reason.TtlExpired = codes "9 ttl-expired"
 reason_text reason.NoAttachment = codes "10 no-attachment"
 reason_text reason.Multicast = codes "11 multicast"
 reason_text reason.NotSite = codes "12 not-site"
 reason_text reason.Miss = codes "13 miss"
+reason_text reason.NoAction = codes "14 no-action"
+reason_text reason.SendRequest = codes "15 send-request"
+reason_text reason.DropNoReason = codes "16 drop-no-reason"
+reason_text reason.DropPolicy = codes "17 drop-policy"
+reason_text reason.DropAuth = codes "18 drop-auth"
 reason_text reason.NoLocator = codes "19 no-locator"
 reason_text reason.TooBig = codes "20 too-big"
 
@@ -61,6 +73,8 @@ verdict_text verdict.Own = codes "own"
 verdict_text verdict.Local = codes "local"
 verdict_text (verdict.Encapsulated from to port packet) =
     codes "encapsulated " ++ (address_text from ++ (32 ∷ (address_text to ++ (32 ∷ decimal port))))
+verdict_text (verdict.Delivered iid packet) = codes "delivered " ++ decimal iid
+verdict_text (verdict.Native packet) = codes "native"
 verdict_text (verdict.Drop why) = codes "drop " ++ reason_text why
 
 -- seconds and nanoseconds
@@ -79,6 +93,24 @@ frame_line number moment n v = decimal number ++ (moment_text moment ++ (length_
 abbrev pub end_line : ℕ → ℕ → ℕ → List ℕ
 end_line frames written entries =
     codes "end frames=" ++ (decimal frames ++ (codes " written=" ++ (decimal written ++ (codes " entries=" ++ (decimal entries ++ 10 ∷ [])))))
+
+-- the number of frames, at the end of a capture that was shown
+abbrev pub count_line : ℕ → List ℕ
+count_line frames = codes "end frames=" ++ (decimal frames ++ 10 ∷ [])
+
+-- the last line where the settings are refused: a word, and the key that is at fault
+abbrev pub settings_text : SettingsFault → List ℕ
+settings_text settings_fault.NotToml = codes "not-toml"
+settings_text settings_fault.TooLong = codes "too-long"
+settings_text (settings_fault.UnknownKey key) = codes "unknown-key " ++ key
+settings_text (settings_fault.Missing key) = codes "missing " ++ key
+settings_text (settings_fault.BadValue key) = codes "bad-value " ++ key
+settings_text (settings_fault.Duplicate key) = codes "duplicate " ++ key
+settings_text (settings_fault.TooMany key) = codes "too-many " ++ key
+settings_text settings_fault.Memory = []
+
+abbrev pub settings_line : SettingsFault → List ℕ
+settings_line f = codes "settings " ++ (settings_text f ++ 10 ∷ [])
 
 -- a word and a number
 abbrev pub with_number : List ℕ → ℕ → List ℕ

@@ -1,5 +1,5 @@
 -- What single steps of a run do.
-use Rattle.std.specs.Prelude.{◌≡◌, ℕ, List, ◌++◌, Option, Some, None, Result, Ok, Err}
+use Rattle.std.specs.Prelude.{◌≡◌, ◌<◌, ◌⊎◌, ℕ, List, ◌++◌, length, Option, Some, None, Result, Ok, Err}
 use Rattle.desk.specs.World.{World, Shown, changed_at, extended}
 use Rattle.capture_io.specs.Frame.{Frame}
 use Rattle.capture_io.specs.declared.fault.CaptureFault.{CaptureFault}
@@ -25,3 +25,7 @@ abbrev pub IfFrame : Next → (Frame → Type 0) → Type 0
 IfFrame (next.Frame f) P = P f
 IfFrame next.End P = Unit {0}
 IfFrame (next.Fault fault) P = Unit {0}
+
+-- the octets are the text, or both are longer than settings may be
+abbrev pub ReadsAs : List ℕ → List ℕ → Type 0
+ReadsAs octets text = (octets ≡ text) ⊎ ((16777216 < length octets) × (16777216 < length text))

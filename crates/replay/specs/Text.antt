@@ -1,5 +1,5 @@
 -- Numbers and addresses as the report writes them.
-use Rattle.std.specs.Prelude.{ℕ, zero, suc, ◌+◌, ◌*◌, ◌/◌, ◌%◌, ◌^◌, nat_lt, ◌==◌, List, [], ◌∷◌, ◌++◌, if◌then◌else◌}
+use Rattle.std.specs.Prelude.{ℕ, zero, suc, ◌+◌, ◌/◌, ◌%◌, ◌^◌, nat_lt, List, [], ◌∷◌, ◌++◌, if◌then◌else◌}
 use Rattle.std.specs.Fmt.{decimal}
 use Rattle.ip_headers.specs.declared.addr.Addr.{Addr}
 use Rattle.ip_headers.specs.declared.addr.Addr.TheVariants.{V4, V6}
@@ -17,6 +17,10 @@ hex_glyph d = if nat_lt d 10 then 48 + d else 87 + d
 abbrev pub fixed_hex : ℕ → ℕ → List ℕ
 fixed_hex zero n = []
 fixed_hex (suc k) n = hex_glyph (n / 16 ^ k % 16) ∷ fixed_hex k n
+
+-- sixteen hexadecimal digits
+unfoldable pub hex_16 : ℕ → List ℕ
+hex_16 n = fixed_hex 16 n
 
 -- four groups of 16 bits, joined by colons
 unfoldable pub four_groups : ℕ → List ℕ

@@ -6,8 +6,8 @@ ghost use Rattle.capture_io.specs.Capture.{outcome, begin};
 ghost use Rattle.capture_io.specs.Frames.{read_on};
 ghost use Rattle.capture_io.specs.Output.{packet_record as record_of_packet};
 ghost use Rattle.capture_io.specs.Reading.{beginning, after_frame, IsNext};
-ghost use Rattle.replay.specs.Answer.{line_of, record_of, packet_of, packets_of};
-ghost use Rattle.replay.specs.Settings.{IsLawful};
+ghost use Rattle.replay.specs.Answer.{line_of, record_of, packet_of, packets_of, replaying};
+ghost use Rattle.lisp_settings.specs.Lawful.{IsLawful};
 ghost use Rattle.replay.specs.Router.{decide as decision};
 ghost use Rattle.replay.specs.Runs.{Ends, with_run};
 ghost use Rattle.replay.specs.Steps.{after_outputs, outcome_of, IfFrame};
@@ -15,14 +15,11 @@ ghost use Rattle.replay.specs.Steps.{after_outputs, outcome_of, IfFrame};
 use crate::Verdict;
 use crate::decide::decide;
 use crate::lines::frame_line;
-use crate::settings::Settings;
 use capture_io::{CaptureFault, CaptureReader, Frame, write_packet};
 use desk::{Desk, DeskFault, FileId};
+use lisp_settings::Settings;
 use octets::{NoMemory, Octets};
 use std::alloc::Global;
-
-/// The length of the journal: the one static mapping.
-pub const ENTRIES: u64 = 1;
 
 /// How a capture ended: its fault, if it has one, the frames before that, and the packets written.
 #[derive(Clone, Copy)]
@@ -50,8 +47,11 @@ pub fn replay_frames<D: Desk>(
 ) -> Result<Ending, DeskFault>
     requires begins { reader ≡ beginning reader.id reader.format }
     requires lawful { IsLawful settings.now }
-    ensures ends { IfOk result (λ ending. IfSome (D.told desk.old) (λ w. Ends settings.now (read_on reader.format begin (left_of reader.id w)) ending)) }
-    ensures shown { OnOk result (IfSome (D.told desk.old) (λ w. shown (D.told desk.new) ≡ Some (with_run settings.now output.number (read_on reader.format begin (left_of reader.id w)) (shown_of w)))) }
+    ensures ends { IfOk result (λ ending. IfSome (D.told desk.old) (λ w.
+        Ends (replaying settings.now) (read_on reader.format begin (left_of reader.id w)) ending)) }
+    ensures shown { OnOk result (IfSome (D.told desk.old) (λ w. shown (D.told desk.new)
+        ≡ Some (with_run (replaying settings.now) output.number
+        (read_on reader.format begin (left_of reader.id w)) (shown_of w)))) }
     ensures cause { HasCause (D.faults desk.old) (D.faults desk.new) result }
 {
     let mut reader = reader;
@@ -81,16 +81,19 @@ pub fn replay_frames<D: Desk>(
     }
 }
 
-// The next frame, the end, or a fault of the file.
-fn next_frame<D: Desk>(
+/// The next frame, the end, or a fault of the file.
+pub fn next_frame<D: Desk>(
     alloc: Global,
     desk: &mut D,
     reader: &mut CaptureReader,
 ) -> Result<Next, DeskFault>
     requires { reader.old.fault ≡ None }
-    ensures outcome { IfOk result (λ next. IfSome (D.told desk.old) (λ w. outcome_of next ≡ outcome reader.old.format reader.old.position (left_of reader.old.id w))) }
-    ensures frame { IfOk result (λ next. IfFrame next (λ f. (reader.new ≡ after_frame reader.old f) × IsNext reader.old.format reader.old.position f)) }
-    ensures told { IfOk result (λ next. IfFrame next (λ f. D.told desk.new ≡ option_map (after_read reader.old.id (16 + length f.octets)) (D.told desk.old))) }
+    ensures outcome { IfOk result (λ next. IfSome (D.told desk.old) (λ w. outcome_of next
+        ≡ outcome reader.old.format reader.old.position (left_of reader.old.id w))) }
+    ensures frame { IfOk result (λ next. IfFrame next (λ f.
+        (reader.new ≡ after_frame reader.old f) × IsNext reader.old.format reader.old.position f)) }
+    ensures told { IfOk result (λ next. IfFrame next (λ f. D.told desk.new
+        ≡ option_map (after_read reader.old.id (16 + length f.octets)) (D.told desk.old))) }
     ensures shown { shown (D.told desk.new) ≡ shown (D.told desk.old) }
     ensures cause { HasCause (D.faults desk.old) (D.faults desk.new) result }
 {
@@ -115,12 +118,22 @@ fn replay_frame<D: Desk>(
 ) -> Result<u32, DeskFault>
     requires lawful { IsLawful settings.now }
     requires moment { frame.now.moment < 2 ^ 32 * 1000000000 }
-    ensures told { OnOk result (D.told desk.new ≡ option_map (after_outputs output.number (line_of settings.now frame.now) (record_of settings.now frame.now)) (D.told desk.old)) }
-    ensures written { IfOk result (λ written. written ≡ packets_of (decision settings.now frame.now)) }
+    requires size { length frame.now.octets ≤ 262144 }
+    ensures told { OnOk result (D.told desk.new
+        ≡ option_map (after_outputs output.number (line_of settings.now frame.now)
+        (record_of settings.now frame.now)) (D.told desk.old)) }
+    ensures written { IfOk result (λ written. written
+        ≡ packets_of (decision settings.now frame.now)) }
     ensures cause { HasCause (D.faults desk.old) (D.faults desk.new) result }
 {
     let verdict = decide(alloc, settings, frame)?;
-    let line = frame_line(alloc, frame.number, frame.moment, ENTRIES, &verdict)?;
+    let line = frame_line(
+        alloc,
+        frame.number,
+        frame.moment,
+        settings.mappings.len() as u64,
+        &verdict,
+    )?;
     desk.say(alloc, line.as_slice())?;
     match packet_in(verdict) {
         Some(packet) => {
@@ -137,7 +150,9 @@ fn packet_in(verdict: Verdict) -> Option<Octets>
     ensures { result ≡ packet_of verdict }
 {
     match verdict {
-        Verdict::Encapsulated { packet, .. } => Some(packet),
+        Verdict::Encapsulated { packet, .. }
+        | Verdict::Delivered { packet, .. }
+        | Verdict::Native { packet } => Some(packet),
         Verdict::Own | Verdict::Local | Verdict::Drop(_) => None,
     }
 }

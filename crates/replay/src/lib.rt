@@ -1,15 +1,20 @@
 //! The commands: a replay from its words to its status.
 #![tactic(auto)]
 
-mod addresses;
+mod arrival;
 mod decide;
-mod fields;
+mod departure;
 mod files;
+mod frame_text;
 mod frames;
 mod hash;
 mod lines;
-mod settings;
-mod site;
+mod lookup;
+mod message_lines;
+mod ports;
+mod refusing;
+mod replaying;
+mod show;
 mod status;
 #[cfg(test)]
 mod tests;

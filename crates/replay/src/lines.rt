@@ -1,10 +1,11 @@
 // The lines of a report.
 ghost use Rattle.std.specs.Prelude.{◌≡◌, ◌++◌, ◌∷◌, [], IfOk, OnOk};
-ghost use Rattle.replay.specs.Lines.{end_line as line_at_end, fault_line as line_of_fault, fault_text, frame_line as line_of_frame, length_text, moment_text, layer_word as word_of_layer, reason_text, refused_text, verdict_text, why_word as word_of_why, with_number};
+ghost use Rattle.replay.specs.Lines.{count_line as line_of_count, end_line as line_at_end, fault_line as line_of_fault, fault_text, frame_line as line_of_frame, length_text, moment_text, settings_line as line_of_settings, settings_text, layer_word as word_of_layer, reason_text, refused_text, verdict_text, why_word as word_of_why, with_number};
 
 use crate::text::{push_address, push_nine_digits, push_number};
 use crate::{Reason, Verdict};
 use capture_io::CaptureFault;
+use lisp_settings::{Key, SettingsFault};
 use octets::{Layer, NoMemory, Octets, Refused, Why};
 use std::alloc::Global;
 
@@ -59,6 +60,11 @@ fn push_verdict(alloc: Global, verdict: &Verdict, out: &mut Octets) -> Result<()
             out.push(b' ')?;
             push_number(alloc, u64::from(*port), out)
         }
+        Verdict::Delivered { iid, .. } => {
+            out.append(b"delivered ")?;
+            push_number(alloc, u64::from(*iid), out)
+        }
+        Verdict::Native { .. } => out.append(b"native"),
         Verdict::Drop(reason) => {
             out.append(b"drop ")?;
             push_reason(alloc, *reason, out)
@@ -75,17 +81,28 @@ fn push_reason(alloc: Global, reason: Reason, out: &mut Octets) -> Result<(), No
             out.append(b"1 refused ")?;
             push_refused(alloc, refused, out)
         }
+        Reason::NotTunnel => out.append(b"2 not-tunnel"),
+        Reason::Fragment => out.append(b"3 fragment"),
+        Reason::Encrypted => out.append(b"4 encrypted"),
+        Reason::NotOurs => out.append(b"5 not-ours"),
+        Reason::CongestionMark => out.append(b"8 congestion-mark"),
         Reason::TtlExpired => out.append(b"9 ttl-expired"),
         Reason::NoAttachment => out.append(b"10 no-attachment"),
         Reason::Multicast => out.append(b"11 multicast"),
         Reason::NotSite => out.append(b"12 not-site"),
         Reason::Miss => out.append(b"13 miss"),
+        Reason::NoAction => out.append(b"14 no-action"),
+        Reason::SendRequest => out.append(b"15 send-request"),
+        Reason::DropNoReason => out.append(b"16 drop-no-reason"),
+        Reason::DropPolicy => out.append(b"17 drop-policy"),
+        Reason::DropAuth => out.append(b"18 drop-auth"),
         Reason::NoLocator => out.append(b"19 no-locator"),
         Reason::TooBig => out.append(b"20 too-big"),
     }
 }
 
-fn push_refused(alloc: Global, refused: Refused, out: &mut Octets) -> Result<(), NoMemory>
+/// Appends the layer, the place and the reason of a refusal.
+pub fn push_refused(alloc: Global, refused: Refused, out: &mut Octets) -> Result<(), NoMemory>
     ensures { OnOk result (out.new ≡ out.old ++ refused_text refused) }
 {
     out.append(layer_word(refused.layer))?;
@@ -131,6 +148,39 @@ fn why_word(why: Why) -> &'static [u8]
     }
 }
 
+/// The last line where settings are refused.
+pub fn settings_line(alloc: Global, fault: &SettingsFault) -> Result<Octets, NoMemory>
+    ensures { IfOk result (λ line. line ≡ line_of_settings fault.now) }
+{
+    let mut line = Octets::new(alloc);
+    line.append(b"settings ")?;
+    push_settings_fault(fault, &mut line)?;
+    line.push(b'\n')?;
+    Ok(line)
+}
+
+fn push_settings_fault(fault: &SettingsFault, out: &mut Octets) -> Result<(), NoMemory>
+    ensures { OnOk result (out.new ≡ out.old ++ settings_text fault.now) }
+{
+    match fault {
+        SettingsFault::NotToml => out.append(b"not-toml"),
+        SettingsFault::TooLong => out.append(b"too-long"),
+        SettingsFault::UnknownKey(key) => push_key(b"unknown-key ", key, out),
+        SettingsFault::Missing(key) => push_key(b"missing ", key, out),
+        SettingsFault::BadValue(key) => push_key(b"bad-value ", key, out),
+        SettingsFault::Duplicate(key) => push_key(b"duplicate ", key, out),
+        SettingsFault::TooMany(key) => push_key(b"too-many ", key, out),
+        SettingsFault::Memory => Ok(()),
+    }
+}
+
+fn push_key(word: &[u8], key: &Key, out: &mut Octets) -> Result<(), NoMemory>
+    ensures { OnOk result (out.new ≡ out.old ++ (word.now ++ key.now)) }
+{
+    out.append(word)?;
+    out.append(key.as_slice())
+}
+
 /// The line at the end of a capture: the frames that were read, the packets that were written, and
 /// the length of the journal.
 pub fn end_line(alloc: Global, frames: u32, written: u32, entries: u64) -> Result<Octets, NoMemory>
@@ -143,6 +193,17 @@ pub fn end_line(alloc: Global, frames: u32, written: u32, entries: u64) -> Resul
     push_number(alloc, u64::from(written), &mut line)?;
     line.append(b" entries=")?;
     push_number(alloc, entries, &mut line)?;
+    line.push(b'\n')?;
+    Ok(line)
+}
+
+/// The line at the end of a capture that was shown: the frames that were read.
+pub fn count_line(alloc: Global, frames: u32) -> Result<Octets, NoMemory>
+    ensures { IfOk result (λ line. line ≡ line_of_count frames) }
+{
+    let mut line = Octets::new(alloc);
+    line.append(b"end frames=")?;
+    push_number(alloc, u64::from(frames), &mut line)?;
     line.push(b'\n')?;
     Ok(line)
 }

@@ -9,7 +9,10 @@ use std::test::Fail;
 
 mod cases;
 mod families;
+mod messages;
 mod rows;
+mod site;
+mod tunnels;
 
 const SITE: &str = r#"
 [[locator]]
@@ -125,10 +128,10 @@ fn replayed(alloc: Global, settings: &str, capture: Octets) -> Result<(Status, M
     Ok((status, desk))
 }
 
-// The report of one frame at 1,700,000,000 s that isn't sent.
-fn report_of_one(alloc: Global, verdict: &str) -> Result<String, Fail> {
+// The report of one frame at 1,700,000,000 s, for which so many packets are sent.
+fn report_of_one(alloc: Global, verdict: &str, written: u32) -> Result<String, Fail> {
     Ok(format!(in alloc;
-        "1 1700000000.000000000 n=1 {verdict}\nend frames=1 written=0 entries=1\n"
+        "1 1700000000.000000000 n=1 {verdict}\nend frames=1 written={written} entries=1\n"
     )?)
 }
 
@@ -141,11 +144,35 @@ fn is_kept(
     verdict: &str,
 ) -> Result<bool, Fail> {
     let (status, desk) = replayed(alloc, settings, one_frame(alloc, header, frame)?)?;
-    let report = report_of_one(alloc, verdict)?;
+    let report = report_of_one(alloc, verdict, 0)?;
     let output = hex(alloc, WRITTEN)?;
     Ok(
         status == Status::Done
             && desk.said() == report.as_bytes()
             && desk.file("out") == Some(output.as_slice()),
     )
+}
+
+// Whether the one frame has that verdict, and the packet is sent for it.
+fn is_sent(
+    alloc: Global,
+    settings: &str,
+    frame: &str,
+    verdict: &str,
+    packet: &str,
+) -> Result<bool, Fail> {
+    let (status, desk) = replayed(alloc, settings, one_frame(alloc, RAW, frame)?)?;
+    let report = report_of_one(alloc, verdict, 1)?;
+    let output = one_frame(alloc, WRITTEN, packet)?;
+    Ok(
+        status == Status::Done
+            && desk.said() == report.as_bytes()
+            && desk.file("out") == Some(output.as_slice()),
+    )
+}
+
+// Whether the settings are refused by that line, and no output is made.
+fn is_refused(alloc: Global, settings: &str, line: &str) -> Result<bool, Fail> {
+    let (status, desk) = replayed(alloc, settings, hex(alloc, RAW)?)?;
+    Ok(status == Status::Settings && desk.said() == line.as_bytes() && desk.file("out").is_none())
 }

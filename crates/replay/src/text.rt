@@ -1,7 +1,7 @@
 // Numbers and addresses as the report writes them.
-ghost use Rattle.std.specs.Prelude.{◌≡◌, ◌<◌, ◌+◌, ◌%◌, ◌++◌, OnOk, OnErr};
+ghost use Rattle.std.specs.Prelude.{◌≡◌, ◌<◌, ◌+◌, ◌%◌, ◌++◌, flat_map, OnOk, OnErr};
 ghost use Rattle.std.specs.Fmt.{decimal};
-ghost use Rattle.replay.specs.Text.{fixed_decimal, fixed_hex, four_groups, groups, address_text, hex_glyph, dotted};
+ghost use Rattle.replay.specs.Text.{fixed_decimal, fixed_hex, four_groups, hex_16, groups, address_text, hex_glyph, dotted};
 
 use ip_headers::Addr;
 use octets::{NoMemory, Octets};
@@ -34,6 +34,49 @@ pub fn push_nine_digits(number: u32, out: &mut Octets) -> Result<(), NoMemory>
         digit(number),
     ];
     out.append(&digits)
+}
+
+/// Appends sixteen hexadecimal digits, with leading zeros.
+#[tactic(auto, unfolding(crate::specs::Text::hex_16))]
+pub fn push_hex(number: u64, out: &mut Octets) -> Result<(), NoMemory>
+    ensures { OnOk result (out.new ≡ out.old ++ hex_16 number) }
+{
+    let digits = [
+        hex_digit(number / 0x1000_0000_0000_0000),
+        hex_digit(number / 0x100_0000_0000_0000),
+        hex_digit(number / 0x10_0000_0000_0000),
+        hex_digit(number / 0x1_0000_0000_0000),
+        hex_digit(number / 0x1000_0000_0000),
+        hex_digit(number / 0x100_0000_0000),
+        hex_digit(number / 0x10_0000_0000),
+        hex_digit(number / 0x1_0000_0000),
+        hex_digit(number / 0x1000_0000),
+        hex_digit(number / 0x100_0000),
+        hex_digit(number / 0x10_0000),
+        hex_digit(number / 0x1_0000),
+        hex_digit(number / 0x1000),
+        hex_digit(number / 0x100),
+        hex_digit(number / 0x10),
+        hex_digit(number),
+    ];
+    out.append(&digits)
+}
+
+/// Appends two hexadecimal digits for each octet.
+pub fn push_octets(octets: &[u8], out: &mut Octets) -> Result<(), NoMemory>
+    ensures { OnOk result (out.new ≡ out.old ++ flat_map (fixed_hex 2) octets.now) }
+{
+    for octet in octets {
+        push_octet(*octet, out)?;
+    }
+    Ok(())
+}
+
+fn push_octet(octet: u8, out: &mut Octets) -> Result<(), NoMemory>
+    ensures { OnOk result (out.new ≡ out.old ++ fixed_hex 2 octet) }
+{
+    let octet = u64::from(octet);
+    out.append(&[hex_digit(octet / 16), hex_digit(octet)])
 }
 
 // The lowest decimal digit.
@@ -89,6 +132,7 @@ fn four_groups(half: u64) -> [u8; 19]
 fn group_text(group: u16) -> [u8; 4]
     ensures { result ≡ fixed_hex 4 group }
 {
+    let group = u64::from(group);
     [
         hex_digit(group / 4096),
         hex_digit(group / 256),
@@ -98,7 +142,7 @@ fn group_text(group: u16) -> [u8; 4]
 }
 
 // The lowest hexadecimal digit, in lower case.
-fn hex_digit(number: u16) -> u8
+fn hex_digit(number: u64) -> u8
     ensures { result ≡ hex_glyph (number % 16) }
 {
     let digit = (number % 16) as u8;

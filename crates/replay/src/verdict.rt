@@ -2,13 +2,23 @@
 use ip_headers::{Addr, Refused};
 use octets::Octets;
 
-/// Why a frame is dropped.
+/// Why a frame is dropped. Each has a number of its own in a report.
 #[derive(Clone, Copy, Debug, PartialEq, Eq)]
 pub enum Reason {
-    /// Not built yet: packets to an own locator.
+    /// Not built yet: control messages.
     NotBuilt,
     /// Malformed octets.
     Refused(Refused),
+    /// A packet to an own locator that is no UDP to a port of LISP.
+    NotTunnel,
+    /// An IPv4 fragment to an own locator.
+    Fragment,
+    /// The packet inside the tunnel is encrypted.
+    Encrypted,
+    /// The packet inside the tunnel is for no prefix of the site.
+    NotOurs,
+    /// The outer header has a congestion mark that the inner one can't carry.
+    CongestionMark,
     /// The Time to Live or Hop Limit ended.
     TtlExpired,
     /// The VLAN is attached to no instance.
@@ -19,6 +29,16 @@ pub enum Reason {
     NotSite,
     /// No mapping is in force for the destination.
     Miss,
+    /// The mapping has no locators and action 0.
+    NoAction,
+    /// The mapping has no locators and action 2.
+    SendRequest,
+    /// The mapping has no locators and action 3, 6 or 7.
+    DropNoReason,
+    /// The mapping has no locators and action 4.
+    DropPolicy,
+    /// The mapping has no locators and action 5.
+    DropAuth,
     /// The mapping has no locator that can be used.
     NoLocator,
     /// The tunnel packet would be longer than 1,500 octets.
@@ -37,6 +57,15 @@ pub enum Verdict {
         from: Addr,
         to: Addr,
         port: u16,
+        packet: Octets,
+    },
+    /// The packet left a tunnel, into an instance.
+    Delivered {
+        iid: u32,
+        packet: Octets,
+    },
+    /// The packet goes on outside the tunnels.
+    Native {
         packet: Octets,
     },
     /// The packet goes nowhere.

@@ -1,6 +1,6 @@
 // The words after the program's name.
 ghost use Rattle.std.specs.Prelude.{◌≡◌, map, string_bytes, option_map};
-ghost use Rattle.replay.specs.Words.{names_of, names_in, is_value};
+ghost use Rattle.replay.specs.Words.{command_of, command_in, is_value, replay_of};
 
 /// A word after the program's name.
 pub type Word = String;
@@ -13,32 +13,54 @@ pub struct FileNames<'a> {
     pub output: &'a str,
 }
 
-/// The names that the words of a replay give; none where the words are of no form.
-pub fn read_words<'a>(words: &'a [Word]) -> Option<FileNames<'a>>
-    ensures { option_map names_in result ≡ names_of (map string_bytes words.now) }
+/// What is to be done.
+#[derive(Clone, Copy)]
+pub enum Command<'a> {
+    Replay(FileNames<'a>),
+    /// The file whose messages are shown.
+    Show(&'a str),
+}
+
+/// The command that the words give; none where they are of no form.
+pub fn read_words<'a>(words: &'a [Word]) -> Option<Command<'a>>
+    ensures { option_map command_in result ≡ command_of (map string_bytes words.now) }
 {
-    let [command, a, settings, b, input, c, output] = words else {
-        return None;
-    };
-    if command.as_str() != "replay"
-        || a.as_str() != "--settings"
-        || b.as_str() != "--in"
-        || c.as_str() != "--out"
-    {
+    match words {
+        [command, a, settings, b, input, c, output] => {
+            let are_names = command.as_str() == "replay"
+                && a.as_str() == "--settings"
+                && b.as_str() == "--in"
+                && c.as_str() == "--out";
+            if !are_names {
+                return None;
+            }
+            replay_of(settings.as_str(), input.as_str(), output.as_str())
+        }
+        [command, a, input] => {
+            let is_name = command.as_str() == "show" && a.as_str() == "--in";
+            if !is_name || !is_value(input.as_str()) {
+                return None;
+            }
+            Some(Command::Show(input.as_str()))
+        }
+        _ => None,
+    }
+}
+
+fn replay_of<'a>(settings: &'a str, input: &'a str, output: &'a str) -> Option<Command<'a>>
+    ensures { option_map command_in result ≡ replay_of settings.now input.now output.now }
+{
+    if !is_value(settings) || !is_value(input) || !is_value(output) {
         return None;
     }
-    let names = FileNames {
-        settings: settings.as_str(),
-        input: input.as_str(),
-        output: output.as_str(),
-    };
-    if !is_value(names.settings) || !is_value(names.input) || !is_value(names.output) {
+    if output == input || output == settings {
         return None;
     }
-    if names.output == names.input || names.output == names.settings {
-        return None;
-    }
-    Some(names)
+    Some(Command::Replay(FileNames {
+        settings,
+        input,
+        output,
+    }))
 }
 
 // A value isn't empty and doesn't begin like a name.

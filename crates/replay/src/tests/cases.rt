@@ -90,7 +90,7 @@ fn each_packet_that_stays_out_of_the_tunnel_says_why(rt: HostRuntime) -> Result<
         ),
         (
             "4500001c000000004011aeca0a010005c000020103e807d000080000",
-            "drop 0 not-built",
+            "drop 2 not-tunnel",
         ),
         (
             "4500001c0000000040118ec70a010005e001020303e807d000080000",

@@ -135,16 +135,6 @@ fn no_words_are_of_no_form(rt: HostRuntime) -> Result<(), Fail> {
 }
 
 #[test]
-fn settings_of_another_form_make_no_output(rt: HostRuntime) -> Result<(), Fail> {
-    let alloc = rt.alloc();
-    let (status, desk) = replayed(alloc, "seeds = 1", one_frame(alloc, RAW, PACKET)?)?;
-    assert_eq!(rt; status, Status::Settings);
-    assert_eq!(rt; desk.said(), b"settings not-built\n".as_slice());
-    assert_eq!(rt; desk.file("out"), None);
-    Ok(())
-}
-
-#[test]
 fn a_capture_of_another_format_makes_no_output(rt: HostRuntime) -> Result<(), Fail> {
     let alloc = rt.alloc();
     let (status, desk) = replayed(alloc, SITE, hex(alloc, "0a0d0d0a")?)?;

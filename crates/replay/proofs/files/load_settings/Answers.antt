@@ -1,16 +1,16 @@
-use Rattle.std.proofs.Common.{◌∙◌, sym, ap, refl, take}
+use Rattle.std.proofs.Common.{◌∙◌, sym, ap}
 use Rattle.std.proofs.lemmas.Option.{IfSome_then}
 use Rattle.desk.specs.World.{content}
-use Rattle.replay.specs.Settings.{settings_of}
-use Rattle.replay.proofs.SettingsLemmas.{settings_of-take}
+use Rattle.lisp_settings.specs.Settings.{settings_of}
+use Rattle.replay.proofs.Reading.{settings_of-read}
 use Rattle.replay.proofs.files.load_settings.Goals as goal
 
 pub returns-in-Ok-clause-value : goal.returns-in-Ok-clause-value
 returns-in-Ok-clause-value g c =
-    IfSome_then (g.D.Desk.told c.args.desk.now) c.in_ok-octets.ensures.octets (λ w front.
-    sym c.in-Ok.ensures.ok ∙ ap settings_of (c.deref.ensures.value ∙ front) ∙ settings_of-take (content c.args.name.now w.files))
+    IfSome_then (g.D.Desk.told c.args.desk.now) c.in_ok-text.ensures.text (λ w reads.
+    sym c.in-Ok.ensures.ok ∙ ap settings_of c.as_slice.ensures ∙ settings_of-read c.in_ok-text.text (content c.args.name.now w.files) reads)
 
-pub returns-in-Err-NotBuilt-clause-value : goal.returns-in-Err-NotBuilt-clause-value
-returns-in-Err-NotBuilt-clause-value g c =
-    IfSome_then (g.D.Desk.told c.args.desk.now) c.in_ok-octets.ensures.octets (λ w front.
-    sym ((rw c.in-Err-NotBuilt.field-0-is at c.in-Err-NotBuilt.ensures.not_built) refl) ∙ ap settings_of (c.deref.ensures.value ∙ front) ∙ settings_of-take (content c.args.name.now w.files))
+pub returns-clause-value : goal.returns-clause-value
+returns-clause-value g c =
+    IfSome_then (g.D.Desk.told c.args.desk.now) c.in_ok-text.ensures.text (λ w reads.
+    sym (c.in-Err.ensures.err c.in_default.not-Memory) ∙ ap settings_of c.as_slice.ensures ∙ settings_of-read c.in_ok-text.text (content c.args.name.now w.files) reads)

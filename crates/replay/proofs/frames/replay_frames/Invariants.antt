@@ -1,4 +1,5 @@
 use Rattle.std.proofs.Common.{◌≡◌, ◌≤◌, ◌-◌, None}
+use Rattle.replay.specs.Answer.{replaying}
 use Rattle.replay.proofs.FrameLoop.{Ongoing}
 use Rattle.replay.proofs.frames.replay_frames.Given as goal
 
@@ -9,7 +10,7 @@ invariant-loop-frame g l = record {
   format : l.reader.format ≡ l.fn.reader.format;
   frames : l.frames ≡ l.reader.position.count;
   bound : l.written ≤ l.frames;
-  going : Ongoing l.settings l.fn.reader.id l.output.number l.fn.reader.format l.reader.position l.written (g.D.Desk.told l.fn.desk) (g.D.Desk.told l.desk);
+  going : Ongoing (replaying l.settings) l.fn.reader.id l.output.number l.fn.reader.format l.reader.position l.written (g.D.Desk.told l.fn.desk) (g.D.Desk.told l.desk);
   faults : g.D.Desk.faults l.fn.desk ≤ g.D.Desk.faults l.desk;
 }
 

@@ -1,6 +1,0 @@
-use Rattle.std.proofs.Common.{◌∙◌, bytes_eq}
-use Rattle.replay.proofs.FieldLemmas.{list_any-map_now}
-use Rattle.replay.proofs.fields.is_among.Goals as goal
-
-pub returns : goal.returns
-returns c = c.contains.ensures.value ∙ list_any-map_now (λ known. bytes_eq known c.args.key.now) c.args.keys.now

@@ -1,0 +1,60 @@
+use Rattle.std.proofs.Common.{◌≡◌, ◌∙◌, [], Some, None, ap, sym, arith, refl}
+use Rattle.std.proofs.lemmas.Option.{IfSome_then}
+use Rattle.capture_io.specs.Frame.{Frame}
+use Rattle.capture_io.specs.Reading.{Reading, passed}
+use Rattle.capture_io.specs.declared.position.Position.{Position}
+use Rattle.replay.specs.Show.{shown_frame, showing}
+use Rattle.replay.proofs.FrameLoop.{goes_on, ends, at_end, at_fault}
+use Rattle.replay.proofs.OutputLemmas.{said_only}
+use Rattle.replay.proofs.show.show_frames.Goals as goal
+
+pub loop-frame-preserved : goal.loop-frame-preserved
+loop-frame-preserved g c =
+    let inv = c.loop-frame.invariant in
+    let f = c.in-Frame.frame in
+    let step = rw c.in-Frame.is at c.in_ok-frame.ensures.frame in
+    let told = rw (c.in-Frame.is, inv.id) at c.in_ok-frame.ensures.told in
+    let next = rw (c.in-Frame.is, inv.id, inv.format) at c.in_ok-frame.ensures.outcome in
+    let number : c.frame.inside.number ≡ f.number = ap (λ (x : Frame). x.number) c.frame.view_is in
+    let position : c.next_frame.new.reader.position ≡ passed c.loop-frame.reader.position f = ap (λ (r : Reading). r.position) step.0 in
+    let now = g.D.Desk.told c.show_frame.new.desk in
+    let old = g.D.Desk.told c.args.desk.now in
+    let said = said_only 0 (shown_frame f) [] (g.D.Desk.told c.next_frame.new.desk) now refl c.in_ok-show_frame-in-Frame.ensures.told in
+    let count = step.1.number in
+    let going = goes_on showing c.args.reader.id 0 c.args.reader.format c.loop-frame.reader.position 0 old (g.D.Desk.told c.loop-frame.desk) (g.D.Desk.told c.next_frame.new.desk) now f inv.going next count told said in
+    record {
+      fault = ap (λ (r : Reading). r.fault) step.0 ∙ inv.fault;
+      id = ap (λ (r : Reading). r.id) step.0 ∙ inv.id;
+      format = ap (λ (r : Reading). r.format) step.0 ∙ inv.format;
+      frames = number ∙ ap (λ (p : Position). p.count) (sym position);
+      going = rw position going;
+      faults = omega (arith, inv.faults, c.in_ok-frame.ensures.cause.later, c.in_ok-show_frame-in-Frame.ensures.cause.later);
+    }
+
+pub returns-in-End-clause-ends : goal.returns-in-End-clause-ends
+returns-in-End-clause-ends g c =
+    let inv = c.loop-frame.invariant in
+    let next = rw (c.in-End.is, inv.id, inv.format) at c.in_ok-frame.ensures.outcome in
+    let over = at_end c.args.reader.id c.args.reader.format c.loop-frame.reader.position (g.D.Desk.told c.loop-frame.desk) next in
+    rw inv.frames (IfSome_then (g.D.Desk.told c.args.desk.now) (ends showing c.args.reader.id 0 c.args.reader.format c.loop-frame.reader.position 0 (g.D.Desk.told c.args.desk.now) (g.D.Desk.told c.loop-frame.desk) (g.D.Desk.told c.next_frame.new.desk) None inv.going over c.in_ok-frame.ensures.shown) (λ w h. h.0))
+
+pub returns-in-End-clause-shown : goal.returns-in-End-clause-shown
+returns-in-End-clause-shown g c =
+    let inv = c.loop-frame.invariant in
+    let next = rw (c.in-End.is, inv.id, inv.format) at c.in_ok-frame.ensures.outcome in
+    let over = at_end c.args.reader.id c.args.reader.format c.loop-frame.reader.position (g.D.Desk.told c.loop-frame.desk) next in
+    IfSome_then (g.D.Desk.told c.args.desk.now) (ends showing c.args.reader.id 0 c.args.reader.format c.loop-frame.reader.position 0 (g.D.Desk.told c.args.desk.now) (g.D.Desk.told c.loop-frame.desk) (g.D.Desk.told c.next_frame.new.desk) None inv.going over c.in_ok-frame.ensures.shown) (λ w h. h.1)
+
+pub returns-in-Fault-clause-ends : goal.returns-in-Fault-clause-ends
+returns-in-Fault-clause-ends g c =
+    let inv = c.loop-frame.invariant in
+    let next = rw (c.in-Fault.is, inv.id, inv.format) at c.in_ok-frame.ensures.outcome in
+    let over = at_fault c.args.reader.id c.args.reader.format c.loop-frame.reader.position (g.D.Desk.told c.loop-frame.desk) c.in-Fault.fault next in
+    rw inv.frames (IfSome_then (g.D.Desk.told c.args.desk.now) (ends showing c.args.reader.id 0 c.args.reader.format c.loop-frame.reader.position 0 (g.D.Desk.told c.args.desk.now) (g.D.Desk.told c.loop-frame.desk) (g.D.Desk.told c.next_frame.new.desk) (Some c.in-Fault.fault) inv.going over c.in_ok-frame.ensures.shown) (λ w h. h.0))
+
+pub returns-in-Fault-clause-shown : goal.returns-in-Fault-clause-shown
+returns-in-Fault-clause-shown g c =
+    let inv = c.loop-frame.invariant in
+    let next = rw (c.in-Fault.is, inv.id, inv.format) at c.in_ok-frame.ensures.outcome in
+    let over = at_fault c.args.reader.id c.args.reader.format c.loop-frame.reader.position (g.D.Desk.told c.loop-frame.desk) c.in-Fault.fault next in
+    IfSome_then (g.D.Desk.told c.args.desk.now) (ends showing c.args.reader.id 0 c.args.reader.format c.loop-frame.reader.position 0 (g.D.Desk.told c.args.desk.now) (g.D.Desk.told c.loop-frame.desk) (g.D.Desk.told c.next_frame.new.desk) (Some c.in-Fault.fault) inv.going over c.in_ok-frame.ensures.shown) (λ w h. h.1)
