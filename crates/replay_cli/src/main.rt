@@ -4,18 +4,25 @@
 use desk::HostDesk;
 use replay::{Status, Word, run};
 use std::env;
+use std::io::ErrorKind;
 use std::process::ExitCode;
 
-// Words that are no text are of no form.
 fn answer(rt: &HostRuntime) -> Status {
-    let Ok(words) = env::args(rt) else {
-        return Status::Usage;
-    };
-    let Ok(words) = words.skip(1).collect::<Vec<Word>>(rt.alloc()) else {
+    let Some(words) = words(rt) else {
         return Status::Memory;
     };
     let mut desk = HostDesk::new(rt, rt.alloc());
     run(rt.alloc(), &words, &mut desk)
+}
+
+// The words after the program's name, unless memory is wanting. Where one is no text, none are
+// handed on, so that they are of no form.
+fn words(rt: &HostRuntime) -> Option<Vec<Word>> {
+    match env::args(rt) {
+        Ok(words) => words.skip(1).collect(rt.alloc()).ok(),
+        Err(error) if error.kind() == ErrorKind::OutOfMemory => None,
+        Err(_) => Some(Vec::new(rt.alloc())),
+    }
 }
 
 fn main(rt: HostRuntime) -> ExitCode {
