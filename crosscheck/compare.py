@@ -3,7 +3,8 @@
 
 usage: compare.py PROGRAM [ROUNDS [SEED]]
 Each round makes settings and a capture of 2,000 frames: packets of the site, packets in tunnels and control
-messages in both families, half of them spoiled. It ends with status 1 at the first difference.
+messages in both families, half of them spoiled; and then 40 settings files with spoiled values. It ends with
+status 1 at the first difference.
 """
 import ipaddress
 import os
@@ -12,6 +13,9 @@ import struct
 import subprocess
 import sys
 import tempfile
+import tomllib
+
+from plain import ones_sum
 
 HERE = os.path.dirname(os.path.abspath(__file__))
 MAC = bytes.fromhex("0200000000010200000000ff")
@@ -42,12 +46,38 @@ def settings(r):
     return "\n".join(lines) + "\n"
 
 
-def ones_sum(octets):
-    octets += bytes(len(octets) % 2)
-    total = sum(struct.unpack(f">{len(octets) // 2}H", octets))
-    while total >> 16:
-        total = (total & 0xFFFF) + (total >> 16)
-    return total
+WORDS = ["1", "-1", "0", "255", "256", "4095", "4096", "16777215", "16777216", "true", "false", "1.5", "[]", "{}",
+         "[1]", '""', '"::"', '"::1"', '"1:2:3:4:5:6:7::"', '"1::2:3:4:5:6:7:8"', '"1:2:3:4:5:6:7:8"', '"::1.2.3.4"',
+         '"1.2.3.04"', '"1.2.3.4"', '"1.2.3"', '"1.2.3.256"', '"10.1.2.3/16"', '"10.1.2.3/33"', '"10.1.2.3/016"',
+         '"::/128"', '"::/129"', '"2001:DB8::/32"', '"12345::"', '"a::b::c"', '"192.0.2.1"', '"+1.2.3.4"', '"::1/+1"',
+         '"' + "0aF" * 21 + "9" + '"', '"0123456789abcDEF"', '["0123456789abcdef", "0123456789abcdeg"]', "8", "7"]
+KEYS, UNKNOWN = ["seed", "nonces", "resolver", "ttl", "probe", "echo"], ["seeds", "A"]
+INNER = ["address", "priority", "weight", "up", "vlan", "iid", "prefix", "version", "action", "locator", "zone"]
+
+
+def spoiled_settings(r):
+    """Settings with some values of another kind, keys that aren't known, and items twice."""
+    top = [f"{key} = {r.choice(WORDS)}" for key in r.sample(KEYS, r.choice([0, 0, 1, 2]))]
+    top += [f"{key} = {r.choice(WORDS)}" for key in r.sample(UNKNOWN, r.choice([0] * 9 + [1, 2]))]
+    blocks = ("\n" + settings(r)).split("\n[[")[1:]
+    for _ in range(r.choice([0, 1, 1, 1, 2, 3])):
+        at = r.randrange(len(blocks))
+        lines = blocks[at].rstrip().split("\n")
+        kind = r.randrange(5)
+        if kind == 0:
+            blocks.insert(at, blocks[at])
+        elif kind == 1 and len(lines) > 1:
+            del lines[r.randrange(1, len(lines))]
+            blocks[at] = "\n".join(lines)
+        elif kind == 2:
+            key = r.choice(INNER)
+            others = [line for line in lines if not line.startswith(key + " ")]
+            blocks[at] = "\n".join([*others, f"{key} = {r.choice(WORDS)}"])
+        elif len(lines) > 1:
+            i = r.randrange(1, len(lines))
+            lines[i] = lines[i].split(" = ")[0] + " = " + r.choice(WORDS)
+            blocks[at] = "\n".join(lines)
+    return "\n".join(top) + "\n" + "".join("[[" + block.rstrip() + "\n" for block in blocks)
 
 
 def ip(r, source, dest, payload, protocol=17):
@@ -210,12 +240,24 @@ def main():
             theirs = run(*plain, "replay", *names[:2], names[3])
             same = ours == theirs and open(names[2], "rb").read() == open(names[3], "rb").read()
             same = same and run(program, "show", "--in", names[1]) == run(*plain, "show", names[1])
+            for _ in range(40):
+                if not same:
+                    break
+                text = spoiled_settings(r)
+                try:
+                    tomllib.loads(text)
+                except tomllib.TOMLDecodeError:
+                    continue
+                with open(names[0], "w") as file:
+                    file.write(text)
+                ours = run(program, "replay", "--settings", names[0], "--in", names[1], "--out", names[2])
+                same = ours == run(*plain, "replay", *names[:2], names[3])
             if not same:
                 print(f"round {i} of seed {seed} differs")
                 for name in names[:2]:
                     os.replace(name, os.path.basename(name))
                 sys.exit(1)
-    print(f"{rounds} rounds of 2,000 frames agree")
+    print(f"{rounds} rounds of 2,000 frames and 40 settings agree")
 
 
 main()

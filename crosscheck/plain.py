@@ -2,12 +2,15 @@
 """A plain router, written from the standards and docs/DECISIONS.md, beside the proved program.
 
 usage: plain.py replay SETTINGS CAPTURE OUTPUT | plain.py show CAPTURE
-It prints the report, and for a replay writes the output. Settings and captures must be lawful.
+It prints the report, and for a replay with lawful settings writes the output. Settings must be TOML, and
+captures whole.
 """
 import ipaddress
 import struct
 import sys
 import tomllib
+
+import settings as rules
 
 
 class Refused(Exception):
@@ -134,6 +137,7 @@ class Site:
     def __init__(self, path):
         with open(path, "rb") as file:
             top = tomllib.load(file)
+        rules.check(top)
         self.locators = sorted(
             (len(a := ipaddress.ip_address(table["address"]).packed), a, table.get("up", True))
             for table in top["locator"])
@@ -275,7 +279,11 @@ def decided(site, link, frame):
 
 
 def replay(settings, capture, output):
-    site = Site(settings)
+    try:
+        site = Site(settings)
+    except rules.Fault as fault:
+        print(f"settings {fault}")
+        return
     count = written = 0
     with open(output, "wb") as file:
         file.write(struct.pack("<IHHIIII", 0xA1B23C4D, 2, 4, 0, 0, 262144, 101))

@@ -1,0 +1,162 @@
+"""The first fault of a settings file that is TOML, key by key, as docs/DECISIONS.md says."""
+import ipaddress
+import re
+
+HEX = re.compile(r"[0-9a-fA-F]*")
+NUMBER = re.compile(r"0|[1-9][0-9]{0,2}")
+GROUP = re.compile(r"[0-9a-fA-F]{1,4}")
+
+
+class Fault(Exception):
+    """A word and the key at fault."""
+
+
+def fail(word, path):
+    raise Fault(f"{word} {'.'.join(map(str, path))}")
+
+
+def hexadecimal(digits):
+    return lambda value: isinstance(value, str) and len(value) == digits and bool(HEX.fullmatch(value))
+
+
+def number(least, greatest):
+    return lambda value: type(value) is int and least <= value <= greatest
+
+
+def truth(value):
+    return type(value) is bool
+
+
+def decimal(text, greatest):
+    return bool(NUMBER.fullmatch(text)) and int(text) <= greatest
+
+
+def groups(text):
+    return text.split(":") if text else []
+
+
+def address(value):
+    """The octets of an address, or None."""
+    if not isinstance(value, str):
+        return None
+    if "." in value:
+        parts = value.split(".")
+        good = len(parts) == 4 and all(decimal(part, 255) for part in parts)
+        return bytes(map(int, parts)) if good else None
+    front, gap, back = value.partition("::")
+    fields = groups(front) + groups(back)
+    good = all(GROUP.fullmatch(field) for field in fields)
+    good = good and (len(fields) <= 7 if gap else len(fields) == 8)
+    return ipaddress.ip_address(value).packed if good else None
+
+
+def prefix(value):
+    """The octets and the length of a prefix, or None."""
+    if not isinstance(value, str):
+        return None
+    front, slash, length = value.partition("/")
+    octets = address(front)
+    if octets is None or not slash or not decimal(length, 8 * len(octets)):
+        return None
+    return ipaddress.ip_network(value, strict=False).network_address.packed, int(length)
+
+
+def only(table, known, path):
+    for key in sorted(table, key=str.encode):
+        if key not in known:
+            fail("unknown-key", [*path, key])
+
+
+def optional(table, key, good, path):
+    if key in table and not good(table[key]):
+        fail("bad-value", [*path, key])
+
+
+def required(table, key, read, path):
+    if key not in table:
+        fail("missing", [*path, key])
+    value = read(table[key])
+    if value is None:
+        fail("bad-value", [*path, key])
+    return value
+
+
+def whole(greatest):
+    good = number(0, greatest)
+    return lambda value: value if good(value) else None
+
+
+def items(table, key, most, read, path, least=0):
+    tables = table.get(key, [])
+    if not isinstance(tables, list) or not all(isinstance(item, dict) for item in tables):
+        fail("bad-value", [*path, key])
+    if len(tables) < least:
+        fail("missing", [*path, key])
+    if len(tables) > most:
+        fail("too-many", [*path, key])
+    seen = set()
+    for position, item in enumerate(tables):
+        place = [*path, key, position]
+        name = read(item, place)
+        if name in seen:
+            fail("duplicate", place)
+        seen.add(name)
+
+
+def locator(table, path):
+    only(table, ("address", "priority", "weight", "up"), path)
+    octets = required(table, "address", address, path)
+    optional(table, "priority", number(0, 255), path)
+    optional(table, "weight", number(0, 255), path)
+    optional(table, "up", truth, path)
+    return octets
+
+
+def attachment(table, path):
+    only(table, ("vlan", "iid"), path)
+    vlan = required(table, "vlan", whole(4095), path)
+    required(table, "iid", whole(2**24 - 1), path)
+    return vlan
+
+
+def eid(table, path):
+    iid = required(table, "iid", whole(2**24 - 1), path)
+    network = required(table, "prefix", prefix, path)
+    optional(table, "version", number(0, 0), path)
+    return iid, network
+
+
+def database(table, path):
+    only(table, ("iid", "prefix", "version"), path)
+    return eid(table, path)
+
+
+def mapping(table, path):
+    only(table, ("iid", "prefix", "version", "action", "locator"), path)
+    name = eid(table, path)
+    optional(table, "action", number(0, 7), path)
+    items(table, "locator", 32, locator, path)
+    return name
+
+
+def check(top):
+    """Raises the first fault of the top table."""
+    keys = ("seed", "nonces", "resolver", "ttl", "probe", "echo", "locator", "attachment", "database", "mapping")
+    only(top, keys, [])
+    optional(top, "seed", hexadecimal(64), [])
+    nonces = top.get("nonces", [])
+    if not isinstance(nonces, list):
+        fail("bad-value", ["nonces"])
+    if len(nonces) > 4096:
+        fail("too-many", ["nonces"])
+    for position, nonce in enumerate(nonces):
+        if not hexadecimal(16)(nonce):
+            fail("bad-value", ["nonces", position])
+    optional(top, "resolver", lambda value: False, [])
+    optional(top, "ttl", number(1, 2**32 - 2), [])
+    optional(top, "probe", lambda value: value is False, [])
+    optional(top, "echo", lambda value: value is False, [])
+    items(top, "locator", 32, locator, [], 1)
+    items(top, "attachment", 4096, attachment, [])
+    items(top, "database", 64, database, [])
+    items(top, "mapping", 65536, mapping, [])
