@@ -11,6 +11,8 @@ import socket
 import struct
 import sys
 
+from packets import ones_sum
+
 IPV4 = "10.1.0.0/16", "10.2.0.0/16"
 IPV6 = "2001:db8:1::/48", "2001:db8:2::/48"
 MAPPINGS = 50_000
@@ -35,16 +37,9 @@ def settings(kind):
     )
 
 
-def checksum(header):
-    total = sum(struct.unpack(f">{len(header) // 2}H", header))
-    while total >> 16:
-        total = (total & 0xFFFF) + (total >> 16)
-    return 0xFFFF - total
-
-
 def ipv4_between(source, dest, size, ports, port):
     front = struct.pack(">BBHHHBBH4s4s", 0x45, 0, size, 0, 0, 64, 17, 0, source, dest)
-    front = front[:10] + struct.pack(">H", checksum(front)) + front[12:]
+    front = front[:10] + struct.pack(">H", 0xFFFF - ones_sum(front)) + front[12:]
     return front + struct.pack(">HHHH", ports, port, size - 20, 0)
 
 

@@ -9,15 +9,9 @@ import random
 import struct
 import sys
 
+from packets import ones_sum
+
 ITR, RESOLVER = bytes([192, 0, 2, 1]), bytes([198, 51, 100, 7])
-
-
-def ones_sum(octets):
-    octets += bytes(len(octets) % 2)
-    total = sum(struct.unpack(f">{len(octets) // 2}H", octets))
-    while total >> 16:
-        total = (total & 0xFFFF) + (total >> 16)
-    return total
 
 
 def packet(source, dest, payload):
