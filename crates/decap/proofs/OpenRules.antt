@@ -3,16 +3,17 @@ use Rattle.std.proofs.Common.{◌≡◌, ◌≢◌, ◌≤◌, ◌<◌, ◌^◌,
 use Rattle.std.proofs.lemmas.Bool.{leb-true}
 use Rattle.std.proofs.lemmas.List.{length-take}
 use Rattle.std.proofs.lemmas.Grind.{common_steps}
+use Rattle.octets.specs.Refusals.{fault_of}
 use Rattle.octets.specs.Rules.{first_failing}
 use Rattle.octets.specs.declared.refused.Refused.{Refused}
 use Rattle.octets.proofs.RuleLemmas.{all_hold, first_failing-append, first_failing-append_refused}
 use Rattle.ip_headers.specs.Ip.{ip_rules}
-use Rattle.ip_headers.specs.Udp.{udp_checksum_rules, udp_read}
+use Rattle.ip_headers.specs.Udp.{payload_of, udp_checksum_rules, udp_read}
 use Rattle.ip_headers.specs.declared.header.UdpHeader.{UdpHeader}
 use Rattle.ip_headers.specs.declared.packet.IpPacket.{IpPacket}
 use Rattle.ip_headers.proofs.UdpLemmas.{udp_read-within}
 use Rattle.lisp_header.specs.Header.{lisp_rules}
-use Rattle.decap.specs.Opened.{drop_of, key_rules, open_rules, opened_rules, payload_base, payload_of, refusing}
+use Rattle.decap.specs.Opened.{key_rules, open_rules, opened_rules, payload_base, refusing}
 use Rattle.decap.specs.declared.fault.OpenDrop.{OpenDrop}
 use Rattle.decap.specs.declared.fault.OpenDrop.TheVariants.{Encrypted}
 use Rattle.decap.specs.declared.fault.OpenDrop.TheVariants as drops
@@ -122,6 +123,6 @@ pub eight : (base : ℕ) (payload : List ℕ) → first_failing (lisp_rules base
 eight base payload none = leb-true 8 (length payload) (all_hold (lisp_rules base payload) none).0
 
 -- the drop of an answer that is known to be it
-pub drop_of-err : {T : Type 0} (result : Result T OpenDrop) (drop : OpenDrop) → IsErrAnd result (λ given. given ≡ drop) → drop_of result ≡ Some drop
-drop_of-err (Ok value) drop is = absurd is
-drop_of-err (Err given) drop is = ap Some is
+pub fault_of-err : {T : Type 0} (result : Result T OpenDrop) (drop : OpenDrop) → IsErrAnd result (λ given. given ≡ drop) → fault_of result ≡ Some drop
+fault_of-err (Ok value) drop is = absurd is
+fault_of-err (Err given) drop is = ap Some is

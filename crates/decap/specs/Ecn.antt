@@ -29,9 +29,10 @@ ce = 3
 
 -- one of four, by a mark, in the order Not-ECT, ECT(0), ECT(1), CE
 abbrev pub by_mark : {T : Type 0} → ℕ → T → T → T → T → T
-by_mark mark a b c d = if mark == not_ect then a else if mark == ect_0 then b else if mark == ect_1 then c else d
+by_mark mark a b c d =
+    if mark == not_ect then a else if mark == ect_0 then b else if mark == ect_1 then c else d
 
--- the outgoing mark by the inner one (a row each) and the outer one; None where the packet is dropped
+-- the outgoing mark by the inner one, a row each, and the outer one; None where it is dropped
 unfoldable pub ecn_of : ℕ → ℕ → Option ℕ
 ecn_of inner outer =
     by_mark inner

@@ -1,9 +1,9 @@
 -- A tunnel packet, opened: RFC 9300 section 5.3.
-use Rattle.std.specs.Prelude.{◌≡◌, ℕ, ◌+◌, ◌-◌, ◌%◌, ◌==◌, Bool, true, List, [], ◌∷◌, ◌++◌, drop, take, slice_index, Option, Some, None, Result, Ok, Err}
+use Rattle.std.specs.Prelude.{◌≡◌, ℕ, ◌+◌, ◌%◌, ◌==◌, Bool, true, List, [], ◌∷◌, ◌++◌, drop, slice_index}
 use Rattle.octets.specs.declared.refused.Refused.{Refused}
 use Rattle.ip_headers.specs.Ip.{ip_rules}
 use Rattle.ip_headers.specs.Packet.{IsPacketOf}
-use Rattle.ip_headers.specs.Udp.{sum_rules}
+use Rattle.ip_headers.specs.Udp.{payload_in, payload_of, sum_rules}
 use Rattle.ip_headers.specs.declared.header.IpHeader.{IpHeader}
 use Rattle.ip_headers.specs.declared.header.UdpHeader.{UdpHeader}
 use Rattle.ip_headers.specs.declared.packet.IpPacket.{IpPacket}
@@ -13,14 +13,7 @@ use Rattle.decap.specs.declared.fault.OpenDrop.TheVariants.{Encrypted}
 use Rattle.decap.specs.declared.fault.OpenDrop.TheVariants as drops
 use Rattle.decap.specs.declared.opening.Tunnelled.{Tunnelled}
 
--- the octets behind the UDP header, as many as it names
-abbrev pub payload_in : List ℕ → UdpHeader → List ℕ
-payload_in octets udp = take (udp.length - 8) (drop (udp.at + 8) octets)
-
-abbrev pub payload_of : IpPacket → UdpHeader → List ℕ
-payload_of packet udp = payload_in packet.octets.now udp
-
--- the place of these octets in the frame
+-- the place of the octets behind the UDP header in the frame
 abbrev pub payload_base : IpPacket → UdpHeader → ℕ
 payload_base packet udp = packet.base + udp.at + 8
 
@@ -40,15 +33,12 @@ opened_rules base header octets udp =
     let payload = payload_in octets udp in
     let place = base + udp.at + 8 in
     refusing (sum_rules base header octets udp true)
-    ++ (refusing (lisp_rules place payload) ++ (key_rules payload ++ refusing (ip_rules (place + 8) (drop 8 payload))))
+    ++ (refusing (lisp_rules place payload)
+    ++ (key_rules payload ++ refusing (ip_rules (place + 8) (drop 8 payload))))
 
+-- the same of a packet
 abbrev pub open_rules : IpPacket → UdpHeader → List (Bool × OpenDrop)
 open_rules packet udp = opened_rules packet.base packet.header packet.octets.now udp
-
--- the drop in an answer
-abbrev pub drop_of : {T : Type 0} → Result T OpenDrop → Option OpenDrop
-drop_of (Ok value) = None
-drop_of (Err drop) = Some drop
 
 -- what the octets of a tunnel packet spell
 pub record IsOpened (packet : IpPacket) (udp : UdpHeader) (tunnel : Tunnelled) : Type 0 where

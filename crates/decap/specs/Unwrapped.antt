@@ -1,9 +1,8 @@
 -- What decapsulation makes of a packet, field by field: RFC 9300 section 5.3, RFC 6040 section 4.2.
-use Rattle.std.specs.Prelude.{◌≡◌, ℕ, ◌+◌, ◌%◌, ◌==◌, ◌||◌, Bool, true, false, List, length, take, slice_index, Some, None, if◌then◌else◌}
+use Rattle.std.specs.Prelude.{◌≡◌, ℕ, ◌+◌, ◌%◌, ◌==◌, ◌||◌, Bool, true, false, List, length, slice_index, Some, None, if◌then◌else◌}
 use Rattle.octets.specs.Numbers.{big}
 use Rattle.octets.specs.Rules.{first_failing}
-use Rattle.ip_headers.specs.Checksum.{ones_sum}
-use Rattle.ip_headers.specs.Ip.{ip_rules, is_v4, header_at, header_len, packet_len, ttl_of, version}
+use Rattle.ip_headers.specs.Ip.{header_sum, ip_rules, is_v4, header_at, packet_len, ttl_of, version}
 use Rattle.ip_headers.specs.declared.header.IpHeader.{IpHeader}
 use Rattle.decap.specs.Delivered.{lesser_ttl}
 use Rattle.decap.specs.Ecn.{dscp, ecn, ecn_of}
@@ -26,6 +25,6 @@ pub record Unwrapped (outer : IpHeader) (inner out : List ℕ) : Type 0 where
   pub version : version out ≡ version inner
   pub flow_label : is_v4 inner ≡ false → flow_label out ≡ flow_label inner
   pub others : (k : ℕ) → changes_at inner k ≡ false → slice_index out k ≡ slice_index inner k
-  pub checksum : is_v4 out ≡ true → ones_sum (take (header_len out) out) ≡ 65535
+  pub checksum : is_v4 out ≡ true → header_sum out ≡ 65535
   pub lawful : (base : ℕ) → first_failing (ip_rules base out) ≡ None
   pub exact : length out ≡ packet_len (header_at out)

@@ -1,8 +1,9 @@
 // A packet as it leaves its tunnel.
 ghost use Rattle.std.specs.Prelude.{◌≡◌, ◌≤◌, length, IfOk, true, false};
-ghost use Rattle.octets.specs.Rules.{first_failing};
+ghost use Rattle.octets.specs.Rules.{first_failing, FailsBy};
 ghost use Rattle.ip_headers.specs.Ip.{header_len, is_v4};
-ghost use Rattle.decap.specs.Delivered.{deliver_rules, delivered, marked, v4_marked, v6_marked, DropsBy};
+ghost use Rattle.decap.specs.Delivered.{decap_drop, deliver_rules, delivered, marked, v4_marked, v6_marked};
+ghost use Rattle.decap.specs.declared.fault.DecapDrop.TheVariants.{Memory};
 
 use crate::ecn::ecn_of;
 use crate::{DecapDrop, Tunnelled};
@@ -17,22 +18,22 @@ pub fn deliver(alloc: Global, tunnel: &Tunnelled) -> Result<Octets, DecapDrop>
     ensures ok { let inner = tunnel.now.inner.octets.now in
         IfOk result (λ packet. packet ≡ delivered inner tunnel.now.outer) }
     ensures refused { let rules = deliver_rules tunnel.now.inner.octets.now tunnel.now.outer in
-        DropsBy (first_failing rules) result }
+        FailsBy decap_drop Memory (first_failing rules) result }
     ensures size { IfOk result (λ packet. length packet ≡ length tunnel.now.inner.octets.now) }
 {
     let outer = &tunnel.outer;
     let Some(ecn) = ecn_of(tunnel.inner.header.class() % 4, outer.class() % 4) else {
         return Err(DecapDrop::CongestionMark);
     };
-    let ttl = tunnel.inner.ttl().min(outer.ttl());
+    let ttl = tunnel.inner.header.ttl().min(outer.ttl());
     if ttl <= 1 {
         return Err(DecapDrop::TtlExpired);
     }
     let class = outer.class() / 4 * 4 + ecn;
-    Ok(marked_packet(alloc, &tunnel.inner, class, ttl - 1)?)
+    Ok(marked(alloc, &tunnel.inner, class, ttl - 1)?)
 }
 
-fn marked_packet(alloc: Global, inner: &IpPacket, class: u8, ttl: u8) -> Result<Octets, NoMemory>
+fn marked(alloc: Global, inner: &IpPacket, class: u8, ttl: u8) -> Result<Octets, NoMemory>
     ensures { IfOk result (λ packet. packet ≡ marked inner.now.octets.now class ttl) }
 {
     let mut packet = Vec::with_capacity(alloc, inner.octets.len())?;

@@ -1,4 +1,4 @@
-//! Packets out of the tunnel: opened (RFC 9300, section 5.3), and delivered (RFC 6040, section 4.2).
+//! Packets out of the tunnel: opened (RFC 9300, section 5.3) and delivered (RFC 6040, section 4.2).
 #![tactic(auto)]
 
 mod delivery;
@@ -6,8 +6,6 @@ mod ecn;
 mod fault;
 mod laws;
 mod opening;
-#[cfg(test)]
-mod tests;
 
 pub use delivery::deliver;
 pub use fault::{DecapDrop, OpenDrop};

@@ -1,11 +1,11 @@
 // A tunnel packet, opened.
 ghost use Rattle.std.specs.Prelude.{◌≡◌, ◌+◌, ◌≤◌, ◌<◌, ◌^◌, length, drop, Ok, IfOk};
-ghost use Rattle.octets.specs.Refusals.{refusal_of};
+ghost use Rattle.octets.specs.Refusals.{fault_of, refusal_of};
 ghost use Rattle.octets.specs.Rules.{first_failing};
 ghost use Rattle.ip_headers.specs.Ip.{ip_rules};
 ghost use Rattle.ip_headers.specs.Packet.{IsPacketOf};
 ghost use Rattle.ip_headers.specs.Udp.{udp_read};
-ghost use Rattle.decap.specs.Opened.{drop_of, open_rules, IsOpened};
+ghost use Rattle.decap.specs.Opened.{open_rules, IsOpened};
 
 use crate::OpenDrop;
 use ip_headers::{IpHeader, IpPacket, UdpHeader, check_udp, read_ip, udp_payload};
@@ -26,7 +26,7 @@ pub struct Tunnelled<'a> {
 /// LISP header, then the packet inside. The first rule that fails counts.
 pub fn open_tunnel<'a>(packet: &IpPacket<'a>, udp: &UdpHeader) -> Result<Tunnelled<'a>, OpenDrop>
     requires { udp_read packet.now ≡ Ok udp.now }
-    ensures rules { drop_of result ≡ first_failing (open_rules packet.now udp.now) }
+    ensures rules { fault_of result ≡ first_failing (open_rules packet.now udp.now) }
     ensures value { IfOk result (IsOpened packet.now udp.now) }
 {
     check_udp(packet, udp, true)?;

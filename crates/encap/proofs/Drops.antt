@@ -6,8 +6,7 @@ use Rattle.octets.proofs.RuleLemmas.{all_hold}
 use Rattle.octets.specs.Rules.{first_failing}
 use Rattle.ip_headers.specs.Ip.{ttl_of, header_at}
 use Rattle.ip_headers.specs.declared.addr.Addr.{Addr}
-use Rattle.encap.specs.Rules.{encap_rules, forward_rules, outer_len}
-use Rattle.encap.specs.declared.fault.EncapDrop.TheVariants.{TtlExpired, TooBig}
+use Rattle.encap.specs.Rules.{encap_rules, forward_rules, outer_len, TtlExpired, TooBig}
 
 pub expired : (inner : List ℕ) (from : Addr) → ttl_of (header_at inner) ≤ 1 → first_failing (encap_rules inner from) ≡ Some TtlExpired
 expired inner from ttl = grind (arith, common_steps)

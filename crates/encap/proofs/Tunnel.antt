@@ -3,7 +3,7 @@ use Rattle.std.proofs.Common.{◌≡◌, ◌≤◌, ◌<◌, ◌+◌, ◌^◌, �
 use Rattle.std.proofs.Math.Seq.{drop-append-add}
 use Rattle.std.proofs.lemmas.List.{append-nil}
 use Rattle.octets.specs.Rules.{first_failing}
-use Rattle.ip_headers.specs.Addr.{width}
+use Rattle.ip_headers.specs.Addr.{width, IsAddr}
 use Rattle.ip_headers.specs.Canonical.{canonical_v4, canonical_v6, InRangeV4, InRangeV6}
 use Rattle.ip_headers.specs.Ip.{class_of, ip_rules, is_v4, header_at, packet_len, payload_place, protocol_of, source_of, dest_of, ttl_of}
 use Rattle.ip_headers.specs.Packet.{IsPacket}
@@ -20,7 +20,7 @@ use Rattle.lisp_header.specs.declared.header.LispHeader.{LispHeader}
 use Rattle.lisp_header.proofs.ReadAgain.{header_at-canonical}
 use Rattle.encap.specs.Forwarded.{forwarded}
 use Rattle.encap.specs.Rules.{encap_rules}
-use Rattle.encap.specs.Wrapped.{outer_header, outer_v4, outer_v6, tunnel_udp, wrapped, IsAddr, IsPlain, Wrapped}
+use Rattle.encap.specs.Wrapped.{outer_header, outer_v4, outer_v6, tunnel_udp, wrapped, IsPlain, Wrapped}
 use Rattle.encap.proofs.Drops.{passed}
 use Rattle.encap.proofs.Hops.{hop}
 use Rattle.encap.proofs.Lengths.{length-forwarded}

@@ -2,15 +2,16 @@
 use Rattle.std.specs.Prelude.{◌≡◌, ℕ, ◌+◌, ◌-◌, ◌==◌, ◌||◌, Bool, true, false, List, ◌∷◌, ◌++◌, length, take, drop, slice_index, None, if◌then◌else◌}
 use Rattle.octets.specs.Numbers.{big_octets}
 use Rattle.octets.specs.Rules.{first_failing}
-use Rattle.ip_headers.specs.Checksum.{checksum, ones_sum}
-use Rattle.ip_headers.specs.Ip.{ip_rules, is_v4, header_at, header_len, packet_len, ttl_of}
+use Rattle.ip_headers.specs.Checksum.{checksum}
+use Rattle.ip_headers.specs.Ip.{header_sum, ip_rules, is_v4, header_at, header_len, packet_len, ttl_of}
 
 -- an IPv4 header with its TTL one less, and that checksum
 abbrev pub lowered : List ℕ → ℕ → List ℕ
 lowered header sum =
-    take 8 header ++ ((slice_index header 8 - 1) ∷ slice_index header 9 ∷ (big_octets 2 sum ++ drop 12 header))
+    take 8 header
+    ++ ((slice_index header 8 - 1) ∷ slice_index header 9 ∷ (big_octets 2 sum ++ drop 12 header))
 
--- an IPv4 header, options too, with its TTL one less and the checksum over it, for which it counts as 0
+-- an IPv4 header with its TTL one less and the checksum over it, for which that counts as 0
 unfoldable pub renewed : List ℕ → List ℕ
 renewed header = lowered header (checksum (lowered header 0))
 
@@ -35,6 +36,6 @@ pub record Forwarded (packet out : List ℕ) : Type 0 where
   pub same_length : length out ≡ length packet
   pub ttl : ttl_of (header_at out) + 1 ≡ ttl_of (header_at packet)
   pub others : (k : ℕ) → changes_at packet k ≡ false → slice_index out k ≡ slice_index packet k
-  pub checksum : is_v4 out ≡ true → ones_sum (take (header_len out) out) ≡ 65535
+  pub checksum : is_v4 out ≡ true → header_sum out ≡ 65535
   pub lawful : (base : ℕ) → first_failing (ip_rules base out) ≡ None
   pub exact : length out ≡ packet_len (header_at out)

@@ -1,7 +1,7 @@
 -- A packet in its tunnel: RFC 9300 section 5.3, RFC 6040 section 4.1.
-use Rattle.std.specs.Prelude.{◌≡◌, ℕ, ◌+◌, ◌-◌, ◌^◌, ◌<◌, true, false, List, ◌++◌, length, drop, None}
+use Rattle.std.specs.Prelude.{◌≡◌, ℕ, ◌+◌, ◌-◌, true, false, List, ◌++◌, length, drop, None}
 use Rattle.octets.specs.Rules.{first_failing}
-use Rattle.ip_headers.specs.Addr.{number, width}
+use Rattle.ip_headers.specs.Addr.{number}
 use Rattle.ip_headers.specs.Canonical.{canonical_v4, canonical_v6}
 use Rattle.ip_headers.specs.Ip.{class_of, ip_rules, header_at, packet_len, payload_place, protocol_of, source_of, dest_of, ttl_of}
 use Rattle.ip_headers.specs.Udp.{canonical_udp, udp_at, udp_rules}
@@ -50,10 +50,12 @@ unfoldable pub outer_header : List ℕ → Addr → Addr → List ℕ
 outer_header inner (family.V4 source) to = canonical_v4 (outer_v4 inner source (number to))
 outer_header inner (family.V6 source) to = canonical_v6 (outer_v6 inner source (number to))
 
--- the tunnel packet: outer IP header, UDP header without checksum, LISP header, the packet one hop further
+-- the tunnel packet: outer IP header, UDP header without checksum, LISP header, the packet one hop
+-- further
 abbrev pub wrapped : List ℕ → Addr → Addr → ℕ → LispHeader → List ℕ
 wrapped inner from to port lisp =
-    outer_header inner from to ++ canonical_udp from to port 4341 (canonical lisp ++ forwarded inner) false
+    outer_header inner from to
+    ++ canonical_udp from to port 4341 (canonical lisp ++ forwarded inner) false
 
 -- an IPv4 header without options, of a packet that is no fragment and may not become one
 pub record IsPlainV4 (header : V4Header) : Type 0 where
@@ -70,14 +72,16 @@ IsPlain (V6 header) = header.flow ≡ 0
 
 -- the UDP header of a tunnel packet: to the LISP data port, without a checksum
 abbrev pub tunnel_udp : ℕ → ℕ → ℕ → UdpHeader
-tunnel_udp port length at = record { source = port; dest = 4341; length = length; checksum = 0; at = at }
+tunnel_udp port length at =
+    record { source = port; dest = 4341; length = length; checksum = 0; at = at }
 
--- an address of its family
-abbrev pub IsAddr : Addr → Type 0
-IsAddr addr = number addr < 2 ^ width addr
+-- where the UDP header of a tunnel packet stands
+abbrev pub udp_place : List ℕ → ℕ
+udp_place outer = payload_place (header_at outer)
 
 -- `outer` carries the packet `inner` through the tunnel from one locator to another
-pub record Wrapped (inner : List ℕ) (from to : Addr) (port : ℕ) (lisp : LispHeader) (outer : List ℕ) : Type 0 where
+pub record Wrapped (inner : List ℕ) (from to : Addr) (port : ℕ) (lisp : LispHeader)
+    (outer : List ℕ) : Type 0 where
   pub lawful : (base : ℕ) → first_failing (ip_rules base outer) ≡ None
   pub exact : length outer ≡ packet_len (header_at outer)
   pub source : source_of (header_at outer) ≡ from
@@ -86,7 +90,7 @@ pub record Wrapped (inner : List ℕ) (from to : Addr) (port : ℕ) (lisp : Lisp
   pub ttl : ttl_of (header_at outer) + 1 ≡ ttl_of (header_at inner)
   pub protocol : protocol_of (header_at outer) ≡ 17
   pub plain : IsPlain (header_at outer)
-  pub udp_lawful : (base : ℕ) → first_failing (udp_rules base (payload_place (header_at outer)) outer) ≡ None
-  pub udp : udp_at (payload_place (header_at outer)) outer ≡ tunnel_udp port (16 + length inner) (payload_place (header_at outer))
-  pub lisp_header : lisp_header_at (drop (payload_place (header_at outer) + 8) outer) ≡ lisp
-  pub payload : Forwarded inner (drop (payload_place (header_at outer) + 16) outer)
+  pub udp_lawful : (base : ℕ) → first_failing (udp_rules base (udp_place outer) outer) ≡ None
+  pub udp : udp_at (udp_place outer) outer ≡ tunnel_udp port (16 + length inner) (udp_place outer)
+  pub lisp_header : lisp_header_at (drop (udp_place outer + 8) outer) ≡ lisp
+  pub payload : Forwarded inner (drop (udp_place outer + 16) outer)

@@ -10,7 +10,7 @@ use std::alloc::AllocError;
 pub enum EncapDrop {
     /// Its TTL or Hop Limit is at most 1.
     TtlExpired,
-    /// With the outer headers it would have more than 1,500 octets.
+    /// With the outer headers it would have more than `MOST_TUNNEL_OCTETS`.
     TooBig,
     /// An allocation was refused.
     Memory,

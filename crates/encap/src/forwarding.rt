@@ -1,9 +1,10 @@
 // A packet one hop further.
-ghost use Rattle.std.specs.Prelude.{◌≡◌, ◌≤◌, ◌++◌, length, take, drop, slice_index, IfOk, OnOk};
-ghost use Rattle.octets.specs.Rules.{first_failing};
+ghost use Rattle.std.specs.Prelude.{◌≡◌, ◌≢◌, ◌≤◌, ◌++◌, length, take, drop, slice_index, IfErr, IfOk, OnOk};
+ghost use Rattle.octets.specs.Rules.{first_failing, FailsBy};
 ghost use Rattle.ip_headers.specs.Ip.{ttl_of};
 ghost use Rattle.encap.specs.Forwarded.{forwarded, forwarded_v6, renewed};
-ghost use Rattle.encap.specs.Rules.{forward_rules, DropsBy};
+ghost use Rattle.encap.specs.Rules.{encap_drop, forward_rules};
+ghost use Rattle.encap.specs.declared.fault.EncapDrop.TheVariants.{Memory, TooBig};
 
 use crate::EncapDrop;
 use ip_headers::{IpHeader, IpPacket, checksum};
@@ -14,16 +15,18 @@ use std::alloc::Global;
 /// a destination outside the tunnels. All other octets are those of the packet.
 pub fn forward_native(alloc: Global, inner: &IpPacket) -> Result<Octets, EncapDrop>
     ensures ok { IfOk result (λ packet. packet ≡ forwarded inner.now.octets.now) }
-    ensures refused { DropsBy (first_failing (forward_rules inner.now.octets.now)) result }
+    ensures refused { let rules = forward_rules inner.now.octets.now in
+        FailsBy encap_drop Memory (first_failing rules) result }
+    ensures fits { IfErr result (λ drop. drop ≢ TooBig) }
     ensures size { IfOk result (λ packet. length packet ≡ length inner.now.octets.now) }
 {
-    if inner.ttl() <= 1 {
+    if inner.header.ttl() <= 1 {
         return Err(EncapDrop::TtlExpired);
     }
-    Ok(lowered_packet(alloc, inner)?)
+    Ok(forwarded(alloc, inner)?)
 }
 
-fn lowered_packet(alloc: Global, inner: &IpPacket) -> Result<Octets, NoMemory>
+fn forwarded(alloc: Global, inner: &IpPacket) -> Result<Octets, NoMemory>
     requires { 1 ≤ ttl_of inner.now.header }
     ensures { IfOk result (λ packet. packet ≡ forwarded inner.now.octets.now) }
 {

@@ -1,7 +1,7 @@
 // Laws of what is sent. Each function only states its law.
 ghost use Rattle.std.specs.Prelude.{◌≡◌, ◌≤◌, ◌<◌, ◌^◌, ℕ, List, None};
 ghost use Rattle.octets.specs.Rules.{first_failing};
-ghost use Rattle.ip_headers.specs.Addr.{width};
+ghost use Rattle.ip_headers.specs.Addr.{width, IsAddr};
 ghost use Rattle.ip_headers.specs.Ip.{header_at, ttl_of};
 ghost use Rattle.ip_headers.specs.Packet.{IsPacket};
 ghost use Rattle.ip_headers.specs.declared.addr.Addr.{Addr};
@@ -9,12 +9,12 @@ ghost use Rattle.lisp_header.specs.Header.{InRange};
 ghost use Rattle.lisp_header.specs.declared.header.LispHeader.{LispHeader};
 ghost use Rattle.encap.specs.Forwarded.{forwarded, Forwarded};
 ghost use Rattle.encap.specs.Rules.{encap_rules};
-ghost use Rattle.encap.specs.Wrapped.{wrapped, IsAddr, Wrapped};
+ghost use Rattle.encap.specs.Wrapped.{wrapped, Wrapped};
 
 /// A packet that is forwarded is the same packet one hop further.
 pub fn forwarded_goes_one_hop()
-    ensures { (base : ℕ) (packet : List ℕ)
-        → IsPacket base packet → 1 ≤ ttl_of (header_at packet) → Forwarded packet (forwarded packet) }
+    ensures { (base : ℕ) (packet : List ℕ) → IsPacket base packet → 1 ≤ ttl_of (header_at packet)
+        → Forwarded packet (forwarded packet) }
 {}
 
 /// A packet that no rule drops is carried through the tunnel by what is sent.

@@ -5,11 +5,9 @@ mod fault;
 mod forwarding;
 mod laws;
 mod outer;
-#[cfg(test)]
-mod tests;
 mod wrapping;
 
 pub use fault::EncapDrop;
 pub use forwarding::forward_native;
 pub use laws::{forwarded_goes_one_hop, wrapped_carries_the_packet};
-pub use wrapping::encapsulate;
+pub use wrapping::{MOST_TUNNEL_OCTETS, encapsulate};

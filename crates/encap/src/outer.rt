@@ -3,15 +3,14 @@ ghost use Rattle.std.specs.Prelude.{◌≡◌, ◌≤◌, ◌+◌, ◌++◌, len
 ghost use Rattle.ip_headers.specs.Addr.{width};
 ghost use Rattle.ip_headers.specs.Ip.{ttl_of};
 ghost use Rattle.ip_headers.specs.Udp.{udp_octets};
+ghost use Rattle.lisp_header.specs.declared.header.TheConstants.{LISP_DATA_PORT};
 ghost use Rattle.encap.specs.Rules.{outer_len};
 ghost use Rattle.encap.specs.Wrapped.{outer_header, outer_v4, outer_v6};
+ghost use Rattle.encap.specs.declared.wrapping.TheConstants.{MOST_TUNNEL_OCTETS};
 
-use ip_headers::{Addr, IpPacket, V4Header, V6Header, write_v4, write_v6};
+use ip_headers::{Addr, IpPacket, UDP, V4Header, V6Header, write_v4, write_v6};
+use lisp_header::LISP_DATA_PORT;
 use octets::{NoMemory, Octets};
-
-const UDP: u8 = 17;
-/// The port of LISP data packets.
-const LISP_DATA: u16 = 4341;
 
 /// The octets of outer IP header, UDP header and LISP header.
 pub(crate) fn outer_len(from: Addr) -> usize
@@ -32,7 +31,7 @@ pub(crate) fn append_outer(
 ) -> Result<(), NoMemory>
     requires family { width from ≡ width to }
     requires ttl { 1 ≤ ttl_of inner.now.header }
-    requires size { length inner.now.octets.now ≤ 1464 }
+    requires size { outer_len from + length inner.now.octets.now ≤ MOST_TUNNEL_OCTETS }
     ensures { OnOk result (out.new ≡ out.old ++ outer_header inner.now.octets.now from to) }
 {
     match (from, to) {
@@ -44,7 +43,7 @@ pub(crate) fn append_outer(
 
 fn outer_v4(inner: &IpPacket, source: u32, dest: u32) -> V4Header
     requires ttl { 1 ≤ ttl_of inner.now.header }
-    requires size { length inner.now.octets.now ≤ 1464 }
+    requires size { 36 + length inner.now.octets.now ≤ MOST_TUNNEL_OCTETS }
     ensures { result ≡ outer_v4 inner.now.octets.now source dest }
 {
     V4Header {
@@ -56,7 +55,7 @@ fn outer_v4(inner: &IpPacket, source: u32, dest: u32) -> V4Header
         dont_fragment: true,
         more: false,
         offset: 0,
-        ttl: inner.ttl() - 1,
+        ttl: inner.header.ttl() - 1,
         protocol: UDP,
         header_len: 20,
     }
@@ -64,7 +63,7 @@ fn outer_v4(inner: &IpPacket, source: u32, dest: u32) -> V4Header
 
 fn outer_v6(inner: &IpPacket, source: u128, dest: u128) -> V6Header
     requires ttl { 1 ≤ ttl_of inner.now.header }
-    requires size { length inner.now.octets.now ≤ 1464 }
+    requires size { 56 + length inner.now.octets.now ≤ MOST_TUNNEL_OCTETS }
     ensures { result ≡ outer_v6 inner.now.octets.now source dest }
 {
     V6Header {
@@ -74,17 +73,17 @@ fn outer_v6(inner: &IpPacket, source: u128, dest: u128) -> V6Header
         flow: 0,
         payload: 16 + inner.octets.len() as u16,
         next: UDP,
-        hops: inner.ttl() - 1,
+        hops: inner.header.ttl() - 1,
     }
 }
 
 /// The UDP header before `payload` octets of LISP header and packet, without a checksum.
 pub(crate) fn udp_header(port: u16, payload: u16) -> [u8; 8]
     requires { payload ≤ 65527 }
-    ensures { result ≡ udp_octets port 4341 (8 + payload) 0 }
+    ensures { result ≡ udp_octets port LISP_DATA_PORT (8 + payload) 0 }
 {
     let source = port.to_be_bytes();
-    let dest = LISP_DATA.to_be_bytes();
+    let dest = LISP_DATA_PORT.to_be_bytes();
     let length = (8 + payload).to_be_bytes();
     [
         source[0], source[1], dest[0], dest[1], length[0], length[1], 0, 0,

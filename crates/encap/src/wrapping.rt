@@ -1,11 +1,13 @@
 // A packet into its tunnel.
 ghost use Rattle.std.specs.Prelude.{◌≡◌, ◌≤◌, ◌+◌, length, IfOk};
-ghost use Rattle.octets.specs.Rules.{first_failing};
+ghost use Rattle.octets.specs.Rules.{first_failing, FailsBy};
 ghost use Rattle.ip_headers.specs.Addr.{width};
 ghost use Rattle.ip_headers.specs.Ip.{ttl_of};
 ghost use Rattle.lisp_header.specs.Header.{InRange};
-ghost use Rattle.encap.specs.Rules.{encap_rules, outer_len, DropsBy};
+ghost use Rattle.encap.specs.Rules.{encap_drop, encap_rules, outer_len};
 ghost use Rattle.encap.specs.Wrapped.{wrapped};
+ghost use Rattle.encap.specs.declared.fault.EncapDrop.TheVariants.{Memory};
+ghost use Rattle.encap.specs.declared.wrapping.TheConstants.{MOST_TUNNEL_OCTETS};
 
 use crate::EncapDrop;
 use crate::forwarding::append_forwarded;
@@ -15,8 +17,8 @@ use lisp_header::{LispHeader, write_header};
 use octets::{NoMemory, Octets};
 use std::alloc::Global;
 
-/// The most octets of a tunnel packet.
-const MTU: usize = 1500;
+/// The most octets of a tunnel packet (this router's choice).
+pub const MOST_TUNNEL_OCTETS: usize = 1500;
 
 /// The packet in its tunnel from one locator to another, from UDP port `port`. TTL, DSCP and ECN of
 /// the outer header are those that the packet goes on with (RFC 9300, section 5.3; RFC 6040).
@@ -30,29 +32,22 @@ pub fn encapsulate(
 ) -> Result<Octets, EncapDrop>
     requires family { width from ≡ width to }
     requires range { InRange header.now }
-    ensures ok { IfOk result (λ packet. packet ≡ wrapped inner.now.octets.now from to port header.now) }
-    ensures refused { DropsBy (first_failing (encap_rules inner.now.octets.now from)) result }
-    ensures size { IfOk result (λ packet. length packet ≤ 1500) }
+    ensures ok { let packet = wrapped inner.now.octets.now from to port header.now in
+        IfOk result (λ sent. sent ≡ packet) }
+    ensures refused { let rules = encap_rules inner.now.octets.now from in
+        FailsBy encap_drop Memory (first_failing rules) result }
+    ensures size { IfOk result (λ packet. length packet ≤ MOST_TUNNEL_OCTETS) }
 {
-    if let Some(drop) = first_drop(inner, from) {
-        return Err(drop);
+    if inner.header.ttl() <= 1 {
+        return Err(EncapDrop::TtlExpired);
     }
-    Ok(tunnel_packet(alloc, inner, from, to, port, header)?)
+    if outer_len(from) + inner.octets.len() > MOST_TUNNEL_OCTETS {
+        return Err(EncapDrop::TooBig);
+    }
+    Ok(wrapped(alloc, inner, from, to, port, header)?)
 }
 
-fn first_drop(inner: &IpPacket, from: Addr) -> Option<EncapDrop>
-    ensures { result ≡ first_failing (encap_rules inner.now.octets.now from) }
-{
-    if inner.ttl() <= 1 {
-        Some(EncapDrop::TtlExpired)
-    } else if outer_len(from) + inner.octets.len() > MTU {
-        Some(EncapDrop::TooBig)
-    } else {
-        None
-    }
-}
-
-fn tunnel_packet(
+fn wrapped(
     alloc: Global,
     inner: &IpPacket,
     from: Addr,
@@ -63,9 +58,11 @@ fn tunnel_packet(
     requires family { width from ≡ width to }
     requires range { InRange header.now }
     requires ttl { 1 ≤ ttl_of inner.now.header }
-    requires size { length inner.now.octets.now ≤ 1464 }
-    ensures value { IfOk result (λ packet. packet ≡ wrapped inner.now.octets.now from to port header.now) }
-    ensures size { IfOk result (λ packet. length packet ≡ outer_len from + length inner.now.octets.now) }
+    requires size { outer_len from + length inner.now.octets.now ≤ MOST_TUNNEL_OCTETS }
+    ensures value { let packet = wrapped inner.now.octets.now from to port header.now in
+        IfOk result (λ sent. sent ≡ packet) }
+    ensures size { let size = outer_len from + length inner.now.octets.now in
+        IfOk result (λ packet. length packet ≡ size) }
 {
     let size = inner.octets.len();
     let mut packet = Octets::from_vec(Vec::with_capacity(alloc, outer_len(from) + size)?);

@@ -1,10 +1,10 @@
 -- What is written spells what was written.
 use Rattle.std.proofs.Common.{◌≡◌, ◌<◌, ◌≤◌, ◌^◌, ℕ, ◌+◌, ◌-◌, ◌*◌, ◌/◌, ◌%◌, Bool, true, false, List, [], ◌++◌, take, drop, fold, eqb, refl, sym, ap, arith}
 use Rattle.byteorder.specs.Numbers.{big_number-reads_back}
-use Rattle.octets.specs.Numbers.{big, big_octets}
+use Rattle.octets.specs.Numbers.{big, big_octets, flag}
 use Rattle.ip_headers.specs.Ip.{v4_at, v6_at, version}
 use Rattle.ip_headers.specs.Checksum.{ones_add, ones_sum, words}
-use Rattle.ip_headers.specs.Canonical.{canonical_v4, canonical_v6, spelled_v4, v4_flags, v6_first, flag, InRangeV4, InRangeV6}
+use Rattle.ip_headers.specs.Canonical.{canonical_v4, canonical_v6, spelled_v4, v4_flags, v6_first, InRangeV4, InRangeV6}
 use Rattle.ip_headers.specs.declared.header.V4Header.{V4Header}
 use Rattle.ip_headers.specs.declared.header.V6Header.{V6Header}
 use Rattle.ip_headers.proofs.SumLemmas.{AreWords, complete, fold-words_le, ones_add-complement, ones_add-le, word}

@@ -1,5 +1,5 @@
 -- IP addresses and their first bits.
-use Rattle.std.specs.Prelude.{ℕ, Bool, ◌-◌, ◌*◌, ◌/◌, ◌^◌, ◌%◌, ◌&&◌, ◌==◌, nat_le}
+use Rattle.std.specs.Prelude.{ℕ, Bool, ◌-◌, ◌*◌, ◌/◌, ◌^◌, ◌%◌, ◌&&◌, ◌==◌, ◌<◌, nat_le}
 use Rattle.ip_headers.specs.declared.addr.Addr.{Addr}
 use Rattle.ip_headers.specs.declared.addr.Addr.TheVariants.{V4, V6}
 
@@ -12,6 +12,10 @@ width (V6 n) = 128
 abbrev pub number : Addr → ℕ
 number (V4 n) = n
 number (V6 n) = n
+
+-- the number fits its family
+abbrev pub IsAddr : Addr → Type 0
+IsAddr addr = number addr < 2 ^ width addr
 
 -- the first len bits of the address, as a number
 abbrev pub first_bits : Addr → ℕ → ℕ
@@ -28,4 +32,5 @@ is_prefix addr len = nat_le len (width addr) && (number addr % 2 ^ (width addr -
 
 -- the prefix of a covers that of b: same family, not longer, and b begins with its bits
 abbrev pub covers : Addr → ℕ → Addr → ℕ → Bool
-covers a a_len b b_len = (width a == width b) && nat_le a_len b_len && (first_bits a a_len == first_bits b a_len)
+covers a a_len b b_len =
+    (width a == width b) && nat_le a_len b_len && (first_bits a a_len == first_bits b a_len)

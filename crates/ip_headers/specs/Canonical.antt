@@ -1,13 +1,9 @@
 -- The one spelling of an IP header: no options, ignored bits 0, the computed checksum.
-use Rattle.std.specs.Prelude.{ℕ, ◌+◌, ◌*◌, ◌<◌, ◌^◌, ◌≡◌, Bool, List, ◌∷◌, ◌++◌, if◌then◌else◌}
-use Rattle.octets.specs.Numbers.{big_octets}
+use Rattle.std.specs.Prelude.{ℕ, ◌+◌, ◌*◌, ◌<◌, ◌^◌, ◌≡◌, List, ◌∷◌, ◌++◌}
+use Rattle.octets.specs.Numbers.{big_octets, flag}
 use Rattle.ip_headers.specs.Checksum.{checksum}
 use Rattle.ip_headers.specs.declared.header.V4Header.{V4Header}
 use Rattle.ip_headers.specs.declared.header.V6Header.{V6Header}
-
--- a flag's bit where it is set
-abbrev pub flag : Bool → ℕ → ℕ
-flag set bit = if set then bit else 0
 
 -- the flags and the fragment offset
 abbrev pub v4_flags : V4Header → ℕ
@@ -17,8 +13,11 @@ v4_flags header = flag header.dont_fragment 16384 + flag header.more 8192 + head
 abbrev pub spelled_v4 : V4Header → ℕ → List ℕ
 spelled_v4 header sum =
     0x45 ∷ header.tos
-    ∷ (big_octets 2 header.total ++ (big_octets 2 header.id ++ (big_octets 2 (v4_flags header) ++ header.ttl
-    ∷ header.protocol ∷ (big_octets 2 sum ++ (big_octets 4 header.source ++ big_octets 4 header.dest)))))
+    ∷ (big_octets 2 header.total
+    ++ (big_octets 2 header.id
+    ++ (big_octets 2 (v4_flags header)
+    ++ header.ttl ∷ header.protocol
+    ∷ (big_octets 2 sum ++ (big_octets 4 header.source ++ big_octets 4 header.dest)))))
 
 -- an IPv4 header with the checksum over it, for which the checksum counts as 0
 abbrev pub canonical_v4 : V4Header → List ℕ
@@ -32,7 +31,8 @@ v6_first header = 6 * 2 ^ 28 + header.class * 2 ^ 20 + header.flow
 abbrev pub canonical_v6 : V6Header → List ℕ
 canonical_v6 header =
     big_octets 4 (v6_first header)
-    ++ (big_octets 2 header.payload ++ header.next ∷ header.hops ∷ big_octets 16 header.source ++ big_octets 16 header.dest)
+    ++ (big_octets 2 header.payload
+    ++ header.next ∷ header.hops ∷ big_octets 16 header.source ++ big_octets 16 header.dest)
 
 -- the fields fit, and there are no options
 pub record InRangeV4 (header : V4Header) : Type 0 where

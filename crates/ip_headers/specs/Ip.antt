@@ -1,5 +1,5 @@
 -- IPv4 and IPv6 packets, RFC 791 and RFC 8200.
-use Rattle.std.specs.Prelude.{◌≡◌, ℕ, ◌+◌, ◌*◌, ◌/◌, ◌%◌, ◌==◌, ◌||◌, ◌&&◌, nat_le, Bool, List, [], ◌∷◌, length, take, slice_index, if◌then◌else◌}
+use Rattle.std.specs.Prelude.{◌≡◌, ℕ, ◌+◌, ◌*◌, ◌/◌, ◌%◌, ◌==◌, ◌||◌, ◌&&◌, not, nat_le, Bool, false, List, [], ◌∷◌, length, take, slice_index, if◌then◌else◌}
 use Rattle.octets.specs.Numbers.{big}
 use Rattle.octets.specs.declared.refused.Refused.{Refused}
 use Rattle.octets.specs.declared.refused.Layer.TheVariants.{Ip}
@@ -17,15 +17,26 @@ use Rattle.ip_headers.specs.declared.addr.Addr.TheVariants as family
 abbrev pub version : List ℕ → ℕ
 version octets = slice_index octets 0 / 16
 
+-- the packet is an IPv4 packet
 abbrev pub is_v4 : List ℕ → Bool
 is_v4 octets = version octets == 4
 
+-- the packet is an IPv6 packet
 abbrev pub is_v6 : List ℕ → Bool
 is_v6 octets = version octets == 6
 
 -- the octets of an IPv4 header, which counts them in words of four
 abbrev pub header_len : List ℕ → ℕ
 header_len octets = slice_index octets 0 % 16 * 4
+
+-- the total length of an IPv4 packet lies between that of its header and the octets
+abbrev pub total_fits : List ℕ → Bool
+total_fits octets =
+    nat_le (header_len octets) (big 2 octets 2) && nat_le (big 2 octets 2) (length octets)
+
+-- the ones' complement sum of an IPv4 header
+abbrev pub header_sum : List ℕ → ℕ
+header_sum octets = ones_sum (take (header_len octets) octets)
 
 -- a refusal at a place after the base
 abbrev pub refused : ℕ → ℕ → Why → Refused
@@ -39,8 +50,8 @@ ip_rules base octets =
     ∷ (is_v6 octets || nat_le 20 (length octets), refused base 0 Short)
     ∷ (is_v6 octets || nat_le 20 (header_len octets), refused base 0 HeaderLength)
     ∷ (is_v6 octets || nat_le (header_len octets) (length octets), refused base 20 Short)
-    ∷ (is_v6 octets || (nat_le (header_len octets) (big 2 octets 2) && nat_le (big 2 octets 2) (length octets)), refused base 2 TotalLength)
-    ∷ (is_v6 octets || (ones_sum (take (header_len octets) octets) == 65535), refused base 10 Checksum)
+    ∷ (is_v6 octets || total_fits octets, refused base 2 TotalLength)
+    ∷ (is_v6 octets || (header_sum octets == 65535), refused base 10 Checksum)
     ∷ (is_v4 octets || nat_le 40 (length octets), refused base 0 Short)
     ∷ (is_v4 octets || nat_le (big 2 octets 4 + 40) (length octets), refused base 4 TotalLength)
     ∷ []
@@ -82,15 +93,21 @@ abbrev pub packet_len : IpHeader → ℕ
 packet_len (V4 header) = header.total
 packet_len (V6 header) = header.payload + 40
 
+-- the packet at the front of the octets
+abbrev pub packet_in : List ℕ → List ℕ
+packet_in octets = take (packet_len (header_at octets)) octets
+
 -- where the payload begins
 abbrev pub payload_place : IpHeader → ℕ
 payload_place (V4 header) = header.header_len
 payload_place (V6 header) = 40
 
+-- the source address
 abbrev pub source_of : IpHeader → Addr
 source_of (V4 header) = family.V4 header.source
 source_of (V6 header) = family.V6 header.source
 
+-- the destination address
 abbrev pub dest_of : IpHeader → Addr
 dest_of (V4 header) = family.V4 header.dest
 dest_of (V6 header) = family.V6 header.dest
@@ -109,6 +126,11 @@ class_of (V6 header) = header.class
 abbrev pub protocol_of : IpHeader → ℕ
 protocol_of (V4 header) = header.protocol
 protocol_of (V6 header) = header.next
+
+-- an IPv4 packet that is a part of another, its first one too
+abbrev pub is_fragment : IpHeader → Bool
+is_fragment (V4 header) = header.more || not (header.offset == 0)
+is_fragment (V6 header) = false
 
 -- the octets begin with this IPv4 header. The reserved flag, the checksum and the options are free.
 pub record SpellsV4 (octets : List ℕ) (header : V4Header) : Type 0 where

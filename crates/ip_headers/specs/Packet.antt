@@ -1,12 +1,12 @@
 -- Packets without their padding.
-use Rattle.std.specs.Prelude.{◌≡◌, ℕ, ◌<◌, List, All, length, take, None}
+use Rattle.std.specs.Prelude.{◌≡◌, ℕ, ◌<◌, List, All, length, None}
 use Rattle.octets.specs.Rules.{first_failing}
-use Rattle.ip_headers.specs.Ip.{header_at, ip_rules, packet_len, payload_place}
+use Rattle.ip_headers.specs.Ip.{header_at, ip_rules, packet_in, packet_len, payload_place}
 use Rattle.ip_headers.specs.declared.packet.IpPacket.{IpPacket}
 
 -- the packet at the front of the octets, which stand at that base
 pub record IsPacketOf (octets : List ℕ) (base : ℕ) (packet : IpPacket) : Type 0 where
-  pub exact : packet.octets.now ≡ take (packet_len packet.header) octets
+  pub exact : packet.octets.now ≡ packet_in octets
   pub place : packet.base ≡ base
   pub value : packet.header ≡ header_at octets
   pub payload : packet.payload_at ≡ payload_place packet.header

@@ -1,20 +1,16 @@
 -- The five numbers by which packets of one flow are known.
-use Rattle.std.specs.Prelude.{ℕ, ◌+◌, ◌==◌, ◌||◌, ◌&&◌, nat_le, Bool, false, List, length, not, if◌then◌else◌}
+use Rattle.std.specs.Prelude.{ℕ, ◌+◌, ◌==◌, ◌||◌, ◌&&◌, nat_le, Bool, List, length, not, if◌then◌else◌}
 use Rattle.octets.specs.Numbers.{big}
-use Rattle.ip_headers.specs.Ip.{source_of, dest_of, protocol_of, payload_place}
+use Rattle.ip_headers.specs.Ip.{is_fragment, source_of, dest_of, protocol_of, payload_place}
 use Rattle.ip_headers.specs.declared.header.IpHeader.{IpHeader}
-use Rattle.ip_headers.specs.declared.header.IpHeader.TheVariants.{V4, V6}
 use Rattle.ip_headers.specs.declared.tuple.FiveTuple.{FiveTuple}
-
--- an IPv4 packet that is a part of another, its first one too
-abbrev pub is_fragment : IpHeader → Bool
-is_fragment (V4 header) = header.more || not (header.offset == 0)
-is_fragment (V6 header) = false
 
 -- TCP or UDP follows the header, and both ports are there
 abbrev pub has_ports : IpHeader → List ℕ → Bool
 has_ports header octets =
-    (protocol_of header == 6 || protocol_of header == 17) && not (is_fragment header) && nat_le (payload_place header + 4) (length octets)
+    (protocol_of header == 6 || protocol_of header == 17)
+    && not (is_fragment header)
+    && nat_le (payload_place header + 4) (length octets)
 
 -- the port at a place, or 0
 abbrev pub port_at : IpHeader → List ℕ → ℕ → ℕ

@@ -18,11 +18,17 @@ use Rattle.ip_headers.specs.declared.packet.IpPacket.{IpPacket}
 abbrev pub udp_refused : ℕ → ℕ → Why → Refused
 udp_refused base at why = record { layer = Udp; place = base + at; why = why }
 
+-- the length of a header at a place is at least its own, and lies in the packet
+abbrev pub length_fits : ℕ → List ℕ → Bool
+length_fits at octets =
+    let size = big 2 octets (at + 4) in
+    nat_le 8 size && nat_le (at + size) (length octets)
+
 -- the rules of a header at a place of a packet
 abbrev pub udp_rules : ℕ → ℕ → List ℕ → List (Bool × Refused)
 udp_rules base at octets =
     (nat_le (at + 8) (length octets), udp_refused base at Short)
-    ∷ (nat_le 8 (big 2 octets (at + 4)) && nat_le (at + big 2 octets (at + 4)) (length octets), udp_refused base (at + 4) UdpLength)
+    ∷ (length_fits at octets, udp_refused base (at + 4) UdpLength)
     ∷ []
 
 -- the header at a place
@@ -43,7 +49,9 @@ answer_of None value = Ok value
 -- the header where the payload of the packet begins, or the first rule that fails
 abbrev pub udp_read : IpPacket → Result UdpHeader Refused
 udp_read packet =
-    answer_of (first_failing (udp_rules packet.base packet.payload_at packet.octets.now)) (udp_at packet.payload_at packet.octets.now)
+    let octets = packet.octets.now in
+    let at = packet.payload_at in
+    answer_of (first_failing (udp_rules packet.base at octets)) (udp_at at octets)
 
 -- the octets of an address
 abbrev pub addr_octets : Addr → List ℕ
@@ -52,8 +60,10 @@ addr_octets (V6 n) = big_octets 16 n
 
 -- what the checksum covers before the header: the addresses, the protocol 17 and the length
 abbrev pub pseudo_header : Addr → Addr → ℕ → List ℕ
-pseudo_header (V4 n) to length = big_octets 4 n ++ (addr_octets to ++ 0 ∷ 17 ∷ big_octets 2 length)
-pseudo_header (V6 n) to length = big_octets 16 n ++ (addr_octets to ++ (big_octets 4 length ++ 0 ∷ 0 ∷ 0 ∷ 17 ∷ []))
+pseudo_header (V4 n) to length =
+    big_octets 4 n ++ (addr_octets to ++ 0 ∷ 17 ∷ big_octets 2 length)
+pseudo_header (V6 n) to length =
+    big_octets 16 n ++ (addr_octets to ++ (big_octets 4 length ++ 0 ∷ 0 ∷ 0 ∷ 17 ∷ []))
 
 -- the ones' complement sum of a datagram and its pseudo-header
 abbrev pub udp_sum : Addr → Addr → List ℕ → ℕ
@@ -63,25 +73,43 @@ udp_sum from to datagram = ones_sum (pseudo_header from to (length datagram) ++ 
 abbrev pub datagram_in : List ℕ → UdpHeader → List ℕ
 datagram_in octets udp = take udp.length (drop udp.at octets)
 
+-- the datagram of a packet
 abbrev pub datagram_of : IpPacket → UdpHeader → List ℕ
 datagram_of packet udp = datagram_in packet.octets.now udp
 
+-- the octets behind the header, as many as it names
+abbrev pub payload_in : List ℕ → UdpHeader → List ℕ
+payload_in octets udp = take (udp.length - 8) (drop (udp.at + 8) octets)
+
+-- the payload of the datagram of a packet
+abbrev pub payload_of : IpPacket → UdpHeader → List ℕ
+payload_of packet udp = payload_in packet.octets.now udp
+
 -- the sum of the datagram of a packet
 abbrev pub packet_sum : IpPacket → UdpHeader → ℕ
-packet_sum packet udp = udp_sum (source_of packet.header) (dest_of packet.header) (datagram_of packet udp)
+packet_sum packet udp =
+    udp_sum (source_of packet.header) (dest_of packet.header) (datagram_of packet udp)
 
--- the rule of the checksum: it is right, or it is 0 where that is allowed
+-- the checksum is right, or it is 0 where that is allowed
+abbrev pub sum_holds : IpHeader → List ℕ → UdpHeader → Bool → Bool
+sum_holds header octets udp zero_allowed =
+    if udp.checksum == 0 then zero_allowed
+    else (udp_sum (source_of header) (dest_of header) (datagram_in octets udp) == 65535)
+
+-- the rule of the checksum
 abbrev pub sum_rules : ℕ → IpHeader → List ℕ → UdpHeader → Bool → List (Bool × Refused)
 sum_rules base header octets udp zero_allowed =
-    (if udp.checksum == 0 then zero_allowed else (udp_sum (source_of header) (dest_of header) (datagram_in octets udp) == 65535), udp_refused base (udp.at + 6) UdpChecksum)
-    ∷ []
+    (sum_holds header octets udp zero_allowed, udp_refused base (udp.at + 6) UdpChecksum) ∷ []
 
+-- the same of a packet
 abbrev pub udp_checksum_rules : IpPacket → UdpHeader → Bool → List (Bool × Refused)
-udp_checksum_rules packet udp zero_allowed = sum_rules packet.base packet.header packet.octets.now udp zero_allowed
+udp_checksum_rules packet udp zero_allowed =
+    sum_rules packet.base packet.header packet.octets.now udp zero_allowed
 
 -- the eight octets of a header
 abbrev pub udp_octets : ℕ → ℕ → ℕ → ℕ → List ℕ
-udp_octets source dest size sum = big_octets 2 source ++ (big_octets 2 dest ++ (big_octets 2 size ++ big_octets 2 sum))
+udp_octets source dest size sum =
+    big_octets 2 source ++ (big_octets 2 dest ++ (big_octets 2 size ++ big_octets 2 sum))
 
 -- a datagram with that checksum
 abbrev pub datagram : ℕ → ℕ → ℕ → List ℕ → List ℕ
@@ -93,7 +121,8 @@ nonzero sum = if sum == 0 then 65535 else sum
 
 -- the checksum of a datagram, for which it counts as 0 itself
 abbrev pub udp_checksum : Addr → Addr → ℕ → ℕ → List ℕ → ℕ
-udp_checksum from to source dest payload = nonzero (65535 - udp_sum from to (datagram source dest 0 payload))
+udp_checksum from to source dest payload =
+    nonzero (65535 - udp_sum from to (datagram source dest 0 payload))
 
 -- the datagram from one address and port to another; without a sum its checksum is 0
 abbrev pub canonical_udp : Addr → Addr → ℕ → ℕ → List ℕ → Bool → List ℕ

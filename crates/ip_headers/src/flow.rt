@@ -1,9 +1,12 @@
 // The flow of a packet.
 ghost use Rattle.std.specs.Prelude.{◌≡◌};
-ghost use Rattle.ip_headers.specs.Tuple.{five_tuple_of, has_ports, is_fragment};
+ghost use Rattle.ip_headers.specs.Tuple.{five_tuple_of, has_ports};
 
-use crate::{FiveTuple, IpHeader, IpPacket};
+use crate::{FiveTuple, IpPacket, UDP};
 use octets::big_16;
+
+/// The protocol number of TCP.
+const TCP: u8 = 6;
 
 /// The five numbers by which packets of one flow are known.
 pub fn five_tuple(packet: &IpPacket) -> FiveTuple
@@ -16,9 +19,9 @@ pub fn five_tuple(packet: &IpPacket) -> FiveTuple
         (0, 0)
     };
     FiveTuple {
-        source: packet.source(),
-        dest: packet.dest(),
-        protocol: packet.protocol(),
+        source: packet.header.source(),
+        dest: packet.header.dest(),
+        protocol: packet.header.protocol(),
         source_port,
         dest_port,
     }
@@ -27,20 +30,9 @@ pub fn five_tuple(packet: &IpPacket) -> FiveTuple
 fn has_ports(packet: &IpPacket) -> bool
     ensures { result ≡ has_ports packet.now.header packet.now.octets.now }
 {
-    let protocol = packet.protocol();
-    let carries_ports = protocol == 6 || protocol == 17;
+    let protocol = packet.header.protocol();
+    let carries_ports = protocol == TCP || protocol == UDP;
     carries_ports
-        && !is_fragment(&packet.header)
+        && !packet.header.is_fragment()
         && packet.octets.len() >= packet.payload_at as usize + 4
-}
-
-/// The packet is a part of another: an IPv4 packet with more fragments set, or with an offset
-/// (RFC 791 section 3.1).
-pub fn is_fragment(header: &IpHeader) -> bool
-    ensures { result ≡ is_fragment header.now }
-{
-    match header {
-        IpHeader::V4(header) => header.more || header.offset != 0,
-        IpHeader::V6(_) => false,
-    }
 }

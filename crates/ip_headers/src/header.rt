@@ -1,6 +1,11 @@
 // The fields of IP headers.
 ghost use Rattle.std.specs.Prelude.{◌≡◌};
 
+use crate::Addr;
+
+/// The protocol number of UDP.
+pub const UDP: u8 = 17;
+
 /// An IPv4 header (RFC 791). Reserved flag, checksum and options are left out.
 #[derive(Clone, Copy, Debug, PartialEq, Eq)]
 pub struct V4Header {
@@ -44,7 +49,25 @@ pub enum IpHeader {
 }
 
 impl IpHeader {
-    ghost use Rattle.ip_headers.specs.Ip.{class_of, ttl_of};
+    ghost use Rattle.ip_headers.specs.Ip.{class_of, dest_of, is_fragment, protocol_of, source_of, ttl_of};
+
+    pub fn source(&self) -> Addr
+        ensures { result ≡ source_of self.now }
+    {
+        match self {
+            IpHeader::V4(header) => Addr::V4(header.source),
+            IpHeader::V6(header) => Addr::V6(header.source),
+        }
+    }
+
+    pub fn dest(&self) -> Addr
+        ensures { result ≡ dest_of self.now }
+    {
+        match self {
+            IpHeader::V4(header) => Addr::V4(header.dest),
+            IpHeader::V6(header) => Addr::V6(header.dest),
+        }
+    }
 
     /// DSCP and ECN.
     pub fn class(&self) -> u8
@@ -63,6 +86,27 @@ impl IpHeader {
         match self {
             IpHeader::V4(header) => header.ttl,
             IpHeader::V6(header) => header.hops,
+        }
+    }
+
+    /// The Protocol, or the Next Header.
+    pub fn protocol(&self) -> u8
+        ensures { result ≡ protocol_of self.now }
+    {
+        match self {
+            IpHeader::V4(header) => header.protocol,
+            IpHeader::V6(header) => header.next,
+        }
+    }
+
+    /// The packet is a part of another: an IPv4 packet with more fragments set, or with an offset
+    /// (RFC 791, section 3.1).
+    pub fn is_fragment(&self) -> bool
+        ensures { result ≡ is_fragment self.now }
+    {
+        match self {
+            IpHeader::V4(header) => header.more || header.offset != 0,
+            IpHeader::V6(_) => false,
         }
     }
 }

@@ -10,16 +10,14 @@ mod prefix;
 mod reading;
 mod rules;
 mod sums;
-#[cfg(test)]
-mod tests;
 mod tuple;
 mod udp;
 mod udp_writing;
 mod writing;
 
 pub use addr::Addr;
-pub use flow::{five_tuple, is_fragment};
-pub use header::{IpHeader, UdpHeader, V4Header, V6Header};
+pub use flow::five_tuple;
+pub use header::{IpHeader, UDP, UdpHeader, V4Header, V6Header};
 pub use laws::{
     canonical_udp_spells, canonical_v4_spells, canonical_v6_spells, one_header_is_spelled,
     one_udp_header_is_spelled, written_udp_is_read_again, written_v4_is_read_again,

@@ -5,7 +5,7 @@ ghost use Rattle.octets.specs.Rules.{first_failing};
 ghost use Rattle.ip_headers.specs.Ip.{ip_rules, version};
 ghost use Rattle.ip_headers.specs.Packet.{IsPacketOf};
 
-use crate::rules::{first_refusal, v4_header, v6_header};
+use crate::rules::{first_refusal, v4_at, v6_at};
 use crate::{IpHeader, IpPacket, Refused};
 
 /// The packet at the front of the octets. What follows it is padding.
@@ -30,10 +30,10 @@ fn v4_packet<'a>(octets: &'a [u8], base: u32) -> IpPacket<'a>
     requires version { version octets.now ≡ 4 }
     ensures { IsPacketOf octets.now base result }
 {
-    let header = v4_header(octets);
+    let header = v4_at(octets);
     IpPacket {
         header: IpHeader::V4(header),
-        octets: &octets[..usize::from(header.total)],
+        octets: &octets[..wide(header.total)],
         base,
         payload_at: u32::from(header.header_len),
     }
@@ -45,11 +45,19 @@ fn v6_packet<'a>(octets: &'a [u8], base: u32) -> IpPacket<'a>
     requires version { version octets.now ≡ 6 }
     ensures { IsPacketOf octets.now base result }
 {
-    let header = v6_header(octets);
+    let header = v6_at(octets);
     IpPacket {
         header: IpHeader::V6(header),
-        octets: &octets[..usize::from(header.payload) + 40],
+        octets: &octets[..wide(header.payload) + 40],
         base,
         payload_at: 40,
     }
+}
+
+// A number of 16 bits.
+fn wide(number: u16) -> usize
+    ensures value { result ≡ number }
+    ensures short { result < 65536 }
+{
+    usize::from(number)
 }

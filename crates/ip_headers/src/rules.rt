@@ -73,7 +73,7 @@ fn v6_refusal(octets: &[u8], base: u32) -> Option<Refused>
     None
 }
 
-pub(crate) fn v4_header(octets: &[u8]) -> V4Header
+pub(crate) fn v4_at(octets: &[u8]) -> V4Header
     requires { 20 ≤ length octets.now }
     ensures { result ≡ v4_at octets.now }
 {
@@ -93,7 +93,7 @@ pub(crate) fn v4_header(octets: &[u8]) -> V4Header
     }
 }
 
-pub(crate) fn v6_header(octets: &[u8]) -> V6Header
+pub(crate) fn v6_at(octets: &[u8]) -> V6Header
     requires { 40 ≤ length octets.now }
     ensures { result ≡ v6_at octets.now }
 {

@@ -1,16 +1,13 @@
 // The Internet checksum.
 ghost use Rattle.std.specs.Prelude.{◌≡◌, fold};
 ghost use Rattle.ip_headers.specs.Udp.{addr_octets, pseudo_header};
-ghost use Rattle.ip_headers.specs.Checksum.{checksum as checksum_of, ones_add, ones_sum, words};
+ghost use Rattle.ip_headers.specs.Checksum.{checksum, ones_add, ones_sum, words};
 
-use crate::Addr;
-
-/// The protocol number of UDP.
-const UDP: u16 = 17;
+use crate::{Addr, UDP};
 
 /// The checksum of RFC 1071, an odd last octet padded with zero.
 pub fn checksum(octets: &[u8]) -> u16
-    ensures { result ≡ checksum_of octets.now }
+    ensures { result ≡ checksum octets.now }
 {
     0xffff - ones_sum(octets)
 }
@@ -43,7 +40,7 @@ pub(crate) fn pseudo_sum(from: Addr, to: Addr, length: u16) -> u16
     ensures { result ≡ ones_sum (pseudo_header from to length) }
 {
     let addresses = addr_sum(addr_sum(0, from), to);
-    ones_add(ones_add(addresses, UDP), length)
+    ones_add(ones_add(addresses, u16::from(UDP)), length)
 }
 
 fn addr_sum(start: u16, addr: Addr) -> u16

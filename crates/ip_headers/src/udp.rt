@@ -1,8 +1,8 @@
 // The UDP header of a packet.
-ghost use Rattle.std.specs.Prelude.{◌≡◌, ◌+◌, ◌-◌, ◌≤◌, length, take, drop, Ok};
+ghost use Rattle.std.specs.Prelude.{◌≡◌, ◌+◌, ◌≤◌, length, Ok};
 ghost use Rattle.octets.specs.Refusals.{refusal_of};
 ghost use Rattle.octets.specs.Rules.{first_failing};
-ghost use Rattle.ip_headers.specs.Udp.{packet_sum, udp_checksum_rules, udp_read};
+ghost use Rattle.ip_headers.specs.Udp.{packet_sum, payload_in, udp_checksum_rules, udp_read};
 
 use crate::sums::{pseudo_sum, sum_from};
 use crate::{IpPacket, Layer, Refused, UdpHeader, Why};
@@ -51,7 +51,7 @@ pub fn check_udp(packet: &IpPacket, udp: &UdpHeader, zero_allowed: bool) -> Resu
     let passes = if udp.checksum == 0 {
         zero_allowed
     } else {
-        sum_of(packet, udp) == 0xffff
+        packet_sum(packet, udp) == 0xffff
     };
     if passes {
         Ok(())
@@ -60,14 +60,14 @@ pub fn check_udp(packet: &IpPacket, udp: &UdpHeader, zero_allowed: bool) -> Resu
     }
 }
 
-fn sum_of(packet: &IpPacket, udp: &UdpHeader) -> u16
+fn packet_sum(packet: &IpPacket, udp: &UdpHeader) -> u16
     requires { udp_read packet.now ≡ Ok udp.now }
     ensures { result ≡ packet_sum packet.now udp.now }
 {
     let start = udp.at as usize;
     let datagram = &packet.octets[start..start + usize::from(udp.length)];
     sum_from(
-        pseudo_sum(packet.source(), packet.dest(), udp.length),
+        pseudo_sum(packet.header.source(), packet.header.dest(), udp.length),
         datagram,
     )
 }
@@ -75,7 +75,7 @@ fn sum_of(packet: &IpPacket, udp: &UdpHeader) -> u16
 /// The octets after the header, as many as its length names.
 pub fn udp_payload<'a>(packet: &IpPacket<'a>, udp: &UdpHeader) -> &'a [u8]
     requires { udp_read packet.now ≡ Ok udp.now }
-    ensures { result.now ≡ take (udp.now.length - 8) (drop (udp.now.at + 8) packet.now.octets.now) }
+    ensures { result.now ≡ payload_in packet.now.octets.now udp.now }
 {
     let start = udp.at as usize;
     &packet.octets[start + 8..start + usize::from(udp.length)]

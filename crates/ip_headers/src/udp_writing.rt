@@ -28,7 +28,7 @@ pub fn write_udp(
         0
     };
     let length = (8 + payload.len()) as u16;
-    out.append_both(&header_octets(source, dest, length, sum), payload)
+    out.append_both(&udp_octets(source, dest, length, sum), payload)
 }
 
 /// The checksum, with 0 written as all ones.
@@ -46,12 +46,12 @@ fn datagram_sum(from: Addr, to: Addr, source: u16, dest: u16, payload: &[u8]) ->
     ensures { result ≡ udp_sum from to (datagram source dest 0 payload.now) }
 {
     let length = (8 + payload.len()) as u16;
-    let header = header_octets(source, dest, length, 0);
+    let header = udp_octets(source, dest, length, 0);
     let front = sum_from(pseudo_sum(from, to, length), &header);
     sum_from(front, payload)
 }
 
-fn header_octets(source: u16, dest: u16, length: u16, sum: u16) -> [u8; 8]
+fn udp_octets(source: u16, dest: u16, length: u16, sum: u16) -> [u8; 8]
     ensures { result ≡ udp_octets source dest length sum }
 {
     let mut octets = [0; 8];

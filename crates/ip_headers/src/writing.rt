@@ -12,11 +12,11 @@ pub fn write_v4(header: &V4Header, out: &mut Octets) -> Result<(), NoMemory>
     ensures ok { OnOk result (out.new ≡ out.old ++ canonical_v4 header.now) }
     ensures err { OnErr result (out.new ≡ out.old) }
 {
-    let sum = checksum(&v4_octets(header, 0));
-    out.append(&v4_octets(header, sum))
+    let sum = checksum(&spelled_v4(header, 0));
+    out.append(&spelled_v4(header, sum))
 }
 
-fn v4_octets(header: &V4Header, sum: u16) -> [u8; 20]
+fn spelled_v4(header: &V4Header, sum: u16) -> [u8; 20]
     requires { header.now.offset < 2 ^ 13 }
     ensures { result ≡ spelled_v4 header.now sum }
 {
@@ -49,10 +49,10 @@ pub fn write_v6(header: &V6Header, out: &mut Octets) -> Result<(), NoMemory>
     ensures ok { OnOk result (out.new ≡ out.old ++ canonical_v6 header.now) }
     ensures err { OnErr result (out.new ≡ out.old) }
 {
-    out.append(&v6_octets(header))
+    out.append(&canonical_v6(header))
 }
 
-fn v6_octets(header: &V6Header) -> [u8; 40]
+fn canonical_v6(header: &V6Header) -> [u8; 40]
     requires flow { header.now.flow < 2 ^ 20 }
     ensures { result ≡ canonical_v6 header.now }
 {

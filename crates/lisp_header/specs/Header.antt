@@ -1,6 +1,6 @@
 -- The LISP data header, RFC 9300 section 5.3.
 use Rattle.std.specs.Prelude.{◌≡◌, ℕ, ◌+◌, ◌*◌, ◌/◌, ◌%◌, ◌^◌, ◌<◌, ◌≤◌, ◌==◌, ◌&&◌, not, nat_le, Bool, true, false, IsTrue, List, [], ◌∷◌, ◌++◌, length, slice_index, if◌then◌else◌, Option, Some, None, is_some, unwrap_or, IsSome, IfSome, OnSome}
-use Rattle.octets.specs.Numbers.{big, big_octets}
+use Rattle.octets.specs.Numbers.{big, big_octets, flag}
 use Rattle.octets.specs.declared.refused.Refused.{Refused}
 use Rattle.octets.specs.declared.refused.Layer.TheVariants.{Lisp}
 use Rattle.octets.specs.declared.refused.Why.TheVariants.{Short}
@@ -35,21 +35,28 @@ versions_present octets = not (nonce_present octets) && flag_at 16 octets
 abbrev pub instance_present : List ℕ → Bool
 instance_present octets = flag_at 8 octets
 
+-- the nonce
 abbrev pub nonce_at : List ℕ → Option ℕ
 nonce_at octets = if nonce_present octets then Some (big 3 octets 1) else None
 
 -- source and destination version, of 12 bits each
+abbrev pub both_versions : List ℕ → ℕ × ℕ
+both_versions octets = (big 3 octets 1 / 4096, big 3 octets 1 % 4096)
+
+-- the versions
 abbrev pub versions_at : List ℕ → Option (ℕ × ℕ)
 versions_at octets =
-    if versions_present octets then Some (big 3 octets 1 / 4096, big 3 octets 1 % 4096) else None
+    if versions_present octets then Some (both_versions octets) else None
 
 -- the status bits' number, of 8 bits beside an instance
 abbrev pub status_bits : List ℕ → ℕ
 status_bits octets = if instance_present octets then slice_index octets 7 else big 4 octets 4
 
+-- the status bits
 abbrev pub status_at : List ℕ → Option ℕ
 status_at octets = if status_enabled octets then Some (status_bits octets) else None
 
+-- the instance
 abbrev pub instance_at : List ℕ → Option ℕ
 instance_at octets = if instance_present octets then Some (big 3 octets 4) else None
 
@@ -73,7 +80,7 @@ IsField (Some field) present value = (present ≡ true) × (value ≡ field)
 pub record Spells (octets : List ℕ) (header : LispHeader) : Type 0 where
   pub nonce : IsField header.nonce (nonce_present octets) (big 3 octets 1)
   pub echo : header.echo ≡ echo_requested octets
-  pub versions : IsField header.versions (versions_present octets) (big 3 octets 1 / 4096, big 3 octets 1 % 4096)
+  pub versions : IsField header.versions (versions_present octets) (both_versions octets)
   pub status : IsField header.status (status_enabled octets) (status_bits octets)
   pub instance : IsField header.instance (instance_present octets) (big 3 octets 4)
   pub key : slice_index octets 0 % 4 ≡ header.key
@@ -88,10 +95,6 @@ pub record InRange (header : LispHeader) : Type 0 where
   pub short_status : OnSome header.instance (IfSome header.status (λ bits. bits < 2 ^ 8))
   pub instance : IfSome header.instance (λ instance. instance < 2 ^ 24)
   pub key : header.key ≤ 3
-
--- a flag's share of its octet
-abbrev pub flag : Bool → ℕ → ℕ
-flag set weight = if set then weight else 0
 
 -- the first octet
 abbrev pub flags_of : LispHeader → ℕ

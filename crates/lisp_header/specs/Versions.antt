@@ -1,8 +1,8 @@
 -- Map-Versions, RFC 9302: numbers of 12 bits in a circle, of which 0 is none.
 use Rattle.std.specs.Prelude.{ℕ, ◌+◌, ◌-◌, ◌%◌, ◌==◌, ◌||◌, ◌&&◌, nat_le, nat_lt, Bool, if◌then◌else◌}
 
--- a exceeds b by at most 2,048, or is less than b by more than 2,048; at a distance of just 2,048 the greater
--- number is the newer one (this router's choice)
+-- a exceeds b by at most 2,048, or is less than b by more than that; at a distance of just 2,048
+-- the greater number is the newer one (this router's choice)
 abbrev pub newer : ℕ → ℕ → Bool
 newer a b = nat_lt b a && nat_le (a - b) 2048 || nat_lt (a + 2048) b
 

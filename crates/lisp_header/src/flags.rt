@@ -1,6 +1,7 @@
 // The flags of the first octet, by their weights.
 ghost use Rattle.std.specs.Prelude.{◌≡◌, ◌<◌, length};
-ghost use Rattle.lisp_header.specs.Header.{flag, flag_at};
+ghost use Rattle.octets.specs.Numbers.{flag};
+ghost use Rattle.lisp_header.specs.Header.{flag_at};
 
 /// N: a nonce stands in the octets from 1 on.
 pub const NONCE: u8 = 128;
@@ -13,7 +14,7 @@ pub const VERSIONS: u8 = 16;
 /// I: an instance stands in the octets from 4 on.
 pub const INSTANCE: u8 = 8;
 
-pub fn is_set(octets: &[u8], weight: u8) -> bool
+pub fn flag_at(octets: &[u8], weight: u8) -> bool
     requires some { 0 < length octets.now }
     requires weight { 0 < weight }
     ensures { result ≡ flag_at weight octets.now }
@@ -22,7 +23,7 @@ pub fn is_set(octets: &[u8], weight: u8) -> bool
 }
 
 /// What a flag adds to its octet.
-pub fn share(set: bool, weight: u8) -> u8
+pub fn flag(set: bool, weight: u8) -> u8
     ensures { result ≡ flag set weight }
 {
     if set { weight } else { 0 }

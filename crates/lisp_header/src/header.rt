@@ -1,5 +1,8 @@
 // The LISP data header, as a value.
 
+/// The UDP port of LISP data packets (RFC 9300).
+pub const LISP_DATA_PORT: u16 = 4341;
+
 /// The eight octets behind the outer UDP header (RFC 9300, section 5.3). What a flag leaves out is
 /// `None`: a nonce and versions never stand side by side.
 #[derive(Clone, Copy, Debug, PartialEq, Eq)]

@@ -15,10 +15,12 @@ pub fn canonical_is_read_again()
 /// Octets spell exactly one header.
 pub fn fronts_spell_one_header()
     ensures some { (octets : List ℕ) → Spells octets (header_at octets) }
-    ensures one { (octets : List ℕ) (header : LispHeader) → Spells octets header → header ≡ header_at octets }
+    ensures one { (octets : List ℕ) (header : LispHeader)
+        → Spells octets header → header ≡ header_at octets }
 {}
 
-/// Of two Map-Versions exactly one is newer, the later half of the circle, and a successor is newer.
+/// Of two Map-Versions exactly one is newer: that which is ahead by half the circle at most. A
+/// successor is newer.
 pub fn versions_are_ordered()
     ensures circle { (a b : ℕ) → a ≤ 4095 → b ≤ 4095 → a + 2048 ≢ b → newer a b ≡ ahead a b }
     ensures one { (a b : ℕ) → a ≤ 4095 → b ≤ 4095 → a ≢ b → newer a b ≡ not (newer b a) }

@@ -6,11 +6,9 @@ mod header;
 mod laws;
 mod order;
 mod reading;
-#[cfg(test)]
-mod tests;
 mod writing;
 
-pub use header::LispHeader;
+pub use header::{LISP_DATA_PORT, LispHeader};
 pub use laws::{canonical_is_read_again, fronts_spell_one_header, versions_are_ordered};
 pub use order::{newer, successor};
 pub use reading::read_header;

@@ -1,12 +1,12 @@
 // Map-Versions, RFC 9302: numbers of 12 bits in a circle.
 ghost use Rattle.std.specs.Prelude.{◌≡◌, ◌≤◌};
-ghost use Rattle.lisp_header.specs.Versions.{newer as newer_of, successor as successor_of};
+ghost use Rattle.lisp_header.specs.Versions.{newer, successor};
 
 /// Whether Map-Version `a` is newer than `b`: ahead of it in the circle, by half of it at most.
 pub fn newer(a: u16, b: u16) -> bool
     requires a { a ≤ 4095 }
     requires b { b ≤ 4095 }
-    ensures { result ≡ newer_of a b }
+    ensures { result ≡ newer a b }
 {
     if a > b { a - b <= 2048 } else { b - a > 2048 }
 }
@@ -14,7 +14,7 @@ pub fn newer(a: u16, b: u16) -> bool
 /// The Map-Version after this one: 1 after 4,095, since 0 says that there is no version.
 pub fn successor(a: u16) -> u16
     requires { a ≤ 4095 }
-    ensures { result ≡ successor_of a }
+    ensures { result ≡ successor a }
 {
     if a == 4095 { 1 } else { a + 1 }
 }

@@ -6,7 +6,7 @@ ghost use Rattle.octets.specs.Rules.{first_failing};
 ghost use Rattle.lisp_header.specs.Header.{header_at, instance_at, lisp_rules, nonce_at, status_at, versions_at, InRange};
 
 use crate::LispHeader;
-use crate::flags::{ECHO, INSTANCE, NONCE, STATUS, VERSIONS, is_set};
+use crate::flags::{ECHO, INSTANCE, NONCE, STATUS, VERSIONS, flag_at};
 use byteorder::{BigEndian, ByteOrder};
 use octets::{Layer, Refused, Why, big_32};
 
@@ -24,64 +24,64 @@ pub fn read_header(octets: &[u8], base: u32) -> Result<LispHeader, Refused>
             why: Why::Short,
         });
     }
-    Ok(header_of(octets))
+    Ok(header_at(octets))
 }
 
-fn header_of(octets: &[u8]) -> LispHeader
+fn header_at(octets: &[u8]) -> LispHeader
     requires { 8 ≤ length octets.now }
     ensures { result ≡ header_at octets.now }
 {
     LispHeader {
-        nonce: nonce_of(octets),
-        echo: is_set(octets, NONCE) && is_set(octets, ECHO),
-        versions: versions_of(octets),
-        status: status_of(octets),
-        instance: instance_of(octets),
+        nonce: nonce_at(octets),
+        echo: flag_at(octets, NONCE) && flag_at(octets, ECHO),
+        versions: versions_at(octets),
+        status: status_at(octets),
+        instance: instance_at(octets),
         key: octets[0] % 4,
     }
 }
 
-fn nonce_of(octets: &[u8]) -> Option<u32>
+fn nonce_at(octets: &[u8]) -> Option<u32>
     requires { 8 ≤ length octets.now }
     ensures { result ≡ nonce_at octets.now }
 {
-    if is_set(octets, NONCE) {
+    if flag_at(octets, NONCE) {
         Some(big_24(octets, 1))
     } else {
         None
     }
 }
 
-fn versions_of(octets: &[u8]) -> Option<(u16, u16)>
+fn versions_at(octets: &[u8]) -> Option<(u16, u16)>
     requires { 8 ≤ length octets.now }
     ensures { result ≡ versions_at octets.now }
 {
-    if is_set(octets, NONCE) || !is_set(octets, VERSIONS) {
+    if flag_at(octets, NONCE) || !flag_at(octets, VERSIONS) {
         return None;
     }
     let both = big_24(octets, 1);
     Some(((both / 4096) as u16, (both % 4096) as u16))
 }
 
-fn status_of(octets: &[u8]) -> Option<u32>
+fn status_at(octets: &[u8]) -> Option<u32>
     requires { 8 ≤ length octets.now }
     ensures { result ≡ status_at octets.now }
 {
-    if !is_set(octets, STATUS) {
+    if !flag_at(octets, STATUS) {
         return None;
     }
-    if is_set(octets, INSTANCE) {
+    if flag_at(octets, INSTANCE) {
         Some(u32::from(octets[7]))
     } else {
         Some(big_32(octets, 4))
     }
 }
 
-fn instance_of(octets: &[u8]) -> Option<u32>
+fn instance_at(octets: &[u8]) -> Option<u32>
     requires { 8 ≤ length octets.now }
     ensures { result ≡ instance_at octets.now }
 {
-    if is_set(octets, INSTANCE) {
+    if flag_at(octets, INSTANCE) {
         Some(big_24(octets, 4))
     } else {
         None

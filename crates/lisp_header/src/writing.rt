@@ -3,31 +3,31 @@ ghost use Rattle.std.specs.Prelude.{◌≡◌, ◌<◌, ◌^◌, ◌+◌, ◌*�
 ghost use Rattle.lisp_header.specs.Header.{canonical, flags_of, instance_and_status, nonce_or_versions, InRange};
 
 use crate::LispHeader;
-use crate::flags::{ECHO, INSTANCE, NONCE, STATUS, VERSIONS, share};
+use crate::flags::{ECHO, INSTANCE, NONCE, STATUS, VERSIONS, flag};
 
 /// The header's eight octets, with R and every field that does not count 0.
 pub fn write_header(header: &LispHeader) -> [u8; 8]
     requires { InRange header.now }
     ensures { result ≡ canonical header.now }
 {
-    let [_, a, b, c] = middle_word(header).to_be_bytes();
-    let [d, e, f, g] = last_word(header).to_be_bytes();
-    [flags(header), a, b, c, d, e, f, g]
+    let [_, a, b, c] = nonce_or_versions(header).to_be_bytes();
+    let [d, e, f, g] = instance_and_status(header).to_be_bytes();
+    [flags_of(header), a, b, c, d, e, f, g]
 }
 
-fn flags(header: &LispHeader) -> u8
+fn flags_of(header: &LispHeader) -> u8
     requires { InRange header.now }
     ensures { result ≡ flags_of header.now }
 {
-    share(header.nonce.is_some(), NONCE)
-        + share(header.status.is_some(), STATUS)
-        + share(header.echo, ECHO)
-        + share(header.versions.is_some(), VERSIONS)
-        + share(header.instance.is_some(), INSTANCE)
+    flag(header.nonce.is_some(), NONCE)
+        + flag(header.status.is_some(), STATUS)
+        + flag(header.echo, ECHO)
+        + flag(header.versions.is_some(), VERSIONS)
+        + flag(header.instance.is_some(), INSTANCE)
         + header.key
 }
 
-fn middle_word(header: &LispHeader) -> u32
+fn nonce_or_versions(header: &LispHeader) -> u32
     requires { InRange header.now }
     ensures { result ≡ nonce_or_versions header.now.nonce header.now.versions }
 {
@@ -38,7 +38,7 @@ fn middle_word(header: &LispHeader) -> u32
     }
 }
 
-fn last_word(header: &LispHeader) -> u32
+fn instance_and_status(header: &LispHeader) -> u32
     requires { InRange header.now }
     ensures { result ≡ instance_and_status header.now.instance header.now.status }
 {

@@ -1,8 +1,12 @@
--- Refusals of malformed octets.
-use Rattle.std.specs.Prelude.{ℕ, Option, Some, None, Result, Ok, Err}
+-- Faults in answers, and refusals of malformed octets.
+use Rattle.std.specs.Prelude.{Option, Some, None, Result, Ok, Err}
 use Rattle.octets.specs.declared.refused.Refused.{Refused}
+
+-- the fault in an answer
+abbrev pub fault_of : {T E : Type 0} → Result T E → Option E
+fault_of (Ok value) = None
+fault_of (Err fault) = Some fault
 
 -- the refusal in an answer
 abbrev pub refusal_of : {T : Type 0} → Result T Refused → Option Refused
-refusal_of (Ok value) = None
-refusal_of (Err refused) = Some refused
+refusal_of result = fault_of result

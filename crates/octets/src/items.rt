@@ -68,6 +68,13 @@ impl<T> Items<T> {
 }
 
 impl<T: Drop> Items<T> {
+    /// Drops all items, and keeps their room.
+    pub fn clear(&mut self)
+        ensures { self.new ≡ [] }
+    {
+        self.vec.clear();
+    }
+
     /// Adds an item at the end.
     pub fn push(&mut self, item: T) -> Result<(), NoMemory>
         ensures ok { OnOk result (self.new ≡ self.old ++ item ∷ []) }

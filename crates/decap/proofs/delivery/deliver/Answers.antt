@@ -6,8 +6,8 @@ use Rattle.decap.proofs.Drops.{passes, memory}
 use Rattle.decap.proofs.Lengths.{length-marked}
 use Rattle.decap.proofs.delivery.deliver.Goals as goal
 
-pub returns-in_err-marked_packet-clause-refused : goal.returns-in_err-marked_packet-clause-refused
-returns-in_err-marked_packet-clause-refused c =
+pub returns-in_err-marked-clause-refused : goal.returns-in_err-marked-clause-refused
+returns-in_err-marked-clause-refused c =
     let inner = c.args.tunnel.now.inner in
     let outer = c.args.tunnel.now.outer in
     let mark : Some c.in-Some.ecn ≡ ecn_of (ecn (header_at inner.octets.now)) (ecn outer) = rw (← inner.spells, ← c.class.ensures, ← c.class-2.ensures) c.in-Some.ensures.value in
@@ -23,4 +23,4 @@ returns-clause-refused c =
     rw (passes inner.octets.now outer c.in-Some.ecn mark alive) tt
 
 pub returns-clause-size : goal.returns-clause-size
-returns-clause-size c = rw c.in_ok-marked_packet.ensures (length-marked c.args.tunnel.now.inner.octets.now _ _)
+returns-clause-size c = rw c.in_ok-marked.ensures (length-marked c.args.tunnel.now.inner.octets.now _ _)

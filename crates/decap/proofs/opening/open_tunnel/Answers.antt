@@ -1,10 +1,10 @@
 use Rattle.std.proofs.Common.{◌∙◌, refl, sym, arith}
-use Rattle.decap.proofs.OpenRules.{checksum_refused, lisp_refused, encrypted, inner_refused, opens, payload_room, eight, drop_of-err}
+use Rattle.decap.proofs.OpenRules.{checksum_refused, lisp_refused, encrypted, inner_refused, opens, payload_room, eight, fault_of-err}
 use Rattle.decap.proofs.opening.open_tunnel.Goals as goal
 
 pub returns-in_err-check_udp-clause-rules : goal.returns-in_err-check_udp-clause-rules
 returns-in_err-check_udp-clause-rules c =
-    drop_of-err _ _ c.from_residual.ensures.1
+    fault_of-err _ _ c.from_residual.ensures.1
     ∙ checksum_refused c.args.packet.now c.args.udp.now c.in_err-check_udp.field-0.0 c.in_err-check_udp.ensures
 
 pub overflow_add-place : goal.overflow_add-place
@@ -24,7 +24,7 @@ read_header-requires c =
 pub returns-in_err-header-clause-rules : goal.returns-in_err-header-clause-rules
 returns-in_err-header-clause-rules c =
     let lisp = rw c.udp_payload-payload.ensures at c.in_err-header.ensures.refused in
-    drop_of-err _ _ c.from_residual-in_err-header.ensures.1
+    fault_of-err _ _ c.from_residual-in_err-header.ensures.1
     ∙ lisp_refused c.args.packet.now c.args.udp.now c.in_err-header.field-0.0 c.in_ok-check_udp.ensures lisp
 
 pub returns-then-header-ne0-clause-rules : goal.returns-then-header-ne0-clause-rules
@@ -44,7 +44,7 @@ returns-in_err-inner-clause-rules c =
     let lisp = rw c.udp_payload-payload.ensures at c.in_ok-header.ensures.refused in
     let key = rw (c.in_ok-header.ensures.value, c.udp_payload-payload.ensures) at c.if-header-ne0.false in
     let inner = rw c.udp_payload-payload.ensures at c.in_err-inner.ensures.rules in
-    drop_of-err _ _ c.from_residual-in_err-inner.ensures.1
+    fault_of-err _ _ c.from_residual-in_err-inner.ensures.1
     ∙ inner_refused c.args.packet.now c.args.udp.now c.in_err-inner.field-0.0 c.in_ok-check_udp.ensures lisp key inner
 
 pub returns-clause-rules : goal.returns-clause-rules

@@ -16,4 +16,4 @@ returns-clause-refused c =
 
 pub returns-clause-size : goal.returns-clause-size
 returns-clause-size c =
-    ap length c.in_ok-lowered_packet.ensures ∙ length-forwarded c.args.inner.now.base c.args.inner.now.octets.now c.args.inner.now.lawful
+    ap length c.in_ok-forwarded.ensures ∙ length-forwarded c.args.inner.now.base c.args.inner.now.octets.now c.args.inner.now.lawful

@@ -1,8 +1,20 @@
-use Rattle.std.proofs.Common.{sym, arith}
-use Rattle.encap.proofs.Drops.{passed}
+use Rattle.std.proofs.Common.{ap, arith, refl}
+use Rattle.ip_headers.specs.Ip.{ttl_of}
+use Rattle.encap.proofs.Drops.{expired, too_big, passes}
 use Rattle.encap.proofs.wrapping.encapsulate.Goals as goal
 
-pub returns-clause-size : goal.returns-clause-size
-returns-clause-size c =
-    let fits = passed c.args.inner.now.octets.now c.args.from (sym c.in_default.ensures) in
-    omega (arith, fits.1, c.in_ok-tunnel_packet.ensures.size)
+pub returns-then-ttl-le1-clause-refused : goal.returns-then-ttl-le1-clause-refused
+returns-then-ttl-le1-clause-refused c =
+    let same = ap ttl_of c.args.inner.now.spells in
+    rw (expired c.args.inner.now.octets.now c.args.from (omega arith)) refl
+
+pub returns-then-outer_len-inner-gt-MOST_TUNNEL_OCTETS-clause-refused :
+    goal.returns-then-outer_len-inner-gt-MOST_TUNNEL_OCTETS-clause-refused
+returns-then-outer_len-inner-gt-MOST_TUNNEL_OCTETS-clause-refused c =
+    let same = ap ttl_of c.args.inner.now.spells in
+    rw (too_big c.args.inner.now.octets.now c.args.from (omega arith) (omega arith)) refl
+
+pub returns-clause-refused : goal.returns-clause-refused
+returns-clause-refused c =
+    let same = ap ttl_of c.args.inner.now.spells in
+    rw (passes c.args.inner.now.octets.now c.args.from (omega arith) (omega arith)) tt

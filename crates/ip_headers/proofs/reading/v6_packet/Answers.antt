@@ -10,19 +10,20 @@ pub slice_bounds-result-end : goal.slice_bounds-result-end
 slice_bounds-result-end c =
     let six : is_v6 c.args.octets.now ≡ true = ap (λ (v : ℕ). eqb v 6) c.requires.version in
     let cut = v6_cut c.args.base c.args.octets.now c.requires.rules six in
-    let size : c.from.result ≡ big 2 c.args.octets.now 4 = c.from.ensures ∙ ap (λ (h : V6Header). h.payload) c.v6_header-header.ensures in
+    let size : c.wide.result ≡ big 2 c.args.octets.now 4 = c.wide.ensures.value ∙ ap (λ (h : V6Header). h.payload) c.v6_at-header.ensures in
     rw size (sym cut.exact)
 
 pub invariant_of-result : goal.invariant_of-result
 invariant_of-result c =
     let six : is_v6 c.args.octets.now ≡ true = ap (λ (v : ℕ). eqb v 6) c.requires.version in
     let cut = v6_cut c.args.base c.args.octets.now c.requires.rules six in
-    let payload = ap (λ (h : V6Header). h.payload) c.v6_header-header.ensures in
-    let size : c.from.result ≡ big 2 c.args.octets.now 4 = c.from.ensures ∙ payload in
+    let payload = ap (λ (h : V6Header). h.payload) c.v6_at-header.ensures in
+    let size : c.wide.result ≡ big 2 c.args.octets.now 4 = c.wide.ensures.value ∙ payload in
     record {
       lawful = rw size cut.lawful;
-      spells = rw size (ap V6 c.v6_header-header.ensures ∙ cut.spells);
+      spells = rw size (ap V6 c.v6_at-header.ensures ∙ cut.spells);
       exact = rw size (cut.exact ∙ ap (λ (n : ℕ). n + 40) (sym payload));
       place = refl;
       room = rw size (omega (arith, cut.exact, cut.within, c.requires.room));
+      short = rw size (omega (arith, cut.exact, c.wide.ensures.short, size));
     }

@@ -9,5 +9,5 @@ returns c =
     let sum = c.addr_sum-addresses.result in
     let is : sum ≡ fold ones_add (fold ones_add 0 (words (addr_octets c.args.from))) (words (addr_octets c.args.to)) =
     c.addr_sum-addresses.ensures ∙ ap (λ (s : ℕ). fold ones_add s (words (addr_octets c.args.to))) c.addr_sum.ensures in
-    c.ones_add-2.ensures ∙ ap (λ (s : ℕ). ones_add s c.args.length) c.ones_add.ensures
+    c.ones_add-2.ensures ∙ ap (λ (s : ℕ). ones_add s c.args.length) (rw c.from.ensures at c.ones_add.ensures)
     ∙ sym (ones_sum-pseudo_header c.args.from c.args.to sum c.args.length is c.addr_sum-addresses.type_inv (omega arith))

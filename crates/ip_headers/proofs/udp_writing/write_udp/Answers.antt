@@ -12,6 +12,6 @@ returns c =
       | else-summed w ↦ w.sum-is ∙ sym (ap (λ (b : Bool). if b then sum else 0) w.if-summed.false)
     ] in
     record {
-      ok = rw (← is) (rw c.header_octets.ensures at c.append_both.ensures.ok);
+      ok = rw (← is) (rw c.udp_octets.ensures at c.append_both.ensures.ok);
       err = c.append_both.ensures.err;
     }

@@ -6,6 +6,6 @@ use Rattle.ip_headers.proofs.writing.write_v4.Goals as goal
 pub returns-clause-ok : goal.returns-clause-ok
 returns-clause-ok c =
     let header = c.args.header.now in
-    let is : c.v4_octets-2.result ≡ canonical_v4 header =
-    c.v4_octets-2.ensures ∙ ap (spelled_v4 header) (c.checksum-sum.ensures ∙ ap checksum c.v4_octets.ensures) in
+    let is : c.spelled_v4-2.result ≡ canonical_v4 header =
+    c.spelled_v4-2.ensures ∙ ap (spelled_v4 header) (c.checksum-sum.ensures ∙ ap checksum c.spelled_v4.ensures) in
     rw is at c.append.ensures.ok

@@ -1,5 +1,5 @@
 use Rattle.std.proofs.Common.{refl}
-use Rattle.ip_headers.proofs.udp_writing.header_octets.Goals as goal
+use Rattle.ip_headers.proofs.udp_writing.udp_octets.Goals as goal
 
 pub returns : goal.returns
 returns c =

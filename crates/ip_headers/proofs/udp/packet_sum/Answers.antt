@@ -6,7 +6,7 @@ use Rattle.ip_headers.specs.Udp.{datagram_of, pseudo_header}
 use Rattle.ip_headers.specs.declared.addr.Addr.{Addr}
 use Rattle.ip_headers.proofs.DatagramLemmas.{udp_sum-of}
 use Rattle.ip_headers.proofs.UdpLemmas.{udp_read-within}
-use Rattle.ip_headers.proofs.udp.sum_of.Goals as goal
+use Rattle.ip_headers.proofs.udp.packet_sum.Goals as goal
 
 pub returns : goal.returns
 returns c =

@@ -2,8 +2,8 @@ use Rattle.std.proofs.Common.{◌≡◌, ◌∙◌, length, refl, sym, ap}
 use Rattle.std.proofs.lemmas.List.{with_items_is}
 use Rattle.decap.proofs.Lengths.{length-v4_marked, length-v6_marked}
 use Rattle.decap.proofs.Versions.{v4_spelled, v6_spelled}
-use Rattle.decap.proofs.delivery.marked_packet.Goals as goal
-use Rattle.decap.proofs.delivery.marked_packet.Goals.{in-V4, in-V6}
+use Rattle.decap.proofs.delivery.marked.Goals as goal
+use Rattle.decap.proofs.delivery.marked.Goals.{in-V4, in-V6}
 
 pub returns : goal.returns
 returns c =

@@ -6,7 +6,7 @@ use Rattle.encap.specs.Wrapped.{outer_header}
 use Rattle.encap.proofs.Joined.{joined}
 use Rattle.encap.proofs.Sizes.{length-joined}
 use Rattle.encap.proofs.Lengths.{length-forwarded}
-use Rattle.encap.proofs.wrapping.tunnel_packet.Goals as goal
+use Rattle.encap.proofs.wrapping.wrapped.Goals as goal
 
 pub returns-clause-value : goal.returns-clause-value
 returns-clause-value c =

@@ -1,5 +1,5 @@
 use Rattle.std.proofs.Common.{refl}
-use Rattle.ip_headers.proofs.writing.v4_octets.Goals as goal
+use Rattle.ip_headers.proofs.writing.spelled_v4.Goals as goal
 
 pub returns : goal.returns
 returns c =
