@@ -16,6 +16,7 @@ is_outside_fault Host = true
 is_outside_fault Memory = true
 is_outside_fault _ = false
 
+-- the answer is a fault that tells of the desk or of memory
 abbrev pub is_outside : {T : Type 0} → Result T CaptureFault → Bool
 is_outside (Ok value) = false
 is_outside (Err fault) = is_outside_fault fault

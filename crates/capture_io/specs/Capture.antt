@@ -37,9 +37,11 @@ fraction_of file =
 abbrev pub link_type : List ℕ → ℕ
 link_type file = number (order_of file) 4 file 20 % 2 ^ 16
 
+-- what its frames begin with
 abbrev pub link_of : List ℕ → Link
 link_of file = if link_type file == 1 then Ethernet else Raw
 
+-- all that the header says of the records
 abbrev pub format_of : List ℕ → Format
 format_of file = record { order = order_of file; fraction = fraction_of file; link = link_of file }
 
@@ -62,13 +64,15 @@ abbrev pub nanoseconds : Fraction → ℕ
 nanoseconds Microseconds = 1000
 nanoseconds Nanoseconds = 1
 
--- the parts of a record's header, in the octets that begin with it
+-- the seconds of a record's moment, in the octets that begin with the record
 abbrev pub seconds : Format → List ℕ → ℕ
 seconds format left = number format.order 4 left 0
 
+-- the fraction of its moment, in the file's unit
 abbrev pub fraction : Format → List ℕ → ℕ
 fraction format left = number format.order 4 left 4
 
+-- how many octets of its frame it keeps
 abbrev pub kept : Format → List ℕ → ℕ
 kept format left = number format.order 4 left 8
 
@@ -102,6 +106,7 @@ body_rules format at head octets =
     ∷ (in_span at.greatest (moment format head), SpanTooLong (at.count + 1))
     ∷ []
 
+-- the rules of a record: those of its header, then those of what it keeps
 abbrev pub record_rules : Format → Position → List ℕ → List (Bool × CaptureFault)
 record_rules format at left =
     head_rules format at left ++ body_rules format at left (body format left)

@@ -34,7 +34,8 @@ rest format left = drop (16 + kept format left) left
 unfoldable pub read_within : ℕ → Format → Position → List ℕ → Run
 read_within zero format at left = ended None
 read_within (suc n) format at left =
-    goes_on (outcome format at left) (read_within n format (advanced format at left) (rest format left))
+    goes_on (outcome format at left)
+    (read_within n format (advanced format at left) (rest format left))
 
 -- the records that are left: no more than octets
 unfoldable pub read_on : Format → Position → List ℕ → Run

@@ -1,4 +1,5 @@
 pub mod Answers
+pub mod Calls
 pub mod Capture
 pub mod Frame
 pub mod Frames

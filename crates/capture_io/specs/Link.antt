@@ -1,5 +1,5 @@
 -- The link layer: Ethernet with a VLAN tag (IEEE 802.1Q) or without, or the IP packet alone.
-use Rattle.std.specs.Prelude.{ℕ, ◌+◌, ◌%◌, ◌==◌, ◌||◌, not, nat_le, Bool, List, [], ◌∷◌, length, drop, if◌then◌else◌}
+use Rattle.std.specs.Prelude.{ℕ, ◌+◌, ◌-◌, ◌%◌, ◌==◌, ◌||◌, not, nat_le, Bool, List, [], ◌∷◌, length, drop, if◌then◌else◌}
 use Rattle.octets.specs.Numbers.{big}
 use Rattle.octets.specs.declared.refused.Refused.{Refused}
 use Rattle.octets.specs.declared.refused.Layer.TheVariants as layer
@@ -51,3 +51,7 @@ link_vlan f = elim f.link [ Ethernet ↦ ethernet_vlan f.octets | Raw ↦ 0 ]
 -- the octets behind the link's header: an IP packet, and what padding follows it
 abbrev pub link_octets : Frame → List ℕ
 link_octets f = elim f.link [ Ethernet ↦ ethernet_octets f.octets | Raw ↦ f.octets ]
+
+-- where they begin: the octets of the frame before them
+abbrev pub link_place : Frame → ℕ
+link_place f = length f.octets - length (link_octets f)

@@ -6,7 +6,8 @@ use Rattle.octets.specs.Numbers.{little_octets}
 abbrev pub out_header : List ℕ
 out_header =
     little_octets 4 0xa1b23c4d ++ (little_octets 2 2 ++ (little_octets 2 4
-    ++ (little_octets 4 0 ++ (little_octets 4 0 ++ (little_octets 4 262144 ++ little_octets 4 101)))))
+    ++ (little_octets 4 0 ++ (little_octets 4 0
+    ++ (little_octets 4 262144 ++ little_octets 4 101)))))
 
 -- seconds, nanoseconds, kept and original length
 abbrev pub record_header : ℕ → ℕ → List ℕ

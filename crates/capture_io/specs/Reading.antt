@@ -5,6 +5,7 @@ use Rattle.capture_io.specs.Answers.{unless}
 use Rattle.capture_io.specs.Capture.{header_rules, format_of, begin}
 use Rattle.capture_io.specs.Frame.{Frame}
 use Rattle.capture_io.specs.declared.format.Format.{Format}
+use Rattle.capture_io.specs.declared.frame.TheConstants.{MOST_FRAME_OCTETS}
 use Rattle.capture_io.specs.declared.position.Position.{Position}
 use Rattle.capture_io.specs.declared.fault.CaptureFault.{CaptureFault}
 use Rattle.capture_io.specs.declared.fault.CaptureFault.TheVariants.{Memory}
@@ -32,7 +33,8 @@ is_moment (Some m) = nat_lt m (2 ^ 32 * 1000000000)
 -- where a reader can stand
 abbrev pub is_reachable : Position → Bool
 is_reachable at =
-    (nat_le at.count 1000000000 && nat_le at.place (24 + 262160 * at.count)) && is_moment at.greatest
+    (nat_le at.count 1000000000 && nat_le at.place (24 + 262160 * at.count))
+    && is_moment at.greatest
 
 -- a frame that a reader of that format gives after that position, whatever the file holds
 pub record IsNext (format : Format) (at : Position) (f : Frame) : Type 0 where
@@ -41,7 +43,7 @@ pub record IsNext (format : Format) (at : Position) (f : Frame) : Type 0 where
   pub later : unwrap_or at.greatest 0 ≤ f.moment
   pub moment : f.moment < 2 ^ 32 * 1000000000
   pub link : f.link ≡ format.link
-  pub size : length f.octets ≤ 262144
+  pub size : length f.octets ≤ MOST_FRAME_OCTETS
 
 -- where a reader stands after a frame
 abbrev pub passed : Position → Frame → Position

@@ -8,7 +8,7 @@ ghost use Rattle.capture_io.specs.Reading.{is_moment};
 use crate::format::{Format, Fraction};
 use crate::order::Order;
 use crate::position::Position;
-use crate::{CaptureFault, Link};
+use crate::{CaptureFault, Link, MOST_FRAME_OCTETS};
 use octets::little_32;
 
 // The magic numbers, which name the unit of the fractions.
@@ -80,7 +80,7 @@ pub fn head_fault(format: Format, at: Position, head: &[u8]) -> Option<CaptureFa
         return Some(CaptureFault::BadFraction(at.place));
     }
     let kept = format.order.number_32(head, 8);
-    if kept > 262_144 {
+    if kept as usize > MOST_FRAME_OCTETS {
         return Some(CaptureFault::TooLong(at.place, kept));
     }
     None

@@ -6,21 +6,21 @@ mod fault;
 mod format;
 mod frame;
 mod header;
+mod laws;
 mod link;
 mod order;
 mod payload;
 mod position;
 mod reader;
 mod record;
-#[cfg(test)]
-mod tests;
 mod writing;
 
 pub use desk::{
     Calls, Desk, DeskFault, FileId, Files, HostDesk, HostFile, MemoryDesk, NamedFile, read_full,
 };
 pub use fault::CaptureFault;
-pub use frame::Frame;
+pub use frame::{Frame, MOST_FRAME_OCTETS};
+pub use laws::frames_come_in_order;
 pub use link::Link;
 pub use octets::{Items, Layer, NoMemory, Octets, Refused, Why};
 pub use payload::link_payload;

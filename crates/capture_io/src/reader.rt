@@ -4,6 +4,7 @@ ghost use Rattle.octets.specs.Causes.{Rose};
 ghost use Rattle.desk.specs.World.{left_of, after_read, shown};
 ghost use Rattle.capture_io.specs.declared.fault.CaptureFault.TheVariants.{Host};
 ghost use Rattle.capture_io.specs.Answers.{IsAnswer};
+ghost use Rattle.capture_io.specs.Calls.{answered, after_answer};
 ghost use Rattle.capture_io.specs.Capture.{outcome, taken};
 ghost use Rattle.capture_io.specs.Reading.{started, beginning, IsNext, after_frame, after_fault};
 
@@ -79,6 +80,9 @@ impl CaptureReader {
             (result ≡ Err f) × (self.new ≡ self.old) × (desk.new ≡ desk.old)) }
         ensures answer { IfNone self.old.fault (IfSome (D.told desk.old) (λ w.
             IsAnswer result (outcome self.old.format self.old.position (left_of self.old.id w)))) }
+        ensures call { IfSome (D.told desk.old) (λ w.
+            IsAnswer result (answered self.old (left_of self.old.id w))) }
+        ensures after { self.new ≡ after_answer result self.old }
         ensures next { IfOk result (λ o. IfSome o (IsNext self.old.format self.old.position)) }
         ensures frame { IfOk result (λ o.
             MatchOption o (self.new ≡ self.old) (λ f. self.new ≡ after_frame self.old f)) }

@@ -1,5 +1,5 @@
 -- Entries by id: what a change finds, and what it leaves.
-use Rattle.std.proofs.Common.{◌≡◌, ℕ, List, [], ◌∷◌, ◌++◌, true, eqb, Some, None, refl, ap, inl, inr, arith}
+use Rattle.std.proofs.Common.{◌≡◌, ℕ, List, [], ◌∷◌, ◌++◌, true, false, eqb, Some, None, is_some, refl, ap, inl, inr, arith}
 use Rattle.std.specs.Option.{option_map}
 use Rattle.std.proofs.lemmas.Bool.{cases_Bool}
 use Rattle.std.proofs.lemmas.Grind.{common_steps}
@@ -42,3 +42,10 @@ changed_at-more id f x [] none = rw (same_id id) refl
 changed_at-more id f x (entry ∷ entries) none =
     elim (cases_Bool (eqb entry.0 id))
     [ inl e ↦ (let some = rw e at none in cc) | inr e ↦ (let rest = rw e at none in rw e (ap (λ more. entry ∷ more) (changed_at-more id f x entries rest))) ]
+
+-- a change at an id that has no entry
+pub changed_at-missing : {X : Type 0} (id : ℕ) (f : X → X) (entries : List (ℕ × X)) → is_some (found_at id entries) ≡ false → changed_at id f entries ≡ entries
+changed_at-missing id f [] none = refl
+changed_at-missing id f (entry ∷ entries) none =
+    elim (cases_Bool (eqb entry.0 id))
+    [ inl e ↦ (let some = rw e at none in cc) | inr e ↦ (let rest = rw e at none in rw e (ap (λ more. entry ∷ more) (changed_at-missing id f entries rest))) ]

@@ -1,5 +1,4 @@
 pub mod Entries
-pub mod HandleLemmas
 pub mod HostLemmas
 pub mod Reading
 pub mod SlotLemmas

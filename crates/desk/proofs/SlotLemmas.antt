@@ -1,78 +1,132 @@
--- What a change of the slots does to what a desk in memory tells.
-use Rattle.std.proofs.Common.{◌≡◌, ℕ, ◌+◌, ◌<◌, List, [], ◌∷◌, ◌++◌, length, take, Bool, true, false, Option, Some, Result, Ok, Err, get_or, sym, ap, ◌∙◌, arith, slice_get}
-use Rattle.std.specs.Bool.{MatchBool}
+-- What slots have by id, and what a change of one, or one more, does to that.
+use Rattle.std.proofs.Common.{◌≡◌, ℕ, zero, suc, ◌+◌, ◌<◌, ◌≤◌, List, [], ◌∷◌, ◌++◌, length, true, false, eqb, Option, Some, None, get_or, refl, sym, ap, ◌∙◌, append_assoc, arith, slice_get}
 use Rattle.std.specs.Option.{option_map}
-use Rattle.std.specs.Result.{OnErr}
-use Rattle.std.proofs.Math.ListN.{set, length-map}
-use Rattle.std.proofs.lemmas.List.{map-set, map-append, append-nil}
-use Rattle.std.proofs.lemmas.Option.{slice_get-get_or, slice_get-map}
+use Rattle.std.proofs.Math.ListN.{set}
+use Rattle.std.proofs.lemmas.Grind.{common_steps}
+use Rattle.std.proofs.lemmas.List.{append-nil}
+use Rattle.std.proofs.lemmas.Option.{slice_get-get_or}
 use Rattle.desk.specs.declared.file.NamedFile.{NamedFile}
 use Rattle.desk.specs.declared.slots.Slot.{Slot}
-use Rattle.desk.specs.World.{World, IsFresh, changed_at, extended, after_write}
-use Rattle.desk.specs.Memory.{Handle, reading, writing, handle_of, handles_of, readers_from, writers_from, given_from, direction, world_of, with_reader, with_writer}
+use Rattle.desk.specs.World.{found_at, changed_at, extended, IsFresh}
+use Rattle.desk.specs.Memory.{Memory, wrote}
+use Rattle.desk.specs.Slots.{entry, entries_from, entries, reader_in, writer_in, direction_in, memory_of, with_slot}
 use Rattle.desk.proofs.Entries.{changed_at-same}
-use Rattle.desk.proofs.HandleLemmas.{readers-more_reading, writers-more_reading, readers-more_writing, writers-more_writing, given-more, readers-fresh, writers-fresh, given-fresh}
 
--- the handle of a slot, by its place
-pub handle-at : (slots : List Slot) (i : ℕ) (slot : Slot) → i < length slots → slot ≡ get_or slots i slot → slice_get (handles_of slots) i ≡ Some (handle_of slot)
-handle-at slots i slot lt is = slice_get-map handle_of slots i ∙ ap (option_map handle_of) (slice_get-get_or slots i slot lt ∙ ap Some (sym is))
+here : (k : ℕ) → eqb k (k + zero) ≡ true
+here k = grind (arith, common_steps)
 
--- the handles, where one slot changed
-pub handles-set : (slots : List Slot) (i : ℕ) (slot : Slot) (new : Handle) → handle_of slot ≡ new → handles_of (set slots i slot) ≡ set (handles_of slots) i new
-handles-set slots i slot new is = map-set handle_of slots i slot ∙ ap (set (handles_of slots) i) is
+above : (k id : ℕ) → id < k → eqb k id ≡ false
+above k id lt = grind (arith, common_steps)
 
-handles-more : (slots : List Slot) (slot : Slot) → handles_of (slots ++ slot ∷ []) ≡ handles_of slots ++ handle_of slot ∷ []
-handles-more slots slot = map-append handle_of slots (slot ∷ [])
+below : (k id : ℕ) → k < id → eqb k id ≡ false
+below k id lt = grind (arith, common_steps)
 
-count : (slots : List Slot) (id : ℕ) → id ≡ length slots → id ≡ 0 + length (handles_of slots)
-count slots id is = omega (arith, length-map slots handle_of)
+-- an entry of another id is passed
+found_at-entry : {X : Type 0} (k id : ℕ) (o : Option X) (rest : List (ℕ × X)) → eqb k id ≡ false → found_at id (entry k o ++ rest) ≡ found_at id rest
+found_at-entry k id None rest other = refl
+found_at-entry k id (Some x) rest other = rw other refl
 
--- a slot more was given
-pub given-slot : (slots slots' : List Slot) (id : ℕ) (slot : Slot) → (id ≡ length slots) × (slots' ≡ slots ++ slot ∷ []) → given_from 0 (handles_of slots') ≡ given_from 0 (handles_of slots) ++ (id, direction (handle_of slot)) ∷ []
-given-slot slots slots' id slot (is, more) = ap (λ (s : List Slot). given_from 0 (handles_of s)) more ∙ ap (given_from 0) (handles-more slots slot) ∙ given-more 0 id (handle_of slot) (handles_of slots) (count slots id is)
+changed_at-entry : {X : Type 0} (k id : ℕ) (f : X → X) (o : Option X) (rest : List (ℕ × X)) → eqb k id ≡ false
+    → changed_at id f (entry k o ++ rest) ≡ entry k o ++ changed_at id f rest
+changed_at-entry k id f None rest other = refl
+changed_at-entry k id f (Some x) rest other = rw other refl
 
-pub fresh-slot : (files : List NamedFile) (slots : List Slot) (said : List ℕ) (id : ℕ) → id ≡ length slots → IsFresh id (given_from 0 (handles_of slots)) (Some (world_of files slots said))
+-- ids that count from a later number
+found_at-later : {X : Type 0} (part : Slot → Option X) (k id : ℕ) (slots : List Slot) → id < k → found_at id (entries_from part k slots) ≡ None
+found_at-later part k id [] lt = refl
+found_at-later part k id (slot ∷ slots) lt = found_at-entry k id (part slot) (entries_from part (suc k) slots) (above k id lt) ∙ found_at-later part (suc k) id slots (omega arith)
+
+changed_at-later : {X : Type 0} (part : Slot → Option X) (f : X → X) (k id : ℕ) (slots : List Slot) → id < k → changed_at id f (entries_from part k slots) ≡ entries_from part k slots
+changed_at-later part f k id [] lt = refl
+changed_at-later part f k id (slot ∷ slots) lt =
+    changed_at-entry k id f (part slot) (entries_from part (suc k) slots) (above k id lt) ∙ ap (λ rest. entry k (part slot) ++ rest) (changed_at-later part f (suc k) id slots (omega arith))
+
+-- an id past the last
+found_at-past : {X : Type 0} (part : Slot → Option X) (k id : ℕ) (slots : List Slot) → k + length slots ≤ id → found_at id (entries_from part k slots) ≡ None
+found_at-past part k id [] le = refl
+found_at-past part k id (slot ∷ slots) le = found_at-entry k id (part slot) (entries_from part (suc k) slots) (below k id (omega arith)) ∙ found_at-past part (suc k) id slots (omega arith)
+
+-- the slot at a place
+slot_at : (slots : List Slot) (i : ℕ) (slot : Slot) → i < length slots → slot ≡ get_or slots i slot → slice_get slots i ≡ Some slot
+slot_at slots i slot lt is = slice_get-get_or slots i slot lt ∙ ap Some (sym is)
+
+found_from : {X : Type 0} (part : Slot → Option X) (k i id : ℕ) (slot : Slot) (slots : List Slot) → id ≡ k + i → slice_get slots i ≡ Some slot → found_at id (entries_from part k slots) ≡ part slot
+found_from {X = X} part k i id slot [] is at = cc
+found_from {X = X} part k zero id slot (x ∷ slots) is at =
+    let same : x ≡ slot = (let some : Some x ≡ Some slot = at in cc) in
+    first (part x) ∙ ap part same
+  where
+    first : (o : Option X) → found_at id (entry k o ++ entries_from part (suc k) slots) ≡ o
+    first None = found_at-later part (suc k) id slots (omega arith)
+    first (Some y) = rw (is, here k) refl
+found_from {X = X} part k (suc i) id slot (x ∷ slots) is at =
+    found_at-entry k id (part x) (entries_from part (suc k) slots) (below k id (omega arith)) ∙ found_from part (suc k) i id slot slots (omega arith) at
+
+changed_from : {X : Type 0} (part : Slot → Option X) (f : X → X) (k i id : ℕ) (old new : Slot) (slots : List Slot) → id ≡ k + i → slice_get slots i ≡ Some old → part new ≡ option_map f (part old)
+    → entries_from part k (set slots i new) ≡ changed_at id f (entries_from part k slots)
+changed_from {X = X} part f k i id old new [] is at change = cc
+changed_from {X = X} part f k zero id old new (x ∷ slots) is at change =
+    let same : x ≡ old = (let some : Some x ≡ Some old = at in cc) in
+    first (part x) (part new) (change ∙ ap (λ (s : Slot). option_map f (part s)) (sym same))
+  where
+    first : (o p : Option X) → p ≡ option_map f o → entry k p ++ entries_from part (suc k) slots ≡ changed_at id f (entry k o ++ entries_from part (suc k) slots)
+    first None p e = rw e (sym (changed_at-later part f (suc k) id slots (omega arith)))
+    first (Some y) p e = rw (e, is, here k) refl
+changed_from {X = X} part f k (suc i) id old new (x ∷ slots) is at change =
+    ap (λ rest. entry k (part x) ++ rest) (changed_from part f (suc k) i id old new slots (omega arith) at change) ∙ sym (changed_at-entry k id f (part x) (entries_from part (suc k) slots) (below k id (omega arith)))
+
+same_from : {X : Type 0} (part : Slot → Option X) (k i : ℕ) (old new : Slot) (slots : List Slot) → slice_get slots i ≡ Some old → part new ≡ part old → entries_from part k (set slots i new) ≡ entries_from part k slots
+same_from {X = X} part k i old new [] at same = refl
+same_from {X = X} part k zero old new (x ∷ slots) at same =
+    let is : x ≡ old = (let some : Some x ≡ Some old = at in cc) in
+    ap (λ (o : Option X). entry k o ++ entries_from part (suc k) slots) (same ∙ ap part (sym is))
+same_from {X = X} part k (suc i) old new (x ∷ slots) at same = ap (λ rest. entry k (part x) ++ rest) (same_from part (suc k) i old new slots at same)
+
+more_from : {X : Type 0} (part : Slot → Option X) (k id : ℕ) (slot : Slot) (slots : List Slot) → id ≡ k + length slots → entries_from part k (slots ++ slot ∷ []) ≡ entries_from part k slots ++ entry id (part slot)
+more_from part k id slot [] is = append-nil (entry k (part slot)) ∙ ap (λ (n : ℕ). entry n (part slot)) (omega arith)
+more_from part k id slot (x ∷ slots) is =
+    ap (λ rest. entry k (part x) ++ rest) (more_from part (suc k) id slot slots (omega arith)) ∙ sym (append_assoc (entry k (part x)) (entries_from part (suc k) slots) (entry id (part slot)))
+
+-- an id that has no slot
+pub found_at-missing : {X : Type 0} (part : Slot → Option X) (slots : List Slot) (id : ℕ) → length slots ≤ id → found_at id (entries part slots) ≡ None
+found_at-missing part slots id le = found_at-past part 0 id slots (omega arith)
+
+-- what the slot of an id has
+pub found_at-slot : {X : Type 0} (part : Slot → Option X) (slots : List Slot) (i : ℕ) (slot : Slot) → i < length slots → slot ≡ get_or slots i slot → found_at i (entries part slots) ≡ part slot
+found_at-slot part slots i slot lt is = found_from part 0 i i slot slots (omega arith) (slot_at slots i slot lt is)
+
+-- a change of it
+pub entries-changed : {X : Type 0} (part : Slot → Option X) (f : X → X) (slots : List Slot) (i : ℕ) (old new : Slot) → i < length slots → old ≡ get_or slots i old → part new ≡ option_map f (part old)
+    → entries part (set slots i new) ≡ changed_at i f (entries part slots)
+entries-changed part f slots i old new lt is change = changed_from part f 0 i i old new slots (omega arith) (slot_at slots i old lt is) change
+
+-- a change of something else
+pub entries-same : {X : Type 0} (part : Slot → Option X) (slots : List Slot) (i : ℕ) (old new : Slot) → i < length slots → old ≡ get_or slots i old → part new ≡ part old → entries part (set slots i new) ≡ entries part slots
+entries-same part slots i old new lt is same = same_from part 0 i old new slots (slot_at slots i old lt is) same
+
+-- a desk with a slot more
+pub more-slot : (files : List NamedFile) (slots : List Slot) (said fails : List ℕ) (calls faults id : ℕ) (slot : Slot) → id ≡ length slots
+    → memory_of files (slots ++ slot ∷ []) said fails calls faults ≡ with_slot id slot (memory_of files slots said fails calls faults)
+more-slot files slots said fails calls faults id slot is =
+    let from : id ≡ 0 + length slots = omega arith in
+    rw (more_from reader_in 0 id slot slots from, more_from writer_in 0 id slot slots from, more_from direction_in 0 id slot slots from) refl
+
+pub fresh-slot : (files : List NamedFile) (slots : List Slot) (said : List ℕ) (id : ℕ) → id ≡ length slots
+    → IsFresh id (entries direction_in slots) (Some record { files = files; readers = entries reader_in slots; writers = entries writer_in slots; said = said })
 fresh-slot files slots said id is = record {
-  given = given-fresh 0 id (handles_of slots) (count slots id is);
-  reader = readers-fresh 0 id (handles_of slots) (count slots id is);
-  writer = writers-fresh 0 id (handles_of slots) (count slots id is);
+  given = found_at-past direction_in 0 id slots (omega arith);
+  reader = found_at-past reader_in 0 id slots (omega arith);
+  writer = found_at-past writer_in 0 id slots (omega arith);
 }
 
-with_reader-more : (id : ℕ) (new : Handle) (handles : List Handle) → id ≡ 0 + length handles → readers_from 0 (handles ++ new ∷ []) ≡ with_reader id new (readers_from 0 handles)
-with_reader-more id (reading left) handles is = readers-more_reading 0 id left handles is
-with_reader-more id (writing file) handles is = readers-more_writing 0 file handles
-
-with_writer-more : (id : ℕ) (new : Handle) (handles : List Handle) → id ≡ 0 + length handles → writers_from 0 (handles ++ new ∷ []) ≡ with_writer id new (writers_from 0 handles)
-with_writer-more id (reading left) handles is = writers-more_reading 0 left handles
-with_writer-more id (writing file) handles is = writers-more_writing 0 id file handles is
-
-pub readers-slot : (slots slots' : List Slot) (id : ℕ) (slot : Slot) → (id ≡ length slots) × (slots' ≡ slots ++ slot ∷ []) → readers_from 0 (handles_of slots') ≡ with_reader id (handle_of slot) (readers_from 0 (handles_of slots))
-readers-slot slots slots' id slot (is, more) = ap (λ (s : List Slot). readers_from 0 (handles_of s)) more ∙ ap (readers_from 0) (handles-more slots slot) ∙ with_reader-more id (handle_of slot) (handles_of slots) (count slots id is)
-
-pub writers-slot : (slots slots' : List Slot) (id : ℕ) (slot : Slot) → (id ≡ length slots) × (slots' ≡ slots ++ slot ∷ []) → writers_from 0 (handles_of slots') ≡ with_writer id (handle_of slot) (writers_from 0 (handles_of slots))
-writers-slot slots slots' id slot (is, more) = ap (λ (s : List Slot). writers_from 0 (handles_of s)) more ∙ ap (writers_from 0) (handles-more slots slot) ∙ with_writer-more id (handle_of slot) (handles_of slots) (count slots id is)
-
 -- nothing was written
-pub unwritten : (files : List NamedFile) (slots slots' : List Slot) (said : List ℕ) (id : ℕ) (piece : List ℕ) → slots' ≡ slots → (k : ℕ) × (Some (world_of files slots' said) ≡ Some (after_write id (take k piece) (world_of files slots said)))
-unwritten files slots slots' said id piece same =
-    let tell : List (ℕ × NamedFile) → Option World = λ writers. Some (record (world_of files slots said) { writers = writers }) in
-    (0, ap (λ (s : List Slot). Some (world_of files s said)) same ∙ ap tell (sym (changed_at-same id (extended []) (writers_from 0 (handles_of slots)) (λ file. ap (λ (o : List ℕ). record file { octets = o }) (append-nil file.octets)))))
+pub wrote-nothing : (id : ℕ) (d : Memory) → d ≡ wrote id [] d
+wrote-nothing id d =
+    let write : List (ℕ × NamedFile) → Memory = λ writers. record d { world = record d.world { writers = writers } } in
+    ap write (sym (changed_at-same id (extended []) d.world.writers (λ file. ap (λ (o : List ℕ). record file { octets = o }) (append-nil file.octets))))
 
--- what a piece leaves that was written to an id, or to none
-pub written : (files : List NamedFile) (slots slots' : List Slot) (said : List ℕ) (id : ℕ) (piece : List ℕ) → writers_from 0 (handles_of slots') ≡ changed_at id (extended piece) (writers_from 0 (handles_of slots))
-    → readers_from 0 (handles_of slots') ≡ readers_from 0 (handles_of slots) → world_of files slots' said ≡ after_write id piece (world_of files slots said)
-written files slots slots' said id piece writers readers =
-    let tell : List (ℕ × List ℕ) → List (ℕ × NamedFile) → World = λ r w. record { files = files; readers = r; writers = w; said = said } in
-    ap (λ (r : List (ℕ × List ℕ)). tell r (writers_from 0 (handles_of slots'))) readers ∙ ap (tell (readers_from 0 (handles_of slots))) writers
-
--- a call that was to fail wrote a front of the piece, or nothing
-pub written_in_part : (files : List NamedFile) (slots slots' : List Slot) (said : List ℕ) (id n : ℕ) (piece : List ℕ) (done : Bool)
-    → MatchBool done (writers_from 0 (handles_of slots') ≡ changed_at id (extended (take n piece)) (writers_from 0 (handles_of slots))) (slots' ≡ slots)
-    → readers_from 0 (handles_of slots') ≡ readers_from 0 (handles_of slots)
-    → (k : ℕ) × (Some (world_of files slots' said) ≡ Some (after_write id (take k piece) (world_of files slots said)))
-written_in_part files slots slots' said id n piece true writers readers = (n, ap Some (written files slots slots' said id (take n piece) writers readers))
-written_in_part files slots slots' said id n piece false same readers = unwritten files slots slots' said id piece same
-
-pub on_err : {T E : Type 0} (r : Result T E) {P : Type 0} → P → OnErr r P
-on_err (Ok x) p = tt
-on_err (Err e) p = p
+-- a piece was written
+pub wrote-slots : (files : List NamedFile) (slots slots' : List Slot) (said fails : List ℕ) (calls faults id : ℕ) (piece : List ℕ) → entries reader_in slots' ≡ entries reader_in slots
+    → entries writer_in slots' ≡ changed_at id (extended piece) (entries writer_in slots) → entries direction_in slots' ≡ entries direction_in slots
+    → memory_of files slots' said fails calls faults ≡ wrote id piece (memory_of files slots said fails calls faults)
+wrote-slots files slots slots' said fails calls faults id piece readers writers given = rw (readers, writers, given) refl

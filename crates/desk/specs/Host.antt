@@ -4,6 +4,7 @@ use Rattle.desk.specs.declared.host.HostFile.{HostFile}
 use Rattle.desk.specs.declared.host.HostFile.TheVariants.{Input, Output}
 use Rattle.desk.specs.World.{Direction, to_read, to_write}
 
+-- whether the file was opened to read or to write
 abbrev pub host_direction : {I O : Type 0} → HostFile I O → Direction
 host_direction (Input file) = to_read
 host_direction (Output file) = to_write

@@ -8,8 +8,7 @@ pub data Direction : Type 0 where
   to_read : Direction
   to_write : Direction
 
--- the files that are there, what each id to read has left of its file, the made file of each id to
--- write with what was written to it, and the report
+-- the files by name, what each id to read has left, the made file of each id to write, the report
 pub record World : Type 0 where
   pub files : List NamedFile
   pub readers : List (ℕ × List ℕ)
@@ -25,7 +24,8 @@ found_at id (entry ∷ entries) = if entry.0 == id then Some entry.1 else found_
 abbrev pub changed_at : {X : Type 0} → ℕ → (X → X) → List (ℕ × X) → List (ℕ × X)
 changed_at id change [] = []
 changed_at id change (entry ∷ entries) =
-    if entry.0 == id then (entry.0, change entry.1) ∷ entries else entry ∷ changed_at id change entries
+    if entry.0 == id then (entry.0, change entry.1) ∷ entries
+    else entry ∷ changed_at id change entries
 
 -- what the first file of that name holds, if there is one
 abbrev pub there : List ℕ → List NamedFile → Option (List ℕ)
@@ -44,18 +44,24 @@ left_of id w = unwrap_or (found_at id w.readers) []
 abbrev pub extended : List ℕ → NamedFile → NamedFile
 extended piece file = record file { octets = file.octets ++ piece }
 
+-- an id more to read, of the file of that name
 abbrev pub after_open : ℕ → List ℕ → World → World
 after_open id name w = record w { readers = w.readers ++ (id, content name w.files) ∷ [] }
 
+-- an id more to write, with a new file of that name
 abbrev pub after_make : ℕ → List ℕ → World → World
-after_make id name w = record w { writers = w.writers ++ (id, record { name = name; octets = [] }) ∷ [] }
+after_make id name w =
+    record w { writers = w.writers ++ (id, record { name = name; octets = [] }) ∷ [] }
 
+-- so many octets less to read of the id
 abbrev pub after_read : ℕ → ℕ → World → World
 after_read id n w = record w { readers = changed_at id (drop n) w.readers }
 
+-- a piece more in the file of the id
 abbrev pub after_write : ℕ → List ℕ → World → World
 after_write id piece w = record w { writers = changed_at id (extended piece) w.writers }
 
+-- a piece more in the report
 abbrev pub after_say : List ℕ → World → World
 after_say piece w = record w { said = w.said ++ piece }
 
@@ -65,13 +71,13 @@ pub record IsFresh (id : ℕ) (ids : List (ℕ × Direction)) (world : Option Wo
   pub reader : IfSome world (λ w. found_at id w.readers ≡ None)
   pub writer : IfSome world (λ w. found_at id w.writers ≡ None)
 
--- the first n octets of the buffer are the next ones of what was left; none only at the end
+-- the buffer's first n octets are the next ones of what was left; none only at the end
 pub record Gives (left : List ℕ) (n : ℕ) (buf : List ℕ) : Type 0 where
   pub within : n ≤ length left
   pub octets : take n buf ≡ take n left
   pub some : 0 < length left → 0 < n
 
--- the buffer was filled as far as what was left goes, of which it has the first n octets
+-- the buffer has the first n octets of what was left, as many as both allow
 pub record Fills (left : List ℕ) (n : ℕ) (buf : List ℕ) : Type 0 where
   pub count : n ≡ min (length buf) (length left)
   pub octets : take n buf ≡ take n left
@@ -82,8 +88,10 @@ pub record Shown : Type 0 where
   pub writers : List (ℕ × NamedFile)
   pub said : List ℕ
 
+-- what others see of a world
 abbrev pub shown_of : World → Shown
 shown_of w = record { files = w.files; writers = w.writers; said = w.said }
 
+-- the same of a desk that may tell its octets
 abbrev pub shown : Option World → Option Shown
 shown told = option_map shown_of told

@@ -27,41 +27,54 @@ pub trait Desk {
     /// An id that reads the file of that name from its start. A name that isn't there may be
     /// `Failed`, or read as an empty file.
     fn open_file(&mut self, alloc: Global, name: &str) -> Result<FileId, DeskFault>
-        ensures given { IfOk result (λ id. given self.new ≡ given self.old ++ (id.number, to_read) ∷ []) }
-        ensures told { IfOk result (λ id. told self.new ≡ option_map (after_open id.number name.now) (told self.old)) }
+        ensures given { IfOk result (λ id.
+            given self.new ≡ given self.old ++ (id.number, to_read) ∷ []) }
+        ensures told { IfOk result (λ id.
+            told self.new ≡ option_map (after_open id.number name.now) (told self.old)) }
         ensures fresh { IfOk result (λ id. IsFresh id.number (given self.old) (told self.old)) }
-        ensures err { OnErr result ((given self.new ≡ given self.old) × (told self.new ≡ told self.old)) }
+        ensures err { OnErr result
+            ((given self.new ≡ given self.old) × (told self.new ≡ told self.old)) }
         ensures cause { HasCause (faults self.old) (faults self.new) result };
 
     /// An id that writes a new, empty file of that name. After a fault no file was made.
     fn make_file(&mut self, alloc: Global, name: &str) -> Result<FileId, DeskFault>
-        ensures given { IfOk result (λ id. given self.new ≡ given self.old ++ (id.number, to_write) ∷ []) }
-        ensures told { IfOk result (λ id. told self.new ≡ option_map (after_make id.number name.now) (told self.old)) }
+        ensures given { IfOk result (λ id.
+            given self.new ≡ given self.old ++ (id.number, to_write) ∷ []) }
+        ensures told { IfOk result (λ id.
+            told self.new ≡ option_map (after_make id.number name.now) (told self.old)) }
         ensures fresh { IfOk result (λ id. IsFresh id.number (given self.old) (told self.old)) }
-        ensures err { OnErr result ((given self.new ≡ given self.old) × (told self.new ≡ told self.old)) }
+        ensures err { OnErr result
+            ((given self.new ≡ given self.old) × (told self.new ≡ told self.old)) }
         ensures cause { HasCause (faults self.old) (faults self.new) result };
 
     /// The next octets of the file, in the front of `buf`, and how many; 0 is the file's end.
     fn read_file(&mut self, alloc: Global, id: FileId, buf: &mut [u8]) -> Result<usize, DeskFault>
         requires { 0 < length buf.old }
         ensures bound { IfOk result (λ n. n ≤ length buf.new) }
-        ensures octets { IfOk result (λ n. IfSome (told self.old) (λ w. Gives (left_of id.number w) n buf.new)) }
-        ensures told { IfOk result (λ n. told self.new ≡ option_map (after_read id.number n) (told self.old)) }
+        ensures octets { IfOk result (λ n.
+            IfSome (told self.old) (λ w. Gives (left_of id.number w) n buf.new)) }
+        ensures told { IfOk result (λ n.
+            told self.new ≡ option_map (after_read id.number n) (told self.old)) }
         ensures given { given self.new ≡ given self.old }
         ensures err { OnErr result (told self.new ≡ told self.old) }
         ensures cause { HasCause (faults self.old) (faults self.new) result };
 
     /// Appends the piece to the file. After a fault a prefix of it was appended.
     fn write_file(&mut self, alloc: Global, id: FileId, piece: &[u8]) -> Result<(), DeskFault>
-        ensures told { OnOk result (told self.new ≡ option_map (after_write id.number piece.now) (told self.old)) }
+        ensures told { OnOk result
+            (told self.new ≡ option_map (after_write id.number piece.now) (told self.old)) }
         ensures given { given self.new ≡ given self.old }
-        ensures err { OnErr result ((k : ℕ) × (told self.new ≡ option_map (after_write id.number (take k piece.now)) (told self.old))) }
+        ensures err { OnErr result ((k : ℕ) ×
+            (told self.new
+            ≡ option_map (after_write id.number (take k piece.now)) (told self.old))) }
         ensures cause { HasCause (faults self.old) (faults self.new) result };
 
     /// Appends the piece to the report. After a fault a prefix of it was appended.
     fn say(&mut self, alloc: Global, piece: &[u8]) -> Result<(), DeskFault>
-        ensures told { OnOk result (told self.new ≡ option_map (after_say piece.now) (told self.old)) }
+        ensures told { OnOk result
+            (told self.new ≡ option_map (after_say piece.now) (told self.old)) }
         ensures given { given self.new ≡ given self.old }
-        ensures err { OnErr result ((k : ℕ) × (told self.new ≡ option_map (after_say (take k piece.now)) (told self.old))) }
+        ensures err { OnErr result ((k : ℕ) ×
+            (told self.new ≡ option_map (after_say (take k piece.now)) (told self.old))) }
         ensures cause { HasCause (faults self.old) (faults self.new) result };
 }

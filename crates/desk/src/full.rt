@@ -15,8 +15,10 @@ pub fn read_full<D: Desk>(
     buf: &mut [u8],
 ) -> Result<usize, DeskFault>
     ensures bound { IfOk result (λ n. n ≤ length buf.new) }
-    ensures octets { IfOk result (λ n. IfSome (D.told desk.old) (λ w. Fills (left_of id.number w) n buf.new)) }
-    ensures told { IfOk result (λ n. D.told desk.new ≡ option_map (after_read id.number n) (D.told desk.old)) }
+    ensures octets { IfOk result (λ n.
+        IfSome (D.told desk.old) (λ w. Fills (left_of id.number w) n buf.new)) }
+    ensures told { IfOk result (λ n.
+        D.told desk.new ≡ option_map (after_read id.number n) (D.told desk.old)) }
     ensures given { D.given desk.new ≡ D.given desk.old }
 
     // On any exit only the place in the file has moved.

@@ -56,8 +56,10 @@ impl<'r, R: Files + Print> HostDesk<'r, R> {
     // The id of a file that was opened.
     #[tactic(auto, using(crate::proofs::HostLemmas::on_host_give))]
     fn give(&mut self, file: HostFile<BufReader<R::File>, R::File>) -> Result<FileId, DeskFault>
-        ensures given { IfOk result (λ id. given_by_host 0 self.new.files.items ≡ given_by_host 0 self.old.files.items ++ (id.number, host_direction file) ∷ []) }
-        ensures fresh { IfOk result (λ id. IsFresh id.number (given_by_host 0 self.old.files.items) None) }
+        ensures given { IfOk result (λ id. given_by_host 0 self.new.files.items
+            ≡ given_by_host 0 self.old.files.items ++ (id.number, host_direction file) ∷ []) }
+        ensures fresh { IfOk result (λ id.
+            IsFresh id.number (given_by_host 0 self.old.files.items) None) }
         ensures err { OnErr result (self.new.files.items ≡ self.old.files.items) }
         ensures cause { HasCause self.old.faults self.new.faults result }
     {

@@ -9,8 +9,6 @@ mod host;
 mod memory;
 mod slots;
 mod source;
-#[cfg(test)]
-mod tests;
 
 pub use desk::{Desk, FileId};
 pub use fault::DeskFault;

@@ -1,16 +1,16 @@
 // A desk in memory, which tells all. Calls of stated numbers fail.
-ghost use Rattle.std.specs.Prelude.{◌≡◌, ◌≤◌, ◌<◌, ◌++◌, ◌∷◌, [], length, drop, unwrap_or, IfOk, OnOk, OnErr, IfNone, IfSome, OnSome, MatchBool, Option, Some, None, option_map};
+ghost use Rattle.std.specs.Prelude.{◌≡◌, ◌≤◌, ◌<◌, ℕ, [], length, drop, unwrap_or, IfOk, IfErr, IsErrOf, OnOk, OnErr, IfNone, IfSome, Some, option_map, is_some};
 ghost use Rattle.desk.specs.declared.fault.DeskFault.TheVariants.{Failed, Memory};
-ghost use Rattle.octets.specs.Causes.{Rose};
-ghost use Rattle.desk.specs.Causes.{HasCause};
-ghost use Rattle.desk.specs.World.{World, IsFresh, Gives, there, found_at, changed_at, extended, left_of};
-ghost use Rattle.desk.specs.Memory.{world_of, handle_of, handles_of, readers_from, writers_from, given_from, direction, is_to_fail, with_reader, with_writer, made_last, file_of};
+ghost use Rattle.desk.specs.World.{IsFresh, Gives, there, found_at, changed_at, extended, left_of};
+ghost use Rattle.desk.specs.Memory.{unused, counted, is_to_fail, fails_at, Answers, called, opened, made, moved, appended, wrote, spoke, made_last, file_of};
+ghost use Rattle.desk.specs.Slots.{entries, entries_from, reader_in, writer_in, direction_in, with_slot};
 
 use crate::slots::Slot;
 use crate::source::Source;
 use crate::{Desk, DeskFault, FileId, Files, NamedFile};
 use octets::{Items, NoMemory, Octets};
 use std::alloc::Global;
+use std::marker::Model;
 
 /// Numbers of calls, counted from 1 over all five calls of a desk.
 pub type Calls = Items<u64>;
@@ -28,11 +28,19 @@ pub struct MemoryDesk {
     faults: u64,
 }
 
+impl Model for MemoryDesk {
+    ghost use Rattle.desk.specs.Memory.{Memory};
+    ghost use Rattle.desk.specs.Slots.{memory_of};
+
+    ghost Value = { Memory };
+
+    ghost view = { λ d. memory_of d.files d.slots.items d.said d.fails d.calls d.faults };
+}
+
 impl MemoryDesk {
     /// A desk that holds these files, and whose calls of these numbers fail.
     pub fn new(alloc: Global, files: Files, fails: Calls) -> Self
-        ensures told { world_of result.files result.slots.items result.said ≡ world_of files [] [] }
-        ensures counts { (result.fails ≡ fails) × (result.calls ≡ 0) × (result.faults ≡ 0) }
+        ensures { result ≡ unused files fails }
     {
         MemoryDesk {
             files,
@@ -46,14 +54,14 @@ impl MemoryDesk {
 
     /// All that was said.
     pub fn said(&self) -> &[u8]
-        ensures { result.now ≡ self.now.said }
+        ensures { result.now ≡ self.now.world.said }
     {
         self.said.as_slice()
     }
 
     /// What the last file of that name that was made holds, or else the one that was there.
     pub fn file(&self, name: &str) -> Option<&[u8]>
-        ensures { option_map (λ octets. octets.now) result ≡ file_of name.now self.now.files self.now.slots.items }
+        ensures { option_map (λ octets. octets.now) result ≡ file_of name.now self.now.world }
     {
         if let Some(octets) = last_made(self.slots.as_slice(), name) {
             return Some(octets);
@@ -66,8 +74,8 @@ impl MemoryDesk {
 
     // Counts the call, and tells whether it is to fail.
     fn begin(&mut self) -> bool
-        ensures is { result ≡ is_to_fail self.old.calls self.old.fails }
-        ensures same { self.new ≡ record self.old { calls = self.new.calls } }
+        ensures is { result ≡ is_to_fail self.old }
+        ensures counted { self.new ≡ record self.old { calls = counted self.old.calls } }
     {
         match self.calls.checked_add(1) {
             Some(call) => {
@@ -80,9 +88,7 @@ impl MemoryDesk {
 
     fn fault(&mut self) -> DeskFault
         ensures fault { result ≡ Failed }
-        ensures rose { Rose self.old.faults self.new.faults }
-        ensures later { self.old.faults ≤ self.new.faults }
-        ensures same { self.new ≡ record self.old { faults = self.new.faults } }
+        ensures counted { self.new ≡ record self.old { faults = counted self.old.faults } }
     {
         self.faults = self.faults.saturating_add(1);
         DeskFault::Failed
@@ -90,13 +96,9 @@ impl MemoryDesk {
 
     // The id of a new slot.
     fn give(&mut self, slot: Slot) -> Result<FileId, DeskFault>
-        ensures given { IfOk result (λ id. given_from 0 (handles_of self.new.slots.items) ≡ given_from 0 (handles_of self.old.slots.items) ++ (id.number, direction (handle_of slot)) ∷ []) }
-        ensures readers { IfOk result (λ id. readers_from 0 (handles_of self.new.slots.items) ≡ with_reader id.number (handle_of slot) (readers_from 0 (handles_of self.old.slots.items))) }
-        ensures writers { IfOk result (λ id. writers_from 0 (handles_of self.new.slots.items) ≡ with_writer id.number (handle_of slot) (writers_from 0 (handles_of self.old.slots.items))) }
-        ensures fresh { IfOk result (λ id. IsFresh id.number (given_from 0 (handles_of self.old.slots.items)) (Some (world_of self.old.files self.old.slots.items self.old.said))) }
-        ensures err { OnErr result (self.new.slots.items ≡ self.old.slots.items) }
-        ensures same { (self.new.files ≡ self.old.files) × (self.new.said ≡ self.old.said) × (self.new.faults ≡ self.old.faults) }
-        ensures cause { HasCause self.old.faults self.new.faults result }
+        ensures given { IfOk result (λ id. self.new ≡ with_slot id.number slot self.old) }
+        ensures fresh { IfOk result (λ id. IsFresh id.number self.old.given (Some self.old.world)) }
+        ensures memory { IfErr result (λ fault. (fault ≡ Memory) × (self.new ≡ self.old)) }
     {
         match u32::try_from(self.slots.len()) {
             Ok(number) => {
@@ -110,7 +112,8 @@ impl MemoryDesk {
 
 // The octets of the last file of that name that was made.
 fn last_made<'a>(slots: &'a [Slot], name: &str) -> Option<&'a [u8]>
-    ensures { option_map (λ octets. octets.now) result ≡ made_last name.now (handles_of slots.now) }
+    ensures { (k : ℕ) → option_map (λ octets. octets.now) result
+        ≡ made_last name.now (entries_from writer_in k slots.now) }
 {
     let [first, rest @ ..] = slots else {
         return None;
@@ -143,13 +146,17 @@ fn find<'a>(files: &'a [NamedFile], name: &str) -> Option<&'a NamedFile>
 }
 
 impl Desk for MemoryDesk {
-    ghost given = { λ desk. given_from 0 (handles_of desk.slots.items) };
+    ghost given = { λ desk. desk.given };
 
-    ghost told = { λ desk. Some (world_of desk.files desk.slots.items desk.said) };
+    ghost told = { λ desk. Some desk.world };
 
     ghost faults = { λ desk. desk.faults };
 
-    fn open_file(&mut self, alloc: Global, name: &str) -> Result<FileId, DeskFault> {
+    fn open_file(&mut self, alloc: Global, name: &str) -> Result<FileId, DeskFault>
+        ensures answer { Answers (fails_at (there name.now self.old.world.files) self.old) result }
+        ensures fresh { IfOk result (λ id. IsFresh id.number self.old.given (Some self.old.world)) }
+        ensures desk { self.new ≡ called result (opened name.now result self.old) }
+    {
         if self.begin() {
             return Err(self.fault());
         }
@@ -160,7 +167,11 @@ impl Desk for MemoryDesk {
         self.give(Slot::Reading(Source { file, place: 0 }))
     }
 
-    fn make_file(&mut self, alloc: Global, name: &str) -> Result<FileId, DeskFault> {
+    fn make_file(&mut self, alloc: Global, name: &str) -> Result<FileId, DeskFault>
+        ensures answer { Answers (is_to_fail self.old) result }
+        ensures fresh { IfOk result (λ id. IsFresh id.number self.old.given (Some self.old.world)) }
+        ensures desk { self.new ≡ called result (made name.now result self.old) }
+    {
         if self.begin() {
             return Err(self.fault());
         }
@@ -171,12 +182,15 @@ impl Desk for MemoryDesk {
         }))
     }
 
-    fn read_file(
-        &mut self,
-        _alloc: Global,
-        id: FileId,
-        buf: &mut [u8],
-    ) -> Result<usize, DeskFault> {
+    fn read_file(&mut self, _alloc: Global, id: FileId, buf: &mut [u8]) -> Result<usize, DeskFault>
+        requires { 0 < length buf.old }
+        ensures answer { Answers
+            (fails_at (found_at id.number self.old.world.readers) self.old) result }
+        ensures memory { IsErrOf result Memory → ⊥ }
+        ensures bound { IfOk result (λ n. n ≤ length buf.new) }
+        ensures octets { IfOk result (λ n. Gives (left_of id.number self.old.world) n buf.new) }
+        ensures desk { self.new ≡ called result (moved id.number result self.old) }
+    {
         if self.begin() {
             return Err(self.fault());
         }
@@ -186,7 +200,12 @@ impl Desk for MemoryDesk {
         }
     }
 
-    fn write_file(&mut self, _alloc: Global, id: FileId, piece: &[u8]) -> Result<(), DeskFault> {
+    fn write_file(&mut self, _alloc: Global, id: FileId, piece: &[u8]) -> Result<(), DeskFault>
+        ensures answer { Answers
+            (fails_at (found_at id.number self.old.world.writers) self.old) result }
+        ensures desk { self.new
+            ≡ called result (wrote id.number (appended result piece.now) self.old) }
+    {
         if self.begin() {
             let half = &piece[..piece.len() / 2];
             write_slot(&mut self.slots, id.number as usize, half)?;
@@ -199,7 +218,10 @@ impl Desk for MemoryDesk {
         }
     }
 
-    fn say(&mut self, _alloc: Global, piece: &[u8]) -> Result<(), DeskFault> {
+    fn say(&mut self, _alloc: Global, piece: &[u8]) -> Result<(), DeskFault>
+        ensures answer { Answers (is_to_fail self.old) result }
+        ensures desk { self.new ≡ called result (spoke (appended result piece.now) self.old) }
+    {
         if self.begin() {
             self.said.append(&piece[..piece.len() / 2])?;
             return Err(self.fault());
@@ -210,11 +232,15 @@ impl Desk for MemoryDesk {
 }
 
 fn read_slot(slots: &mut Vec<Slot>, number: usize, buf: &mut [u8]) -> Option<usize>
+    ensures known { is_some result ≡ is_some (found_at number (entries reader_in slots.old.items)) }
     ensures bound { IfSome result (λ n. n ≤ length buf.new) }
-    ensures octets { 0 < length buf.old → IfSome result (λ n. Gives (unwrap_or (found_at number (readers_from 0 (handles_of slots.old.items))) []) n buf.new) }
-    ensures readers { IfSome result (λ n. readers_from 0 (handles_of slots.new.items) ≡ changed_at number (drop n) (readers_from 0 (handles_of slots.old.items))) }
-    ensures writers { OnSome result (writers_from 0 (handles_of slots.new.items) ≡ writers_from 0 (handles_of slots.old.items)) }
-    ensures given { given_from 0 (handles_of slots.new.items) ≡ given_from 0 (handles_of slots.old.items) }
+    ensures octets { 0 < length buf.old → IfSome result (λ n.
+        Gives (unwrap_or (found_at number (entries reader_in slots.old.items)) []) n buf.new) }
+    ensures reader { IfSome result (λ n. entries reader_in slots.new.items
+        ≡ changed_at number (drop n) (entries reader_in slots.old.items)) }
+    ensures writer { entries writer_in slots.new.items ≡ entries writer_in slots.old.items }
+    ensures direction { entries direction_in slots.new.items
+        ≡ entries direction_in slots.old.items }
     ensures none { IfNone result (slots.new.items ≡ slots.old.items) }
 {
     let slot = slots.get_mut(number)?;
@@ -223,9 +249,13 @@ fn read_slot(slots: &mut Vec<Slot>, number: usize, buf: &mut [u8]) -> Option<usi
 
 // Whether the id is one to write, whose file then has the piece at its end.
 fn write_slot(slots: &mut Vec<Slot>, number: usize, piece: &[u8]) -> Result<bool, NoMemory>
-    ensures done { IfOk result (λ done. MatchBool done (writers_from 0 (handles_of slots.new.items) ≡ changed_at number (extended piece.now) (writers_from 0 (handles_of slots.old.items))) (slots.new.items ≡ slots.old.items)) }
-    ensures readers { readers_from 0 (handles_of slots.new.items) ≡ readers_from 0 (handles_of slots.old.items) }
-    ensures given { given_from 0 (handles_of slots.new.items) ≡ given_from 0 (handles_of slots.old.items) }
+    ensures known { IfOk result (λ done.
+        done ≡ is_some (found_at number (entries writer_in slots.old.items))) }
+    ensures reader { entries reader_in slots.new.items ≡ entries reader_in slots.old.items }
+    ensures writer { OnOk result (entries writer_in slots.new.items
+        ≡ changed_at number (extended piece.now) (entries writer_in slots.old.items)) }
+    ensures direction { entries direction_in slots.new.items
+        ≡ entries direction_in slots.old.items }
     ensures err { OnErr result (slots.new.items ≡ slots.old.items) }
 {
     match slots.get_mut(number) {

@@ -1,7 +1,7 @@
 // What an id of a desk in memory stands for.
-ghost use Rattle.std.specs.Prelude.{◌≡◌, ◌≤◌, ◌<◌, length, IfSome, IfNone, IfOk, OnErr, MatchBool};
-ghost use Rattle.desk.specs.World.{Gives};
-ghost use Rattle.desk.specs.Memory.{handle_of, skip, extend, direction, left_in, reader_in};
+ghost use Rattle.std.specs.Prelude.{◌≡◌, ◌≤◌, ◌<◌, [], length, drop, unwrap_or, option_map, is_some, IfSome, IfNone, IfOk, OnOk, OnErr};
+ghost use Rattle.desk.specs.World.{Gives, extended};
+ghost use Rattle.desk.specs.Slots.{reader_in, writer_in, direction_in};
 
 use crate::NamedFile;
 use crate::source::Source;
@@ -16,10 +16,14 @@ pub enum Slot {
 impl Slot {
     // None where the slot is one to write.
     pub fn read(&mut self, buf: &mut [u8]) -> Option<usize>
+        ensures known { is_some result ≡ is_some (reader_in self.old) }
         ensures bound { IfSome result (λ n. n ≤ length buf.new) }
-        ensures octets { 0 < length buf.old → IfSome result (λ n. Gives (left_in (handle_of self.old)) n buf.new) }
-        ensures moves { IfSome result (λ n. handle_of self.new ≡ skip n (handle_of self.old)) }
-        ensures kind { direction (handle_of self.new) ≡ direction (handle_of self.old) }
+        ensures octets { 0 < length buf.old → IfSome result (λ n.
+            Gives (unwrap_or (reader_in self.old) []) n buf.new) }
+        ensures reader { IfSome result (λ n.
+            reader_in self.new ≡ option_map (drop n) (reader_in self.old)) }
+        ensures writer { writer_in self.new ≡ writer_in self.old }
+        ensures direction { direction_in self.new ≡ direction_in self.old }
         ensures none { IfNone result (self.new ≡ self.old) }
     {
         match self {
@@ -30,10 +34,12 @@ impl Slot {
 
     // Whether the slot is one to write, which then has the piece at its end.
     pub fn write(&mut self, piece: &[u8]) -> Result<bool, NoMemory>
-        ensures done { IfOk result (λ done. MatchBool done (handle_of self.new ≡ extend piece.now (handle_of self.old)) (self.new ≡ self.old)) }
+        ensures known { IfOk result (λ done. done ≡ is_some (writer_in self.old)) }
+        ensures reader { reader_in self.new ≡ reader_in self.old }
+        ensures writer { OnOk result
+            (writer_in self.new ≡ option_map (extended piece.now) (writer_in self.old)) }
+        ensures direction { direction_in self.new ≡ direction_in self.old }
         ensures err { OnErr result (self.new ≡ self.old) }
-        ensures reader { reader_in (handle_of self.new) ≡ reader_in (handle_of self.old) }
-        ensures kind { direction (handle_of self.new) ≡ direction (handle_of self.old) }
     {
         match self {
             Slot::Reading(_) => Ok(false),

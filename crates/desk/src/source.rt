@@ -15,7 +15,8 @@ impl Source {
     // The next octets, as many as the buffer takes.
     pub fn read(&mut self, buf: &mut [u8]) -> usize
         ensures bound { result ≤ length buf.new }
-        ensures octets { 0 < length buf.old → Gives (drop self.old.place self.old.file) result buf.new }
+        ensures octets { 0 < length buf.old →
+            Gives (drop self.old.place self.old.file) result buf.new }
         ensures file { self.new.file ≡ self.old.file }
         ensures place { self.new.place ≡ self.old.place + result }
     {

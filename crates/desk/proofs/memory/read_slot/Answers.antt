@@ -1,32 +1,30 @@
-use Rattle.std.proofs.Common.{◌∙◌, ap, arith, refl}
+use Rattle.std.proofs.Common.{◌∙◌, ap, sym, refl, drop, is_some}
 use Rattle.std.proofs.lemmas.Option.{IfSome_then}
-use Rattle.desk.specs.Memory.{handle_of, handles_of, readers_from, writers_from, given_from, skip}
-use Rattle.desk.proofs.HandleLemmas.{readers-at, readers-skip, writers-skip, given-set}
-use Rattle.desk.proofs.SlotLemmas.{handle-at, handles-set}
+use Rattle.desk.specs.Slots.{reader_in, writer_in, direction_in}
+use Rattle.desk.proofs.SlotLemmas.{found_at-missing, found_at-slot, entries-changed, entries-same}
 use Rattle.desk.proofs.memory.read_slot.Goals as goal
+
+pub returns-in_err-slot-clause-known : goal.returns-in_err-slot-clause-known
+returns-in_err-slot-clause-known c = rw (c.from_residual.ensures, found_at-missing reader_in c.args.slots.now.items c.args.number c.in_err-slot.ensures.item.3) refl
+
+pub returns-clause-known : goal.returns-clause-known
+returns-clause-known c =
+    c.read.ensures.known ∙ ap is_some (sym (found_at-slot reader_in c.args.slots.now.items c.args.number c.in_ok-slot.slot.now c.in_ok-slot.ensures.item.3.0 c.in_ok-slot.ensures.value))
 
 pub returns-clause-octets : goal.returns-clause-octets
 returns-clause-octets c room =
-    let at = handle-at c.args.slots.now.items c.args.number c.in_ok-slot.slot.now c.in_ok-slot.ensures.item.3.0 c.in_ok-slot.ensures.value in
-    let left = readers-at 0 c.args.number c.args.number (handle_of c.in_ok-slot.slot.now) (handles_of c.args.slots.now.items) (omega arith) at in
-    IfSome_then c.read.result (c.read.ensures.octets room) (λ n gives. rw left gives)
+    let found = found_at-slot reader_in c.args.slots.now.items c.args.number c.in_ok-slot.slot.now c.in_ok-slot.ensures.item.3.0 c.in_ok-slot.ensures.value in
+    IfSome_then c.read.result (c.read.ensures.octets room) (λ n gives. rw found gives)
 
-pub returns-clause-readers : goal.returns-clause-readers
-returns-clause-readers c =
-    let at = handle-at c.args.slots.now.items c.args.number c.in_ok-slot.slot.now c.in_ok-slot.ensures.item.3.0 c.in_ok-slot.ensures.value in
-    IfSome_then c.read.result c.read.ensures.moves (λ n moved.
-    ap (readers_from 0) (handles-set c.args.slots.now.items c.args.number c.read.new.self (skip n (handle_of c.in_ok-slot.slot.now)) moved)
-    ∙ readers-skip 0 c.args.number c.args.number n (handle_of c.in_ok-slot.slot.now) (handles_of c.args.slots.now.items) (omega arith) at)
+pub returns-clause-reader : goal.returns-clause-reader
+returns-clause-reader c =
+    IfSome_then c.read.result c.read.ensures.reader (λ n moved.
+    entries-changed reader_in (drop n) c.args.slots.now.items c.args.number c.in_ok-slot.slot.now c.read.new.self c.in_ok-slot.ensures.item.3.0 c.in_ok-slot.ensures.value moved)
 
-pub returns-clause-writers : goal.returns-clause-writers
-returns-clause-writers c =
-    let at = handle-at c.args.slots.now.items c.args.number c.in_ok-slot.slot.now c.in_ok-slot.ensures.item.3.0 c.in_ok-slot.ensures.value in
-    IfSome_then c.read.result c.read.ensures.moves (λ n moved.
-    ap (writers_from 0) (handles-set c.args.slots.now.items c.args.number c.read.new.self (skip n (handle_of c.in_ok-slot.slot.now)) moved)
-    ∙ writers-skip 0 c.args.number n (handle_of c.in_ok-slot.slot.now) (handles_of c.args.slots.now.items) at)
+pub returns-clause-writer : goal.returns-clause-writer
+returns-clause-writer c =
+    entries-same writer_in c.args.slots.now.items c.args.number c.in_ok-slot.slot.now c.read.new.self c.in_ok-slot.ensures.item.3.0 c.in_ok-slot.ensures.value c.read.ensures.writer
 
-pub returns-clause-given : goal.returns-clause-given
-returns-clause-given c =
-    let at = handle-at c.args.slots.now.items c.args.number c.in_ok-slot.slot.now c.in_ok-slot.ensures.item.3.0 c.in_ok-slot.ensures.value in
-    ap (given_from 0) (handles-set c.args.slots.now.items c.args.number c.read.new.self (handle_of c.read.new.self) refl)
-    ∙ given-set 0 c.args.number (handle_of c.in_ok-slot.slot.now) (handle_of c.read.new.self) (handles_of c.args.slots.now.items) at c.read.ensures.kind
+pub returns-clause-direction : goal.returns-clause-direction
+returns-clause-direction c =
+    entries-same direction_in c.args.slots.now.items c.args.number c.in_ok-slot.slot.now c.read.new.self c.in_ok-slot.ensures.item.3.0 c.in_ok-slot.ensures.value c.read.ensures.direction

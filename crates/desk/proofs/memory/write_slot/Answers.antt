@@ -1,29 +1,31 @@
-use Rattle.std.proofs.Common.{◌∙◌, ap, arith, refl, true, false}
-use Rattle.std.proofs.Math.ListN.{set}
-use Rattle.std.proofs.lemmas.List.{set-get_or}
+use Rattle.std.proofs.Common.{◌∙◌, ap, sym, refl, is_some}
 use Rattle.std.proofs.lemmas.Result.{IfOk-weaker}
-use Rattle.desk.specs.Memory.{handle_of, handles_of, readers_from, writers_from, given_from, extend}
-use Rattle.desk.proofs.HandleLemmas.{writers-extend, readers-set, given-set}
-use Rattle.desk.proofs.SlotLemmas.{handle-at, handles-set}
+use Rattle.desk.specs.World.{extended}
+use Rattle.desk.specs.Slots.{entries, reader_in, writer_in, direction_in}
+use Rattle.desk.proofs.Entries.{changed_at-missing}
+use Rattle.desk.proofs.SlotLemmas.{found_at-missing, found_at-slot, entries-changed, entries-same}
 use Rattle.desk.proofs.memory.write_slot.Goals as goal
 
-pub returns-in-Some-clause-done : goal.returns-in-Some-clause-done
-returns-in-Some-clause-done c =
-    let at = handle-at c.args.slots.now.items c.args.number c.in-Some.slot.now c.in-Some.ensures.item.3.0 c.in-Some.ensures.value in
-    IfOk-weaker c.write.result _ _ (elim [
-      | true ↦ λ changed. ap (writers_from 0) (handles-set c.args.slots.now.items c.args.number c.write.new.self (extend c.args.piece.now (handle_of c.in-Some.slot.now)) changed)
-          ∙ writers-extend 0 c.args.number c.args.number c.args.piece.now (handle_of c.in-Some.slot.now) (handles_of c.args.slots.now.items) (omega arith) at
-      | false ↦ λ same. ap (set c.args.slots.now.items c.args.number) (same ∙ c.in-Some.ensures.value) ∙ set-get_or _ _ _
-    ]) c.write.ensures.done
+pub returns-in-Some-clause-known : goal.returns-in-Some-clause-known
+returns-in-Some-clause-known c =
+    let found = found_at-slot writer_in c.args.slots.now.items c.args.number c.in-Some.slot.now c.in-Some.ensures.item.3.0 c.in-Some.ensures.value in
+    IfOk-weaker c.write.result _ _ (λ done is. is ∙ ap is_some (sym found)) c.write.ensures.known
 
-pub returns-in-Some-clause-given : goal.returns-in-Some-clause-given
-returns-in-Some-clause-given c =
-    let at = handle-at c.args.slots.now.items c.args.number c.in-Some.slot.now c.in-Some.ensures.item.3.0 c.in-Some.ensures.value in
-    ap (given_from 0) (handles-set c.args.slots.now.items c.args.number c.write.new.self (handle_of c.write.new.self) refl)
-    ∙ given-set 0 c.args.number (handle_of c.in-Some.slot.now) (handle_of c.write.new.self) (handles_of c.args.slots.now.items) at c.write.ensures.kind
+pub returns-in-Some-clause-reader : goal.returns-in-Some-clause-reader
+returns-in-Some-clause-reader c =
+    entries-same reader_in c.args.slots.now.items c.args.number c.in-Some.slot.now c.write.new.self c.in-Some.ensures.item.3.0 c.in-Some.ensures.value c.write.ensures.reader
 
-pub returns-in-Some-clause-readers : goal.returns-in-Some-clause-readers
-returns-in-Some-clause-readers c =
-    let at = handle-at c.args.slots.now.items c.args.number c.in-Some.slot.now c.in-Some.ensures.item.3.0 c.in-Some.ensures.value in
-    ap (readers_from 0) (handles-set c.args.slots.now.items c.args.number c.write.new.self (handle_of c.write.new.self) refl)
-    ∙ readers-set 0 c.args.number (handle_of c.in-Some.slot.now) (handle_of c.write.new.self) (handles_of c.args.slots.now.items) at c.write.ensures.reader
+pub returns-in-Some-clause-writer : goal.returns-in-Some-clause-writer
+returns-in-Some-clause-writer c =
+    IfOk-weaker c.write.result _ _ (λ done changed.
+    entries-changed writer_in (extended c.args.piece.now) c.args.slots.now.items c.args.number c.in-Some.slot.now c.write.new.self c.in-Some.ensures.item.3.0 c.in-Some.ensures.value changed) c.write.ensures.writer
+
+pub returns-in-Some-clause-direction : goal.returns-in-Some-clause-direction
+returns-in-Some-clause-direction c =
+    entries-same direction_in c.args.slots.now.items c.args.number c.in-Some.slot.now c.write.new.self c.in-Some.ensures.item.3.0 c.in-Some.ensures.value c.write.ensures.direction
+
+pub returns-in-None-clause-known : goal.returns-in-None-clause-known
+returns-in-None-clause-known c = rw (found_at-missing writer_in c.args.slots.now.items c.args.number c.in-None.ensures.item.3) refl
+
+pub returns-in-None-clause-writer : goal.returns-in-None-clause-writer
+returns-in-None-clause-writer c = sym (changed_at-missing c.args.number (extended c.args.piece.now) (entries writer_in c.args.slots.now.items) (sym (returns-in-None-clause-known c)))

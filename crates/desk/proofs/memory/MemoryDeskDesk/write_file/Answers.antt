@@ -1,36 +1,35 @@
-use Rattle.std.proofs.Common.{◌∙◌, ◌/◌, length, ap}
-use Rattle.desk.specs.declared.memory.MemoryDesk.{MemoryDesk}
-use Rattle.desk.proofs.SlotLemmas.{unwritten, written_in_part, on_err}
+use Rattle.std.proofs.Common.{◌∙◌, ◌/◌, ap, sym, length, take, List}
+use Rattle.std.proofs.lemmas.Result.{err_from_is_err_and}
+use Rattle.desk.specs.declared.slots.Slot.{Slot}
+use Rattle.desk.specs.World.{extended}
+use Rattle.desk.specs.Memory.{Memory, counted, wrote}
+use Rattle.desk.specs.Slots.{memory_of, entries, writer_in}
+use Rattle.desk.proofs.Entries.{changed_at-missing}
+use Rattle.desk.proofs.SlotLemmas.{wrote-nothing, wrote-slots}
 use Rattle.desk.proofs.memory.MemoryDeskDesk.write_file.Goals as goal
 
-pub returns-in_err-write_slot-clause-err : goal.returns-in_err-write_slot-clause-err
-returns-in_err-write_slot-clause-err c =
-    let files = ap (λ (d : MemoryDesk). d.files) c.begin.ensures.same in
-    let said = ap (λ (d : MemoryDesk). d.said) c.begin.ensures.same in
-    let slots = c.in_err-write_slot.ensures.err ∙ ap (λ (d : MemoryDesk). d.slots.items) c.begin.ensures.same in
-    on_err c.from_residual.result (rw (files, said) (unwritten c.args.self.now.files c.args.self.now.slots.items c.write_slot.new.slots.items c.args.self.now.said c.args.id.number c.args.piece.now slots))
+pub returns-in_err-write_slot-clause-desk : goal.returns-in_err-write_slot-clause-desk
+returns-in_err-write_slot-clause-desk c =
+    let p = err_from_is_err_and c.from_residual.result c.from_residual.ensures.1 in
+    let d = c.self.inside in
+    let same = ap (λ (s : List Slot). memory_of d.files s d.said d.fails d.calls d.faults) c.in_err-write_slot.ensures.err in
+    rw (p.1, p.2) (same ∙ c.self.view_is ∙ c.begin.ensures.counted ∙ wrote-nothing c.args.id.number (record c.args.self.now { calls = counted c.args.self.now.calls }))
 
-pub returns-then-begin-clause-err : goal.returns-then-begin-clause-err
-returns-then-begin-clause-err c =
-    let files = ap (λ (d : MemoryDesk). d.files) c.fault.ensures.same ∙ ap (λ (d : MemoryDesk). d.files) c.begin.ensures.same in
-    let said = ap (λ (d : MemoryDesk). d.said) c.fault.ensures.same ∙ ap (λ (d : MemoryDesk). d.said) c.begin.ensures.same in
-    let after = ap (λ (d : MemoryDesk). d.slots.items) c.fault.ensures.same in
-    let before = ap (λ (d : MemoryDesk). d.slots.items) c.begin.ensures.same in
-    let done = rw before at c.in_ok-write_slot.ensures.done in
-    let readers = rw before at c.in_ok-write_slot.ensures.readers in
-    rw (files, said, after) (written_in_part c.args.self.now.files c.args.self.now.slots.items c.write_slot.new.slots.items c.args.self.now.said c.args.id.number (length c.args.piece.now / 2) c.args.piece.now c.in_ok-write_slot.field-0 done readers)
+pub returns-in_err-write_slot-2-clause-desk : goal.returns-in_err-write_slot-2-clause-desk
+returns-in_err-write_slot-2-clause-desk c =
+    let p = err_from_is_err_and c.from_residual-in_err-write_slot-2.result c.from_residual-in_err-write_slot-2.ensures.1 in
+    let d = c.self-2.inside in
+    let same = ap (λ (s : List Slot). memory_of d.files s d.said d.fails d.calls d.faults) c.in_err-write_slot-2.ensures.err in
+    rw (p.1, p.2) (same ∙ c.self-2.view_is ∙ c.begin.ensures.counted ∙ wrote-nothing c.args.id.number (record c.args.self.now { calls = counted c.args.self.now.calls }))
 
-pub returns-in_err-write_slot-2-clause-err : goal.returns-in_err-write_slot-2-clause-err
-returns-in_err-write_slot-2-clause-err c =
-    let files = ap (λ (d : MemoryDesk). d.files) c.begin.ensures.same in
-    let said = ap (λ (d : MemoryDesk). d.said) c.begin.ensures.same in
-    let slots = c.in_err-write_slot-2.ensures.err ∙ ap (λ (d : MemoryDesk). d.slots.items) c.begin.ensures.same in
-    on_err c.from_residual-in_err-write_slot-2.result (rw (files, said) (unwritten c.args.self.now.files c.args.self.now.slots.items c.write_slot-2.new.slots.items c.args.self.now.said c.args.id.number c.args.piece.now slots))
-
-pub returns-else-branch-clause-err : goal.returns-else-branch-clause-err
-returns-else-branch-clause-err c =
-    let files = ap (λ (d : MemoryDesk). d.files) c.fault-else-branch.ensures.same ∙ ap (λ (d : MemoryDesk). d.files) c.begin.ensures.same in
-    let said = ap (λ (d : MemoryDesk). d.said) c.fault-else-branch.ensures.same ∙ ap (λ (d : MemoryDesk). d.said) c.begin.ensures.same in
-    let after = ap (λ (d : MemoryDesk). d.slots.items) c.fault-else-branch.ensures.same in
-    let same = (rw c.if-branch.false at c.in_ok-write_slot-2.ensures.done) ∙ ap (λ (d : MemoryDesk). d.slots.items) c.begin.ensures.same in
-    rw (files, said, after) (unwritten c.args.self.now.files c.args.self.now.slots.items c.write_slot-2.new.slots.items c.args.self.now.said c.args.id.number c.args.piece.now same)
+pub returns-else-branch-clause-desk : goal.returns-else-branch-clause-desk
+returns-else-branch-clause-desk c =
+    let d = c.self-2.inside in
+    let id = c.args.id.number in
+    let piece = c.args.piece.now in
+    let half = take (length piece / 2) piece in
+    let none = sym c.in_ok-write_slot-2.ensures.known ∙ c.if-branch.false in
+    let writers = c.in_ok-write_slot-2.ensures.writer ∙ changed_at-missing id (extended piece) (entries writer_in d.slots.items) none ∙ sym (changed_at-missing id (extended half) (entries writer_in d.slots.items) none) in
+    let new = wrote-slots d.files d.slots.items c.write_slot-2.new.slots.items d.said d.fails d.calls d.faults id half c.in_ok-write_slot-2.ensures.reader writers c.in_ok-write_slot-2.ensures.direction in
+    rw c.fault-else-branch.ensures.fault
+    (c.fault-else-branch.ensures.counted ∙ ap (λ (m : Memory). record m { faults = counted m.faults }) (new ∙ ap (wrote id half) (c.self-2.view_is ∙ c.begin.ensures.counted)))

@@ -1,0 +1,61 @@
+-- What the slots of a desk in memory have, by their ids.
+use Rattle.std.specs.Prelude.{ℕ, suc, List, [], ◌∷◌, ◌++◌, drop, Option, Some, None}
+use Rattle.desk.specs.declared.file.NamedFile.{NamedFile}
+use Rattle.desk.specs.declared.slots.Slot.{Slot}
+use Rattle.desk.specs.declared.slots.Slot.TheVariants.{Reading, Writing}
+use Rattle.desk.specs.Memory.{Memory}
+use Rattle.desk.specs.World.{Direction, to_read, to_write}
+
+-- what a slot to read has left of its file
+abbrev pub reader_in : Slot → Option (List ℕ)
+reader_in (Reading source) = Some (drop source.place source.file)
+reader_in (Writing file) = None
+
+-- the made file of a slot to write
+abbrev pub writer_in : Slot → Option NamedFile
+writer_in (Reading source) = None
+writer_in (Writing file) = Some file
+
+-- whether the slot is one to read or to write
+abbrev pub direction_in : Slot → Option Direction
+direction_in (Reading source) = Some to_read
+direction_in (Writing file) = Some to_write
+
+-- an id with what stands beside it, if anything does
+abbrev pub entry : {X : Type 0} → ℕ → Option X → List (ℕ × X)
+entry id None = []
+entry id (Some x) = (id, x) ∷ []
+
+-- what slots have, by their ids, which count from k
+abbrev pub entries_from : {X : Type 0} → (Slot → Option X) → ℕ → List Slot → List (ℕ × X)
+entries_from part k [] = []
+entries_from part k (slot ∷ slots) = entry k (part slot) ++ entries_from part (suc k) slots
+
+-- what all slots have; their ids count from 0
+abbrev pub entries : {X : Type 0} → (Slot → Option X) → List Slot → List (ℕ × X)
+entries part slots = entries_from part 0 slots
+
+-- a desk of these files, slots, report, calls that are to fail, and counts
+abbrev pub memory_of : List NamedFile → List Slot → List ℕ → List ℕ → ℕ → ℕ → Memory
+memory_of files slots said fails calls faults = record {
+  world = record {
+    files = files;
+    readers = entries reader_in slots;
+    writers = entries writer_in slots;
+    said = said;
+  };
+  given = entries direction_in slots;
+  fails = fails;
+  calls = calls;
+  faults = faults;
+}
+
+-- the desk with one slot more
+abbrev pub with_slot : ℕ → Slot → Memory → Memory
+with_slot id slot d = record d {
+  world = record d.world {
+    readers = d.world.readers ++ entry id (reader_in slot);
+    writers = d.world.writers ++ entry id (writer_in slot);
+  };
+  given = d.given ++ entry id (direction_in slot);
+}
