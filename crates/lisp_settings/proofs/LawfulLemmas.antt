@@ -1,5 +1,5 @@
 -- What is read keeps to the ranges, limits and orders of settings.
-use Rattle.std.proofs.Common.{replicate, ◌≡◌, All, option_and_then, ℕ, ◌≤◌, nat_le, ◌&&◌, true, false, ℤ, pos, negsuc, List, length, map, Option, Some, None, IfSome, Ok, IfOk, Ordering, codes, refl, sym, subst, arith, leb-true, nat_cmp}
+use Rattle.std.proofs.Common.{replicate, ◌≡◌, All, option_and_then, ℕ, ◌≤◌, nat_le, ◌&&◌, true, false, ℤ, pos, negsuc, List, length, map, Option, Some, None, IfSome, Ok, IfOk, Ordering, codes, refl, sym, subst, arith, leb-true, nat_cmp, Result}
 use Rattle.std.proofs.lemmas.Bool.{cond_both, and_parts}
 use Rattle.std.proofs.lemmas.Cmp.{nat_cmp_total}
 use Rattle.std.proofs.lemmas.Result.{IfOk-weaker}
@@ -8,12 +8,13 @@ use Rattle.std.specs.List.Sorted.{IsStrictlySortedBy}
 use Rattle.toml.specs.Data.{Data, Members, as_integer}
 use Rattle.ip_headers.specs.declared.addr.Addr.{Addr}
 use Rattle.lisp_settings.specs.Lawful.{IsLawful, IsLawfulAttachment, IsLawfulDatabase, IsLawfulLocator, IsLawfulMapping, IsReachable}
-use Rattle.lisp_settings.specs.Lists.{ascending, nonces_at, one_or_more}
+use Rattle.lisp_settings.specs.Lists.{any_ascending, ascending, nonces_at, one_or_more}
 use Rattle.lisp_settings.specs.Orders.{addr_order, eid_order}
 use Rattle.lisp_settings.specs.Settings.{attachment_in, attachments, database_in, databases, eid_in, locator_in, locator_of, mapped_in, mapped_locators, mapping_in, mappings, own_locators, settings_in, top_keys, version_in}
 use Rattle.lisp_settings.specs.Fields.{only_keys, optional}
 use Rattle.lisp_settings.specs.Values.{off, seed, in_range, number, nothing}
 use Rattle.lisp_settings.specs.declared.settings.OwnLocator.{OwnLocator}
+use Rattle.lisp_settings.specs.declared.fault.SettingsFault.{SettingsFault}
 use Rattle.lisp_settings.proofs.AscendingLemmas.{ascending-all, ascending-few, ascending-some, ascending-sorted}
 use Rattle.lisp_settings.proofs.EachLemmas.{AreFew, IfOk-any, pass, step, required-holds, optional-holds, any_number-few, one_or_more-some}
 use Rattle.lisp_settings.proofs.OrderLemmas.{addr_order-total, eid_order-total}
@@ -91,23 +92,21 @@ own_locators-lawful top =
     (one_or_more-some (codes "locator") locator_in own_addr addr_order addr_order-total (λ own. Unit {0}) (λ table. IfOk-any (locator_in table)) 32 top)
     (λ locators are. (ascending-kept own_addr addr_order addr_order-total (λ own. Unit {0}) 32 locators are.0, ascending-some own_addr addr_order locators are.1))
 
+any_ascending-kept : {A K : Type 0} (list : List ℕ) (read : Members → Result A SettingsFault) (key : A → K) (order : K → K → Ordering) (total : IsTotalOrder order) (P : A → Type 0) → ((table : Members) → IfOk (read table) P) → (most : ℕ) (top : Members) → IfOk (any_ascending list read key order most top) (AreKept key order P most)
+any_ascending-kept list read key order total P lawful most top =
+    step _ (AreKept key order P most) _ _ (any_number-few list read key order total P lawful most top) (ascending-kept key order total P most)
+
 attachments-lawful : (top : Members) → IfOk (attachments top) (AreKept (λ attachment. attachment.vlan) nat_cmp IsLawfulAttachment 4096)
 attachments-lawful top =
-    step _ (AreKept (λ attachment. attachment.vlan) nat_cmp IsLawfulAttachment 4096) _ _
-    (any_number-few (codes "attachment") attachment_in (λ attachment. attachment.vlan) nat_cmp nat_cmp_total IsLawfulAttachment attachment_in-lawful 4096 top)
-    (ascending-kept (λ attachment. attachment.vlan) nat_cmp nat_cmp_total IsLawfulAttachment 4096)
+    any_ascending-kept (codes "attachment") attachment_in (λ attachment. attachment.vlan) nat_cmp nat_cmp_total IsLawfulAttachment attachment_in-lawful 4096 top
 
 databases-lawful : (top : Members) → IfOk (databases top) (AreKept (λ database. database.eid) eid_order IsLawfulDatabase 64)
 databases-lawful top =
-    step _ (AreKept (λ database. database.eid) eid_order IsLawfulDatabase 64) _ _
-    (any_number-few (codes "database") database_in (λ database. database.eid) eid_order eid_order-total IsLawfulDatabase database_in-lawful 64 top)
-    (ascending-kept (λ database. database.eid) eid_order eid_order-total IsLawfulDatabase 64)
+    any_ascending-kept (codes "database") database_in (λ database. database.eid) eid_order eid_order-total IsLawfulDatabase database_in-lawful 64 top
 
 mappings-lawful : (top : Members) → IfOk (mappings top) (AreKept (λ mapping. mapping.eid) eid_order IsLawfulMapping 65536)
 mappings-lawful top =
-    step _ (AreKept (λ mapping. mapping.eid) eid_order IsLawfulMapping 65536) _ _
-    (any_number-few (codes "mapping") mapping_in (λ mapping. mapping.eid) eid_order eid_order-total IsLawfulMapping mapping_in-lawful 65536 top)
-    (ascending-kept (λ mapping. mapping.eid) eid_order eid_order-total IsLawfulMapping 65536)
+    any_ascending-kept (codes "mapping") mapping_in (λ mapping. mapping.eid) eid_order eid_order-total IsLawfulMapping mapping_in-lawful 65536 top
 
 -- what is read in a top table
 pub settings_in-lawful : (top : Members) → IfOk (settings_in top) IsLawful

@@ -10,6 +10,7 @@ use Rattle.ip_headers.specs.declared.addr.Addr.TheVariants.{V4, V6}
 use Rattle.ip_headers.specs.declared.prefix.Prefix.{Prefix}
 
 infixl 10 ◌>>=◌
+-- what comes next, where there is a value
 abbrev pub ◌>>=◌ : {A B : Type 0} → Option A → (A → Option B) → Option B
 o >>= f = option_and_then f o
 
@@ -23,12 +24,13 @@ is_slash octet = octet == 47
 
 -- four decimal numbers of 0 to 255 without leading zeros, joined by dots
 abbrev pub ipv4_address : List ℕ → Option Addr
-ipv4_address text = option_map (λ octets. V4 (from_be_bytes w32 octets)) (whole_value (read_ipv4 text))
+ipv4_address text =
+    option_map (λ octets. V4 (from_be_bytes w32 octets)) (whole_value (read_ipv4 text))
 
--- eight groups of one to four hexadecimal digits, joined by colons, in which one run of zero groups
--- may be `::`
+-- eight groups of one to four hexadecimal digits, joined by colons; one run of zeros may be `::`
 abbrev pub ipv6_address : List ℕ → Option Addr
-ipv6_address text = option_map (λ groups. V6 (from_be_bytes w128 (octets_of groups))) (whole_value (read_ipv6 text))
+ipv6_address text =
+    option_map (λ groups. V6 (from_be_bytes w128 (octets_of groups))) (whole_value (read_ipv6 text))
 
 -- an address of either family; only an IPv4 address has dots
 unfoldable pub address_of : List ℕ → Option Addr
@@ -45,7 +47,8 @@ some_if false make = None
 
 -- the prefix of these parts, where the bits past the length are 0
 abbrev pub lawful_prefix : Addr → ℕ → Option Prefix
-lawful_prefix addr len = some_if (is_prefix addr len) (λ lawful. record { addr = addr; len = len; lawful = lawful })
+lawful_prefix addr len =
+    some_if (is_prefix addr len) (λ lawful. record { addr = addr; len = len; lawful = lawful })
 
 -- the prefix of that length, with the bits past it cleared
 unfoldable pub prefix_with_length : Addr → ℕ → Option Prefix

@@ -41,7 +41,8 @@ pub record IsLawfulMapping (mapping : Record) : Type 0 where
 
 -- an own locator of that family is up
 abbrev pub IsReachable : List OwnLocator → Addr → Type 0
-IsReachable locators addr = IsTrue (list_any (λ own. own.up && (width own.addr == width addr)) locators)
+IsReachable locators addr =
+    IsTrue (list_any (λ own. own.up && (width own.addr == width addr)) locators)
 
 -- settings in their ranges, limits and orders; a list that ascends strictly has no duplicates
 pub record IsLawful (settings : Settings) : Type 0 where

@@ -25,7 +25,13 @@ some_items list items = if count items == 0 then Err (Missing list) else Ok item
 abbrev pub few_items : List ℕ → ℕ → Items → Result Items SettingsFault
 few_items list most items = if nat_le (count items) most then Ok items else Err (TooMany list)
 
-module _ {A K : Type 0} (list : List ℕ) (read : Members → Result A SettingsFault) (key : A → K) (order : K → K → Ordering) where
+-- the items in ascending order of their keys, which differ
+abbrev pub ascending : {A K : Type 0} → (A → K) → (K → K → Ordering) → List A → List A
+ascending key order items =
+    values_of (fold (λ entries next. insert_entry order entries (key next) next) [] items)
+
+module _ {A K : Type 0} (list : List ℕ) (read : Members → Result A SettingsFault)
+    (key : A → K) (order : K → K → Ordering) where
   -- the earlier items and one more, whose key none of them has
   abbrev pub distinct : List A → A → Result (List A) SettingsFault
   distinct earlier next =
@@ -56,9 +62,11 @@ module _ {A K : Type 0} (list : List ℕ) (read : Members → Result A SettingsF
     few ← few_items list most some
     each [] few
 
--- the items in ascending order of their keys, which differ
-abbrev pub ascending : {A K : Type 0} → (A → K) → (K → K → Ordering) → List A → List A
-ascending key order items = values_of (fold (λ entries next. insert_entry order entries (key next) next) [] items)
+  -- the tables at a key, none of them needed, in ascending order of their keys
+  abbrev pub any_ascending : ℕ → Members → Result (List A) SettingsFault
+  any_ascending most table = do
+    items ← any_number most table
+    Ok (ascending key order items)
 
 -- the earlier nonces and those of an array
 abbrev pub each_nonce : List ℕ → List ℕ → Items → Result (List ℕ) SettingsFault

@@ -12,4 +12,5 @@ drawn seed j = word seed (2 * j) + word seed (2 * j + 1) * 2 ^ 32
 
 -- nonce i
 abbrev pub nonce_of : List ℕ → List ℕ → ℕ → ℕ
-nonce_of seed nonces i = if nat_lt i (length nonces) then slice_index nonces i else drawn seed (i - length nonces)
+nonce_of seed nonces i =
+    if nat_lt i (length nonces) then slice_index nonces i else drawn seed (i - length nonces)

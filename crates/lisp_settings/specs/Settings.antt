@@ -11,7 +11,7 @@ use Rattle.mapping_records.specs.declared.record.Locator.{Locator}
 use Rattle.mapping_records.specs.declared.record.Record.{Record}
 use Rattle.lisp_settings.specs.AddressText.{some_if}
 use Rattle.lisp_settings.specs.Fields.{◌>>=◌, only_keys, taken, required, optional}
-use Rattle.lisp_settings.specs.Lists.{any_number, one_or_more, ascending, nonces_at}
+use Rattle.lisp_settings.specs.Lists.{any_ascending, any_number, one_or_more, ascending, nonces_at}
 use Rattle.lisp_settings.specs.Orders.{addr_order, eid_order}
 use Rattle.lisp_settings.specs.Values.{number, address, prefix, seed, off, nothing}
 use Rattle.lisp_settings.specs.declared.fault.SettingsFault.{SettingsFault}
@@ -41,7 +41,9 @@ attachment_in table = do
 
 -- an EID, whose instance has 24 bits
 abbrev pub eid_of : ℕ → Prefix → Option Eid
-eid_of iid prefix = some_if (nat_lt iid (2 ^ 24)) (λ below. record { iid = iid; prefix = prefix; in_range = ltb-true iid (2 ^ 24) below })
+eid_of iid prefix =
+    some_if (nat_lt iid (2 ^ 24))
+    (λ below. record { iid = iid; prefix = prefix; in_range = ltb-true iid (2 ^ 24) below })
 
 -- the EID at the keys `iid` and `prefix`
 abbrev pub eid_in : Members → Result Eid SettingsFault
@@ -83,17 +85,26 @@ mapped_in table = do
 
 -- the tables of a mapping's `locator`, which stay in the order of the file
 abbrev pub mapped_locators : Members → Result (List Locator) SettingsFault
-mapped_locators table = any_number (codes "locator") mapped_in (λ locator. locator.addr) addr_order 32 table
+mapped_locators table =
+    any_number (codes "locator") mapped_in (λ locator. locator.addr) addr_order 32 table
 
 -- a table of `mapping`
 abbrev pub mapping_in : Members → Result Record SettingsFault
 mapping_in table = do
-  known ← only_keys (codes "iid" ∷ codes "prefix" ∷ codes "version" ∷ codes "action" ∷ codes "locator" ∷ []) table
+  known ← only_keys
+      (codes "iid" ∷ codes "prefix" ∷ codes "version" ∷ codes "action" ∷ codes "locator" ∷ []) table
   eid ← eid_in table
   version ← version_in table
   action ← optional (codes "action") (number 0 7) 0 table
   locators ← mapped_locators table
-  Ok (record { ttl = 1440; action = action; authoritative = true; version = version; eid = eid; locators = locators })
+  Ok (record {
+    ttl = 1440;
+    action = action;
+    authoritative = true;
+    version = version;
+    eid = eid;
+    locators = locators;
+  })
 
 -- the tables of `locator`
 abbrev pub own_locators : Members → Result (List OwnLocator) SettingsFault
@@ -103,27 +114,23 @@ own_locators top = do
 
 -- the tables of `attachment`
 abbrev pub attachments : Members → Result (List Attachment) SettingsFault
-attachments top = do
-  attachments ← any_number (codes "attachment") attachment_in (λ attachment. attachment.vlan) nat_cmp 4096 top
-  Ok (ascending (λ attachment. attachment.vlan) nat_cmp attachments)
+attachments top =
+    any_ascending (codes "attachment") attachment_in (λ attachment. attachment.vlan) nat_cmp 4096 top
 
 -- the tables of `database`
 abbrev pub databases : Members → Result (List Database) SettingsFault
-databases top = do
-  databases ← any_number (codes "database") database_in (λ database. database.eid) eid_order 64 top
-  Ok (ascending (λ database. database.eid) eid_order databases)
+databases top =
+    any_ascending (codes "database") database_in (λ database. database.eid) eid_order 64 top
 
 -- the tables of `mapping`
 abbrev pub mappings : Members → Result (List Record) SettingsFault
-mappings top = do
-  mappings ← any_number (codes "mapping") mapping_in (λ mapping. mapping.eid) eid_order 65536 top
-  Ok (ascending (λ mapping. mapping.eid) eid_order mappings)
+mappings top = any_ascending (codes "mapping") mapping_in (λ mapping. mapping.eid) eid_order 65536 top
 
 -- the keys of the top table
 abbrev pub top_keys : List (List ℕ)
 top_keys =
-    codes "seed" ∷ codes "nonces" ∷ codes "resolver" ∷ codes "ttl" ∷ codes "probe" ∷ codes "echo" ∷ codes "locator"
-    ∷ codes "attachment" ∷ codes "database" ∷ codes "mapping" ∷ []
+    codes "seed" ∷ codes "nonces" ∷ codes "resolver" ∷ codes "ttl" ∷ codes "probe" ∷ codes "echo"
+    ∷ codes "locator" ∷ codes "attachment" ∷ codes "database" ∷ codes "mapping" ∷ []
 
 -- the settings in the top table
 abbrev pub settings_in : Members → Result Settings SettingsFault

@@ -5,9 +5,6 @@ ghost use Rattle.lisp_settings.specs.AddressText.{ipv4_address, ipv6_address, ad
 use ip_headers::{Addr, Prefix};
 use std::net::{Ipv4Addr, Ipv6Addr};
 
-#[cfg(test)]
-mod tests;
-
 /// The address in a text. Only an IPv4 address has dots.
 pub fn read_address(text: &str) -> Option<Addr>
     ensures { result ≡ address_of text.now }

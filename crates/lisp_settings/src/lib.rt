@@ -6,18 +6,17 @@ mod addresses;
 mod fault;
 mod fields;
 mod hex;
+mod homes;
 mod items;
 mod lists;
 mod nonces;
 mod places;
 mod reading;
 mod settings;
-mod site;
-#[cfg(test)]
-mod tests;
 mod values;
 
 pub use fault::{Key, SettingsFault};
+pub use homes::home;
 pub use ip_headers::{Addr, Prefix};
 pub use mapping_records::{Eid, Locator, Locators, Record};
 pub use nonces::nonce_at;
@@ -27,4 +26,3 @@ pub use settings::{
     Attachment, Attachments, Database, Databases, Nonces, OwnLocator, OwnLocators, Records,
     Settings,
 };
-pub use site::home;

@@ -5,7 +5,7 @@ ghost use Rattle.std.specs.declared.cmp.Ordering.{Ordering};
 ghost use Rattle.toml.specs.Data.{Members, as_table, get_member, no_items};
 ghost use Rattle.toml.specs.View.{view, items_view, table_view};
 ghost use Rattle.lisp_settings.specs.Fields.{if_ok, taken, value_or};
-ghost use Rattle.lisp_settings.specs.Lists.{any_number, ascending, each, few_items, one_or_more, some_items};
+ghost use Rattle.lisp_settings.specs.Lists.{any_ascending, any_number, ascending, each, few_items, one_or_more, some_items};
 ghost use Rattle.lisp_settings.specs.Places.{within};
 ghost use Rattle.lisp_settings.specs.Values.{tables};
 ghost use Rattle.lisp_settings.specs.declared.fault.SettingsFault.{SettingsFault};
@@ -181,4 +181,20 @@ pub fn one_or_more<T: Item>(
     some_items(alloc, list, items)?;
     few_items(alloc, list, most, items)?;
     read_items(alloc, list, items)
+}
+
+/// The items of a list in ascending order of their keys. None of them is needed.
+pub fn any_ascending<T: Item>(
+    alloc: Global,
+    table: &Table,
+    list: &str,
+    most: usize,
+) -> Result<Items<T>, SettingsFault>
+    ensures ok { IfOk result (λ items.
+        any_ascending list.now T.reads T.key T.order most (table_view table.now) ≡ Ok items) }
+    ensures err { IfErr result (λ e. e ≢ fault.Memory
+        → any_ascending list.now T.reads T.key T.order most (table_view table.now) ≡ Err e) }
+{
+    let items = any_number(alloc, table, list, most)?;
+    ascending(alloc, items)
 }

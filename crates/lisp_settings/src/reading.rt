@@ -4,21 +4,18 @@ ghost use Rattle.ip_headers.specs.declared.addr.Addr.{Addr};
 ghost use Rattle.toml.specs.View.{table_view};
 ghost use Rattle.lisp_settings.specs.Fields.{optional};
 ghost use Rattle.lisp_settings.specs.Lawful.{IsLawful};
-ghost use Rattle.lisp_settings.specs.Settings.{attachments, databases, mappings, own_locators, settings_in, settings_of};
+ghost use Rattle.lisp_settings.specs.Settings.{own_locators, settings_in, settings_of};
 ghost use Rattle.lisp_settings.specs.Values.{nothing, seed};
 ghost use Rattle.lisp_settings.specs.declared.fault.SettingsFault.TheVariants as fault;
 
 use crate::fault::{Key, SettingsFault};
 use crate::fields::{number_or, off_at, only_keys, taken, value_at};
 use crate::items::MOST_LOCATORS;
-use crate::lists::{any_number, ascending, one_or_more};
+use crate::lists::{any_ascending, ascending, one_or_more};
 use crate::nonces::nonces_at;
-use crate::settings::{
-    Attachment, Attachments, Database, Databases, OwnLocator, OwnLocators, Records, Settings,
-};
+use crate::settings::{OwnLocator, OwnLocators, Settings};
 use crate::values;
 use ip_headers::Addr;
-use mapping_records::Record;
 use std::alloc::Global;
 use toml::Table;
 
@@ -72,9 +69,9 @@ fn read_top(alloc: Global, top: &Table) -> Result<Settings, SettingsFault>
         probe: off_at(alloc, top, "probe")?,
         echo: off_at(alloc, top, "echo")?,
         locators: own_locators(alloc, top)?,
-        attachments: attachments(alloc, top)?,
-        databases: databases(alloc, top)?,
-        mappings: mappings(alloc, top)?,
+        attachments: any_ascending(alloc, top, "attachment", MOST_ATTACHMENTS)?,
+        databases: any_ascending(alloc, top, "database", MOST_DATABASES)?,
+        mappings: any_ascending(alloc, top, "mapping", MOST_MAPPINGS)?,
     })
 }
 
@@ -109,28 +106,4 @@ fn own_locators(alloc: Global, top: &Table) -> Result<OwnLocators, SettingsFault
 {
     let locators = one_or_more::<OwnLocator>(alloc, top, "locator", MOST_LOCATORS)?;
     ascending(alloc, locators)
-}
-
-fn attachments(alloc: Global, top: &Table) -> Result<Attachments, SettingsFault>
-    ensures ok { IfOk result (λ items. attachments (table_view top.now) ≡ Ok items) }
-    ensures err { IfErr result (λ e. e ≢ fault.Memory → attachments (table_view top.now) ≡ Err e) }
-{
-    let attachments = any_number::<Attachment>(alloc, top, "attachment", MOST_ATTACHMENTS)?;
-    ascending(alloc, attachments)
-}
-
-fn databases(alloc: Global, top: &Table) -> Result<Databases, SettingsFault>
-    ensures ok { IfOk result (λ items. databases (table_view top.now) ≡ Ok items) }
-    ensures err { IfErr result (λ e. e ≢ fault.Memory → databases (table_view top.now) ≡ Err e) }
-{
-    let databases = any_number::<Database>(alloc, top, "database", MOST_DATABASES)?;
-    ascending(alloc, databases)
-}
-
-fn mappings(alloc: Global, top: &Table) -> Result<Records, SettingsFault>
-    ensures ok { IfOk result (λ items. mappings (table_view top.now) ≡ Ok items) }
-    ensures err { IfErr result (λ e. e ≢ fault.Memory → mappings (table_view top.now) ≡ Err e) }
-{
-    let mappings = any_number::<Record>(alloc, top, "mapping", MOST_MAPPINGS)?;
-    ascending(alloc, mappings)
 }

@@ -6,7 +6,8 @@ use Rattle.octets.specs.Rules.{first_failing}
 use Rattle.octets.proofs.RuleLemmas.{all_hold}
 use Rattle.ip_headers.specs.declared.addr.Addr.{Addr}
 use Rattle.ip_headers.specs.declared.addr.Addr.TheVariants.{V4, V6}
-use Rattle.mapping_records.specs.Address.{addr_at, canonical_addr, IsAddr}
+use Rattle.ip_headers.specs.Addr.{IsAddr}
+use Rattle.mapping_records.specs.Address.{addr_at, canonical_addr}
 use Rattle.mapping_records.proofs.EidLemmas.{back, spells_addr}
 use Rattle.map_messages.specs.Request.{reply_addr_rules, reply_addr_size, IsReplyAddr, SpellsReplyAddr}
 use Rattle.map_messages.proofs.ItemLaws.{ItemRead}

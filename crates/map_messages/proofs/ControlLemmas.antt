@@ -1,15 +1,16 @@
 -- Encapsulated Control Messages: their parts one after another.
-use Rattle.std.proofs.Common.{◌≡◌, ℕ, ◌+◌, Bool, List, ◌++◌, take, drop, Option, Some, None, IfSome, refl, sym, ap, subst, ◌∙◌, arith}
+use Rattle.std.proofs.Common.{◌≡◌, ℕ, ◌+◌, Bool, List, ◌++◌, drop, Option, Some, None, IfSome, refl, sym, ap, subst, ◌∙◌, arith}
 use Rattle.octets.specs.Rules.{first_failing}
 use Rattle.octets.specs.declared.refused.Refused.{Refused}
 use Rattle.octets.proofs.RuleLemmas.{first_failing-append, first_failing-append_refused}
 use Rattle.ip_headers.specs.Addr.{width}
-use Rattle.ip_headers.specs.Ip.{dest_of, ip_rules, packet_len, payload_place, source_of}
+use Rattle.ip_headers.specs.Ip.{dest_of, ip_rules, payload_place, source_of}
 use Rattle.ip_headers.specs.Packet.{IsPacketOf}
 use Rattle.ip_headers.specs.declared.header.IpHeader.{IpHeader}
 use Rattle.ip_headers.specs.declared.header.IpHeader.TheVariants.{V4, V6}
 use Rattle.ip_headers.specs.declared.packet.IpPacket.{IpPacket}
-use Rattle.map_messages.specs.Control.{carried_rules, datagram_payload, ecm_rules, ecm_size, inner_header, inner_packet, inner_payload, udp_of, word_rules, Carries}
+use Rattle.ip_headers.specs.Udp.{payload_in}
+use Rattle.map_messages.specs.Control.{carried_rules, ecm_rules, ecm_size, inner_header, inner_packet, inner_payload, udp_of, word_rules, Carries}
 use Rattle.map_messages.specs.Plain.{plain_size}
 use Rattle.map_messages.specs.Range.{InRangePlain, InRangeReply, InRangeRequest}
 use Rattle.map_messages.specs.declared.message.MapReply.{MapReply}
@@ -55,7 +56,7 @@ inside base octets rest packet back is =
     let p = subst (λ (d : List ℕ). IsPacketOf d (base + 4) packet) back is in
     record {
       header = p.value;
-      octets_are = p.exact ∙ ap (λ (h : IpHeader). take (packet_len h) (drop 4 octets)) p.value;
+      octets_are = p.exact;
       place = p.place;
       payload = p.payload;
     }
@@ -75,13 +76,13 @@ behind_packet base octets rest packet none back pass is =
 
 -- the octets of the message and of what stands before it
 pub ecm_end : (base : ℕ) (octets : List ℕ) (packet : IpPacket) (size : ℕ) → Inside base octets packet
-    → size ≡ plain_size (datagram_payload packet.octets.now (udp_of packet.header packet.octets.now)) → 12 + packet.payload_at + size ≡ ecm_size octets
+    → size ≡ plain_size (payload_in packet.octets.now (udp_of packet.header packet.octets.now)) → 12 + packet.payload_at + size ≡ ecm_size octets
 unfolding ecm_size
 ecm_end base octets packet size is size_is =
     let inner : size ≡ plain_size (inner_payload octets) =
     size_is
-    ∙ ap (λ (h : IpHeader). plain_size (datagram_payload packet.octets.now (udp_of h packet.octets.now))) is.header
-    ∙ ap (λ (os : List ℕ). plain_size (datagram_payload os (udp_of (inner_header octets) os))) is.octets_are in
+    ∙ ap (λ (h : IpHeader). plain_size (payload_in packet.octets.now (udp_of h packet.octets.now))) is.header
+    ∙ ap (λ (os : List ℕ). plain_size (payload_in os (udp_of (inner_header octets) os))) is.octets_are in
     let place : packet.payload_at ≡ payload_place (inner_header octets) = is.payload ∙ ap payload_place is.header in
     let front : 12 + packet.payload_at + size ≡ 4 + packet.payload_at + 8 + size = omega arith in
     front ∙ ap (λ (n : ℕ). 4 + n + 8 + size) place ∙ ap (λ (n : ℕ). 4 + payload_place (inner_header octets) + 8 + n) inner

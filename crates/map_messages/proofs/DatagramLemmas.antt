@@ -7,12 +7,12 @@ use Rattle.octets.specs.declared.refused.Refused.{Refused}
 use Rattle.octets.specs.declared.refused.Why.TheVariants.{InnerPort}
 use Rattle.octets.proofs.RuleLemmas.{first_failing-append, first_failing-append_refused}
 use Rattle.ip_headers.specs.Ip.{payload_place}
-use Rattle.ip_headers.specs.Udp.{answer_of, sum_rules, udp_at, udp_checksum_rules, udp_read, udp_rules}
+use Rattle.ip_headers.specs.Udp.{answer_of, payload_in, sum_rules, udp_at, udp_checksum_rules, udp_read, udp_rules}
 use Rattle.ip_headers.specs.declared.header.UdpHeader.{UdpHeader}
 use Rattle.ip_headers.specs.declared.packet.IpPacket.{IpPacket}
 use Rattle.ip_headers.proofs.UdpLemmas.{udp_read-within}
 use Rattle.mapping_records.specs.Address.{refused}
-use Rattle.map_messages.specs.Control.{carried_rules, datagram_payload, datagram_rules, is_datagram, udp_of}
+use Rattle.map_messages.specs.Control.{carried_rules, datagram_rules, is_datagram, udp_of}
 use Rattle.map_messages.specs.Plain.{plain_rules}
 
 -- a reader that answers a value met no refusal
@@ -57,25 +57,25 @@ sum_counts packet udp is read port =
 
 -- the payload lies in the packet, and its places are numbers of 32 bits
 pub payload_room : (packet : IpPacket) (udp : UdpHeader) → udp_read packet ≡ Ok udp
-    → packet.base + udp.at + 8 + length (datagram_payload packet.octets.now udp) < 2 ^ 32
+    → packet.base + udp.at + 8 + length (payload_in packet.octets.now udp) < 2 ^ 32
 payload_room packet udp read =
     let within = udp_read-within packet udp read in
     let rest : List ℕ = drop (udp.at + 8) packet.octets.now in
     omega (arith, within.whole, within.least, packet.room, length-take (udp.length - 8) rest, length-drop (udp.at + 8) packet.octets.now)
 
 -- the payload that was taken is that of the packet
-pub payload_is : (packet : IpPacket) (udp : UdpHeader) (payload : List ℕ) → udp_read packet ≡ Ok udp → payload ≡ datagram_payload packet.octets.now udp
-    → payload ≡ datagram_payload packet.octets.now (udp_of packet.header packet.octets.now)
-payload_is packet udp payload read is = is ∙ ap (λ (u : UdpHeader). datagram_payload packet.octets.now u) (same_udp packet udp read)
+pub payload_is : (packet : IpPacket) (udp : UdpHeader) (payload : List ℕ) → udp_read packet ≡ Ok udp → payload ≡ payload_in packet.octets.now udp
+    → payload ≡ payload_in packet.octets.now (udp_of packet.header packet.octets.now)
+payload_is packet udp payload read is = is ∙ ap (λ (u : UdpHeader). payload_in packet.octets.now u) (same_udp packet udp read)
 
 -- the message ends in the packet
-pub message_inside : (packet : IpPacket) (udp : UdpHeader) (payload : List ℕ) (size : ℕ) → udp_read packet ≡ Ok udp → payload ≡ datagram_payload packet.octets.now udp
+pub message_inside : (packet : IpPacket) (udp : UdpHeader) (payload : List ℕ) (size : ℕ) → udp_read packet ≡ Ok udp → payload ≡ payload_in packet.octets.now udp
     → size ≤ length payload → payload_place packet.header + 8 + size ≤ length packet.octets.now
 message_inside packet udp payload size read is inside =
     let within = udp_read-within packet udp read in
     let rest : List ℕ = drop (udp.at + 8) packet.octets.now in
     let place : udp.at ≡ payload_place packet.header = ap (λ (u : UdpHeader). u.at) (same_udp packet udp read) in
-    let size_is : length payload ≡ length (datagram_payload packet.octets.now udp) = ap (λ (p : List ℕ). length p) is in
+    let size_is : length payload ≡ length (payload_in packet.octets.now udp) = ap (λ (p : List ℕ). length p) is in
     omega (arith, place, size_is, inside, within.whole, within.least, length-take (udp.length - 8) rest, length-drop (udp.at + 8) packet.octets.now)
 
 -- the datagram is refused
@@ -84,10 +84,10 @@ pub datagram_refused : (packet : IpPacket) (r : Refused) → first_failing (data
 unfolding carried_rules
 datagram_refused packet r some =
     let octets : List ℕ = packet.octets.now in
-    first_failing-append_refused (datagram_rules packet.base packet.header octets) (plain_rules (packet.base + payload_place packet.header + 8) (datagram_payload octets (udp_of packet.header octets))) r some
+    first_failing-append_refused (datagram_rules packet.base packet.header octets) (plain_rules (packet.base + payload_place packet.header + 8) (payload_in octets (udp_of packet.header octets))) r some
 
 -- behind the datagram its message counts
-pub behind_datagram : (packet : IpPacket) (udp : UdpHeader) (payload : List ℕ) → udp_read packet ≡ Ok udp → payload ≡ datagram_payload packet.octets.now udp
+pub behind_datagram : (packet : IpPacket) (udp : UdpHeader) (payload : List ℕ) → udp_read packet ≡ Ok udp → payload ≡ payload_in packet.octets.now udp
     → first_failing (datagram_rules packet.base packet.header packet.octets.now) ≡ None
     → first_failing (carried_rules packet.base packet.header packet.octets.now) ≡ first_failing (plain_rules (packet.base + udp.at + 8) payload)
 unfolding carried_rules
@@ -95,7 +95,7 @@ behind_datagram packet udp payload read is none =
     let octets : List ℕ = packet.octets.now in
     let base = packet.base in
     let place = payload_place packet.header in
-    let there = datagram_payload octets (udp_of packet.header octets) in
+    let there = payload_in octets (udp_of packet.header octets) in
     first_failing-append (datagram_rules base packet.header octets) (plain_rules (base + place + 8) there) none
     ∙ ap (λ (p : List ℕ). first_failing (plain_rules (base + place + 8) p)) (sym (payload_is packet udp payload read is))
     ∙ ap (λ (u : UdpHeader). first_failing (plain_rules (base + u.at + 8) payload)) (sym (same_udp packet udp read))

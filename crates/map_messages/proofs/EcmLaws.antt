@@ -7,7 +7,8 @@ use Rattle.ip_headers.specs.Ip.{dest_of, packet_len, payload_place, source_of}
 use Rattle.ip_headers.specs.declared.addr.Addr.{Addr}
 use Rattle.ip_headers.specs.declared.header.IpHeader.{IpHeader}
 use Rattle.ip_headers.specs.declared.header.UdpHeader.{UdpHeader}
-use Rattle.map_messages.specs.Control.{carried_rules, datagram_payload, datagram_rules, ecm_rules, ecm_size, inner_header, inner_packet, inner_payload, udp_of, word_rules, Carries, IsEcmAt, SpellsEcm}
+use Rattle.ip_headers.specs.Udp.{payload_in}
+use Rattle.map_messages.specs.Control.{carried_rules, datagram_rules, ecm_rules, ecm_size, inner_header, inner_packet, inner_payload, udp_of, word_rules, Carries, IsEcmAt, SpellsEcm}
 use Rattle.map_messages.specs.Plain.{plain_rules, plain_size, IsPlainAt, SpellsPlain}
 use Rattle.map_messages.specs.declared.message.Ecm.{Ecm}
 use Rattle.map_messages.specs.declared.message.MapReply.{MapReply}
@@ -44,7 +45,7 @@ record Spelled (octets : List ℕ) (ecm : Ecm) (left : ℕ) (s : SpellsEcm octet
   header : s.header ≡ inner_header octets
   packet : s.packet ≡ inner_packet octets
   udp : s.udp ≡ udp_of s.header s.packet
-  payload : datagram_payload s.packet s.udp ≡ inner_payload octets
+  payload : payload_in s.packet s.udp ≡ inner_payload octets
 
 -- header, packet and UDP header that are spelled are those at their places
 spelled_inside : (octets : List ℕ) (ecm : Ecm) (left : ℕ) (s : SpellsEcm octets ecm left) → Spelled octets ecm left s
@@ -56,9 +57,9 @@ spelled_inside octets ecm left s =
       header = header;
       packet = packet;
       udp = udp;
-      payload = ap (λ (u : UdpHeader). datagram_payload s.packet u) udp
-          ∙ ap (λ (h : IpHeader). datagram_payload s.packet (udp_of h s.packet)) header
-          ∙ ap (λ (p : List ℕ). datagram_payload p (udp_of (inner_header octets) p)) packet;
+      payload = ap (λ (u : UdpHeader). payload_in s.packet u) udp
+          ∙ ap (λ (h : IpHeader). payload_in s.packet (udp_of h s.packet)) header
+          ∙ ap (λ (p : List ℕ). payload_in p (udp_of (inner_header octets) p)) packet;
     }
 
 -- the rules of what is carried pass
@@ -75,10 +76,10 @@ carried_passes base octets ecm left s =
     subst (λ (p : List ℕ). first_failing (datagram_rules base (inner_header octets) p) ≡ None) i.packet
     (subst (λ (h : IpHeader). first_failing (datagram_rules base h s.packet) ≡ None) i.header datagram) in
     let place = base + payload_place (inner_header octets) + 8 in
-    let carried = carries_some (λ plain. SpellsPlain (datagram_payload s.packet s.udp) plain s.size) ecm.request ecm.reply s.carried in
+    let carried = carries_some (λ plain. SpellsPlain (payload_in s.packet s.udp) plain s.size) ecm.request ecm.reply s.carried in
     let message : first_failing (plain_rules place (inner_payload octets)) ≡ None =
     subst (λ (p : List ℕ). first_failing (plain_rules place p) ≡ None) i.payload
-    ((spelled_plain (datagram_payload s.packet s.udp) carried.0 s.size carried.1).pass place) in
+    ((spelled_plain (payload_in s.packet s.udp) carried.0 s.size carried.1).pass place) in
     first_failing-append (datagram_rules base (inner_header octets) (inner_packet octets)) (plain_rules place (inner_payload octets)) there ∙ message
 
 -- the rules of the whole pass
@@ -96,9 +97,9 @@ ecm_ends : (octets : List ℕ) (ecm : Ecm) (left : ℕ) → SpellsEcm octets ecm
 unfolding ecm_size
 ecm_ends octets ecm left s =
     let i = spelled_inside octets ecm left s in
-    let carried = carries_some (λ plain. SpellsPlain (datagram_payload s.packet s.udp) plain s.size) ecm.request ecm.reply s.carried in
+    let carried = carries_some (λ plain. SpellsPlain (payload_in s.packet s.udp) plain s.size) ecm.request ecm.reply s.carried in
     let size : plain_size (inner_payload octets) ≡ s.size =
-    ap (λ (p : List ℕ). plain_size p) (sym i.payload) ∙ (spelled_plain (datagram_payload s.packet s.udp) carried.0 s.size carried.1).end in
+    ap (λ (p : List ℕ). plain_size p) (sym i.payload) ∙ (spelled_plain (payload_in s.packet s.udp) carried.0 s.size carried.1).end in
     let place : payload_place (inner_header octets) ≡ s.udp.at = ap payload_place (sym i.header) ∙ sym s.place in
     ap (λ (n : ℕ). 4 + payload_place (inner_header octets) + 8 + n + left) size ∙ ap (λ (n : ℕ). 4 + n + 8 + s.size + left) place ∙ s.end
 
@@ -106,7 +107,7 @@ ecm_ends octets ecm left s =
 pub spelled_ecm : (octets : List ℕ) (ecm : Ecm) (left : ℕ) → SpellsEcm octets ecm left → ReadEcm octets ecm left
 spelled_ecm octets ecm left s =
     let i = spelled_inside octets ecm left s in
-    let payload : List ℕ = datagram_payload s.packet s.udp in
+    let payload : List ℕ = payload_in s.packet s.udp in
     let port : s.udp.source ≡ (udp_of (inner_header octets) (inner_packet octets)).source =
     ap (λ (u : UdpHeader). u.source) i.udp ∙ ap (λ (h : IpHeader). (udp_of h s.packet).source) i.header
     ∙ ap (λ (p : List ℕ). (udp_of (inner_header octets) p).source) i.packet in

@@ -7,8 +7,7 @@ use Rattle.octets.specs.Numbers.{big}
 use Rattle.octets.specs.Rules.{first_failing}
 use Rattle.octets.specs.declared.refused.Why.TheVariants.{InnerPort}
 use Rattle.octets.proofs.RuleLemmas.{first_failing-append}
-use Rattle.ip_headers.specs.Ip.{dest_of, header_at, ip_rules, is_v4, payload_place, protocol_of, source_of, Spells}
-use Rattle.ip_headers.specs.Tuple.{is_fragment}
+use Rattle.ip_headers.specs.Ip.{dest_of, header_at, ip_rules, is_fragment, is_v4, payload_place, protocol_of, source_of, Spells}
 use Rattle.ip_headers.specs.Udp.{datagram_in, sum_rules, udp_at, udp_rules, udp_sum, SpellsUdp}
 use Rattle.ip_headers.specs.declared.addr.Addr.{Addr}
 use Rattle.ip_headers.specs.declared.header.IpHeader.{IpHeader}

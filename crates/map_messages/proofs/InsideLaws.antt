@@ -35,7 +35,7 @@ locators_inside octets (locator ∷ locators) s =
 -- a record
 record_inside : (octets : List ℕ) (mapping : Record) (size : ℕ) → SpellsRecord octets mapping size → size ≤ length octets
 record_inside octets mapping size s =
-    let eid = eid_inside (drop 10 octets) mapping.eid.iid s.eid_octets s.host s.eid in
+    let eid = eid_inside (drop 10 octets) mapping.eid.iid s.eid_octets s.eid.host s.eid.spelled in
     let n = 10 + s.eid_octets in
     omega (arith, s.end, s.head, eid, length-drop 10 octets, locators_inside (drop n octets) mapping.locators s.locators, length-drop n octets)
 
@@ -46,7 +46,7 @@ addr_inside octets addr size s = s.whole
 -- an EID record
 asked_inside : (octets : List ℕ) (eid : Eid) (size : ℕ) → SpellsAskedEid octets eid size → size ≤ length octets
 asked_inside octets eid size s =
-    omega (arith, s.end, s.head, eid_inside (drop 2 octets) eid.iid s.eid_octets s.host s.prefix, length-drop 2 octets)
+    omega (arith, s.end, s.head, eid_inside (drop 2 octets) eid.iid s.eid_octets s.prefix.host s.prefix.spelled, length-drop 2 octets)
 
 -- items, where each of them does
 items_inside : {T : Type 0} (Spells : List ℕ → T → ℕ → Type 0) → ((octets : List ℕ) (item : T) (size : ℕ) → Spells octets item size → size ≤ length octets)

@@ -1,5 +1,5 @@
 -- What is written is no longer than any other spelling.
-use Rattle.std.proofs.Common.{◌≡◌, inl, inr, ◌≤◌, ℕ, ◌+◌, ◌-◌, List, [], ◌∷◌, ◌++◌, length, drop, eqb, Option, Some, None, flat_map, sym, ap, subst, ◌∙◌, arith}
+use Rattle.std.proofs.Common.{◌≡◌, inl, inr, ◌≤◌, ℕ, ◌+◌, ◌-◌, List, [], ◌∷◌, ◌++◌, length, drop, slice_index, eqb, Option, Some, None, flat_map, sym, ap, subst, ◌∙◌, arith}
 use Rattle.std.specs.Prelude.{option_to_list}
 use Rattle.std.proofs.lemmas.Bool.{cases_Bool}
 use Rattle.std.proofs.lemmas.List.{length-append}
@@ -7,7 +7,7 @@ use Rattle.std.proofs.lemmas.List.Concat.{flat_map-cons}
 use Rattle.octets.specs.Rules.{first_failing}
 use Rattle.ip_headers.specs.Addr.{cleared}
 use Rattle.ip_headers.specs.Ip.{ip_rules, payload_place, source_of, Spells}
-use Rattle.ip_headers.specs.Udp.{addr_octets}
+use Rattle.ip_headers.specs.Udp.{addr_octets, payload_in}
 use Rattle.ip_headers.specs.declared.addr.Addr.{Addr}
 use Rattle.ip_headers.specs.declared.addr.Addr.TheVariants as family
 use Rattle.ip_headers.specs.declared.header.IpHeader.{IpHeader}
@@ -15,12 +15,12 @@ use Rattle.ip_headers.specs.declared.header.IpHeader.TheVariants.{V4, V6}
 use Rattle.ip_headers.proofs.CutPacket.{v4_facts}
 use Rattle.mapping_records.specs.Address.{canonical_addr, octets_of}
 use Rattle.mapping_records.specs.Eid.{canonical_eid, canonical_lcaf, SpellsEid}
-use Rattle.mapping_records.specs.Locator.{canonical_locator, canonical_locators, octets_of_locators}
-use Rattle.mapping_records.specs.Record.{canonical_record, SpellsRecord}
+use Rattle.mapping_records.specs.Locator.{canonical_locators}
+use Rattle.mapping_records.specs.Record.{canonical_record, SpellsEidPrefix, SpellsRecord}
 use Rattle.mapping_records.specs.declared.eid.Eid.{Eid}
-use Rattle.mapping_records.specs.declared.record.Locator.{Locator}
 use Rattle.mapping_records.specs.declared.record.Record.{Record}
-use Rattle.map_messages.specs.Control.{canonical_carried, canonical_ecm, control_header, datagram_payload, Carries, SpellsEcm}
+use Rattle.mapping_records.proofs.WrittenRecord.{length-locators}
+use Rattle.map_messages.specs.Control.{canonical_carried, canonical_ecm, control_header, Carries, SpellsEcm}
 use Rattle.map_messages.specs.Items.{SpellItems}
 use Rattle.map_messages.specs.Message.{canonical_message, SpellsMessage}
 use Rattle.map_messages.specs.Plain.{SpellsPlain}
@@ -70,6 +70,11 @@ eid_le octets iid size host addr (inl s) same =
     subst (λ (i : ℕ). length (canonical_eid i (Some addr)) ≤ size) (sym s.instance) (omega (arith, plain_le addr, same, s.end))
 eid_le octets iid size host addr (inr s) same = omega (arith, any_le iid addr, same, s.end)
 
+-- an EID prefix
+prefix_le : (octets : List ℕ) (mask : ℕ) (eid : Eid) (size : ℕ) → SpellsEidPrefix octets mask eid size → length (canonical_eid eid.iid (Some eid.prefix.addr)) ≤ size
+prefix_le octets mask eid size s =
+    eid_le octets eid.iid size s.host eid.prefix.addr s.spelled (ap octets_of s.cleared_host ∙ same_family s.host eid.prefix.len)
+
 -- a Source EID
 source_le : (octets : List ℕ) (source : Option (ℕ × Addr)) (size : ℕ) → SpellsSource octets source size → length (canonical_source source) ≤ size
 source_le octets None size s = omega (arith, s.end)
@@ -82,24 +87,13 @@ addr_le octets addr size s = omega (arith, s.end, length-addr addr)
 -- an EID record
 asked_le : (octets : List ℕ) (eid : Eid) (size : ℕ) → SpellsAskedEid octets eid size → length (canonical_asked_eid eid) ≤ size
 asked_le octets eid size s =
-    let same : octets_of eid.prefix.addr ≡ octets_of s.host = ap octets_of s.cleared_host ∙ same_family s.host eid.prefix.len in
-    omega (arith, s.end, eid_le (drop 2 octets) eid.iid s.eid_octets s.host eid.prefix.addr s.prefix same)
-
--- locators have one spelling of their length
-length-locators : (locators : List Locator) → length (canonical_locators locators) ≡ octets_of_locators locators
-length-locators [] = omega arith
-length-locators (locator ∷ locators) =
-    let one : length (canonical_locator locator) ≡ 8 + octets_of locator.addr = omega (arith, length-octets locator.addr) in
-    ap (λ (t : List ℕ). length t) (flat_map-cons canonical_locator locator locators)
-    ∙ length-append (canonical_locator locator) (canonical_locators locators)
-    ∙ omega (arith, one, length-locators locators)
+    omega (arith, s.end, prefix_le (drop 2 octets) (slice_index octets 1) eid s.eid_octets s.prefix)
 
 -- a record
 record_le : (octets : List ℕ) (mapping : Record) (size : ℕ) → SpellsRecord octets mapping size → length (canonical_record mapping) ≤ size
 record_le octets mapping size s =
     let host : List ℕ = canonical_eid mapping.eid.iid (Some mapping.eid.prefix.addr) in
-    let same : octets_of mapping.eid.prefix.addr ≡ octets_of s.host = ap octets_of s.cleared_host ∙ same_family s.host mapping.eid.prefix.len in
-    let eid = eid_le (drop 10 octets) mapping.eid.iid s.eid_octets s.host mapping.eid.prefix.addr s.eid same in
+    let eid = prefix_le (drop 10 octets) (slice_index octets 5) mapping.eid s.eid_octets s.eid in
     omega (arith, s.end, eid, length-append host (canonical_locators mapping.locators), length-locators mapping.locators)
 
 -- items, where each of them is
@@ -166,7 +160,7 @@ ecm_le : (octets : List ℕ) (ecm : Ecm) (left : ℕ) → SpellsEcm octets ecm l
 ecm_le octets ecm left s =
     let payload : List ℕ = canonical_carried ecm.request ecm.reply in
     let header = header_le (drop 4 octets) s.header ecm.source ecm.dest (8 + length payload) s.spells_header s.lawful s.source in
-    let carried = carried_le (datagram_payload s.packet s.udp) ecm.request ecm.reply s.size s.carried in
+    let carried = carried_le (payload_in s.packet s.udp) ecm.request ecm.reply s.size s.carried in
     omega (arith, s.end, s.place, header, carried, length-control_packet ecm.source ecm.dest ecm.source_port payload)
 
 -- what is written of a message is no longer than the octets that it was read from

@@ -6,14 +6,14 @@ use Rattle.std.proofs.lemmas.Bool.{and_parts, cases_Bool, leb-true}
 use Rattle.std.proofs.lemmas.List.Concat.{flat_map-cons}
 use Rattle.std.proofs.lemmas.List.Elements.{All-cons, All-head, All-nil, All-tail}
 use Rattle.std.proofs.lemmas.Nat.{mod_below}
-use Rattle.octets.specs.Numbers.{big_octets}
+use Rattle.octets.specs.Numbers.{big_octets, flag}
 use Rattle.ip_headers.specs.Addr.{width}
 use Rattle.ip_headers.specs.Udp.{addr_octets}
 use Rattle.ip_headers.specs.declared.addr.Addr.{Addr}
 use Rattle.ip_headers.specs.declared.addr.Addr.TheVariants.{V4, V6}
 use Rattle.mapping_records.specs.Address.{afi_of, canonical_addr, octets_of}
 use Rattle.mapping_records.specs.Eid.{canonical_eid, canonical_lcaf}
-use Rattle.mapping_records.specs.Locator.{canonical_locator, canonical_locators, flag, AreLocators, InRangeLocator}
+use Rattle.mapping_records.specs.Locator.{canonical_locator, canonical_locators, AreLocators, InRangeLocator}
 use Rattle.mapping_records.specs.Record.{canonical_record, IsLawful}
 use Rattle.mapping_records.specs.declared.eid.Eid.{Eid}
 use Rattle.mapping_records.specs.declared.record.Locator.{Locator}

@@ -1,7 +1,7 @@
 -- Map-Replies: what is spelled is read, what is read is spelled, and what is written is spelled.
 use Rattle.std.proofs.Common.{◌≡◌, ◌≤◌, ℕ, ◌+◌, ◌/◌, Bool, true, false, List, [], ◌++◌, length, drop, slice_index, None, flat_map, refl, sym, ap, ◌∙◌, arith}
 use Rattle.octets.specs.Rules.{first_failing}
-use Rattle.mapping_records.specs.Locator.{flag}
+use Rattle.octets.specs.Numbers.{flag}
 use Rattle.mapping_records.specs.Record.{canonical_record, record_rules, record_size, IsLawful, IsRecordAt, SpellsRecord}
 use Rattle.mapping_records.specs.declared.record.Record.{Record}
 use Rattle.mapping_records.proofs.EidLemmas.{back}

@@ -8,7 +8,7 @@ use Rattle.mapping_records.specs.declared.record.Record.{Record}
 use Rattle.mapping_records.proofs.SpelledRecord.{back_passes, front_passes}
 use Rattle.mapping_records.proofs.WholeRecord.{record_is_spelled, same_at, some_record}
 use Rattle.map_messages.specs.Items.{items_rules, items_size, AreItems}
-use Rattle.map_messages.specs.Request.{addr_count, addrs_place, asked_eid_rules, asked_eid_size, eid_count, eids_place, record_count, record_place, reply_addr_rules, reply_addr_size, request_rules, request_size, source_at, IsAskedEid, IsReplyAddr, IsRequestAt, SpellsAskedEid, SpellsReplyAddr, SpellsRequest}
+use Rattle.map_messages.specs.Request.{addr_count, addrs_place, addrs_rules, asked_eid_rules, asked_eid_size, eid_count, eids_place, eids_rules, piggyback_rules, record_count, record_place, reply_addr_rules, reply_addr_size, request_rules, request_size, source_at, source_rules, IsAskedEid, IsReplyAddr, IsRequestAt, SpellsAskedEid, SpellsReplyAddr, SpellsRequest}
 use Rattle.map_messages.specs.Words.{bit, kind, nonce_at}
 use Rattle.map_messages.specs.declared.message.MapRequest.{MapRequest}
 use Rattle.map_messages.proofs.AddrLaws.{addr_is_spelled, same_addr, some_addr, spelled_addr}
@@ -16,7 +16,7 @@ use Rattle.map_messages.proofs.AskedEidLaws.{asked_is_spelled, same_asked, some_
 use Rattle.map_messages.proofs.ItemLaws.{are_spelled, same_items, some_items, spelled_items, ItemsRead}
 use Rattle.map_messages.proofs.ItemsLemmas.{Rules, Size}
 use Rattle.map_messages.proofs.ReplyLaws.{record_read}
-use Rattle.map_messages.proofs.RequestLemmas.{addrs_rules, behind_eids, behind_source_place, eids_place_is, eids_rules, part_read, piggyback_rules, record_place_is, request_size_is, source_rules, PartRead}
+use Rattle.map_messages.proofs.RequestLemmas.{behind_eids, behind_source_place, eids_place_is, part_read, record_place_is, request_size_is, PartRead}
 use Rattle.map_messages.proofs.SourceLaws.{source_is_spelled, spelled_source}
 
 -- a Map-Request that obeys the rules, with its value and its octets

@@ -4,29 +4,13 @@ use Rattle.std.specs.Prelude.{Err}
 use Rattle.octets.specs.Rules.{first_failing}
 use Rattle.octets.specs.declared.refused.Refused.{Refused}
 use Rattle.octets.proofs.RuleLemmas.{first_failing-append, first_failing-append_refused}
-use Rattle.mapping_records.specs.Eid.{eid_rules, eid_size}
-use Rattle.mapping_records.specs.Record.{record_rules, record_size, RefusesBy}
+use Rattle.mapping_records.specs.Eid.{eid_size}
+use Rattle.mapping_records.specs.Record.{record_size, RefusesBy}
 use Rattle.mapping_records.specs.declared.fault.RecordFault.{RecordFault}
 use Rattle.mapping_records.specs.declared.fault.RecordFault.TheVariants as fault
 use Rattle.map_messages.specs.Items.{items_rules, items_size, AreItems}
-use Rattle.map_messages.specs.Request.{addr_count, addrs_place, asked_eid_rules, asked_eid_size, eid_count, eids_place, record_count, record_place, reply_addr_rules, reply_addr_size, request_rules, request_size}
+use Rattle.map_messages.specs.Request.{addr_count, addrs_place, addrs_rules, asked_eid_size, eid_count, eids_place, eids_rules, piggyback_rules, record_count, record_place, reply_addr_size, request_rules, request_size, source_rules}
 use Rattle.map_messages.proofs.ItemsLemmas.{Rules, Size}
-
--- the rules of the Source EID
-abbrev pub source_rules : ℕ → List ℕ → List (Bool × Refused)
-source_rules base octets = eid_rules (base + 12) (drop 12 octets)
-
--- the rules of the ITR-RLOCs
-abbrev pub addrs_rules : ℕ → List ℕ → List (Bool × Refused)
-addrs_rules base octets = items_rules reply_addr_rules reply_addr_size (addr_count octets) (base + addrs_place octets) (drop (addrs_place octets) octets)
-
--- the rules of the EID records
-abbrev pub eids_rules : ℕ → List ℕ → List (Bool × Refused)
-eids_rules base octets = items_rules asked_eid_rules asked_eid_size (eid_count octets) (base + eids_place octets) (drop (eids_place octets) octets)
-
--- the rules of the Map-Reply record
-abbrev pub piggyback_rules : ℕ → List ℕ → List (Bool × Refused)
-piggyback_rules base octets = items_rules record_rules record_size (record_count octets) (base + record_place octets) (drop (record_place octets) octets)
 
 -- a table that refuses refuses with what follows, at any type of value
 refuses-append : (T U : Type 0) (front back : List (Bool × Refused)) (f : RecordFault) → RefusesBy {T = T} (first_failing front) (Err f) → RefusesBy {T = U} (first_failing (front ++ back)) (Err f)
@@ -124,11 +108,3 @@ part_read Is rules size count base at place n octets rest items at_is back none 
       are = subst (λ (d : List ℕ). AreItems Is size count d items) rest_is are;
       next = ap (λ (p : ℕ). p + n) at_is ∙ ap (λ (k : ℕ). place + k) (size_is ∙ ap (λ (d : List ℕ). items_size size count d) rest_is);
     }
-
--- items that are refused at a place that was counted
-pub part_fault : (T U : Type 0) (rules : Rules) (size : Size) (count base at place : ℕ) (octets rest : List ℕ) (f : RecordFault) → at ≡ place → rest ≡ drop at octets
-    → RefusesBy {T = T} (first_failing (items_rules rules size count (base + at) rest)) (Err f)
-    → RefusesBy {T = U} (first_failing (items_rules rules size count (base + place) (drop place octets))) (Err f)
-part_fault T U rules size count base at place octets rest f at_is back some =
-    refuses_as T U (items_rules rules size count (base + place) (drop place octets)) (items_rules rules size count (base + at) rest) f
-    (same_rules rules size count base at place octets rest at_is back) some

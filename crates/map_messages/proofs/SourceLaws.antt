@@ -3,7 +3,7 @@ use Rattle.std.proofs.Common.{◌≡◌, inl, inr, ◌<◌, ◌^◌, ℕ, List, 
 use Rattle.std.proofs.lemmas.Bool.{cases_Bool}
 use Rattle.octets.specs.Rules.{first_failing}
 use Rattle.ip_headers.specs.declared.addr.Addr.{Addr}
-use Rattle.mapping_records.specs.Address.{IsAddr}
+use Rattle.ip_headers.specs.Addr.{IsAddr}
 use Rattle.mapping_records.specs.Eid.{eid_addr, eid_at, eid_rules, eid_size, instance_at, is_none, SpellsEid, SpellsNone}
 use Rattle.mapping_records.proofs.EidLemmas.{canonical_spells, eid_is_spelled, spelled_is_read}
 use Rattle.mapping_records.proofs.RecordLemmas.{eid_there}

@@ -9,8 +9,7 @@ use Rattle.octets.specs.Rules.{first_failing}
 use Rattle.octets.specs.declared.refused.Refused.{Refused}
 use Rattle.octets.specs.declared.refused.Why.TheVariants.{InnerPort, InnerProtocol}
 use Rattle.octets.proofs.RuleLemmas.{all_hold}
-use Rattle.ip_headers.specs.Ip.{dest_of, packet_len, payload_place, protocol_of, source_of}
-use Rattle.ip_headers.specs.Tuple.{is_fragment}
+use Rattle.ip_headers.specs.Ip.{dest_of, is_fragment, packet_len, payload_place, protocol_of, source_of}
 use Rattle.ip_headers.specs.Udp.{datagram_in, sum_rules, udp_rules, udp_sum}
 use Rattle.ip_headers.specs.declared.addr.Addr.{Addr}
 use Rattle.ip_headers.specs.declared.header.IpHeader.{IpHeader}

@@ -5,11 +5,10 @@ use Rattle.std.proofs.Math.Seq.{drop-append-add, take-append_seam, take-length}
 use Rattle.std.proofs.lemmas.List.{append-nil, drop_at, length-append}
 use Rattle.octets.specs.Numbers.{big}
 use Rattle.octets.specs.Rules.{first_failing}
-use Rattle.ip_headers.specs.Addr.{width}
+use Rattle.ip_headers.specs.Addr.{width, IsAddr}
 use Rattle.ip_headers.specs.Canonical.{canonical_v4, canonical_v6, InRangeV4, InRangeV6}
-use Rattle.ip_headers.specs.Ip.{dest_of, ip_rules, is_v6, packet_len, payload_place, protocol_of, source_of, Spells}
-use Rattle.ip_headers.specs.Tuple.{is_fragment}
-use Rattle.ip_headers.specs.Udp.{canonical_udp, datagram_in, udp_at, udp_checksum, udp_sum, SpellsUdp}
+use Rattle.ip_headers.specs.Ip.{dest_of, ip_rules, is_fragment, is_v6, packet_len, payload_place, protocol_of, source_of, Spells}
+use Rattle.ip_headers.specs.Udp.{canonical_udp, datagram_in, payload_in, udp_at, udp_checksum, udp_sum, SpellsUdp}
 use Rattle.ip_headers.specs.declared.addr.Addr.{Addr}
 use Rattle.ip_headers.specs.declared.addr.Addr.TheVariants as family
 use Rattle.ip_headers.specs.declared.header.IpHeader.{IpHeader}
@@ -23,8 +22,7 @@ use Rattle.ip_headers.proofs.OneValue.{spelled}
 use Rattle.ip_headers.proofs.ReadAgain.{header_at-canonical_v4, header_at-canonical_v6}
 use Rattle.ip_headers.proofs.Spelled.{ones_sum-canonical_v4, read_back, version-canonical_v6}
 use Rattle.ip_headers.proofs.UdpReadAgain.{udp_at-canonical, udp_sum-canonical}
-use Rattle.mapping_records.specs.Address.{IsAddr}
-use Rattle.map_messages.specs.Control.{canonical_carried, canonical_ecm, control_header, control_packet, control_v4, control_v6, datagram_payload, Carries, SpellsEcm}
+use Rattle.map_messages.specs.Control.{canonical_carried, canonical_ecm, control_header, control_packet, control_v4, control_v6, Carries, SpellsEcm}
 use Rattle.map_messages.specs.Plain.{SpellsPlain}
 use Rattle.map_messages.specs.Range.{IsLawfulEcm, IsLawfulReply, IsLawfulRequest}
 use Rattle.map_messages.specs.Reply.{canonical_reply, SpellsReply}
@@ -194,7 +192,7 @@ ecm_spells ecm rest lawful short =
     let in_packet : datagram_in packet udp ≡ datagram =
     ap (λ (d : List ℕ). take size d) (drop_at front datagram (length front) refl) ∙ ap (λ (n : ℕ). take n datagram) (sym size_is) ∙ take-length datagram in
     let less : size - 8 ≡ length payload = omega arith in
-    let payload_is : datagram_payload packet udp ≡ payload =
+    let payload_is : payload_in packet udp ≡ payload =
     ap (λ (d : List ℕ). take (size - 8) d) (drop-append-add front datagram 8) ∙ ap (λ (n : ℕ). take n payload) less ∙ take-length payload in
     record {
       head = omega arith;

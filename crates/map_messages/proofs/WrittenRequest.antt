@@ -3,8 +3,9 @@ use Rattle.std.proofs.Common.{◌≡◌, ℕ, ◌+◌, ◌/◌, Bool, true, fals
 use Rattle.std.specs.Prelude.{is_some, option_to_list}
 use Rattle.std.proofs.lemmas.List.{drop-drop, drop_at, length-append}
 use Rattle.std.proofs.lemmas.List.Elements.{All-cons, All-nil}
-use Rattle.mapping_records.specs.Address.{canonical_addr, IsAddr}
-use Rattle.mapping_records.specs.Locator.{flag}
+use Rattle.ip_headers.specs.Addr.{IsAddr}
+use Rattle.mapping_records.specs.Address.{canonical_addr}
+use Rattle.octets.specs.Numbers.{flag}
 use Rattle.mapping_records.specs.Record.{canonical_record, IsLawful, SpellsRecord}
 use Rattle.mapping_records.specs.declared.record.Record.{Record}
 use Rattle.mapping_records.proofs.EidLemmas.{back}

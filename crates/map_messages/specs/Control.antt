@@ -1,13 +1,12 @@
 -- Encapsulated Control Messages, RFC 9301 section 5.8.
-use Rattle.std.specs.Prelude.{◌≡◌, ◌⊎◌, ℕ, ◌+◌, ◌-◌, ◌≤◌, ◌==◌, ◌&&◌, nat_le, not, Bool, true, false, List, [], ◌∷◌, ◌++◌, length, take, drop, slice_index, Option, Some, None}
+use Rattle.std.specs.Prelude.{◌≡◌, ◌⊎◌, ℕ, ◌+◌, ◌≤◌, ◌==◌, ◌&&◌, nat_le, not, Bool, true, false, List, [], ◌∷◌, ◌++◌, length, take, drop, slice_index, Option, Some, None}
 use Rattle.octets.specs.Rules.{first_failing}
 use Rattle.octets.specs.declared.refused.Refused.{Refused}
 use Rattle.octets.specs.declared.refused.Why.TheVariants.{Short, Authenticated, InnerProtocol, InnerPort}
 use Rattle.ip_headers.specs.Addr.{number}
 use Rattle.ip_headers.specs.Canonical.{canonical_v4, canonical_v6}
-use Rattle.ip_headers.specs.Ip.{dest_of, header_at, ip_rules, packet_len, payload_place, protocol_of, source_of, Spells}
-use Rattle.ip_headers.specs.Tuple.{is_fragment}
-use Rattle.ip_headers.specs.Udp.{canonical_udp, datagram_in, sum_rules, udp_at, udp_rules, udp_sum, SpellsUdp}
+use Rattle.ip_headers.specs.Ip.{dest_of, header_at, ip_rules, is_fragment, packet_in, packet_len, payload_place, protocol_of, source_of, Spells}
+use Rattle.ip_headers.specs.Udp.{canonical_udp, datagram_in, payload_in, sum_rules, udp_at, udp_rules, udp_sum, SpellsUdp}
 use Rattle.ip_headers.specs.declared.addr.Addr.{Addr}
 use Rattle.ip_headers.specs.declared.addr.Addr.TheVariants.{V4, V6}
 use Rattle.ip_headers.specs.declared.header.IpHeader.{IpHeader}
@@ -38,10 +37,6 @@ is_datagram header = (protocol_of header == 17) && not (is_fragment header)
 abbrev pub udp_of : IpHeader → List ℕ → UdpHeader
 udp_of header packet = udp_at (payload_place header) packet
 
--- the octets behind the UDP header, as many as it names
-abbrev pub datagram_payload : List ℕ → UdpHeader → List ℕ
-datagram_payload packet udp = take (udp.length - 8) (drop (udp.at + 8) packet)
-
 -- the rules of the datagram in a packet: to the port of control messages, its checksum right or 0
 unfoldable pub datagram_rules : ℕ → IpHeader → List ℕ → List (Bool × Refused)
 datagram_rules base header packet =
@@ -55,24 +50,27 @@ datagram_rules base header packet =
 unfoldable pub carried_rules : ℕ → IpHeader → List ℕ → List (Bool × Refused)
 carried_rules base header packet =
     datagram_rules base header packet
-    ++ plain_rules (base + payload_place header + 8) (datagram_payload packet (udp_of header packet))
+    ++ plain_rules (base + payload_place header + 8) (payload_in packet (udp_of header packet))
 
--- the header of the packet inside, and the packet, without what follows it
+-- the header of the packet inside
 abbrev pub inner_header : List ℕ → IpHeader
 inner_header octets = header_at (drop 4 octets)
 
+-- the packet inside, without what follows it
 abbrev pub inner_packet : List ℕ → List ℕ
-inner_packet octets = take (packet_len (inner_header octets)) (drop 4 octets)
+inner_packet octets = packet_in (drop 4 octets)
 
 -- the octets of its datagram behind the UDP header
 abbrev pub inner_payload : List ℕ → List ℕ
-inner_payload octets = datagram_payload (inner_packet octets) (udp_of (inner_header octets) (inner_packet octets))
+inner_payload octets =
+    payload_in (inner_packet octets) (udp_of (inner_header octets) (inner_packet octets))
 
 -- the rules of an Encapsulated Control Message
 unfoldable pub ecm_rules : ℕ → List ℕ → List (Bool × Refused)
 ecm_rules base octets =
     word_rules base octets
-    ++ (ip_rules (base + 4) (drop 4 octets) ++ carried_rules (base + 4) (inner_header octets) (inner_packet octets))
+    ++ (ip_rules (base + 4) (drop 4 octets)
+    ++ carried_rules (base + 4) (inner_header octets) (inner_packet octets))
 
 -- the octets of the word, the IP header, the UDP header and the message
 unfoldable pub ecm_size : List ℕ → ℕ
@@ -93,9 +91,7 @@ pub record IsEcmAt (octets : List ℕ) (ecm : Ecm) : Type 0 where
   pub source_port : ecm.source_port ≡ (udp_of (inner_header octets) (inner_packet octets)).source
   pub carried : Carries (IsPlainAt (inner_payload octets)) ecm.request ecm.reply
 
--- the octets are this Encapsulated Control Message, of whose octets so many are left over. Those may lie behind the
--- message in its datagram, behind that in its packet, and behind the packet. The bits of the word but type and S
--- are free, and so is what the IP header holds beside addresses, protocol and lengths.
+-- the octets are this Encapsulated Control Message, and so many left over behind its layers
 pub record SpellsEcm (octets : List ℕ) (ecm : Ecm) (left : ℕ) : Type 0 where
   pub head : 4 ≤ length octets
   pub message_type : kind octets ≡ 8
@@ -118,7 +114,8 @@ pub record SpellsEcm (octets : List ℕ) (ecm : Ecm) (left : ℕ) : Type 0 where
   pub dest_port : udp.dest ≡ 4342
   pub sum : (udp.checksum ≡ 0) ⊎ (udp_sum ecm.source ecm.dest (datagram_in packet udp) ≡ 65535)
   pub size : ℕ
-  pub carried : Carries (λ plain. SpellsPlain (datagram_payload packet udp) plain size) ecm.request ecm.reply
+  pub carried : Carries (λ plain. SpellsPlain (payload_in packet udp) plain size)
+      ecm.request ecm.reply
   pub end : 4 + udp.at + 8 + size + left ≡ length octets
 
 -- the IPv4 header of a control packet with so many octets behind it (this router's choice)
@@ -140,7 +137,15 @@ control_v4 source dest size = record {
 -- the IPv6 header of a control packet with so many octets behind it (this router's choice)
 abbrev pub control_v6 : ℕ → ℕ → ℕ → V6Header
 control_v6 source dest size =
-    record { source = source; dest = dest; class = 0; flow = 0; payload = size; next = 17; hops = 64 }
+    record {
+      source = source;
+      dest = dest;
+      class = 0;
+      flow = 0;
+      payload = size;
+      next = 17;
+      hops = 64;
+    }
 
 -- the IP header of a control packet between addresses of one family
 unfoldable pub control_header : Addr → Addr → ℕ → List ℕ
@@ -161,4 +166,5 @@ canonical_carried None None = []
 -- the one spelling of an Encapsulated Control Message
 abbrev pub canonical_ecm : Ecm → List ℕ
 canonical_ecm ecm =
-    128 ∷ 0 ∷ 0 ∷ 0 ∷ control_packet ecm.source ecm.dest ecm.source_port (canonical_carried ecm.request ecm.reply)
+    128 ∷ 0 ∷ 0 ∷ 0
+    ∷ control_packet ecm.source ecm.dest ecm.source_port (canonical_carried ecm.request ecm.reply)

@@ -3,10 +3,12 @@ use Rattle.std.specs.Prelude.{◌≡◌, ℕ, zero, suc, ◌+◌, Bool, List, []
 use Rattle.octets.specs.declared.refused.Refused.{Refused}
 
 -- the rules of so many items
-abbrev pub items_rules : (ℕ → List ℕ → List (Bool × Refused)) → (List ℕ → ℕ) → ℕ → ℕ → List ℕ → List (Bool × Refused)
+abbrev pub items_rules : (ℕ → List ℕ → List (Bool × Refused)) → (List ℕ → ℕ) → ℕ → ℕ → List ℕ
+    → List (Bool × Refused)
 items_rules rules size zero base octets = []
 items_rules rules size (suc count) base octets =
-    rules base octets ++ items_rules rules size count (base + size octets) (drop (size octets) octets)
+    rules base octets
+    ++ items_rules rules size count (base + size octets) (drop (size octets) octets)
 
 -- the octets of so many items
 abbrev pub items_size : (List ℕ → ℕ) → ℕ → List ℕ → ℕ
@@ -16,10 +18,12 @@ items_size size (suc count) octets = size octets + items_size size count (drop (
 -- each item is the one at its place
 abbrev pub EachAt : {T : Type 0} → (List ℕ → T → Type 0) → (List ℕ → ℕ) → List ℕ → List T → Type 0
 EachAt Is size octets [] = Unit {0}
-EachAt Is size octets (item ∷ items) = Is octets item × EachAt Is size (drop (size octets) octets) items
+EachAt Is size octets (item ∷ items) =
+    Is octets item × EachAt Is size (drop (size octets) octets) items
 
 -- so many items, each the one at its place
-pub record AreItems {T : Type 0} (Is : List ℕ → T → Type 0) (size : List ℕ → ℕ) (count : ℕ) (octets : List ℕ) (items : List T) : Type 0 where
+pub record AreItems {T : Type 0} (Is : List ℕ → T → Type 0) (size : List ℕ → ℕ)
+    (count : ℕ) (octets : List ℕ) (items : List T) : Type 0 where
   pub number : length items ≡ count
   pub each : EachAt Is size octets items
 
@@ -27,4 +31,5 @@ pub record AreItems {T : Type 0} (Is : List ℕ → T → Type 0) (size : List �
 abbrev pub SpellItems : {T : Type 0} → (List ℕ → T → ℕ → Type 0) → List ℕ → List T → ℕ → Type 0
 SpellItems Spells octets [] whole = whole ≡ 0
 SpellItems Spells octets (item ∷ items) whole =
-    (size : ℕ) × (others : ℕ) × Spells octets item size × SpellItems Spells (drop size octets) items others × (whole ≡ size + others)
+    (size : ℕ) × (others : ℕ) × Spells octets item size
+    × SpellItems Spells (drop size octets) items others × (whole ≡ size + others)

@@ -29,8 +29,10 @@ IsMessageAt octets (Control ecm) = IsEcmAt octets ecm
 
 -- the octets spell this message, with so many left over
 abbrev pub SpellsMessage : List ℕ → Message → ℕ → Type 0
-SpellsMessage octets (Request request) left = (left ≤ length octets) × SpellsRequest octets request (length octets - left)
-SpellsMessage octets (Reply reply) left = (left ≤ length octets) × SpellsReply octets reply (length octets - left)
+SpellsMessage octets (Request request) left =
+    (left ≤ length octets) × SpellsRequest octets request (length octets - left)
+SpellsMessage octets (Reply reply) left =
+    (left ≤ length octets) × SpellsReply octets reply (length octets - left)
 SpellsMessage octets (Control ecm) left = SpellsEcm octets ecm left
 
 -- the one spelling of a message

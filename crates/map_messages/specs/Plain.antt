@@ -9,7 +9,7 @@ use Rattle.map_messages.specs.Reply.{canonical_reply, reply_rules, reply_size, I
 use Rattle.map_messages.specs.declared.plain.Plain.{Plain}
 use Rattle.map_messages.specs.declared.plain.Plain.TheVariants.{Request, Reply}
 
--- the rules up to the nonce: a Map-Request, or a Map-Reply without S, which would add authentication
+-- the rules up to the nonce: a Map-Request, or a Map-Reply without S, by which it is authenticated
 abbrev pub front_rules : ℕ → List ℕ → List (Bool × Refused)
 front_rules base octets =
     (nat_le 4 (length octets), refused base Short)
@@ -21,7 +21,8 @@ front_rules base octets =
 -- the rules of a Map-Request or a Map-Reply
 abbrev pub plain_rules : ℕ → List ℕ → List (Bool × Refused)
 plain_rules base octets =
-    front_rules base octets ++ (if is_request octets then request_rules base octets else reply_rules base octets)
+    front_rules base octets
+    ++ (if is_request octets then request_rules base octets else reply_rules base octets)
 
 -- its octets
 abbrev pub plain_size : List ℕ → ℕ

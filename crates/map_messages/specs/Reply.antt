@@ -1,8 +1,7 @@
 -- Map-Replies, RFC 9301 section 5.4.
 use Rattle.std.specs.Prelude.{◌≡◌, ℕ, ◌+◌, ◌≤◌, Bool, false, List, ◌∷◌, ◌++◌, length, drop, slice_index, flat_map}
-use Rattle.octets.specs.Numbers.{big, big_octets}
+use Rattle.octets.specs.Numbers.{big, big_octets, flag}
 use Rattle.octets.specs.declared.refused.Refused.{Refused}
-use Rattle.mapping_records.specs.Locator.{flag}
 use Rattle.mapping_records.specs.Record.{canonical_record, record_rules, record_size, IsRecordAt, SpellsRecord}
 use Rattle.map_messages.specs.Items.{items_rules, items_size, AreItems, SpellItems}
 use Rattle.map_messages.specs.Words.{bit, kind, nonce_at}
@@ -14,7 +13,8 @@ mapping_count octets = slice_index octets 3
 
 -- the rules of what follows the nonce
 abbrev pub reply_rules : ℕ → List ℕ → List (Bool × Refused)
-reply_rules base octets = items_rules record_rules record_size (mapping_count octets) (base + 12) (drop 12 octets)
+reply_rules base octets =
+    items_rules record_rules record_size (mapping_count octets) (base + 12) (drop 12 octets)
 
 -- the octets of a Map-Reply
 abbrev pub reply_size : List ℕ → ℕ
@@ -25,9 +25,10 @@ pub record IsReplyAt (octets : List ℕ) (reply : MapReply) : Type 0 where
   pub message_type : kind octets ≡ 2
   pub probe : reply.probe ≡ bit 8 (slice_index octets 0)
   pub nonce : reply.nonce ≡ nonce_at octets
-  pub mappings : AreItems IsRecordAt record_size (mapping_count octets) (drop 12 octets) reply.mappings
+  pub mappings : AreItems IsRecordAt record_size (mapping_count octets) (drop 12 octets)
+      reply.mappings
 
--- the octets begin with this Map-Reply of so many octets. S is clear; E and the reserved bits are free.
+-- the octets begin with this Map-Reply of so many octets; S is clear, E and reserved bits are free
 pub record SpellsReply (octets : List ℕ) (reply : MapReply) (size : ℕ) : Type 0 where
   pub head : 12 ≤ length octets
   pub message_type : kind octets ≡ 2
@@ -41,7 +42,8 @@ pub record SpellsReply (octets : List ℕ) (reply : MapReply) (size : ℕ) : Typ
 
 -- the twelve octets up to the nonce
 abbrev pub reply_head : MapReply → List ℕ
-reply_head reply = (32 + flag reply.probe 8) ∷ 0 ∷ 0 ∷ length reply.mappings ∷ big_octets 8 reply.nonce
+reply_head reply =
+    (32 + flag reply.probe 8) ∷ 0 ∷ 0 ∷ length reply.mappings ∷ big_octets 8 reply.nonce
 
 -- the one spelling of a Map-Reply, with all that is ignored 0
 abbrev pub canonical_reply : MapReply → List ℕ

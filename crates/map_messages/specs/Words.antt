@@ -6,12 +6,15 @@ use Rattle.octets.specs.Numbers.{big}
 abbrev pub kind : List ℕ → ℕ
 kind octets = slice_index octets 0 / 16
 
+-- it is a Map-Request
 abbrev pub is_request : List ℕ → Bool
 is_request octets = kind octets == 1
 
+-- it is a Map-Reply
 abbrev pub is_reply : List ℕ → Bool
 is_reply octets = kind octets == 2
 
+-- it is an Encapsulated Control Message
 abbrev pub is_ecm : List ℕ → Bool
 is_ecm octets = kind octets == 8
 

@@ -1,26 +1,28 @@
 //! The LISP control messages (RFC 9301, section 5): read by rules in order, and written exactly.
 #![tactic(auto)]
 
-mod addr_reading;
-mod eid_record_reading;
+mod asked_eid;
+mod ecm_reading;
+mod ecm_writing;
+mod items;
 mod laws;
 mod message;
 mod message_reading;
 mod message_writing;
-mod packet_reading;
-mod packet_writing;
 mod places;
 mod plain;
 mod plain_reading;
-mod record_reading;
+mod records;
+mod reply_addr;
 mod reply_writing;
 mod request_reading;
 mod request_writing;
-#[cfg(test)]
-mod tests;
 
 pub use laws::{canonical_message_spells, one_message_is_spelled, written_message_is_read_again};
 pub use mapping_records::{Addr, Eid, NoMemory, Octets, Prefix, Record, Refused};
-pub use message::{Addrs, Ecm, Eids, MapReply, MapRequest, Message, MessageFault, Records};
+pub use message::{
+    Addrs, Ecm, Eids, LISP_CONTROL_PORT, MOST_MESSAGE_OCTETS, MapReply, MapRequest, Message,
+    MessageFault, Records,
+};
 pub use message_reading::read_message;
 pub use message_writing::write_message;

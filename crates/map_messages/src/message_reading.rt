@@ -6,7 +6,7 @@ ghost use Rattle.map_messages.specs.Message.{message_rules, message_size, IsMess
 ghost use Rattle.map_messages.specs.Range.{InRange};
 ghost use Rattle.map_messages.specs.Words.{is_ecm};
 
-use crate::packet_reading::read_ecm;
+use crate::ecm_reading::read_ecm;
 use crate::places::kind;
 use crate::plain::Plain;
 use crate::plain_reading::read_plain;

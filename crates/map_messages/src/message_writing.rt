@@ -2,8 +2,9 @@
 ghost use Rattle.std.specs.Prelude.{◌≡◌, ◌≤◌, ◌++◌, length, OnOk, OnErr};
 ghost use Rattle.map_messages.specs.Message.{canonical_message};
 ghost use Rattle.map_messages.specs.Range.{InRange};
+ghost use Rattle.map_messages.specs.declared.message.TheConstants.{MOST_MESSAGE_OCTETS};
 
-use crate::packet_writing::write_ecm;
+use crate::ecm_writing::write_ecm;
 use crate::reply_writing::write_reply;
 use crate::request_writing::write_request;
 use crate::{Message, NoMemory, Octets};
@@ -13,7 +14,7 @@ use std::alloc::Global;
 /// TTL 64, no DSCP and ECN, and its checksums. Without memory `out` stays as it was.
 pub fn write_message(alloc: Global, message: &Message, out: &mut Octets) -> Result<(), NoMemory>
     requires range { InRange message.now }
-    requires short { length (canonical_message message.now) ≤ 65000 }
+    requires short { length (canonical_message message.now) ≤ MOST_MESSAGE_OCTETS }
     ensures ok { OnOk result (out.new ≡ out.old ++ canonical_message message.now) }
     ensures err { OnErr result (out.new ≡ out.old) }
 {
@@ -24,7 +25,7 @@ pub fn write_message(alloc: Global, message: &Message, out: &mut Octets) -> Resu
 
 fn write_parts(alloc: Global, message: &Message, out: &mut Octets) -> Result<(), NoMemory>
     requires range { InRange message.now }
-    requires short { length (canonical_message message.now) ≤ 65000 }
+    requires short { length (canonical_message message.now) ≤ MOST_MESSAGE_OCTETS }
     ensures { OnOk result (out.new ≡ out.old ++ canonical_message message.now) }
 {
     match message {

@@ -1,20 +1,8 @@
-// Refusals, and what stands at fixed places.
+// What stands at fixed places.
 ghost use Rattle.std.specs.Prelude.{◌≡◌, ◌≤◌, length};
-ghost use Rattle.octets.specs.declared.refused.Layer.TheVariants.{Message};
 ghost use Rattle.map_messages.specs.Words.{bit, kind, nonce_at};
 
 use byteorder::{BigEndian, ByteOrder};
-use octets::{Layer, Refused, Why};
-
-pub(crate) fn refused(place: u32, why: Why) -> Refused
-    ensures { result ≡ record { layer = Message; place = place; why = why } }
-{
-    Refused {
-        layer: Layer::Message,
-        place,
-        why,
-    }
-}
 
 /// The type of a message.
 pub(crate) fn kind(octets: &[u8]) -> u8

@@ -7,11 +7,12 @@ ghost use Rattle.map_messages.specs.Range.{InRangePlain, InRangeReply};
 ghost use Rattle.map_messages.specs.Reply.{reply_rules, reply_size, IsReplyAt};
 ghost use Rattle.map_messages.specs.Words.{kind};
 
-use crate::places::{bit, kind, nonce_at, refused};
+use crate::items::read_items;
+use crate::places::{bit, kind, nonce_at};
 use crate::plain::Plain;
-use crate::record_reading::read_records;
 use crate::request_reading::read_request;
 use crate::{MapReply, MessageFault};
+use mapping_records::refused;
 use octets::{Refused, Why};
 use std::alloc::Global;
 
@@ -70,12 +71,11 @@ fn read_reply(alloc: Global, octets: &[u8], base: u32) -> Result<(MapReply, u32)
     ensures size { IfOk result (λ read. read.1 ≡ reply_size octets.now) }
     ensures inside { IfOk result (λ read. read.1 ≤ length octets.now) }
 {
-    let (_, rest) = octets.split_at(12);
-    let (mappings, size) = read_records(alloc, octets[3], rest, base + 12)?;
+    let (mappings, end) = read_items(alloc, octets[3], octets, 12, base)?;
     let reply = MapReply {
         probe: bit(8, octets[0]),
         nonce: nonce_at(octets),
         mappings,
     };
-    Ok((reply, 12 + size))
+    Ok((reply, end))
 }

@@ -1,11 +1,10 @@
 // Writing of Map-Replies.
-ghost use Rattle.std.specs.Prelude.{◌≡◌, ◌++◌, OnOk, All, flat_map};
-ghost use Rattle.mapping_records.specs.Record.{canonical_record, InRange};
+ghost use Rattle.std.specs.Prelude.{◌≡◌, ◌++◌, OnOk};
 ghost use Rattle.map_messages.specs.Range.{InRangeReply};
 ghost use Rattle.map_messages.specs.Reply.{canonical_reply, reply_head};
 
-use crate::{MapReply, NoMemory, Octets, Record};
-use mapping_records::write_record;
+use crate::items::write_items;
+use crate::{MapReply, NoMemory, Octets};
 use std::alloc::Global;
 
 /// Appends a Map-Reply. Without memory a part of it stays.
@@ -14,7 +13,7 @@ pub(crate) fn write_reply(alloc: Global, reply: &MapReply, out: &mut Octets) -> 
     ensures { OnOk result (out.new ≡ out.old ++ canonical_reply reply.now) }
 {
     out.append(&head(reply))?;
-    write_records(alloc, reply.mappings.as_slice(), out)
+    write_items(alloc, reply.mappings.as_slice(), out)
 }
 
 // The twelve octets up to the nonce.
@@ -26,14 +25,4 @@ fn head(reply: &MapReply) -> [u8; 12]
     let count = reply.mappings.len() as u8;
     let [a, b, c, d, e, f, g, h] = reply.nonce.to_be_bytes();
     [first, 0, 0, count, a, b, c, d, e, f, g, h]
-}
-
-fn write_records(alloc: Global, mappings: &[Record], out: &mut Octets) -> Result<(), NoMemory>
-    requires { All InRange mappings.now }
-    ensures { OnOk result (out.new ≡ out.old ++ flat_map canonical_record mappings.now) }
-{
-    for mapping in mappings {
-        write_record(alloc, mapping, out)?;
-    }
-    Ok(())
 }

@@ -2,17 +2,15 @@
 ghost use Rattle.std.specs.Prelude.{◌≡◌, ◌≤◌, ◌<◌, ◌+◌, ◌^◌, length, drop, IfOk, IfSome};
 ghost use Rattle.octets.specs.Refusals.{refusal_of};
 ghost use Rattle.octets.specs.Rules.{first_failing};
-ghost use Rattle.mapping_records.specs.Eid.{eid_rules, eid_size};
 ghost use Rattle.mapping_records.specs.Record.{RefusesBy};
 ghost use Rattle.map_messages.specs.Range.{InRangeRequest};
-ghost use Rattle.map_messages.specs.Request.{request_rules, request_size, source_at, IsRequestAt};
+ghost use Rattle.map_messages.specs.Request.{addrs_place, addrs_rules, eids_place, eids_rules, record_place, request_rules, request_size, source_at, source_rules, AreAskedEids, AreReplyAddrs, IsRequestAt};
 ghost use Rattle.map_messages.specs.Words.{kind};
 
-use crate::addr_reading::read_addrs;
-use crate::eid_record_reading::read_eids;
+use crate::items::read_items;
 use crate::places::{bit, nonce_at};
-use crate::record_reading::read_piggyback;
-use crate::{Addr, MapRequest, MessageFault};
+use crate::records::read_piggyback;
+use crate::{Addr, Addrs, Eids, MapRequest, MessageFault};
 use mapping_records::read_eid;
 use octets::Refused;
 use std::alloc::Global;
@@ -32,17 +30,10 @@ pub(crate) fn read_request(
     ensures size { IfOk result (λ read. read.1 ≡ request_size octets.now) }
     ensures inside { IfOk result (λ read. read.1 ≤ length octets.now) }
 {
-    let (_, rest) = octets.split_at(12);
-    let (source, size) = read_source(rest, base + 12)?;
-    let addrs_at = 12 + size;
-    let (_, rest) = octets.split_at(addrs_at as usize);
-    let (replies_to, size) = read_addrs(alloc, octets[2] % 32 + 1, rest, base + addrs_at)?;
-    let eids_at = addrs_at + size;
-    let (_, rest) = octets.split_at(eids_at as usize);
-    let (eids, size) = read_eids(alloc, octets[3], rest, base + eids_at)?;
-    let record_at = eids_at + size;
-    let (_, rest) = octets.split_at(record_at as usize);
-    let (piggyback, size) = read_piggyback(alloc, bit(4, octets[0]), rest, base + record_at)?;
+    let (source, addrs_at) = read_source(octets, base)?;
+    let (replies_to, eids_at) = read_replies_to(alloc, octets, addrs_at, base)?;
+    let (eids, record_at) = read_eids(alloc, octets, eids_at, base)?;
+    let (piggyback, end) = read_piggyback(alloc, octets, record_at, base)?;
     let request = MapRequest {
         probe: bit(2, octets[0]),
         smr: bit(1, octets[0]),
@@ -53,21 +44,59 @@ pub(crate) fn read_request(
         eids,
         piggyback,
     };
-    Ok((request, record_at + size))
+    Ok((request, end))
 }
 
-// The Source EID, and its octets.
+// The Source EID, and where it ends.
+#[tactic(auto, unfolding(crate::specs::Request::addrs_place))]
 fn read_source(octets: &[u8], base: u32) -> Result<(Option<(u32, Addr)>, u32), Refused>
-    requires { base + length octets.now < 2 ^ 32 }
-    ensures refused { refusal_of result ≡ first_failing (eid_rules base octets.now) }
-    ensures value { IfOk result (λ read. read.0 ≡ source_at octets.now) }
+    requires room { base + length octets.now < 2 ^ 32 }
+    requires head { 12 ≤ length octets.now }
+    ensures refused { refusal_of result ≡ first_failing (source_rules base octets.now) }
+    ensures value { IfOk result (λ read. read.0 ≡ source_at (drop 12 octets.now)) }
     ensures instance { IfOk result (λ read. IfSome read.0 (λ source. source.0 < 2 ^ 24)) }
-    ensures size { IfOk result (λ read. read.1 ≡ eid_size octets.now) }
+    ensures end { IfOk result (λ read. read.1 ≡ addrs_place octets.now) }
     ensures inside { IfOk result (λ read. read.1 ≤ length octets.now) }
 {
-    let (iid, host, size) = read_eid(octets, base)?;
+    let (_, rest) = octets.split_at(12);
+    let (iid, host, size) = read_eid(rest, base + 12)?;
     match host {
-        Some(addr) => Ok((Some((iid, addr)), size)),
-        None => Ok((None, size)),
+        Some(addr) => Ok((Some((iid, addr)), 12 + size)),
+        None => Ok((None, 12 + size)),
     }
+}
+
+// The ITR-RLOCs at their place, and where they end.
+#[tactic(auto, unfolding(crate::specs::Request::eids_place))]
+fn read_replies_to(
+    alloc: Global,
+    octets: &[u8],
+    at: u32,
+    base: u32,
+) -> Result<(Addrs, u32), MessageFault>
+    requires room { base + length octets.now < 2 ^ 32 }
+    requires head { 12 ≤ length octets.now }
+    requires place { at ≡ addrs_place octets.now }
+    requires inside { at ≤ length octets.now }
+    ensures refused { RefusesBy (first_failing (addrs_rules base octets.now)) result }
+    ensures value { IfOk result (λ read. AreReplyAddrs octets.now read.0) }
+    ensures end { IfOk result (λ read. read.1 ≡ eids_place octets.now) }
+    ensures inside { IfOk result (λ read. read.1 ≤ length octets.now) }
+{
+    read_items(alloc, octets[2] % 32 + 1, octets, at, base)
+}
+
+// The EID records at their place, and where they end.
+#[tactic(auto, unfolding(crate::specs::Request::record_place))]
+fn read_eids(alloc: Global, octets: &[u8], at: u32, base: u32) -> Result<(Eids, u32), MessageFault>
+    requires room { base + length octets.now < 2 ^ 32 }
+    requires head { 12 ≤ length octets.now }
+    requires place { at ≡ eids_place octets.now }
+    requires inside { at ≤ length octets.now }
+    ensures refused { RefusesBy (first_failing (eids_rules base octets.now)) result }
+    ensures value { IfOk result (λ read. AreAskedEids octets.now read.0) }
+    ensures end { IfOk result (λ read. read.1 ≡ record_place octets.now) }
+    ensures inside { IfOk result (λ read. read.1 ≤ length octets.now) }
+{
+    read_items(alloc, octets[3], octets, at, base)
 }

@@ -6,7 +6,8 @@ use Rattle.octets.specs.Numbers.{big, big_octets}
 use Rattle.octets.specs.Rules.{first_failing}
 use Rattle.ip_headers.specs.declared.addr.Addr.{Addr}
 use Rattle.ip_headers.specs.declared.addr.Addr.TheVariants.{V4, V6}
-use Rattle.mapping_records.specs.Address.{addr_at, addr_size, has_addr, canonical_addr, octets_of, IsAddr, SpellsAddr}
+use Rattle.ip_headers.specs.Addr.{IsAddr}
+use Rattle.mapping_records.specs.Address.{addr_at, addr_size, has_addr, canonical_addr, octets_of, SpellsAddr}
 use Rattle.mapping_records.specs.Eid.{canonical_eid, canonical_lcaf, eid_at, eid_rules, InRangeEid, SpellsEid, SpellsLcaf, SpellsNone, SpellsPlain}
 
 -- octets that obey the rules, with their value

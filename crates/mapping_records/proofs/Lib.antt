@@ -2,6 +2,8 @@ pub mod EidLemmas
 pub mod LocatorLemmas
 pub mod RecordLemmas
 pub mod SpelledRecord
-pub mod SameValue
+pub mod EqualValue
+pub mod EidPrefixLemmas
 pub mod WholeRecord
 pub mod WrittenRecord
+pub mod LongestLemmas

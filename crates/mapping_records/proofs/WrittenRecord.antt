@@ -1,21 +1,20 @@
 -- Records that were written spell what was written.
-use Rattle.std.proofs.Common.{◌≡◌, ◌≤◌, ◌^◌, ℕ, ◌+◌, ◌-◌, ◌*◌, ◌/◌, ◌%◌, Bool, true, false, IsTrue, List, [], ◌∷◌, ◌++◌, length, drop, eqb, leb, Some, refl, sym, ap, subst, ◌∙◌, append_assoc, arith}
-use Rattle.std.proofs.lemmas.Bool.{and_parts, eqb-true, leb-true}
+use Rattle.std.proofs.Common.{◌≡◌, ◌≤◌, ℕ, ◌+◌, ◌*◌, ◌/◌, ◌%◌, Bool, true, false, List, [], ◌∷◌, ◌++◌, length, drop, eqb, Some, refl, sym, ap, subst, ◌∙◌, append_assoc, arith}
 use Rattle.std.proofs.lemmas.List.{drop-drop, drop_at, length-append}
 use Rattle.std.proofs.lemmas.List.Concat.{flat_map-cons}
-use Rattle.std.proofs.Math.Nat.{div-add-mod'}
-use Rattle.octets.specs.Numbers.{big_octets}
-use Rattle.ip_headers.specs.Addr.{cleared, is_prefix}
+use Rattle.octets.specs.Numbers.{big_octets, flag}
+use Rattle.ip_headers.specs.Addr.{IsAddr}
 use Rattle.ip_headers.specs.Udp.{addr_octets}
 use Rattle.ip_headers.specs.declared.addr.Addr.{Addr}
 use Rattle.ip_headers.specs.declared.addr.Addr.TheVariants.{V4, V6}
-use Rattle.mapping_records.specs.Address.{afi_of, octets_of, IsAddr, SpellsAddr}
-use Rattle.mapping_records.specs.Eid.{canonical_eid, SpellsEid}
-use Rattle.mapping_records.specs.Locator.{canonical_locator, canonical_locators, flag, octets_of_locators, AreLocators, InRangeLocator, SpellsLocator, SpellsLocators}
-use Rattle.mapping_records.specs.Record.{canonical_head, canonical_record, IsLawful, IsRecordAt, SpellsRecord}
+use Rattle.mapping_records.specs.Address.{afi_of, octets_of, SpellsAddr}
+use Rattle.mapping_records.specs.Eid.{canonical_eid}
+use Rattle.mapping_records.specs.Locator.{canonical_locator, canonical_locators, octets_of_locators, AreLocators, InRangeLocator, SpellsLocator, SpellsLocators}
+use Rattle.mapping_records.specs.Record.{canonical_head, canonical_record, IsLawful, IsRecordAt, SpellsEidPrefix, SpellsRecord}
 use Rattle.mapping_records.specs.declared.record.Locator.{Locator}
 use Rattle.mapping_records.specs.declared.record.Record.{Record}
-use Rattle.mapping_records.proofs.EidLemmas.{back, canonical_spells}
+use Rattle.mapping_records.proofs.EidLemmas.{back}
+use Rattle.mapping_records.proofs.EidPrefixLemmas.{prefix_spells}
 use Rattle.mapping_records.proofs.WholeRecord.{same_at, spelled_record, ReadRecord}
 
 -- the three flags out of their octet
@@ -74,23 +73,13 @@ locators_spell (locator ∷ locators) rest range =
     subst (λ (d : List ℕ). SpellsLocators d locators) (sym moved) (locators_spell locators rest range.1) in
     subst (λ (d : List ℕ). SpellsLocators d (locator ∷ locators)) (sym split) (locator_spells locator others range.0, rest_spells)
 
-length-locators : (locators : List Locator) → length (canonical_locators locators) ≡ octets_of_locators locators
+-- the octets of locators
+pub length-locators : (locators : List Locator) → length (canonical_locators locators) ≡ octets_of_locators locators
 length-locators [] = refl
 length-locators (locator ∷ locators) =
     ap (λ (t : List ℕ). length t) (flat_map-cons canonical_locator locator locators)
     ∙ length-append (canonical_locator locator) (canonical_locators locators)
     ∙ omega (arith, length-locator locator, length-locators locators)
-
--- bits past the length are 0 already
-cleared-lawful : (addr : Addr) (len : ℕ) → IsTrue (is_prefix addr len) → cleared addr len ≡ addr
-cleared-lawful (V4 n) len lawful =
-    let rest : n % 2 ^ (32 - len) ≡ 0 = eqb-true (n % 2 ^ (32 - len)) 0 (and_parts (leb len 32) (eqb (n % 2 ^ (32 - len)) 0) lawful).1 in
-    let split = div-add-mod' n (2 ^ (32 - len)) in
-    ap V4 (omega (arith, rest, split))
-cleared-lawful (V6 n) len lawful =
-    let rest : n % 2 ^ (128 - len) ≡ 0 = eqb-true (n % 2 ^ (128 - len)) 0 (and_parts (leb len 128) (eqb (n % 2 ^ (128 - len)) 0) lawful).1 in
-    let split = div-add-mod' n (2 ^ (128 - len)) in
-    ap V6 (omega (arith, rest, split))
 
 -- the action and the flag behind it in one octet
 action_of : (action : ℕ) (authoritative : Bool) → action ≤ 7 → (action * 32 + flag authoritative 16) / 32 ≡ action
@@ -107,8 +96,7 @@ version_of version small = omega arith
 -- what is written is spelled
 pub record_spells : (mapping : Record) (rest : List ℕ) → IsLawful mapping → SpellsRecord (canonical_record mapping ++ rest) mapping (length (canonical_record mapping))
 record_spells mapping rest lawful =
-    let host = mapping.eid.prefix.addr in
-    let eid : List ℕ = canonical_eid mapping.eid.iid (Some host) in
+    let eid : List ℕ = canonical_eid mapping.eid.iid (Some mapping.eid.prefix.addr) in
     let locators : List ℕ = canonical_locators mapping.locators in
     let behind : List ℕ = (eid ++ locators) ++ rest in
     let split : behind ≡ eid ++ (locators ++ rest) = append_assoc eid locators rest in
@@ -120,16 +108,11 @@ record_spells mapping rest lawful =
       head = omega arith;
       ttl = back 4 mapping.ttl [] lawful.ttl;
       count = refl;
-      mask = refl;
       action = action_of mapping.action mapping.authoritative lawful.range.action;
       authoritative = authoritative_of mapping.action mapping.authoritative;
       version = version_of mapping.version lawful.range.version;
-      host = host;
       eid_octets = length eid;
-      eid = subst (λ (d : List ℕ). SpellsEid d (mapping.eid.iid, Some host, length eid)) (sym split)
-          (canonical_spells mapping.eid.iid (Some host) (locators ++ rest) (mapping.eid.in_range, lawful.addr));
-      fits = leb-true _ _ (and_parts _ _ mapping.eid.prefix.lawful).0;
-      cleared_host = sym (cleared-lawful host mapping.eid.prefix.len mapping.eid.prefix.lawful);
+      eid = subst (λ (d : List ℕ). SpellsEidPrefix d mapping.eid.prefix.len mapping.eid (length eid)) (sym split) (prefix_spells mapping.eid (locators ++ rest) lawful.addr);
       locators = subst (λ (d : List ℕ). SpellsLocators d mapping.locators) (sym moved) (locators_spell mapping.locators rest lawful.each);
       end = omega (arith, size, length-append eid locators, length-locators mapping.locators);
     }

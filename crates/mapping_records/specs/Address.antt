@@ -1,5 +1,5 @@
 -- Addresses behind their AFI in the control messages, RFC 9301 section 5. AFI 1 is IPv4, 2 is IPv6.
-use Rattle.std.specs.Prelude.{◌≡◌, ℕ, ◌+◌, ◌<◌, ◌^◌, ◌==◌, ◌||◌, Bool, List, ◌++◌, if◌then◌else◌}
+use Rattle.std.specs.Prelude.{◌≡◌, ℕ, ◌+◌, ◌==◌, ◌||◌, Bool, List, ◌++◌, if◌then◌else◌}
 use Rattle.octets.specs.Numbers.{big, big_octets}
 use Rattle.octets.specs.declared.refused.Refused.{Refused}
 use Rattle.octets.specs.declared.refused.Layer.TheVariants.{Message}
@@ -42,8 +42,3 @@ octets_of (V6 n) = 16
 abbrev pub SpellsAddr : List ℕ → ℕ → Addr → Type 0
 SpellsAddr octets at (V4 n) = (big 2 octets at ≡ 1) × (big 4 octets (at + 2) ≡ n)
 SpellsAddr octets at (V6 n) = (big 2 octets at ≡ 2) × (big 16 octets (at + 2) ≡ n)
-
--- the number of the address fits its family
-abbrev pub IsAddr : Addr → Type 0
-IsAddr (V4 n) = n < 2 ^ 32
-IsAddr (V6 n) = n < 2 ^ 128

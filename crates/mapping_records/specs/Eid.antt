@@ -1,10 +1,11 @@
--- EIDs from their AFI on, RFC 9301 section 5; with an instance as LCAF type 2, RFC 8060 section 4.1.
+-- EIDs from their AFI on, RFC 9301 section 5; with an instance as LCAF, RFC 8060 section 4.1.
 use Rattle.std.specs.Prelude.{◌≡◌, ◌⊎◌, ℕ, ◌+◌, ◌^◌, ◌<◌, ◌≤◌, ◌==◌, ◌||◌, nat_le, nat_lt, Bool, List, [], ◌∷◌, ◌++◌, length, slice_index, if◌then◌else◌, Option, Some, None}
 use Rattle.octets.specs.Numbers.{big, big_octets}
 use Rattle.octets.specs.declared.refused.Refused.{Refused}
 use Rattle.octets.specs.declared.refused.Why.TheVariants.{Short, Afi, LcafType, LcafLength, InstanceTooLarge}
 use Rattle.ip_headers.specs.declared.addr.Addr.{Addr}
-use Rattle.mapping_records.specs.Address.{refused, has_addr, addr_size, addr_at, canonical_addr, octets_of, IsAddr, SpellsAddr}
+use Rattle.ip_headers.specs.Addr.{IsAddr}
+use Rattle.mapping_records.specs.Address.{refused, has_addr, addr_size, addr_at, canonical_addr, octets_of, SpellsAddr}
 
 -- the AFI at the front
 abbrev pub afi : List ℕ → ℕ
@@ -22,10 +23,14 @@ is_lcaf octets = afi octets == 16387
 abbrev pub inner_afi : List ℕ → ℕ
 inner_afi octets = big 2 octets 12
 
+-- the octets of an AFI and its address
+abbrev pub plain_size : List ℕ → ℕ
+plain_size octets = 2 + addr_size (afi octets)
+
 -- the address is there
 abbrev pub plain_rules : ℕ → List ℕ → List (Bool × Refused)
 plain_rules base octets =
-    (is_none octets || nat_le (2 + addr_size (afi octets)) (length octets), refused (base + 2) Short) ∷ []
+    (is_none octets || nat_le (plain_size octets) (length octets), refused (base + 2) Short) ∷ []
 
 -- an LCAF is of type 2, has the length of its address, and an instance of 24 bits
 abbrev pub lcaf_rules : ℕ → List ℕ → List (Bool × Refused)
@@ -52,18 +57,20 @@ instance_at octets = if is_lcaf octets then big 4 octets 8 else 0
 
 -- the address, if an EID is there
 abbrev pub eid_addr : List ℕ → Addr
-eid_addr octets = if is_lcaf octets then addr_at (inner_afi octets) octets 14 else addr_at (afi octets) octets 2
+eid_addr octets =
+    if is_lcaf octets then addr_at (inner_afi octets) octets 14 else addr_at (afi octets) octets 2
 
 -- the octets of the EID
 abbrev pub eid_size : List ℕ → ℕ
 eid_size octets =
     if is_lcaf octets then 14 + addr_size (inner_afi octets)
     else if is_none octets then 2
-    else 2 + addr_size (afi octets)
+    else plain_size octets
 
 -- the instance, the address if there is one, and the octets of the EID at the front
 abbrev pub eid_at : List ℕ → ℕ × Option Addr × ℕ
-eid_at octets = (instance_at octets, (if is_none octets then None else Some (eid_addr octets)), eid_size octets)
+eid_at octets =
+    (instance_at octets, (if is_none octets then None else Some (eid_addr octets)), eid_size octets)
 
 -- an instance and an address that an EID can have; without an address the instance is 0
 abbrev pub InRangeEid : ℕ → Option Addr → Type 0
@@ -98,13 +105,15 @@ pub record SpellsLcaf (octets : List ℕ) (iid : ℕ) (host : Addr) (size : ℕ)
 -- the octets begin with this EID of so many octets: an instance, an address if there is one, a size
 abbrev pub SpellsEid : List ℕ → ℕ × Option Addr × ℕ → Type 0
 SpellsEid octets (iid, None, size) = SpellsNone octets iid size
-SpellsEid octets (iid, Some host, size) = SpellsPlain octets iid host size ⊎ SpellsLcaf octets iid host size
+SpellsEid octets (iid, Some host, size) =
+    SpellsPlain octets iid host size ⊎ SpellsLcaf octets iid host size
 
 -- the octets of an LCAF with that instance
 abbrev pub canonical_lcaf : ℕ → Addr → List ℕ
 canonical_lcaf iid host =
     big_octets 2 16387
-    ++ (0 ∷ 0 ∷ 2 ∷ 0 ∷ (big_octets 2 (6 + octets_of host) ++ (big_octets 4 iid ++ canonical_addr host)))
+    ++ (0 ∷ 0 ∷ 2 ∷ 0
+    ∷ (big_octets 2 (6 + octets_of host) ++ (big_octets 4 iid ++ canonical_addr host)))
 
 -- the one spelling: an LCAF exactly where the instance isn't 0, and what is ignored 0
 abbrev pub canonical_eid : ℕ → Option Addr → List ℕ

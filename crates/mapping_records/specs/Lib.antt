@@ -1,4 +1,6 @@
+pub mod Action
 pub mod Address
 pub mod Eid
+pub mod Eids
 pub mod Locator
 pub mod Record

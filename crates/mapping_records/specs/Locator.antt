@@ -1,11 +1,12 @@
 -- Locators of mapping records, RFC 9301 section 5.4.
-use Rattle.std.specs.Prelude.{◌≡◌, ℕ, zero, suc, ◌+◌, ◌/◌, ◌%◌, ◌<◌, ◌^◌, ◌≤◌, ◌==◌, nat_le, Bool, List, [], ◌∷◌, ◌++◌, length, drop, slice_index, if◌then◌else◌}
+use Rattle.std.specs.Prelude.{◌≡◌, ℕ, zero, suc, ◌+◌, ◌/◌, ◌%◌, ◌<◌, ◌^◌, ◌≤◌, ◌==◌, nat_le, Bool, List, [], ◌∷◌, ◌++◌, length, drop, slice_index}
 use Rattle.std.specs.List.{flat_map}
-use Rattle.octets.specs.Numbers.{big, big_octets}
+use Rattle.octets.specs.Numbers.{big, big_octets, flag}
 use Rattle.octets.specs.declared.refused.Refused.{Refused}
 use Rattle.octets.specs.declared.refused.Why.TheVariants.{Short, Afi}
 use Rattle.ip_headers.specs.Udp.{addr_octets}
-use Rattle.mapping_records.specs.Address.{refused, has_addr, addr_size, addr_at, afi_of, octets_of, IsAddr, SpellsAddr}
+use Rattle.ip_headers.specs.Addr.{IsAddr}
+use Rattle.mapping_records.specs.Address.{refused, has_addr, addr_size, addr_at, afi_of, octets_of, SpellsAddr}
 use Rattle.mapping_records.specs.declared.record.Locator.{Locator}
 
 -- the octets of the locator at the front, by its AFI
@@ -41,27 +42,27 @@ locator_at octets = record {
 abbrev pub locators_rules : ℕ → ℕ → List ℕ → List (Bool × Refused)
 locators_rules zero base octets = []
 locators_rules (suc count) base octets =
-    locator_rules base octets ++ locators_rules count (base + locator_size octets) (drop (locator_size octets) octets)
+    locator_rules base octets
+    ++ locators_rules count (base + locator_size octets) (drop (locator_size octets) octets)
 
 -- so many locators
 abbrev pub locators_at : ℕ → List ℕ → List Locator
 locators_at zero octets = []
-locators_at (suc count) octets = locator_at octets ∷ locators_at count (drop (locator_size octets) octets)
+locators_at (suc count) octets =
+    locator_at octets ∷ locators_at count (drop (locator_size octets) octets)
 
 -- the octets of so many locators
 abbrev pub locators_size : ℕ → List ℕ → ℕ
 locators_size zero octets = 0
-locators_size (suc count) octets = locator_size octets + locators_size count (drop (locator_size octets) octets)
-
--- the weight of a flag where it is set
-abbrev pub flag : Bool → ℕ → ℕ
-flag set weight = if set then weight else 0
+locators_size (suc count) octets =
+    locator_size octets + locators_size count (drop (locator_size octets) octets)
 
 -- the octets of a locator up to its address
 abbrev pub locator_head : Locator → ℕ → List ℕ
 locator_head locator afi =
     locator.priority ∷ locator.weight ∷ locator.m_priority ∷ locator.m_weight
-    ∷ 0 ∷ (flag locator.local 4 + flag locator.probed 2 + flag locator.reachable 1) ∷ big_octets 2 afi
+    ∷ 0 ∷ (flag locator.local 4 + flag locator.probed 2 + flag locator.reachable 1)
+    ∷ big_octets 2 afi
 
 -- the one spelling of a locator, its unused bits 0
 abbrev pub canonical_locator : Locator → List ℕ
@@ -92,7 +93,8 @@ pub record SpellsLocator (octets : List ℕ) (locator : Locator) : Type 0 where
 abbrev pub SpellsLocators : List ℕ → List Locator → Type 0
 SpellsLocators octets [] = Unit {0}
 SpellsLocators octets (locator ∷ locators) =
-    SpellsLocator octets locator × SpellsLocators (drop (8 + octets_of locator.addr) octets) locators
+    SpellsLocator octets locator
+    × SpellsLocators (drop (8 + octets_of locator.addr) octets) locators
 
 -- the numbers of a locator fit
 pub record InRangeLocator (locator : Locator) : Type 0 where

@@ -1,6 +1,5 @@
 // The identifiers of endpoints.
-ghost use Rattle.std.specs.Prelude.{◌≡◌, ◌<◌, ◌^◌, ◌==◌, ◌&&◌};
-ghost use Rattle.ip_headers.specs.Addr.{covers};
+ghost use Rattle.std.specs.Prelude.{◌<◌, ◌^◌};
 
 use ip_headers::Prefix;
 
@@ -11,15 +10,4 @@ pub struct Eid {
     pub iid: u32,
     pub prefix: Prefix,
     ghost in_range: { iid < 2 ^ 24 },
-}
-
-impl Eid {
-    /// Same instance, and the prefix of `self` covers that of `other`. Each EID covers itself.
-    pub fn covers(&self, other: &Eid) -> bool
-        ensures { result
-            ≡ ((self.now.iid == other.now.iid)
-            && covers self.now.prefix.addr self.now.prefix.len other.now.prefix.addr other.now.prefix.len) }
-    {
-        self.iid == other.iid && self.prefix.covers(&other.prefix)
-    }
 }

@@ -1,10 +1,12 @@
 // Laws of what is read and written. Each function only states its law.
-ghost use Rattle.std.specs.Prelude.{◌≡◌, ◌++◌, ℕ, List, Option, None, length};
+ghost use Rattle.std.specs.Prelude.{◌≡◌, ◌↔◌, ◌++◌, ℕ, List, All, Option, None, IfSome, IsFalse, length};
 ghost use Rattle.octets.specs.Rules.{first_failing};
 ghost use Rattle.ip_headers.specs.declared.addr.Addr.{Addr};
 ghost use Rattle.mapping_records.specs.Record.{canonical_record, record_rules, record_size, IsLawful, IsRecordAt, SpellsRecord};
 ghost use Rattle.mapping_records.specs.declared.record.Record.{Record};
 ghost use Rattle.mapping_records.specs.Eid.{canonical_eid, eid_at, eid_rules, InRangeEid, SpellsEid};
+ghost use Rattle.mapping_records.specs.Eids.{covers_prefix, longest, IsLongest};
+ghost use Rattle.mapping_records.specs.declared.eid.Eid.{Eid};
 
 /// What is written of an EID spells it, whatever follows.
 pub fn canonical_eid_spells()
@@ -53,4 +55,14 @@ pub fn written_record_is_read_again()
         → IsRecordAt (canonical_record mapping ++ rest) read → read ≡ mapping }
     ensures size { (mapping : Record) (rest : List ℕ) → IsLawful mapping
         → record_size (canonical_record mapping ++ rest) ≡ length (canonical_record mapping) }
+{}
+
+/// The longest is one of the items, and covers; none that covers is longer. There is none exactly
+/// where none of them covers.
+pub fn no_longer_one_covers<T>()
+    ensures some { (key : T → Eid) (items : List T) (iid : ℕ) (addr : Addr) (len : ℕ)
+        → IfSome (longest key items iid addr len) (IsLongest key items iid addr len) }
+    ensures none { (key : T → Eid) (items : List T) (iid : ℕ) (addr : Addr) (len : ℕ)
+        → (longest key items iid addr len ≡ None)
+        ↔ All (λ item. IsFalse (covers_prefix (key item) iid addr len)) items }
 {}

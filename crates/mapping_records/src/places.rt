@@ -6,7 +6,8 @@ ghost use Rattle.mapping_records.specs.Address.{addr_at, addr_size, has_addr};
 use ip_headers::Addr;
 use octets::{Layer, Refused, Why, big_32, big_128};
 
-pub(crate) fn refused(place: u32, why: Why) -> Refused
+/// A refusal at a place of a control message.
+pub fn refused(place: u32, why: Why) -> Refused
     ensures { result ≡ record { layer = Message; place = place; why = why } }
 {
     Refused {
@@ -17,21 +18,21 @@ pub(crate) fn refused(place: u32, why: Why) -> Refused
 }
 
 /// Whether an address follows the AFI: IPv4 or IPv6.
-pub(crate) fn has_addr(afi: u16) -> bool
+pub fn has_addr(afi: u16) -> bool
     ensures { result ≡ has_addr afi }
 {
     afi == 1 || afi == 2
 }
 
 /// The octets of an address of that AFI.
-pub(crate) fn addr_size(afi: u16) -> usize
+pub fn addr_size(afi: u16) -> usize
     ensures { result ≡ addr_size afi }
 {
     if afi == 1 { 4 } else { 16 }
 }
 
 /// The address of that AFI at a place.
-pub(crate) fn addr_at(afi: u16, octets: &[u8], at: usize) -> Addr
+pub fn addr_at(afi: u16, octets: &[u8], at: usize) -> Addr
     requires { at + addr_size afi ≤ length octets.now }
     ensures { result ≡ addr_at afi octets.now at }
 {

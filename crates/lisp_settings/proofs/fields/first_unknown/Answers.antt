@@ -10,4 +10,4 @@ pub returns : goal.returns
 returns c =
     let known = map (λ key. key.now) c.args.known.now in
     let found = find_from_yields_List (λ (key : String Global). not (list_any (λ k. bytes_eq k (string_bytes key)) known)) _ _ c.find.result c.find.ensures.ran (YieldsList-from_rest (keys c.args.table.now) cc) (λ x b q k. search rules) in
-    option_map-both string_bytes (λ key. key.now) c.find.result ∙ ap (option_map string_bytes) found ∙ sym (unknown_key-members known c.args.table.now.entries)
+    option_map-both string_bytes (λ key. key.now) c.find.result ∙ ap (option_map string_bytes) found ∙ sym (unknown_key-members known c.args.table.now.entries c.keys.ensures.ordered)

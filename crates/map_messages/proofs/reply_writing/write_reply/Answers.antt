@@ -13,4 +13,4 @@ returns c =
     ap (λ (mappings : List Record). c.append.new.self ++ flat_map canonical_record mappings) c.as_slice.ensures
     ∙ ap (λ (front : List ℕ). front ++ records) (c.in_ok-append.ensures.ok ∙ ap (λ (head : List ℕ). out ++ head) c.head.ensures)
     ∙ append_assoc out (reply_head reply) records in
-    subst (λ (octets : List ℕ). OnOk c.write_records.result (c.write_records.new.out ≡ octets)) whole c.write_records.ensures
+    subst (λ (octets : List ℕ). OnOk c.write_items.result (c.write_items.new.out ≡ octets)) whole c.write_items.ensures

@@ -19,12 +19,12 @@ returns c =
     let records : List ℕ = flat_map canonical_record (option_to_list request.piggyback) in
     let one : c.append.new.self ≡ out ++ head = c.in_ok-append.ensures.ok ∙ ap (λ (h : List ℕ). out ++ h) c.head.ensures in
     let two : c.write_source.new.out ≡ (out ++ head) ++ source = c.in_ok-write_source.ensures ∙ ap (λ (o : List ℕ). o ++ source) one in
-    let three : c.write_addrs.new.out ≡ ((out ++ head) ++ source) ++ addrs =
-    c.in_ok-write_addrs.ensures ∙ ap (λ (items : List Addr). c.write_source.new.out ++ flat_map canonical_addr items) c.as_slice.ensures
+    let three : c.write_items.new.out ≡ ((out ++ head) ++ source) ++ addrs =
+    c.in_ok-write_items.ensures ∙ ap (λ (items : List Addr). c.write_source.new.out ++ flat_map canonical_addr items) c.as_slice.ensures
     ∙ ap (λ (o : List ℕ). o ++ addrs) two in
-    let four : c.write_eids.new.out ≡ (((out ++ head) ++ source) ++ addrs) ++ eids =
-    c.in_ok-write_eids.ensures ∙ ap (λ (items : List Eid). c.write_addrs.new.out ++ flat_map canonical_asked_eid items) c.as_slice-2.ensures
+    let four : c.write_items-2.new.out ≡ (((out ++ head) ++ source) ++ addrs) ++ eids =
+    c.in_ok-write_items-2.ensures ∙ ap (λ (items : List Eid). c.write_items.new.out ++ flat_map canonical_asked_eid items) c.as_slice-2.ensures
     ∙ ap (λ (o : List ℕ). o ++ eids) three in
-    let whole : c.write_eids.new.out ++ records ≡ out ++ canonical_request request =
+    let whole : c.write_items-2.new.out ++ records ≡ out ++ canonical_request request =
     ap (λ (o : List ℕ). o ++ records) four ∙ five_runs out head source addrs eids records in
     subst (λ (octets : List ℕ). OnOk c.write_piggyback.result (c.write_piggyback.new.out ≡ octets)) whole c.write_piggyback.ensures
