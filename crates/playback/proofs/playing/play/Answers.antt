@@ -1,0 +1,121 @@
+use Rattle.std.proofs.Common.{◌≡◌, ◌∙◌, Some, None, ap, sym, arith}
+use Rattle.std.specs.Option.{option_map}
+use Rattle.std.proofs.lemmas.Option.{IfSome_then}
+use Rattle.capture_io.specs.Frame.{Frame}
+use Rattle.capture_io.specs.Reading.{Reading, passed}
+use Rattle.capture_io.specs.declared.position.Position.{Position}
+use Rattle.desk.specs.declared.desk.FileId.{FileId}
+use Rattle.playback.proofs.PlayLemmas.{at_end, at_fault, begins, ends, goes_on}
+use Rattle.playback.proofs.playing.play.Goals as goal
+
+pub loop-output-init : goal.loop-output-init
+loop-output-init g c =
+    let new = c.new-output.ensures in
+    let reader = c.requires.begins in
+    let position = ap (λ (r : Reading). r.position) reader in
+    record {
+      fault = ap (λ (r : Reading). r.fault) reader;
+      id = ap (λ (r : Reading). r.id) reader;
+      format = ap (λ (r : Reading). r.format) reader;
+      previous = ap (λ (p : Position). p.greatest) (sym position);
+      frames = ap (λ (p : Position). p.count) (sym position);
+      few = omega (arith, new.written);
+      ready = c.requires.ready;
+      going = rw new.written (begins g.M.Machine.step c.args.reader.id (option_map (λ id. id.number) c.args.file) c.args.reader.format (g.M.Machine.state c.args.machine.now) c.args.reader.position c.new-output.result (g.D.Desk.told c.args.desk.now) position new.lines new.records);
+      faults = omega arith;
+    }
+
+pub loop-output-preserved : goal.loop-output-preserved
+loop-output-preserved g c =
+    let inv = c.loop-output.invariant in
+    let f = c.in-Frame.frame in
+    let step = rw c.in-Frame.is at c.in_ok-frame.ensures.frame in
+    let told = rw (c.in-Frame.is, inv.id) at c.in_ok-frame.ensures.told in
+    let next = rw (c.in-Frame.is, inv.id, inv.format) at c.in_ok-frame.ensures.outcome in
+    let number : c.frame.inside.number ≡ f.number = ap (λ (x : Frame). x.number) c.frame.view_is in
+    let moment : c.frame.inside.moment ≡ f.moment = ap (λ (x : Frame). x.moment) c.frame.view_is in
+    let position : c.next_frame.new.reader.position ≡ passed c.loop-output.reader.position f = ap (λ (r : Reading). r.position) step.0 in
+    let taken = c.in_ok-take-in-Frame.ensures in
+    let gathers = rw inv.previous at taken.gathers in
+    let state = rw inv.previous at taken.state in
+    let handed = c.in_ok-hand_on_full-in-Frame.ensures in
+    let count = step.1.number in
+    let going = goes_on g.M.Machine.step c.args.reader.id (option_map (λ id. id.number) c.args.file) c.args.reader.format (g.M.Machine.state c.args.machine.now) c.loop-output.reader.position (g.M.Machine.state c.loop-output.machine)
+    (g.D.Desk.told c.args.desk.now) (g.D.Desk.told c.loop-output.desk) (g.D.Desk.told c.next_frame.new.desk) (g.D.Desk.told c.hand_on_full.new.desk) c.loop-output.output c.take.new.output c.hand_on_full.new.output f inv.going next count told gathers handed.told handed.written in
+    record {
+      fault = ap (λ (r : Reading). r.fault) step.0 ∙ inv.fault;
+      id = ap (λ (r : Reading). r.id) step.0 ∙ inv.id;
+      format = ap (λ (r : Reading). r.format) step.0 ∙ inv.format;
+      previous = ap Some moment ∙ ap (λ (p : Position). p.greatest) (sym position);
+      frames = number ∙ ap (λ (p : Position). p.count) (sym position);
+      few = omega (arith, inv.few, inv.frames, gathers.written, gathers.few, handed.written, number, count);
+      ready = taken.ready;
+      going = rw (position, state) going;
+      faults = omega (arith, inv.faults, c.in_ok-frame.ensures.cause.later, handed.cause.later);
+    }
+
+pub returns-in-End-clause-ends : goal.returns-in-End-clause-ends
+returns-in-End-clause-ends g c =
+    let inv = c.loop-output.invariant in
+    let file = option_map (λ (id : FileId). id.number) c.args.file in
+    let next = rw (c.in-End.is, inv.id, inv.format) at c.in_ok-frame.ensures.outcome in
+    let over = at_end g.M.Machine.step c.args.reader.id file c.args.reader.format c.loop-output.reader.position (g.D.Desk.told c.loop-output.desk) next in
+    let handed = c.in_ok-hand_on-in-End.ensures in
+    let all = ends g.M.Machine.step c.args.reader.id file c.args.reader.format (g.M.Machine.state c.args.machine.now) c.loop-output.reader.position (g.M.Machine.state c.loop-output.machine)
+    (g.D.Desk.told c.args.desk.now) (g.D.Desk.told c.loop-output.desk) (g.D.Desk.told c.next_frame.new.desk) _ c.loop-output.output None inv.going over c.in_ok-frame.ensures.shown handed.told in
+    rw (inv.frames, handed.written) (IfSome_then (g.D.Desk.told c.args.desk.now) all (λ w h. h.0))
+
+pub returns-in-End-clause-shown : goal.returns-in-End-clause-shown
+returns-in-End-clause-shown g c =
+    let inv = c.loop-output.invariant in
+    let file = option_map (λ (id : FileId). id.number) c.args.file in
+    let next = rw (c.in-End.is, inv.id, inv.format) at c.in_ok-frame.ensures.outcome in
+    let over = at_end g.M.Machine.step c.args.reader.id file c.args.reader.format c.loop-output.reader.position (g.D.Desk.told c.loop-output.desk) next in
+    let handed = c.in_ok-hand_on-in-End.ensures in
+    let all = ends g.M.Machine.step c.args.reader.id file c.args.reader.format (g.M.Machine.state c.args.machine.now) c.loop-output.reader.position (g.M.Machine.state c.loop-output.machine)
+    (g.D.Desk.told c.args.desk.now) (g.D.Desk.told c.loop-output.desk) (g.D.Desk.told c.next_frame.new.desk) _ c.loop-output.output None inv.going over c.in_ok-frame.ensures.shown handed.told in
+    IfSome_then (g.D.Desk.told c.args.desk.now) all (λ w h. h.1)
+
+pub returns-in-End-clause-state : goal.returns-in-End-clause-state
+returns-in-End-clause-state g c =
+    let inv = c.loop-output.invariant in
+    let file = option_map (λ (id : FileId). id.number) c.args.file in
+    let next = rw (c.in-End.is, inv.id, inv.format) at c.in_ok-frame.ensures.outcome in
+    let over = at_end g.M.Machine.step c.args.reader.id file c.args.reader.format c.loop-output.reader.position (g.D.Desk.told c.loop-output.desk) next in
+    let handed = c.in_ok-hand_on-in-End.ensures in
+    let all = ends g.M.Machine.step c.args.reader.id file c.args.reader.format (g.M.Machine.state c.args.machine.now) c.loop-output.reader.position (g.M.Machine.state c.loop-output.machine)
+    (g.D.Desk.told c.args.desk.now) (g.D.Desk.told c.loop-output.desk) (g.D.Desk.told c.next_frame.new.desk) _ c.loop-output.output None inv.going over c.in_ok-frame.ensures.shown handed.told in
+    IfSome_then (g.D.Desk.told c.args.desk.now) all (λ w h. h.2)
+
+pub returns-in-Fault-clause-ends : goal.returns-in-Fault-clause-ends
+returns-in-Fault-clause-ends g c =
+    let inv = c.loop-output.invariant in
+    let file = option_map (λ (id : FileId). id.number) c.args.file in
+    let next = rw (c.in-Fault.is, inv.id, inv.format) at c.in_ok-frame.ensures.outcome in
+    let over = at_fault g.M.Machine.step c.args.reader.id file c.args.reader.format c.loop-output.reader.position (g.D.Desk.told c.loop-output.desk) c.in-Fault.fault next in
+    let handed = c.in_ok-hand_on-in-Fault.ensures in
+    let all = ends g.M.Machine.step c.args.reader.id file c.args.reader.format (g.M.Machine.state c.args.machine.now) c.loop-output.reader.position (g.M.Machine.state c.loop-output.machine)
+    (g.D.Desk.told c.args.desk.now) (g.D.Desk.told c.loop-output.desk) (g.D.Desk.told c.next_frame.new.desk) _ c.loop-output.output (Some c.in-Fault.fault) inv.going over c.in_ok-frame.ensures.shown handed.told in
+    rw (inv.frames, handed.written) (IfSome_then (g.D.Desk.told c.args.desk.now) all (λ w h. h.0))
+
+pub returns-in-Fault-clause-shown : goal.returns-in-Fault-clause-shown
+returns-in-Fault-clause-shown g c =
+    let inv = c.loop-output.invariant in
+    let file = option_map (λ (id : FileId). id.number) c.args.file in
+    let next = rw (c.in-Fault.is, inv.id, inv.format) at c.in_ok-frame.ensures.outcome in
+    let over = at_fault g.M.Machine.step c.args.reader.id file c.args.reader.format c.loop-output.reader.position (g.D.Desk.told c.loop-output.desk) c.in-Fault.fault next in
+    let handed = c.in_ok-hand_on-in-Fault.ensures in
+    let all = ends g.M.Machine.step c.args.reader.id file c.args.reader.format (g.M.Machine.state c.args.machine.now) c.loop-output.reader.position (g.M.Machine.state c.loop-output.machine)
+    (g.D.Desk.told c.args.desk.now) (g.D.Desk.told c.loop-output.desk) (g.D.Desk.told c.next_frame.new.desk) _ c.loop-output.output (Some c.in-Fault.fault) inv.going over c.in_ok-frame.ensures.shown handed.told in
+    IfSome_then (g.D.Desk.told c.args.desk.now) all (λ w h. h.1)
+
+pub returns-in-Fault-clause-state : goal.returns-in-Fault-clause-state
+returns-in-Fault-clause-state g c =
+    let inv = c.loop-output.invariant in
+    let file = option_map (λ (id : FileId). id.number) c.args.file in
+    let next = rw (c.in-Fault.is, inv.id, inv.format) at c.in_ok-frame.ensures.outcome in
+    let over = at_fault g.M.Machine.step c.args.reader.id file c.args.reader.format c.loop-output.reader.position (g.D.Desk.told c.loop-output.desk) c.in-Fault.fault next in
+    let handed = c.in_ok-hand_on-in-Fault.ensures in
+    let all = ends g.M.Machine.step c.args.reader.id file c.args.reader.format (g.M.Machine.state c.args.machine.now) c.loop-output.reader.position (g.M.Machine.state c.loop-output.machine)
+    (g.D.Desk.told c.args.desk.now) (g.D.Desk.told c.loop-output.desk) (g.D.Desk.told c.next_frame.new.desk) _ c.loop-output.output (Some c.in-Fault.fault) inv.going over c.in_ok-frame.ensures.shown handed.told in
+    IfSome_then (g.D.Desk.told c.args.desk.now) all (λ w h. h.2)

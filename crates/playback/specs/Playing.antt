@@ -1,0 +1,64 @@
+-- What a play of a capture leaves at its desk.
+use Rattle.std.specs.Prelude.{◌≡◌, ℕ, ◌+◌, ◌≤◌, List, ◌++◌, length, Option, Some, None, option_map, Result, Ok, Err}
+use Rattle.desk.specs.declared.file.NamedFile.{NamedFile}
+use Rattle.desk.specs.World.{World, Shown, changed_at, extended}
+use Rattle.capture_io.specs.Frame.{Frame}
+use Rattle.capture_io.specs.Frames.{Run}
+use Rattle.capture_io.specs.declared.fault.CaptureFault.{CaptureFault}
+use Rattle.playback.specs.Events.{Event, Outcome, events, played, records_of}
+use Rattle.playback.specs.declared.output.Output.{Output}
+use Rattle.playback.specs.declared.playing.Ending.{Ending}
+use Rattle.playback.specs.declared.reading.Next.{Next}
+use Rattle.playback.specs.declared.reading.Next.TheVariants as next
+
+-- the writers, with more in the file of that id; without an id nothing is written
+abbrev pub written : Option ℕ → List ℕ → List (ℕ × NamedFile) → List (ℕ × NamedFile)
+written None octets writers = writers
+written (Some id) octets writers = changed_at id (extended octets) writers
+
+-- a desk's world after lines were said and octets written
+abbrev pub after_output : Option ℕ → List ℕ → List ℕ → World → World
+after_output file lines octets w =
+    record w { said = w.said ++ lines; writers = written file octets w.writers }
+
+-- the same of what others see of it
+abbrev pub with_output : Option ℕ → List ℕ → List ℕ → Shown → Shown
+with_output file lines octets s =
+    record s { said = s.said ++ lines; writers = written file octets s.writers }
+
+-- the world once all that is gathered is handed on
+abbrev pub handed_on : Option ℕ → Output → Option World → Option World
+handed_on file output told = option_map (after_output file output.lines output.records) told
+
+-- all of an outcome was said and written
+abbrev pub with_outcome : {S : Type 0} → Option ℕ → Outcome S → Shown → Shown
+with_outcome file outcome s = with_output file outcome.lines (records_of outcome.packets) s
+
+-- an outcome was gathered
+pub record Gathers {S : Type 0} (outcome : Outcome S) (old new : Output) : Type 0 where
+  pub lines : new.lines ≡ old.lines ++ outcome.lines
+  pub records : new.records ≡ old.records ++ records_of outcome.packets
+  pub written : new.written ≡ old.written + length outcome.packets
+  pub few : length outcome.packets ≤ 1
+
+-- the outcome of all frames of a run
+abbrev pub outcome_of : {S : Type 0} → (S → Event → Outcome S) → S → Run → Outcome S
+outcome_of step state run = played step state (events run.frames)
+
+-- how a play ends
+pub record Ends {S : Type 0} (outcome : Outcome S) (run : Run) (ending : Ending) : Type 0 where
+  pub fault : ending.fault ≡ run.fault
+  pub frames : ending.frames ≡ length run.frames
+  pub written : ending.written ≡ length outcome.packets
+
+-- what is next in a capture
+abbrev pub answer_of : Next → Result (Option Frame) CaptureFault
+answer_of (next.Frame f) = Ok (Some f)
+answer_of next.End = Ok None
+answer_of (next.Fault fault) = Err fault
+
+-- a fact of the frame that is next, if one is
+abbrev pub IfFrame : Next → (Frame → Type 0) → Type 0
+IfFrame (next.Frame f) P = P f
+IfFrame next.End P = Unit {0}
+IfFrame (next.Fault fault) P = Unit {0}

@@ -1,0 +1,17 @@
+//! The events of a capture, played through a machine: frames are read one by one, and what the
+//! machine says and writes goes out in pieces.
+#![tactic(auto)]
+
+mod laws;
+mod machine;
+mod output;
+mod playing;
+mod reading;
+
+pub use capture_io::{
+    CaptureFault, CaptureReader, Desk, DeskFault, FileId, Frame, NoMemory, Octets,
+};
+pub use laws::events_keep_the_frames;
+pub use machine::Machine;
+pub use output::Output;
+pub use playing::{Ending, play};

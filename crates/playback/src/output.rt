@@ -1,0 +1,98 @@
+// What is said and written, gathered and handed on in pieces.
+ghost use Rattle.std.specs.Prelude.{◌≡◌, ◌<◌, ◌≤◌, ◌+◌, ◌*◌, ◌-◌, ◌^◌, ◌++◌, [], length, option_map, OnOk};
+ghost use Rattle.desk.specs.Causes.{HasCause};
+ghost use Rattle.desk.specs.World.{after_say, after_write};
+ghost use Rattle.capture_io.specs.Output.{packet_record};
+ghost use Rattle.playback.specs.Playing.{after_output, handed_on};
+
+use capture_io::{MOST_FRAME_OCTETS, write_packet};
+use desk::{Desk, DeskFault, FileId};
+use octets::{NoMemory, Octets};
+use std::alloc::Global;
+
+// So many octets are gathered before they are handed on.
+const PIECE: usize = 65_536;
+
+/// Lines and records of packets that are to go out, and the number of packets so far.
+#[derive(Drop)]
+pub struct Output {
+    pub lines: Octets,
+    pub records: Octets,
+    pub written: u64,
+}
+
+impl Output {
+    /// Nothing. Takes no memory.
+    pub fn new(alloc: Global) -> Output
+        ensures lines { result.lines ≡ [] }
+        ensures records { result.records ≡ [] }
+        ensures written { result.written ≡ 0 }
+    {
+        Output {
+            lines: Octets::new(alloc),
+            records: Octets::new(alloc),
+            written: 0,
+        }
+    }
+
+    /// Gathers a packet at its moment, in nanoseconds.
+    pub fn push_packet(&mut self, moment: u64, packet: &[u8]) -> Result<(), NoMemory>
+        requires moment { moment < 2 ^ 32 * 1000000000 }
+        requires size { length packet.now ≤ MOST_FRAME_OCTETS }
+        requires room { self.old.written < 2 ^ 64 - 1 }
+        ensures lines { OnOk result (self.new.lines ≡ self.old.lines) }
+        ensures records { OnOk result (self.new.records
+            ≡ self.old.records ++ packet_record moment packet.now) }
+        ensures written { OnOk result (self.new.written ≡ self.old.written + 1) }
+    {
+        write_packet(moment, packet, &mut self.records)?;
+        self.written += 1;
+        Ok(())
+    }
+
+    fn is_full(&self) -> bool {
+        self.lines.len() >= PIECE || self.records.len() >= PIECE
+    }
+}
+
+/// Hands on what is gathered, where that is enough for a piece.
+pub(crate) fn hand_on_full<D: Desk>(
+    alloc: Global,
+    desk: &mut D,
+    file: Option<FileId>,
+    output: &mut Output,
+) -> Result<(), DeskFault>
+    ensures told { OnOk result (
+        handed_on (option_map (λ id. id.number) file) output.new (D.told desk.new)
+        ≡ handed_on (option_map (λ id. id.number) file) output.old (D.told desk.old)) }
+    ensures written { output.new.written ≡ output.old.written }
+    ensures cause { HasCause (D.faults desk.old) (D.faults desk.new) result }
+{
+    if output.is_full() {
+        hand_on(alloc, desk, file, output)?;
+    }
+    Ok(())
+}
+
+/// Says all lines that are gathered, and then writes all records into the file, if there is one.
+pub(crate) fn hand_on<D: Desk>(
+    alloc: Global,
+    desk: &mut D,
+    file: Option<FileId>,
+    output: &mut Output,
+) -> Result<(), DeskFault>
+    ensures told { OnOk result (D.told desk.new
+        ≡ handed_on (option_map (λ id. id.number) file) output.old (D.told desk.old)) }
+    ensures lines { OnOk result (output.new.lines ≡ []) }
+    ensures records { OnOk result (output.new.records ≡ []) }
+    ensures written { output.new.written ≡ output.old.written }
+    ensures cause { HasCause (D.faults desk.old) (D.faults desk.new) result }
+{
+    desk.say(alloc, output.lines.as_slice())?;
+    if let Some(id) = file {
+        desk.write_file(alloc, id, output.records.as_slice())?;
+    }
+    output.lines.clear();
+    output.records.clear();
+    Ok(())
+}
