@@ -6,21 +6,22 @@ use Rattle.std.specs.Prelude.{codes}
 use Rattle.std.specs.Result.{IfOk, OnOk}
 use Rattle.std.proofs.lemmas.List.{append-nil, map-append}
 use Rattle.desk.specs.declared.file.NamedFile.{NamedFile}
-use Rattle.desk.specs.World.{World, Shown, content, left_of, found_at, extended, after_say, after_make, after_write, shown, shown_of, changed_at}
-use Rattle.desk.proofs.Entries.{changed_at-more, changed_at-same}
+use Rattle.desk.specs.World.{World, Shown, content, left_of, found_at, extended, after_say, after_make, after_write, shown, shown_of}
+use Rattle.desk.proofs.Entries.{changed_at-more}
 use Rattle.capture_io.specs.Capture.{begin, header_rules}
-use Rattle.capture_io.specs.Frame.{Frame}
 use Rattle.capture_io.specs.Frames.{Run, read_on}
 use Rattle.capture_io.specs.Output.{out_header}
 use Rattle.capture_io.specs.declared.format.Format.{Format}
-use Rattle.replay.specs.Answer.{Answer, answer, after_words, after_settings, replayed, told_off, status_of, last_line, entries_of, replaying, made_files, Gives, after_header, messages_shown, show_end}
-use Rattle.replay.specs.Outputs.{lines_of, octets_of, written_of}
-use Rattle.replay.specs.Runs.{Ends, with_run}
 use Rattle.lisp_settings.specs.Settings.{settings_of}
+use Rattle.lisp_settings.specs.declared.settings.Settings.{Settings}
+use Rattle.playback.specs.Events.{Outcome, records_of}
+use Rattle.playback.specs.Playing.{outcome_of, with_outcome, Ends}
+use Rattle.playback.specs.declared.playing.Ending.{Ending}
+use Rattle.router_model.specs.Plain.{Router, after_event, started}
+use Rattle.replay.specs.Answer.{Answer, answer, after_words, after_settings, closing, replayed, told_off, status_of, made_files, Gives, after_header, messages_shown}
+use Rattle.replay.specs.Lines.{count_line, end_line}
 use Rattle.replay.specs.Show.{showing}
 use Rattle.replay.specs.Words.{Names, Replay, Show, command_of}
-use Rattle.replay.specs.declared.frames.Ending.{Ending}
-use Rattle.lisp_settings.specs.declared.settings.Settings.{Settings}
 use Rattle.replay.specs.declared.status.Status.{Status}
 use Rattle.replay.specs.declared.status.Status.TheVariants as status
 
@@ -59,93 +60,89 @@ output_made : (id : ℕ) (name : List ℕ) (w : World) → found_at id w.writers
 output_made id name w fresh =
     ap (λ (writers : List (ℕ × NamedFile)). record (shown_of w) { writers = writers }) (changed_at-more id (extended out_header) (record { name = name; octets = [] }) w.writers fresh)
 
--- the frames after it
-run_shown : (settings : Settings) (id : ℕ) (name : List ℕ) (run : Run) (w : World) → found_at id w.writers ≡ None
-    → with_run (replaying settings) id run (shown_of (after_write id out_header (after_make id name w)))
-    ≡ record (shown_of w) { said = w.said ++ lines_of (replaying settings) run.frames; writers = w.writers ++ (id, record { name = name; octets = out_header ++ octets_of (replaying settings) run.frames }) ∷ [] }
-run_shown settings id name run w fresh =
-    ap (with_run (replaying settings) id run) (output_made id name w fresh)
-    ∙ ap (λ (writers : List (ℕ × NamedFile)). record (shown_of w) { said = w.said ++ lines_of (replaying settings) run.frames; writers = writers }) (changed_at-more id (extended (octets_of (replaying settings) run.frames)) (record { name = name; octets = out_header }) w.writers fresh)
+-- what is shown of an outcome that was said and written into the file that was made
+outcome_shown : {S : Type 0} (outcome : Outcome S) (id : ℕ) (name : List ℕ) (w : World) → found_at id w.writers ≡ None
+    → with_outcome (Some id) outcome (shown_of (after_write id out_header (after_make id name w)))
+    ≡ record (shown_of w) { said = w.said ++ outcome.lines; writers = w.writers ++ (id, record { name = name; octets = out_header ++ records_of outcome.packets }) ∷ [] }
+outcome_shown outcome id name w fresh =
+    ap (with_outcome (Some id) outcome) (output_made id name w fresh)
+    ∙ ap (λ (writers : List (ℕ × NamedFile)). record (shown_of w) { said = w.said ++ outcome.lines; writers = writers }) (changed_at-more id (extended (records_of outcome.packets)) (record { name = name; octets = out_header }) w.writers fresh)
+
+-- the outcome of a replay
+abbrev replay_of : Settings → Run → Outcome Router
+replay_of settings run = outcome_of after_event (started settings) run
 
 -- what the steps of a replay leave is its answer
-pub gives_replayed : (settings : Settings) (id : ℕ) (name : List ℕ) (run : Run) (w : World) (mid new : Option World) (ending : Ending) (s : Status)
-    → found_at id w.writers ≡ None → Ends (replaying settings) run ending
-    → shown mid ≡ Some (with_run (replaying settings) id run (shown_of (after_write id out_header (after_make id name w))))
-    → new ≡ option_map (after_say (last_line (entries_of settings) ending.fault ending.frames ending.written)) mid → s ≡ status_of ending.fault
+gives_replayed : (settings : Settings) (id : ℕ) (name : List ℕ) (run : Run) (w : World) (mid new : Option World) (ending : Ending) (entries : ℕ) (s : Status)
+    → found_at id w.writers ≡ None → Ends (replay_of settings run) run ending
+    → shown mid ≡ Some (with_outcome (Some id) (replay_of settings run) (shown_of (after_write id out_header (after_make id name w))))
+    → entries ≡ length (replay_of settings run).after.journal
+    → new ≡ option_map (after_say (closing ending.fault (end_line ending.frames ending.written entries))) mid → s ≡ status_of ending.fault
     → Gives (replayed settings name run) s (shown_of w) (shown new)
 unfolding replayed
-gives_replayed settings id name run w None new ending s fresh ends frames said is = cc
-gives_replayed settings id name run w (Some v) new ending s fresh ends frames said is =
-    let file : NamedFile = record { name = name; octets = out_header ++ octets_of (replaying settings) run.frames } in
-    let aim : Shown = record (shown_of w) { said = w.said ++ lines_of (replaying settings) run.frames; writers = w.writers ++ (id, file) ∷ [] } in
-    let is_aim : shown_of v ≡ aim = cc (frames, run_shown settings id name run w fresh) in
-    let line : last_line (entries_of settings) ending.fault ending.frames ending.written ≡ last_line (entries_of settings) run.fault (length run.frames) (written_of (replaying settings) run.frames) = rw (ends.fault, ends.frames, ends.written) refl in
+gives_replayed settings id name run w None new ending entries s fresh ends frames count said is = cc
+gives_replayed settings id name run w (Some v) new ending entries s fresh ends frames count said is =
+    let outcome = replay_of settings run in
+    let file : NamedFile = record { name = name; octets = out_header ++ records_of outcome.packets } in
+    let aim : Shown = record (shown_of w) { said = w.said ++ outcome.lines; writers = w.writers ++ (id, file) ∷ [] } in
+    let is_aim : shown_of v ≡ aim = cc (frames, outcome_shown outcome id name w fresh) in
+    let last = closing ending.fault (end_line ending.frames ending.written entries) in
+    let line : last ≡ closing run.fault (end_line (length run.frames) (length outcome.packets) (length outcome.after.journal)) = rw (ends.fault, ends.frames, ends.written, count) refl in
     let status : s ≡ status_of run.fault = is ∙ ap status_of ends.fault in
     rw said (record {
       status = status;
       left = record {
         files = ap (λ (x : Shown). x.files) is_aim;
-        said = ap (λ (x : Shown). x.said ++ last_line (entries_of settings) ending.fault ending.frames ending.written) is_aim ∙ append_assoc w.said (lines_of (replaying settings) run.frames) _
-            ∙ ap (λ (l : List ℕ). w.said ++ (lines_of (replaying settings) run.frames ++ l)) line;
+        said = ap (λ (x : Shown). x.said ++ last) is_aim ∙ append_assoc w.said outcome.lines last ∙ ap (λ (l : List ℕ). w.said ++ (outcome.lines ++ l)) line;
         made = ap (λ (x : Shown). made_files x.writers) is_aim ∙ map-append (λ (x : ℕ × NamedFile). x.1) w.writers ((id, file) ∷ []);
       };
     })
 
 -- the same, over what the desk tells
-pub frames_answered : (settings : Settings) (id reader : ℕ) (format : Format) (name : List ℕ) (old made now new : Option World) (ending : Ending) (s : Status)
+pub frames_answered : (settings : Settings) (id reader : ℕ) (format : Format) (name : List ℕ) (old made now new : Option World) (ending : Ending) (entries : ℕ) (s : Status)
     → IfSome old (λ w. found_at id w.writers ≡ None) → made ≡ option_map (λ w. after_write id out_header (after_make id name w)) old
-    → IfSome made (λ w. Ends (replaying settings) (read_on format begin (left_of reader w)) ending)
-    → IfSome made (λ w. shown now ≡ Some (with_run (replaying settings) id (read_on format begin (left_of reader w)) (shown_of w)))
-    → new ≡ option_map (after_say (last_line (entries_of settings) ending.fault ending.frames ending.written)) now → s ≡ status_of ending.fault
+    → IfSome made (λ w. Ends (replay_of settings (read_on format begin (left_of reader w))) (read_on format begin (left_of reader w)) ending)
+    → IfSome made (λ w. shown now ≡ Some (with_outcome (Some id) (replay_of settings (read_on format begin (left_of reader w))) (shown_of w)))
+    → IfSome made (λ w. entries ≡ length (replay_of settings (read_on format begin (left_of reader w))).after.journal)
+    → new ≡ option_map (after_say (closing ending.fault (end_line ending.frames ending.written entries))) now → s ≡ status_of ending.fault
     → IfSome old (λ w. Gives (replayed settings name (read_on format begin (left_of reader w))) s (shown_of w) (shown new))
-frames_answered settings id reader format name None made now new ending s fresh makes ends frames said is = tt
-frames_answered settings id reader format name (Some w) made now new ending s fresh makes ends frames said is =
-    gives_replayed settings id name (read_on format begin (left_of reader w)) w now new ending s fresh (rw makes at ends) (rw makes at frames) said is
+frames_answered settings id reader format name None made now new ending entries s fresh makes ends frames count said is = tt
+frames_answered settings id reader format name (Some w) made now new ending entries s fresh makes ends frames count said is =
+    gives_replayed settings id name (read_on format begin (left_of reader w)) w now new ending entries s fresh (rw makes at ends) (rw makes at frames) (rw makes at count) said is
 
 -- two facts of a value make a third
 pub ok_both : {T E : Type 0} (r : Result T E) {P R : T → Type 0} {Q : Type 0} → IfOk r P → OnOk r Q → ((x : T) → P x → Q → R x) → IfOk r R
 ok_both (Ok x) p q both = both x p q
 ok_both (Err e) p q both = tt
 
--- showing writes nothing
-octets_of-showing : (frames : List Frame) → octets_of showing frames ≡ []
-octets_of-showing [] = refl
-octets_of-showing (frame ∷ frames) = octets_of-showing frames
-
-with_run-showing : (id : ℕ) (run : Run) (s : Shown) → with_run showing id run s ≡ record s { said = s.said ++ lines_of showing run.frames }
-with_run-showing id run s =
-    let shows : List (ℕ × NamedFile) → Shown = λ writers. record s { said = s.said ++ lines_of showing run.frames; writers = writers } in
-    ap (λ (o : List ℕ). shows (changed_at id (extended o) s.writers)) (octets_of-showing run.frames)
-    ∙ ap shows (changed_at-same id (extended []) s.writers (λ file. ap (λ (o : List ℕ). record file { octets = o }) (append-nil file.octets)))
-
 -- what the steps of a show leave is its answer
-gives_shown : (id : ℕ) (run : Run) (w : World) (mid new : Option World) (ending : Ending) (s : Status)
-    → Ends showing run ending → shown mid ≡ Some (with_run showing id run (shown_of w))
-    → new ≡ option_map (after_say (show_end ending.fault ending.frames)) mid → s ≡ status_of ending.fault
+gives_shown : (run : Run) (w : World) (mid new : Option World) (ending : Ending) (s : Status)
+    → Ends (outcome_of showing tt run) run ending → shown mid ≡ Some (with_outcome None (outcome_of showing tt run) (shown_of w))
+    → new ≡ option_map (after_say (closing ending.fault (count_line ending.frames))) mid → s ≡ status_of ending.fault
     → Gives (messages_shown run) s (shown_of w) (shown new)
 unfolding messages_shown
-gives_shown id run w None new ending s ends frames said is = cc
-gives_shown id run w (Some v) new ending s ends frames said is =
-    let aim : Shown = record (shown_of w) { said = w.said ++ lines_of showing run.frames } in
-    let is_aim : shown_of v ≡ aim = cc (frames, with_run-showing id run (shown_of w)) in
-    let line : show_end ending.fault ending.frames ≡ show_end run.fault (length run.frames) = rw (ends.fault, ends.frames) refl in
+gives_shown run w None new ending s ends frames said is = cc
+gives_shown run w (Some v) new ending s ends frames said is =
+    let outcome : Outcome (Unit {0}) = outcome_of showing tt run in
+    let is_aim : shown_of v ≡ record (shown_of w) { said = w.said ++ outcome.lines } = cc in
+    let last = closing ending.fault (count_line ending.frames) in
+    let line : last ≡ closing run.fault (count_line (length run.frames)) = rw (ends.fault, ends.frames) refl in
     let status : s ≡ status_of run.fault = is ∙ ap status_of ends.fault in
     rw said (record {
       status = status;
       left = record {
         files = ap (λ (x : Shown). x.files) is_aim;
-        said = ap (λ (x : Shown). x.said ++ show_end ending.fault ending.frames) is_aim ∙ append_assoc w.said (lines_of showing run.frames) _
-            ∙ ap (λ (l : List ℕ). w.said ++ (lines_of showing run.frames ++ l)) line;
+        said = ap (λ (x : Shown). x.said ++ last) is_aim ∙ append_assoc w.said outcome.lines last ∙ ap (λ (l : List ℕ). w.said ++ (outcome.lines ++ l)) line;
         made = ap (λ (x : Shown). made_files x.writers) is_aim ∙ sym (append-nil (made_files w.writers));
       };
     })
 
 -- the same, over what the desk tells
-pub messages_answered : (id reader : ℕ) (format : Format) (old now new : Option World) (ending : Ending) (s : Status)
-    → IfSome old (λ w. Ends showing (read_on format begin (left_of reader w)) ending)
-    → IfSome old (λ w. shown now ≡ Some (with_run showing id (read_on format begin (left_of reader w)) (shown_of w)))
-    → new ≡ option_map (after_say (show_end ending.fault ending.frames)) now → s ≡ status_of ending.fault
+pub messages_answered : (reader : ℕ) (format : Format) (old now new : Option World) (ending : Ending) (s : Status)
+    → IfSome old (λ w. Ends (outcome_of showing tt (read_on format begin (left_of reader w))) (read_on format begin (left_of reader w)) ending)
+    → IfSome old (λ w. shown now ≡ Some (with_outcome None (outcome_of showing tt (read_on format begin (left_of reader w))) (shown_of w)))
+    → new ≡ option_map (after_say (closing ending.fault (count_line ending.frames))) now → s ≡ status_of ending.fault
     → IfSome old (λ w. Gives (messages_shown (read_on format begin (left_of reader w))) s (shown_of w) (shown new))
-messages_answered id reader format None now new ending s ends frames said is = tt
-messages_answered id reader format (Some w) now new ending s ends frames said is =
-    gives_shown id (read_on format begin (left_of reader w)) w now new ending s ends frames said is
+messages_answered reader format None now new ending s ends frames said is = tt
+messages_answered reader format (Some w) now new ending s ends frames said is =
+    gives_shown (read_on format begin (left_of reader w)) w now new ending s ends frames said is

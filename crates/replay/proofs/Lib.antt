@@ -1,8 +1,6 @@
 pub mod AnswerCases
-pub mod Drops
-pub mod FrameLoop
-pub mod MessageLemmas
-pub mod OutputLemmas
-pub mod Reading
-pub mod SiteLemmas
 pub mod CaptureAnswers
+pub mod MessageLemmas
+pub mod PieceLemmas
+pub mod ReplayLemmas
+pub mod ShowLemmas

@@ -1,9 +1,8 @@
 -- The lines of a message that octets spell.
 use Rattle.replay.specs.Show.{control_text, unless_refused}
-use Rattle.decap.specs.Opened.{payload_in}
 use Rattle.ip_headers.specs.declared.header.UdpHeader.{UdpHeader}
-use Rattle.ip_headers.specs.declared.header.IpHeader.{IpHeader}
-use Rattle.ip_headers.specs.Udp.{sum_rules}
+use Rattle.ip_headers.specs.Udp.{payload_in, sum_rules}
+use Rattle.router_model.specs.Course.{FramePacket}
 use Rattle.octets.specs.declared.refused.Refused.{Refused}
 use Rattle.octets.specs.Rules.{first_failing}
 use Rattle.std.proofs.Common.{◌≡◌, ap₂, ℕ, ◌++◌, List, [], ◌∷◌, length, drop, flat_map, Option, Some, None, refl, sym, ap, ◌∙◌, eq-eqb, ne_eqb, suc, zero, Bool, true, false, cond, ◌+◌, arith}
@@ -95,13 +94,14 @@ lines_of_message-at octets (Control ecm) is =
     ecm_first octets _ is.message_type (ap (λ (lines : List ℕ). codes "ecm " ++ lines) (carried-plain (inner_payload octets) (left_over octets) ecm.request ecm.reply is.carried))
 
 -- what is shown of a message that was read
-pub control_text-message : (base : ℕ) (header : IpHeader) (packet : List ℕ) (udp : UdpHeader) (message : Message) (left : ℕ) → None ≡ first_failing (sum_rules base header packet udp false)
-    → first_failing (message_rules (base + udp.at + 8) (payload_in packet udp)) ≡ None → IsMessageAt (payload_in packet udp) message
-    → message_size (payload_in packet udp) + left ≡ length (payload_in packet udp) → lines_of_message left message ≡ control_text base header packet udp
+pub control_text-message : (packet : FramePacket) (udp : UdpHeader) (message : Message) (left : ℕ)
+    → None ≡ first_failing (sum_rules packet.base packet.header packet.octets udp false)
+    → first_failing (message_rules (packet.base + udp.at + 8) (payload_in packet.octets udp)) ≡ None → IsMessageAt (payload_in packet.octets udp) message
+    → message_size (payload_in packet.octets udp) + left ≡ length (payload_in packet.octets udp) → lines_of_message left message ≡ control_text packet udp
 unfolding control_text
-control_text-message base header packet udp message left sum rules is size =
-    let payload = payload_in packet udp in
+control_text-message packet udp message left sum rules is size =
+    let payload = payload_in packet.octets udp in
     let left_is : left ≡ left_over payload = omega arith in
     ap (λ (n : ℕ). lines_of_message n message) left_is ∙ lines_of_message-at payload message is
-    ∙ sym (ap (λ (o : Option Refused). unless_refused o (unless_refused (first_failing (message_rules (base + udp.at + 8) payload)) (message_at payload))) (sym sum)
+    ∙ sym (ap (λ (o : Option Refused). unless_refused o (unless_refused (first_failing (message_rules (packet.base + udp.at + 8) payload)) (message_at payload))) (sym sum)
     ∙ ap (λ (o : Option Refused). unless_refused o (message_at payload)) rules)

@@ -1,25 +1,22 @@
 -- What a run answers, by its words and the files.
-use Rattle.std.specs.Prelude.{◌≡◌, ℕ, Bool, true, false, List, [], ◌∷◌, ◌++◌, codes, length, map, Option, Some, None, Result, Ok, Err, IsSomeAnd, ◌≤◌, IfSome}
+use Rattle.std.specs.Prelude.{◌≡◌, ℕ, Bool, true, false, List, [], ◌∷◌, ◌++◌, codes, length, map, Option, Some, None, Result, Ok, Err, IsSomeAnd}
 use Rattle.octets.specs.Rules.{first_failing}
 use Rattle.desk.specs.declared.file.NamedFile.{NamedFile}
 use Rattle.desk.specs.World.{Shown, content}
-use Rattle.capture_io.specs.Frame.{Frame}
 use Rattle.capture_io.specs.Frames.{Run, capture}
 use Rattle.capture_io.specs.Capture.{header_rules}
-use Rattle.capture_io.specs.Output.{out_header, packet_record}
+use Rattle.capture_io.specs.Output.{out_header}
 use Rattle.capture_io.specs.declared.fault.CaptureFault.{CaptureFault}
-use Rattle.replay.specs.Lines.{frame_line, count_line, end_line, fault_line, settings_line}
-use Rattle.replay.specs.Outputs.{Outputs, lines_of, octets_of, written_of}
-use Rattle.replay.specs.Router.{decide}
 use Rattle.lisp_settings.specs.Settings.{settings_of}
 use Rattle.lisp_settings.specs.declared.fault.SettingsFault.{SettingsFault}
 use Rattle.lisp_settings.specs.declared.settings.Settings.{Settings}
+use Rattle.playback.specs.Events.{events, played, records_of}
+use Rattle.router_model.specs.Plain.{after_event, started}
+use Rattle.replay.specs.Lines.{count_line, end_line, fault_line, settings_line}
 use Rattle.replay.specs.Show.{showing}
 use Rattle.replay.specs.Words.{Command, Replay, Show, command_of}
 use Rattle.replay.specs.declared.status.Status.{Status}
 use Rattle.replay.specs.declared.status.Status.TheVariants.{Done, Usage, Settings as BadSettings, Capture, Host, Memory}
-use Rattle.replay.specs.declared.verdict.Verdict.{Verdict}
-use Rattle.replay.specs.declared.verdict.Verdict.TheVariants.{Encapsulated, Delivered, Native}
 
 -- a status, a report, and the file that was made, if one was
 pub record Answer : Type 0 where
@@ -27,95 +24,62 @@ pub record Answer : Type 0 where
   pub said : List ℕ
   pub made : List NamedFile
 
--- the packet that a verdict sends
-abbrev pub packet_of : Verdict → Option (List ℕ)
-packet_of (Encapsulated from to port packet) = Some packet
-packet_of (Delivered iid packet) = Some packet
-packet_of (Native packet) = Some packet
-packet_of _ = None
-
--- the packet that it sends, if it sends one, fits a record
-abbrev pub FitsRecord : Verdict → Type 0
-FitsRecord verdict = IfSome (packet_of verdict) (λ packet. length packet ≤ 262144)
-
--- how many packets it sends
-abbrev pub packets_if : Option (List ℕ) → ℕ
-packets_if None = 0
-packets_if (Some packet) = 1
-
-abbrev pub packets_of : Verdict → ℕ
-packets_of verdict = packets_if (packet_of verdict)
-
--- the journal is the static mappings
-abbrev pub entries_of : Settings → ℕ
-entries_of settings = length settings.mappings
-
-abbrev pub line_of : Settings → Frame → List ℕ
-line_of settings frame = frame_line frame.number frame.moment (entries_of settings) (decide settings frame)
-
-abbrev pub record_if : ℕ → Option (List ℕ) → List ℕ
-record_if moment None = []
-record_if moment (Some packet) = packet_record moment packet
-
--- what a frame adds to the output
-abbrev pub record_of : Settings → Frame → List ℕ
-record_of settings frame = record_if frame.moment (packet_of (decide settings frame))
-
--- what a replay does for a frame
-abbrev pub replaying : Settings → Outputs
-replaying settings = record {
-  line = line_of settings;
-  octets = record_of settings;
-  packets = λ frame. packets_of (decide settings frame);
-}
-
--- the last line, and the status, by the fault of the capture
-abbrev pub last_line : ℕ → Option CaptureFault → ℕ → ℕ → List ℕ
-last_line entries None frames written = end_line frames written entries
-last_line entries (Some fault) frames written = fault_line fault
-
+-- the status, by the fault of the capture
 abbrev pub status_of : Option CaptureFault → Status
 status_of None = Done
 status_of (Some fault) = Capture
+
+-- the last line: that of the capture's fault, or else this one
+abbrev pub closing : Option CaptureFault → List ℕ → List ℕ
+closing None line = line
+closing (Some fault) line = fault_line fault
 
 -- a status and a line, and no file
 abbrev pub told_off : Status → List ℕ → Answer
 told_off status line = record { status = status; said = line; made = [] }
 
--- the frames of a capture, replayed into a file
+-- the frames of a capture, replayed into a file: what the plain router says and writes for them
 unfoldable pub replayed : Settings → List ℕ → Run → Answer
-replayed settings output run = record {
-  status = status_of run.fault;
-  said = lines_of (replaying settings) run.frames ++ last_line (entries_of settings) run.fault (length run.frames) (written_of (replaying settings) run.frames);
-  made = record { name = output; octets = out_header ++ octets_of (replaying settings) run.frames } ∷ [];
-}
-
--- the last line of a capture that was shown
-abbrev pub show_end : Option CaptureFault → ℕ → List ℕ
-show_end None frames = count_line frames
-show_end (Some fault) frames = fault_line fault
+replayed settings output run =
+    let outcome = played after_event (started settings) (events run.frames) in
+    let frames = length run.frames in
+    let entries = length outcome.after.journal in
+    record {
+      status = status_of run.fault;
+      said = outcome.lines ++ closing run.fault (end_line frames (length outcome.packets) entries);
+      made = record { name = output; octets = out_header ++ records_of outcome.packets } ∷ [];
+    }
 
 -- the messages in the frames of a capture, shown
 unfoldable pub messages_shown : Run → Answer
-messages_shown run = record {
-  status = status_of run.fault;
-  said = lines_of showing run.frames ++ show_end run.fault (length run.frames);
-  made = [];
-}
+messages_shown run =
+    let outcome = played showing tt (events run.frames) in
+    record {
+      status = status_of run.fault;
+      said = outcome.lines ++ closing run.fault (count_line (length run.frames));
+      made = [];
+    }
 
 -- the answer to a capture, by the first rule that its header fails
 abbrev pub after_header : (Run → Answer) → List ℕ → Option CaptureFault → Answer
 after_header frames file (Some fault) = told_off Capture (fault_line fault)
 after_header frames file None = frames (capture file)
 
+-- the answer to a replay, by its settings
 abbrev pub after_settings : List ℕ → List ℕ → Result Settings SettingsFault → Answer
 after_settings output file (Err fault) = told_off BadSettings (settings_line fault)
-after_settings output file (Ok settings) = after_header (replayed settings output) file (first_failing (header_rules file))
+after_settings output file (Ok settings) =
+    after_header (replayed settings output) file (first_failing (header_rules file))
 
+-- the answer to a command
 abbrev pub after_words : List NamedFile → Option Command → Answer
 after_words files None = told_off Usage (codes "usage\n")
-after_words files (Some (Replay names)) = after_settings names.output (content names.input files) (settings_of (content names.settings files))
-after_words files (Some (Show input)) = let file = content input files in after_header messages_shown file (first_failing (header_rules file))
+after_words files (Some (Replay names)) =
+    after_settings names.output (content names.input files)
+    (settings_of (content names.settings files))
+after_words files (Some (Show input)) =
+    let file = content input files in
+    after_header messages_shown file (first_failing (header_rules file))
 
 -- the answer to words, where these files are there
 unfoldable pub answer : List (List ℕ) → List NamedFile → Answer

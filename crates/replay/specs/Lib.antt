@@ -1,13 +1,6 @@
 pub mod Answer
-pub mod Hash
 pub mod Lines
 pub mod Messages
-pub mod Outputs
-pub mod Place
-pub mod Router
-pub mod Runs
+pub mod Readings
 pub mod Show
-pub mod Site
-pub mod Steps
-pub mod Text
 pub mod Words

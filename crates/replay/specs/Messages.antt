@@ -17,8 +17,9 @@ use Rattle.map_messages.specs.declared.message.Message.TheVariants.{Request, Rep
 use Rattle.mapping_records.specs.declared.eid.Eid.{Eid}
 use Rattle.mapping_records.specs.declared.record.Record.{Record}
 use Rattle.map_messages.specs.Words.{bit, is_ecm, is_request, nonce_at}
-use Rattle.replay.specs.Text.{address_text, hex_16}
+use Rattle.router_log.specs.Numbers.{address_text, hex_16, named}
 
+-- 1 for a flag that is set, and 0
 abbrev pub flag_text : Bool → List ℕ
 flag_text true = 49 ∷ []
 flag_text false = 48 ∷ []
@@ -27,22 +28,25 @@ flag_text false = 48 ∷ []
 unfoldable pub eid_text : ℕ → Addr → ℕ → List ℕ
 eid_text iid addr len = decimal iid ++ (32 ∷ (address_text addr ++ (47 ∷ decimal len)))
 
--- a name and a number
-unfoldable pub named : List ℕ → ℕ → List ℕ
-named name n = name ++ decimal n
-
 -- how many records there are, and how many octets are left over
 unfoldable pub counts_text : ℕ → ℕ → List ℕ
-counts_text records left = named (codes " records=") records ++ (named (codes " left=") left ++ 10 ∷ [])
+counts_text records left =
+    named (codes " records=") records ++ (named (codes " left=") left ++ 10 ∷ [])
 
+-- nonce and flags of a Map-Request, and its counts
 unfoldable pub request_line : ℕ → Bool → Bool → ℕ → ℕ → List ℕ
 request_line nonce probe smr records left =
-    codes "request nonce=" ++ (hex_16 nonce ++ (codes " p=" ++ (flag_text probe ++ (codes " s=" ++ (flag_text smr ++ counts_text records left)))))
+    codes "request nonce="
+    ++ (hex_16 nonce
+    ++ (codes " p=" ++ (flag_text probe ++ (codes " s=" ++ (flag_text smr ++ counts_text records left)))))
 
+-- nonce and flag of a Map-Reply, and its counts
 unfoldable pub reply_line : ℕ → Bool → ℕ → ℕ → List ℕ
 reply_line nonce probe records left =
-    codes "reply nonce=" ++ (hex_16 nonce ++ (codes " p=" ++ (flag_text probe ++ counts_text records left)))
+    codes "reply nonce="
+    ++ (hex_16 nonce ++ (codes " p=" ++ (flag_text probe ++ counts_text records left)))
 
+-- an EID that is asked for
 abbrev pub eid_line : ℕ → Addr → ℕ → List ℕ
 eid_line iid addr len = codes " eid " ++ (eid_text iid addr len ++ 10 ∷ [])
 
@@ -50,8 +54,10 @@ eid_line iid addr len = codes " eid " ++ (eid_text iid addr len ++ 10 ∷ [])
 unfoldable pub details_text : ℕ → ℕ → ℕ → ℕ → List ℕ
 details_text ttl action version locators =
     named (codes " ttl=") ttl
-    ++ (named (codes " action=") action ++ (named (codes " version=") version ++ (named (codes " locators=") locators ++ 10 ∷ [])))
+    ++ (named (codes " action=") action
+    ++ (named (codes " version=") version ++ (named (codes " locators=") locators ++ 10 ∷ [])))
 
+-- the EID of a record, and what it has beside
 abbrev pub record_line : ℕ → Addr → ℕ → List ℕ → List ℕ
 record_line iid addr len details = codes " record " ++ (eid_text iid addr len ++ details)
 
@@ -66,24 +72,28 @@ eid_line_at octets =
 -- so many of them
 abbrev pub eid_lines_at : ℕ → List ℕ → List ℕ
 eid_lines_at zero octets = []
-eid_lines_at (suc count) octets = eid_line_at octets ++ eid_lines_at count (drop (asked_eid_size octets) octets)
+eid_lines_at (suc count) octets =
+    eid_line_at octets ++ eid_lines_at count (drop (asked_eid_size octets) octets)
 
 -- the record at the front
 abbrev pub record_line_at : List ℕ → List ℕ
 record_line_at octets =
     let mask = slice_index octets 5 in
     record_line (instance_at (drop 10 octets)) (cleared (eid_addr (drop 10 octets)) mask) mask
-    (details_text (big 4 octets 0) (slice_index octets 6 / 32) (big 2 octets 8 % 4096) (locator_count octets))
+    (details_text (big 4 octets 0) (slice_index octets 6 / 32) (big 2 octets 8 % 4096)
+    (locator_count octets))
 
 -- so many of them
 abbrev pub record_lines_at : ℕ → List ℕ → List ℕ
 record_lines_at zero octets = []
-record_lines_at (suc count) octets = record_line_at octets ++ record_lines_at count (drop (record_size octets) octets)
+record_lines_at (suc count) octets =
+    record_line_at octets ++ record_lines_at count (drop (record_size octets) octets)
 
 -- the Map-Request at the front
 abbrev pub request_at : ℕ → List ℕ → List ℕ
 request_at left octets =
-    request_line (nonce_at octets) (bit 2 (slice_index octets 0)) (bit 1 (slice_index octets 0)) (eid_count octets) left
+    request_line (nonce_at octets) (bit 2 (slice_index octets 0)) (bit 1 (slice_index octets 0))
+    (eid_count octets) left
     ++ eid_lines_at (eid_count octets) (drop (eids_place octets) octets)
 
 -- the Map-Reply at the front
@@ -99,25 +109,32 @@ plain_at left octets = if is_request octets then request_at left octets else rep
 -- the message at the front; one that is encapsulated, with what is left over of the whole
 abbrev pub message_at : List ℕ → List ℕ
 message_at octets =
-    if is_ecm octets then codes "ecm " ++ plain_at (left_over octets) (inner_payload octets) else plain_at (left_over octets) octets
+    if is_ecm octets then codes "ecm " ++ plain_at (left_over octets) (inner_payload octets)
+    else plain_at (left_over octets) octets
 
 -- ### the same, of values
 
+-- an EID that is asked for
 abbrev pub line_of_eid : Eid → List ℕ
 line_of_eid eid = eid_line eid.iid eid.prefix.addr eid.prefix.len
 
+-- a record
 abbrev pub line_of_record : Record → List ℕ
 line_of_record mapping =
     record_line mapping.eid.iid mapping.eid.prefix.addr mapping.eid.prefix.len
     (details_text mapping.ttl mapping.action mapping.version (length mapping.locators))
 
+-- a Map-Request, and its EIDs
 abbrev pub lines_of_request : ℕ → MapRequest → List ℕ
 lines_of_request left request =
-    request_line request.nonce request.probe request.smr (length request.eids) left ++ flat_map line_of_eid request.eids
+    request_line request.nonce request.probe request.smr (length request.eids) left
+    ++ flat_map line_of_eid request.eids
 
+-- a Map-Reply, and its records
 abbrev pub lines_of_reply : ℕ → MapReply → List ℕ
 lines_of_reply left reply =
-    reply_line reply.nonce reply.probe (length reply.mappings) left ++ flat_map line_of_record reply.mappings
+    reply_line reply.nonce reply.probe (length reply.mappings) left
+    ++ flat_map line_of_record reply.mappings
 
 -- the message that is encapsulated
 abbrev pub lines_of_carried : ℕ → Option MapRequest → Option MapReply → List ℕ
@@ -125,6 +142,7 @@ lines_of_carried left (Some request) reply = lines_of_request left request
 lines_of_carried left None (Some reply) = lines_of_reply left reply
 lines_of_carried left None None = []
 
+-- a message, of whose octets so many are left over
 abbrev pub lines_of_message : ℕ → Message → List ℕ
 lines_of_message left (Request request) = lines_of_request left request
 lines_of_message left (Reply reply) = lines_of_reply left reply

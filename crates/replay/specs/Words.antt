@@ -1,9 +1,6 @@
 -- The words of the commands: `replay --settings F --in F --out F`, and `show --in F`.
 use Rattle.std.specs.Prelude.{ℕ, Bool, false, ◌&&◌, ◌||◌, ◌==◌, not, List, [], ◌∷◌, codes, Option, Some, None, if◌then◌else◌}
 use Rattle.std.specs.Str.{bytes_eq}
-use Rattle.replay.specs.declared.words.Command.{Command as CommandWords}
-use Rattle.replay.specs.declared.words.Command.TheVariants as command
-use Rattle.replay.specs.declared.words.FileNames.{FileNames}
 
 -- the names of the three files
 pub record Names : Type 0 where
@@ -19,7 +16,8 @@ is_value (first ∷ rest) = not (first == 45)
 -- the three values are lawful, and the output is neither of the others
 abbrev pub are_lawful : List ℕ → List ℕ → List ℕ → Bool
 are_lawful settings input output =
-    (is_value settings && (is_value input && is_value output)) && not (bytes_eq output input || bytes_eq output settings)
+    (is_value settings && (is_value input && is_value output))
+    && not (bytes_eq output input || bytes_eq output settings)
 
 -- what is to be done
 pub data Command : Type 0 where
@@ -29,21 +27,16 @@ pub data Command : Type 0 where
 -- a replay, where the values are lawful
 abbrev pub replay_of : List ℕ → List ℕ → List ℕ → Option Command
 replay_of settings input output =
-    if are_lawful settings input output then Some (Replay (record { settings = settings; input = input; output = output })) else None
+    if are_lawful settings input output
+    then Some (Replay (record { settings = settings; input = input; output = output })) else None
 
 -- the command that words of a form give
 abbrev pub command_of : List (List ℕ) → Option Command
 command_of (command ∷ a ∷ settings ∷ b ∷ input ∷ c ∷ output ∷ []) =
-    if (bytes_eq command (codes "replay") && bytes_eq a (codes "--settings")) && (bytes_eq b (codes "--in") && bytes_eq c (codes "--out"))
+    if (bytes_eq command (codes "replay") && bytes_eq a (codes "--settings"))
+    && (bytes_eq b (codes "--in") && bytes_eq c (codes "--out"))
     then replay_of settings input output else None
 command_of (command ∷ a ∷ input ∷ []) =
-    if (bytes_eq command (codes "show") && bytes_eq a (codes "--in")) && is_value input then Some (Show input) else None
+    if (bytes_eq command (codes "show") && bytes_eq a (codes "--in")) && is_value input
+    then Some (Show input) else None
 command_of _ = None
-
--- the same, of the words that were read
-abbrev pub names_in : FileNames → Names
-names_in names = record { settings = names.settings.now; input = names.input.now; output = names.output.now }
-
-abbrev pub command_in : CommandWords → Command
-command_in (command.Replay names) = Replay (names_in names)
-command_in (command.Show input) = Show input.now

@@ -1,148 +1,124 @@
 // What `show` says of each frame.
-ghost use Rattle.std.specs.Prelude.{◌≡◌, ◌+◌, ◌<◌, ◌≤◌, ◌^◌, length, Ok, IfOk};
-ghost use Rattle.ip_headers.specs.Udp.{udp_read};
-ghost use Rattle.replay.specs.Messages.{lines_of_message};
+ghost use Rattle.std.specs.Prelude.{◌≡◌, ◌++◌, ◌≤◌, length, OnOk};
+ghost use Rattle.router_core.specs.Seen.{packet_seen};
 ghost use Rattle.replay.specs.Show.{by_port, control_text, data_line, data_text, frame_text, other_line, packet_text, refused_line, shown_frame};
 
-use crate::lines::push_refused;
 use crate::message_lines::push_message;
-use crate::ports::{LISP_DATA, UDP, is_control};
-use crate::text::{push_number, push_octets};
-use capture_io::{Frame, link_payload};
-use ip_headers::{IpPacket, UdpHeader, check_udp, is_fragment, read_ip, read_udp, udp_payload};
-use lisp_header::read_header;
-use map_messages::{Message, MessageFault, read_message};
+use capture_io::Frame;
+use ip_headers::{IpPacket, UDP, check_udp, read_udp, udp_payload};
+use lisp_header::{LISP_DATA_PORT, read_header};
+use map_messages::{LISP_CONTROL_PORT, MessageFault, read_message};
 use octets::{NoMemory, Octets, Refused};
+use router_core::{Datagram, frame_packet};
+use router_log::{push_named, push_number, push_octets, push_refused};
 use std::alloc::Global;
 
-/// The lines of a frame.
-pub fn shown_frame(alloc: Global, frame: &Frame) -> Result<Octets, NoMemory>
-    ensures { IfOk result (λ lines. lines ≡ shown_frame frame.now) }
+/// Appends the lines of a frame.
+pub(crate) fn push_shown(alloc: Global, frame: &Frame, out: &mut Octets) -> Result<(), NoMemory>
+    ensures { OnOk result (out.new ≡ out.old ++ shown_frame frame.now) }
 {
-    let mut lines = Octets::new(alloc);
-    push_number(alloc, u64::from(frame.number), &mut lines)?;
-    lines.push(b' ')?;
-    let text = frame_text(alloc, frame)?;
-    lines.append(text.as_slice())?;
-    Ok(lines)
+    push_number(u64::from(frame.number), out)?;
+    out.push(b' ')?;
+    push_frame(alloc, frame, out)
 }
 
 // The lines without the frame's number.
 #[tactic(auto, unfolding(crate::specs::Show::frame_text))]
-fn frame_text(alloc: Global, frame: &Frame) -> Result<Octets, NoMemory>
-    ensures { IfOk result (λ text. text ≡ frame_text frame.now) }
+fn push_frame(alloc: Global, frame: &Frame, out: &mut Octets) -> Result<(), NoMemory>
+    ensures { OnOk result (out.new ≡ out.old ++ frame_text frame.now) }
 {
-    let (_, octets) = match link_payload(frame) {
-        Ok(payload) => payload,
-        Err(refused) => return refused_line(alloc, refused),
-    };
-    let place = (frame.octets.len() - octets.len()) as u32;
-    match read_ip(octets, place) {
-        Ok(packet) => packet_text(alloc, &packet),
-        Err(refused) => refused_line(alloc, refused),
+    match frame_packet(frame) {
+        Ok((_, packet)) => push_packet(alloc, packet, out),
+        Err(refused) => push_refused_line(refused, out),
     }
 }
 
-fn refused_line(alloc: Global, refused: Refused) -> Result<Octets, NoMemory>
-    ensures { IfOk result (λ line. line ≡ refused_line refused) }
+fn push_refused_line(refused: Refused, out: &mut Octets) -> Result<(), NoMemory>
+    ensures { OnOk result (out.new ≡ out.old ++ refused_line refused) }
 {
-    let mut line = Octets::new(alloc);
-    line.append(b"refused ")?;
-    push_refused(alloc, refused, &mut line)?;
-    line.push(b'\n')?;
-    Ok(line)
+    out.append(b"refused ")?;
+    push_refused(refused, out)?;
+    out.push(b'\n')
 }
 
-fn other_line(alloc: Global) -> Result<Octets, NoMemory>
-    ensures { IfOk result (λ line. line ≡ other_line) }
+fn push_other(out: &mut Octets) -> Result<(), NoMemory>
+    ensures { OnOk result (out.new ≡ out.old ++ other_line) }
 {
-    Octets::copied(alloc, b"other\n")
+    out.append(b"other\n")
 }
 
 #[tactic(auto, unfolding(crate::specs::Show::packet_text))]
-fn packet_text(alloc: Global, packet: &IpPacket) -> Result<Octets, NoMemory>
-    ensures { IfOk result (λ text. text
-        ≡ packet_text packet.now.base packet.now.header packet.now.octets.now) }
+fn push_packet(alloc: Global, packet: IpPacket, out: &mut Octets) -> Result<(), NoMemory>
+    ensures { OnOk result (out.new ≡ out.old ++ packet_text (packet_seen packet.entry)) }
 {
-    let is_datagram = packet.protocol() == UDP && !is_fragment(&packet.header);
-    if !is_datagram {
-        return other_line(alloc);
+    let has_datagram = packet.header.protocol() == UDP && !packet.header.is_fragment();
+    if !has_datagram {
+        return push_other(out);
     }
-    match read_udp(packet) {
-        Ok(udp) => by_port(alloc, packet, &udp),
-        Err(refused) => refused_line(alloc, refused),
+    match read_udp(&packet) {
+        Ok(udp) => push_by_port(alloc, &Datagram { packet, udp }, out),
+        Err(refused) => push_refused_line(refused, out),
     }
 }
 
 #[tactic(auto, unfolding(crate::specs::Show::by_port))]
-fn by_port(alloc: Global, packet: &IpPacket, udp: &UdpHeader) -> Result<Octets, NoMemory>
-    requires { udp_read packet.now ≡ Ok udp.now }
-    ensures { IfOk result (λ text. text
-        ≡ by_port packet.now.base packet.now.header packet.now.octets.now udp.now) }
+fn push_by_port(alloc: Global, datagram: &Datagram, out: &mut Octets) -> Result<(), NoMemory>
+    ensures { OnOk result (out.new ≡ out.old
+        ++ by_port (packet_seen datagram.now.packet) datagram.now.udp) }
 {
-    if udp.dest == LISP_DATA {
-        return data_text(alloc, packet, udp);
+    let udp = &datagram.udp;
+    if udp.dest == LISP_DATA_PORT {
+        return push_data(datagram, out);
     }
-    if is_control(udp) {
-        control_text(alloc, packet, udp)
+    if udp.dest == LISP_CONTROL_PORT || udp.source == LISP_CONTROL_PORT {
+        push_control(alloc, datagram, out)
     } else {
-        other_line(alloc)
+        push_other(out)
     }
 }
 
 // A datagram to the port of LISP data, whose checksum may be 0.
 #[tactic(auto, unfolding(crate::specs::Show::data_text))]
-fn data_text(alloc: Global, packet: &IpPacket, udp: &UdpHeader) -> Result<Octets, NoMemory>
-    requires { udp_read packet.now ≡ Ok udp.now }
-    ensures { IfOk result (λ text. text
-        ≡ data_text packet.now.base packet.now.header packet.now.octets.now udp.now) }
+fn push_data(datagram: &Datagram, out: &mut Octets) -> Result<(), NoMemory>
+    ensures { OnOk result (out.new ≡ out.old
+        ++ data_text (packet_seen datagram.now.packet) datagram.now.udp) }
 {
+    let (packet, udp) = (&datagram.packet, &datagram.udp);
     if let Err(refused) = check_udp(packet, udp, true) {
-        return refused_line(alloc, refused);
+        return push_refused_line(refused, out);
     }
     let payload = udp_payload(packet, udp);
     match read_header(payload, packet.base + udp.at + 8) {
-        Ok(_) => data_line(alloc, payload),
-        Err(refused) => refused_line(alloc, refused),
+        Ok(_) => push_data_line(payload, out),
+        Err(refused) => push_refused_line(refused, out),
     }
 }
 
 #[tactic(auto, unfolding(crate::specs::Show::data_line))]
-fn data_line(alloc: Global, payload: &[u8]) -> Result<Octets, NoMemory>
+fn push_data_line(payload: &[u8], out: &mut Octets) -> Result<(), NoMemory>
     requires { 8 ≤ length payload.now }
-    ensures { IfOk result (λ line. line ≡ data_line payload.now) }
+    ensures { OnOk result (out.new ≡ out.old ++ data_line payload.now) }
 {
-    let mut line = Octets::new(alloc);
-    line.append(b"data header=")?;
-    push_octets(&payload[..8], &mut line)?;
-    line.append(b" left=")?;
-    push_number(alloc, (payload.len() - 8) as u64, &mut line)?;
-    line.push(b'\n')?;
-    Ok(line)
+    out.append(b"data header=")?;
+    push_octets(&payload[..8], out)?;
+    push_named(b" left=", (payload.len() - 8) as u64, out)?;
+    out.push(b'\n')
 }
 
 // A datagram from or to the port of control messages, whose checksum may not be 0.
 #[tactic(auto, unfolding(crate::specs::Show::control_text))]
-fn control_text(alloc: Global, packet: &IpPacket, udp: &UdpHeader) -> Result<Octets, NoMemory>
-    requires { udp_read packet.now ≡ Ok udp.now }
-    ensures { IfOk result (λ text. text
-        ≡ control_text packet.now.base packet.now.header packet.now.octets.now udp.now) }
+fn push_control(alloc: Global, datagram: &Datagram, out: &mut Octets) -> Result<(), NoMemory>
+    ensures { OnOk result (out.new ≡ out.old
+        ++ control_text (packet_seen datagram.now.packet) datagram.now.udp) }
 {
+    let (packet, udp) = (&datagram.packet, &datagram.udp);
     if let Err(refused) = check_udp(packet, udp, false) {
-        return refused_line(alloc, refused);
+        return push_refused_line(refused, out);
     }
     let payload = udp_payload(packet, udp);
     match read_message(alloc, payload, packet.base + udp.at + 8) {
-        Ok((message, left)) => message_text(alloc, &message, left),
-        Err(MessageFault::Refused(refused)) => refused_line(alloc, refused),
+        Ok((message, left)) => push_message(&message, left, out),
+        Err(MessageFault::Refused(refused)) => push_refused_line(refused, out),
         Err(MessageFault::Memory) => Err(NoMemory),
     }
-}
-
-fn message_text(alloc: Global, message: &Message, left: u32) -> Result<Octets, NoMemory>
-    ensures { IfOk result (λ text. text ≡ lines_of_message left message.now) }
-{
-    let mut text = Octets::new(alloc);
-    push_message(alloc, message, left, &mut text)?;
-    Ok(text)
 }

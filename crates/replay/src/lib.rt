@@ -1,29 +1,18 @@
-//! The commands: a replay from its words to its status.
+//! The commands: a run from its words to its status.
 #![tactic(auto)]
 
-mod arrival;
-mod decide;
-mod departure;
-mod files;
 mod frame_text;
-mod frames;
-mod hash;
-mod lines;
-mod lookup;
+mod last_lines;
 mod message_lines;
-mod ports;
-mod refusing;
+mod output_file;
 mod replaying;
-mod show;
+mod running;
+mod settings_file;
+mod showing;
 mod status;
-#[cfg(test)]
-mod tests;
-mod text;
-mod top;
-mod verdict;
 mod words;
 
+pub use router_log::{Reason, Verdict};
+pub use running::run;
 pub use status::Status;
-pub use top::run;
-pub use verdict::{Reason, Verdict};
 pub use words::Word;

@@ -1,28 +1,100 @@
 // A capture, replayed by the settings.
-ghost use Rattle.std.specs.Prelude.{◌≡◌, IfOk, IfSome, IsTrue, OnOk, option_map};
+ghost use Rattle.std.specs.Prelude.{◌≡◌, ◌<◌, ◌*◌, ◌^◌, length, IfOk, IfSome, IsTrue, OnOk};
 ghost use Rattle.octets.specs.Rules.{first_failing};
 ghost use Rattle.desk.specs.Causes.{HasCause};
-ghost use Rattle.desk.specs.World.{after_say, content, left_of, shown, shown_of};
+ghost use Rattle.desk.specs.World.{content, left_of, shown, shown_of};
 ghost use Rattle.capture_io.specs.Capture.{begin, header_rules};
 ghost use Rattle.capture_io.specs.Frames.{read_on};
 ghost use Rattle.capture_io.specs.Reading.{beginning};
 ghost use Rattle.lisp_settings.specs.Lawful.{IsLawful};
 ghost use Rattle.lisp_settings.specs.Settings.{settings_of};
-ghost use Rattle.replay.specs.Answer.{after_header, after_settings, is_end, is_of_form, last_line, replayed, status_of, Gives};
+ghost use Rattle.playback.specs.Events.{Arrival};
+ghost use Rattle.playback.specs.Playing.{Gathers};
+ghost use Rattle.router_model.specs.Plain.{Router, after_event, packet_of, started};
+ghost use Rattle.replay.specs.Answer.{after_header, after_settings, is_end, is_of_form, replayed, Gives};
 
 use crate::Status;
-use crate::files::{load_settings, make_output};
-use crate::frames::{Ending, replay_frames};
-use crate::lines::end_line;
-use crate::refusing::{refuse_capture, refuse_settings};
+use crate::last_lines::{close, end_line, refuse_capture, refuse_settings};
+use crate::output_file::make_output;
+use crate::settings_file::load_settings;
 use crate::words::FileNames;
-use capture_io::{CaptureFault, CaptureReader};
+use capture_io::{CaptureFault, CaptureReader, Frame};
 use desk::{Desk, DeskFault};
 use lisp_settings::Settings;
+use octets::{NoMemory, Octets};
+use playback::{Machine, Output, play};
+use router_core::decide;
+use router_log::{Verdict, push_frame_line};
 use std::alloc::Global;
 
+/// A router that is replayed. It learns nothing yet beside its static mappings.
+#[derive(Drop)]
+struct Replay<'a> {
+    settings: &'a Settings,
+}
+
+impl<'a> Machine for Replay<'a> {
+    ghost State = { Router };
+
+    ghost state = { λ replay. started replay.settings.now };
+
+    ghost step = { after_event };
+
+    ghost IsReady = { λ replay. IsLawful replay.settings.now };
+
+    fn take(
+        &mut self,
+        alloc: Global,
+        _previous: Option<u64>,
+        frame: &Frame,
+        output: &mut Output,
+    ) -> Result<(), NoMemory> {
+        take_frame(alloc, self.settings, frame, output)
+    }
+}
+
+// Decides a frame, and gathers its line and the packet that is sent for it, if one is.
+fn take_frame(
+    alloc: Global,
+    settings: &Settings,
+    frame: &Frame,
+    output: &mut Output,
+) -> Result<(), NoMemory>
+    requires lawful { IsLawful settings.now }
+    requires moment { frame.now.moment < 2 ^ 32 * 1000000000 }
+    requires room { output.old.written < 2 ^ 32 }
+    ensures { OnOk result (Gathers (after_event (started settings.now) (Arrival frame.now))
+        output.old output.new) }
+{
+    let verdict = decide(alloc, settings, frame)?;
+    let entries = settings.mappings.len() as u64;
+    push_frame_line(
+        frame.number,
+        frame.moment,
+        entries,
+        &verdict,
+        &mut output.lines,
+    )?;
+    match sent_packet(verdict) {
+        Some(packet) => output.push_packet(frame.moment, packet.as_slice()),
+        None => Ok(()),
+    }
+}
+
+// The packet that a verdict sends.
+fn sent_packet(verdict: Verdict) -> Option<Octets>
+    ensures { result ≡ packet_of verdict }
+{
+    match verdict {
+        Verdict::Encapsulated { packet, .. }
+        | Verdict::Delivered { packet, .. }
+        | Verdict::Native { packet } => Some(packet),
+        Verdict::Own | Verdict::Local | Verdict::Control(_) | Verdict::Drop(_) => None,
+    }
+}
+
 /// Replays the capture of that name by the settings, into the output.
-pub fn replay_capture<D: Desk>(
+pub(crate) fn replay_capture<D: Desk>(
     alloc: Global,
     desk: &mut D,
     names: FileNames,
@@ -35,12 +107,12 @@ pub fn replay_capture<D: Desk>(
     ensures cause { HasCause (D.faults desk.old) (D.faults desk.new) result }
 {
     match load_settings(alloc, desk, names.settings)? {
-        Ok(settings) => answer_capture(alloc, desk, &settings, names.input, names.output),
+        Ok(settings) => replay_by(alloc, desk, &settings, names.input, names.output),
         Err(fault) => refuse_settings(alloc, desk, &fault),
     }
 }
 
-fn answer_capture<D: Desk>(
+fn replay_by<D: Desk>(
     alloc: Global,
     desk: &mut D,
     settings: &Settings,
@@ -57,7 +129,7 @@ fn answer_capture<D: Desk>(
 {
     let id = desk.open_file(alloc, input)?;
     match CaptureReader::start(alloc, desk, id) {
-        Ok(reader) => answer_frames(alloc, desk, settings, reader, output),
+        Ok(reader) => replay_frames(alloc, desk, settings, reader, output),
         Err(fault) => match fault {
             CaptureFault::Host => Err(DeskFault::Failed),
             CaptureFault::Memory => Err(DeskFault::Memory),
@@ -66,7 +138,7 @@ fn answer_capture<D: Desk>(
     }
 }
 
-fn answer_frames<D: Desk>(
+fn replay_frames<D: Desk>(
     alloc: Global,
     desk: &mut D,
     settings: &Settings,
@@ -81,29 +153,10 @@ fn answer_frames<D: Desk>(
     ensures end { IfOk result (λ s. IsTrue (is_end s)) }
     ensures cause { HasCause (D.faults desk.old) (D.faults desk.new) result }
 {
-    let output = make_output(alloc, desk, output)?;
-    let ending = replay_frames(alloc, desk, settings, reader, output)?;
-    finish(alloc, desk, settings.mappings.len() as u64, ending)
-}
-
-fn finish<D: Desk>(
-    alloc: Global,
-    desk: &mut D,
-    entries: u64,
-    ending: Ending,
-) -> Result<Status, DeskFault>
-    ensures status { IfOk result (λ s. s ≡ status_of ending.fault) }
-    ensures told { OnOk result (D.told desk.new
-        ≡ option_map (after_say (last_line entries ending.fault ending.frames ending.written))
-        (D.told desk.old)) }
-    ensures cause { HasCause (D.faults desk.old) (D.faults desk.new) result }
-{
-    match ending.fault {
-        Some(fault) => refuse_capture(alloc, desk, fault),
-        None => {
-            let line = end_line(alloc, ending.frames, ending.written, entries)?;
-            desk.say(alloc, line.as_slice())?;
-            Ok(Status::Done)
-        }
-    }
+    let file = make_output(alloc, desk, output)?;
+    let mut router = Replay { settings };
+    let ending = play(alloc, desk, &mut router, reader, Some(file))?;
+    let entries = router.settings.mappings.len() as u64;
+    let line = end_line(alloc, ending.frames, ending.written, entries)?;
+    close(alloc, desk, ending.fault, line.as_slice())
 }

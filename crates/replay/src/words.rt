@@ -1,6 +1,7 @@
 // The words after the program's name.
 ghost use Rattle.std.specs.Prelude.{◌≡◌, map, string_bytes, option_map};
-ghost use Rattle.replay.specs.Words.{command_of, command_in, is_value, replay_of};
+ghost use Rattle.replay.specs.Words.{command_of, is_value, replay_of};
+ghost use Rattle.replay.specs.Readings.{command_in};
 
 /// A word after the program's name.
 pub type Word = String;

@@ -30,9 +30,9 @@ pub returns-in-Ok-clause-answer : goal.returns-in-Ok-clause-answer
 returns-in-Ok-clause-answer g c =
     let n = c.args.names in
     let old = g.D.Desk.told c.args.desk.now in
-    let new = g.D.Desk.told c.answer_capture.new.desk in
-    IfOk-weaker c.answer_capture.result _ _ (λ s answered.
+    let new = g.D.Desk.told c.replay_by.new.desk in
+    IfOk-weaker c.replay_by.result _ _ (λ s answered.
     let gives = shown_stays (λ (o : Shown). Gives (after_header (replayed c.in-Ok.settings n.output.now) (content n.input.now o.files) (first_failing (header_rules (content n.input.now o.files)))) s o (shown new)) old (g.D.Desk.told c.load_settings.new.desk) c.in_ok-settings.ensures.shown answered in
     IfSome_both old c.in_ok-settings.ensures.value gives (λ w value given.
     let after = after_settings n.output.now (content n.input.now w.files) in
-    gives_as (after (Ok c.in-Ok.settings)) (after (settings_of (content n.settings.now w.files))) s (shown_of w) (shown new) (ap after (sym c.in-Ok.is ∙ value)) given)) c.answer_capture.ensures.answer
+    gives_as (after (Ok c.in-Ok.settings)) (after (settings_of (content n.settings.now w.files))) s (shown_of w) (shown new) (ap after (sym c.in-Ok.is ∙ value)) given)) c.replay_by.ensures.answer

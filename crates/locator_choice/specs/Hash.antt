@@ -1,0 +1,24 @@
+-- The hash of a flow, FNV-1a of 32 bits, and the source port that it gives.
+use Rattle.std.specs.Prelude.{ℕ, ◌+◌, ◌*◌, ◌%◌, ◌^◌, List, ◌∷◌, ◌++◌, fold, bit_xor}
+use Rattle.octets.specs.Numbers.{big_octets}
+use Rattle.ip_headers.specs.Udp.{addr_octets}
+use Rattle.ip_headers.specs.declared.tuple.FiveTuple.{FiveTuple}
+
+-- the hash with one octet more
+abbrev pub hashed : ℕ → ℕ → ℕ
+hashed hash octet = bit_xor hash octet * 0x01000193 % 2 ^ 32
+
+-- addresses, protocol and ports of a flow
+abbrev pub flow_octets : FiveTuple → List ℕ
+flow_octets tuple =
+    addr_octets tuple.source
+    ++ (addr_octets tuple.dest
+    ++ (tuple.protocol ∷ (big_octets 2 tuple.source_port ++ big_octets 2 tuple.dest_port)))
+
+-- the hash of a flow (this router's choice)
+abbrev pub flow_hash : FiveTuple → ℕ
+flow_hash tuple = fold hashed 0x811c9dc5 (flow_octets tuple)
+
+-- the ports from 0xc000 on (this router's choice)
+abbrev pub source_port : ℕ → ℕ
+source_port hash = 0xc000 + hash % 0x4000

@@ -1,0 +1,43 @@
+// The hash of a flow, and the source port that it gives.
+ghost use Rattle.std.specs.Prelude.{◌≡◌, fold};
+ghost use Rattle.ip_headers.specs.Udp.{addr_octets};
+ghost use Rattle.locator_choice.specs.Hash.{flow_hash, hashed, source_port};
+
+use ip_headers::{Addr, FiveTuple};
+
+/// FNV-1a of 32 bits over source and destination address, protocol, and both ports.
+pub fn flow_hash(tuple: &FiveTuple) -> u32
+    ensures { result ≡ flow_hash tuple.now }
+{
+    let hash = hash_address(0x811c_9dc5, tuple.source);
+    let hash = hash_address(hash, tuple.dest);
+    let hash = hash_octets(hash, &[tuple.protocol]);
+    let hash = hash_octets(hash, &tuple.source_port.to_be_bytes());
+    hash_octets(hash, &tuple.dest_port.to_be_bytes())
+}
+
+/// The source port of a tunnel packet whose flow has that hash.
+pub fn source_port(hash: u32) -> u16
+    ensures { result ≡ source_port hash }
+{
+    0xc000 + (hash % 0x4000) as u16
+}
+
+fn hash_address(hash: u32, address: Addr) -> u32
+    ensures { result ≡ fold hashed hash (addr_octets address) }
+{
+    match address {
+        Addr::V4(number) => hash_octets(hash, &number.to_be_bytes()),
+        Addr::V6(number) => hash_octets(hash, &number.to_be_bytes()),
+    }
+}
+
+fn hash_octets(hash: u32, octets: &[u8]) -> u32
+    ensures { result ≡ fold hashed hash octets.now }
+{
+    let mut hash = hash;
+    for octet in octets {
+        hash = (hash ^ u32::from(*octet)).wrapping_mul(0x0100_0193);
+    }
+    hash
+}

@@ -1,9 +1,0 @@
-use Rattle.std.proofs.lemmas.Result.{IfOk-weaker}
-use Rattle.replay.specs.Steps.{ReadsAs}
-use Rattle.replay.proofs.Reading.{opened_left}
-use Rattle.replay.proofs.files.read_text.Goals as goal
-
-pub returns-clause-text : goal.returns-clause-text
-returns-clause-text g c =
-    IfOk-weaker c.read_pieces.result _ _ (λ text reads.
-    opened_left c.in_ok-id.id.number c.args.name.now (ReadsAs text) (g.D.Desk.told c.args.desk.now) (g.D.Desk.told c.open_file.new.self) c.in_ok-id.ensures.fresh.reader c.in_ok-id.ensures.told reads) c.read_pieces.ensures.text

@@ -1,0 +1,16 @@
+use Rattle.std.proofs.Common.{◌≡◌, ◌≤◌, ◌-◌, length}
+use Rattle.desk.specs.World.{shown}
+use Rattle.replay.proofs.PieceLemmas.{Came}
+use Rattle.replay.proofs.settings_file.read_pieces.Given as goal
+
+abbrev pub invariant-loop-text : goal.invariant-loop-text
+invariant-loop-text g l = record {
+  size : length l.piece.items ≡ 65536;
+  short : length l.text ≤ 16777216;
+  came : Came l.id.number l.text (g.D.Desk.told l.fn.desk) (g.D.Desk.told l.desk);
+  shown : shown (g.D.Desk.told l.desk) ≡ shown (g.D.Desk.told l.fn.desk);
+  faults : g.D.Desk.faults l.fn.desk ≤ g.D.Desk.faults l.desk;
+}
+
+abbrev pub decreases-loop-text : goal.decreases-loop-text
+decreases-loop-text g l = 16777217 - length l.text

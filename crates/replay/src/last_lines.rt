@@ -1,0 +1,173 @@
+// The last lines of runs, and what is said at their end.
+ghost use Rattle.std.specs.Prelude.{◌≡◌, ◌++◌, ◌∷◌, [], codes, IfOk, OnOk, option_map};
+ghost use Rattle.desk.specs.Causes.{HasCause};
+ghost use Rattle.desk.specs.World.{after_say};
+ghost use Rattle.replay.specs.Answer.{closing, status_of};
+ghost use Rattle.replay.specs.Lines.{count_line, end_line, fault_line, fault_text, settings_line, settings_text};
+ghost use Rattle.replay.specs.declared.status.Status.TheVariants.{Usage, Settings as BadSettings, Capture};
+
+use crate::Status;
+use capture_io::CaptureFault;
+use desk::{Desk, DeskFault};
+use lisp_settings::{Key, SettingsFault};
+use octets::{NoMemory, Octets};
+use router_log::{push_named, push_number};
+use std::alloc::Global;
+
+/// Says that the words are of no form.
+pub(crate) fn refuse_words<D: Desk>(alloc: Global, desk: &mut D) -> Result<Status, DeskFault>
+    ensures status { IfOk result (λ s. s ≡ Usage) }
+    ensures told { OnOk result (D.told desk.new
+        ≡ option_map (after_say (codes "usage\n")) (D.told desk.old)) }
+    ensures cause { HasCause (D.faults desk.old) (D.faults desk.new) result }
+{
+    desk.say(alloc, b"usage\n")?;
+    Ok(Status::Usage)
+}
+
+/// Says the line of the settings' fault.
+pub(crate) fn refuse_settings<D: Desk>(
+    alloc: Global,
+    desk: &mut D,
+    fault: &SettingsFault,
+) -> Result<Status, DeskFault>
+    ensures status { IfOk result (λ s. s ≡ BadSettings) }
+    ensures told { OnOk result (D.told desk.new
+        ≡ option_map (after_say (settings_line fault.now)) (D.told desk.old)) }
+    ensures cause { HasCause (D.faults desk.old) (D.faults desk.new) result }
+{
+    let line = settings_line(alloc, fault)?;
+    desk.say(alloc, line.as_slice())?;
+    Ok(Status::Settings)
+}
+
+/// Says the last line: that of a capture's fault, or else this one.
+pub(crate) fn close<D: Desk>(
+    alloc: Global,
+    desk: &mut D,
+    fault: Option<CaptureFault>,
+    line: &[u8],
+) -> Result<Status, DeskFault>
+    ensures status { IfOk result (λ s. s ≡ status_of fault) }
+    ensures told { OnOk result (D.told desk.new
+        ≡ option_map (after_say (closing fault line.now)) (D.told desk.old)) }
+    ensures cause { HasCause (D.faults desk.old) (D.faults desk.new) result }
+{
+    match fault {
+        Some(fault) => refuse_capture(alloc, desk, fault),
+        None => {
+            desk.say(alloc, line)?;
+            Ok(Status::Done)
+        }
+    }
+}
+
+/// Says the line of a capture's fault.
+pub(crate) fn refuse_capture<D: Desk>(
+    alloc: Global,
+    desk: &mut D,
+    fault: CaptureFault,
+) -> Result<Status, DeskFault>
+    ensures status { IfOk result (λ s. s ≡ Capture) }
+    ensures told { OnOk result (D.told desk.new
+        ≡ option_map (after_say (fault_line fault)) (D.told desk.old)) }
+    ensures cause { HasCause (D.faults desk.old) (D.faults desk.new) result }
+{
+    let line = fault_line(alloc, fault)?;
+    desk.say(alloc, line.as_slice())?;
+    Ok(Status::Capture)
+}
+
+/// The last line where settings are refused.
+fn settings_line(alloc: Global, fault: &SettingsFault) -> Result<Octets, NoMemory>
+    ensures { IfOk result (λ line. line ≡ settings_line fault.now) }
+{
+    let mut line = Octets::new(alloc);
+    line.append(b"settings ")?;
+    push_settings_fault(fault, &mut line)?;
+    line.push(b'\n')?;
+    Ok(line)
+}
+
+fn push_settings_fault(fault: &SettingsFault, out: &mut Octets) -> Result<(), NoMemory>
+    ensures { OnOk result (out.new ≡ out.old ++ settings_text fault.now) }
+{
+    match fault {
+        SettingsFault::NotToml => out.append(b"not-toml"),
+        SettingsFault::TooLong => out.append(b"too-long"),
+        SettingsFault::UnknownKey(key) => push_key(b"unknown-key ", key, out),
+        SettingsFault::Missing(key) => push_key(b"missing ", key, out),
+        SettingsFault::BadValue(key) => push_key(b"bad-value ", key, out),
+        SettingsFault::Duplicate(key) => push_key(b"duplicate ", key, out),
+        SettingsFault::TooMany(key) => push_key(b"too-many ", key, out),
+        SettingsFault::Memory => Ok(()),
+    }
+}
+
+fn push_key(word: &[u8], key: &Key, out: &mut Octets) -> Result<(), NoMemory>
+    ensures { OnOk result (out.new ≡ out.old ++ (word.now ++ key.now)) }
+{
+    out.append(word)?;
+    out.append(key.as_slice())
+}
+
+/// The line at the end of a capture: the frames that were read, the packets that were written, and
+/// the length of the journal.
+pub(crate) fn end_line(
+    alloc: Global,
+    frames: u32,
+    written: u64,
+    entries: u64,
+) -> Result<Octets, NoMemory>
+    ensures { IfOk result (λ line. line ≡ end_line frames written entries) }
+{
+    let mut line = Octets::new(alloc);
+    push_named(b"end frames=", u64::from(frames), &mut line)?;
+    push_named(b" written=", written, &mut line)?;
+    push_named(b" entries=", entries, &mut line)?;
+    line.push(b'\n')?;
+    Ok(line)
+}
+
+/// The line at the end of a capture that was shown: the frames that were read.
+pub(crate) fn count_line(alloc: Global, frames: u32) -> Result<Octets, NoMemory>
+    ensures { IfOk result (λ line. line ≡ count_line frames) }
+{
+    let mut line = Octets::new(alloc);
+    push_named(b"end frames=", u64::from(frames), &mut line)?;
+    line.push(b'\n')?;
+    Ok(line)
+}
+
+/// The last line where a capture is refused.
+fn fault_line(alloc: Global, fault: CaptureFault) -> Result<Octets, NoMemory>
+    ensures { IfOk result (λ line. line ≡ fault_line fault) }
+{
+    let mut line = Octets::new(alloc);
+    line.append(b"capture ")?;
+    push_fault(fault, &mut line)?;
+    line.push(b'\n')?;
+    Ok(line)
+}
+
+fn push_fault(fault: CaptureFault, out: &mut Octets) -> Result<(), NoMemory>
+    ensures { OnOk result (out.new ≡ out.old ++ fault_text fault) }
+{
+    match fault {
+        CaptureFault::BadMagic => out.append(b"bad-magic"),
+        CaptureFault::BadVersion => out.append(b"bad-version"),
+        CaptureFault::BadLink => out.append(b"bad-link"),
+        CaptureFault::CutHeader(size) => push_named(b"cut-header ", size, out),
+        CaptureFault::CutRecord(place) => push_named(b"cut-record ", place, out),
+        CaptureFault::BadFraction(place) => push_named(b"bad-fraction ", place, out),
+        CaptureFault::TooLong(place, size) => {
+            push_named(b"too-long ", place, out)?;
+            push_named(b" ", u64::from(size), out)
+        }
+        CaptureFault::SpanTooLong(number) => {
+            push_named(b"span-too-long ", u64::from(number), out)
+        }
+        CaptureFault::TooManyRecords => out.append(b"too-many-records"),
+        CaptureFault::Host | CaptureFault::Memory => Ok(()),
+    }
+}

@@ -1,0 +1,36 @@
+// The output file, made with its header.
+ghost use Rattle.std.specs.Prelude.{◌≡◌, option_map, None, IfOk, IfSome};
+ghost use Rattle.desk.specs.Causes.{HasCause};
+ghost use Rattle.desk.specs.World.{found_at, after_make, after_write};
+ghost use Rattle.capture_io.specs.Output.{out_header};
+
+use capture_io::write_header;
+use desk::{Desk, DeskFault, FileId};
+use octets::{NoMemory, Octets};
+use std::alloc::Global;
+
+/// Makes the output, with the header of a capture.
+pub(crate) fn make_output<D: Desk>(
+    alloc: Global,
+    desk: &mut D,
+    name: &str,
+) -> Result<FileId, DeskFault>
+    ensures told { IfOk result (λ id. D.told desk.new ≡ option_map (λ w.
+        after_write id.number out_header (after_make id.number name.now w)) (D.told desk.old)) }
+    ensures fresh { IfOk result (λ id. IfSome (D.told desk.old) (λ w.
+        found_at id.number w.writers ≡ None)) }
+    ensures cause { HasCause (D.faults desk.old) (D.faults desk.new) result }
+{
+    let header = capture_header(alloc)?;
+    let id = desk.make_file(alloc, name)?;
+    desk.write_file(alloc, id, header.as_slice())?;
+    Ok(id)
+}
+
+fn capture_header(alloc: Global) -> Result<Octets, NoMemory>
+    ensures { IfOk result (λ header. header ≡ out_header) }
+{
+    let mut header = Octets::new(alloc);
+    write_header(&mut header)?;
+    Ok(header)
+}

@@ -1,0 +1,74 @@
+// The settings file, read piece by piece.
+ghost use Rattle.std.specs.Prelude.{◌≡◌, length, IfOk, IfSome};
+ghost use Rattle.desk.specs.Causes.{HasCause};
+ghost use Rattle.desk.specs.World.{content, left_of, shown};
+ghost use Rattle.lisp_settings.specs.Lawful.{IsLawful};
+ghost use Rattle.lisp_settings.specs.Settings.{settings_of};
+ghost use Rattle.replay.specs.Readings.{ReadsAs};
+
+use desk::{Desk, DeskFault, FileId, read_full};
+use lisp_settings::{Settings, SettingsFault, read_settings};
+use octets::Octets;
+use std::alloc::{AllocError, Global};
+
+// The most octets that a settings file may have.
+const MOST_OCTETS: usize = 16_777_216;
+
+// The octets that are read at once.
+const PIECE: usize = 65_536;
+
+/// The settings in the file of that name, or their first fault.
+pub(crate) fn load_settings<D: Desk>(
+    alloc: Global,
+    desk: &mut D,
+    name: &str,
+) -> Result<Result<Settings, SettingsFault>, DeskFault>
+    ensures value { IfOk result (λ settings. IfSome (D.told desk.old) (λ w. settings
+        ≡ settings_of (content name.now w.files))) }
+    ensures lawful { IfOk result (λ settings. IfOk settings IsLawful) }
+    ensures shown { shown (D.told desk.new) ≡ shown (D.told desk.old) }
+    ensures cause { HasCause (D.faults desk.old) (D.faults desk.new) result }
+{
+    let text = read_text(alloc, desk, name)?;
+    match read_settings(alloc, text.as_slice()) {
+        Ok(settings) => Ok(Ok(settings)),
+        Err(fault) => match fault {
+            SettingsFault::Memory => Err(DeskFault::Memory),
+            own => Ok(Err(own)),
+        },
+    }
+}
+
+// The text of a settings file; of one that is too long only so much as shows that.
+fn read_text<D: Desk>(alloc: Global, desk: &mut D, name: &str) -> Result<Octets, DeskFault>
+    ensures text { IfOk result (λ text. IfSome (D.told desk.old) (λ w.
+        ReadsAs text (content name.now w.files))) }
+    ensures shown { shown (D.told desk.new) ≡ shown (D.told desk.old) }
+    ensures cause { HasCause (D.faults desk.old) (D.faults desk.new) result }
+{
+    let id = desk.open_file(alloc, name)?;
+    read_pieces(alloc, desk, id)
+}
+
+fn read_pieces<D: Desk>(alloc: Global, desk: &mut D, id: FileId) -> Result<Octets, DeskFault>
+    ensures text { IfOk result (λ text. IfSome (D.told desk.old) (λ w.
+        ReadsAs text (left_of id.number w))) }
+    ensures shown { shown (D.told desk.new) ≡ shown (D.told desk.old) }
+    ensures cause { HasCause (D.faults desk.old) (D.faults desk.new) result }
+{
+    let mut piece = zeroed(alloc, PIECE)?;
+    let mut text = Octets::new(alloc);
+    loop {
+        let n = read_full(alloc, desk, id, &mut piece)?;
+        text.append(&piece[..n])?;
+        if n < PIECE || text.len() > MOST_OCTETS {
+            return Ok(text);
+        }
+    }
+}
+
+fn zeroed(alloc: Global, n: usize) -> Result<Vec<u8>, AllocError>
+    ensures { IfOk result (λ octets. length octets.items ≡ n) }
+{
+    vec![in alloc; 0u8; n]
+}

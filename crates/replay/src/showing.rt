@@ -1,0 +1,84 @@
+// The messages of a capture, shown.
+ghost use Rattle.std.specs.Prelude.{◌≡◌, IfOk, IfSome, IsTrue};
+ghost use Rattle.octets.specs.Rules.{first_failing};
+ghost use Rattle.desk.specs.Causes.{HasCause};
+ghost use Rattle.desk.specs.World.{content, left_of, shown, shown_of};
+ghost use Rattle.capture_io.specs.Capture.{begin, header_rules};
+ghost use Rattle.capture_io.specs.Frames.{read_on};
+ghost use Rattle.capture_io.specs.Reading.{beginning};
+ghost use Rattle.replay.specs.Answer.{after_header, is_end, messages_shown, Gives};
+ghost use Rattle.replay.specs.Show.{showing};
+
+use crate::Status;
+use crate::frame_text::push_shown;
+use crate::last_lines::{close, count_line, refuse_capture};
+use capture_io::{CaptureFault, CaptureReader, Frame};
+use desk::{Desk, DeskFault};
+use octets::NoMemory;
+use playback::{Machine, Output, play};
+use std::alloc::Global;
+
+/// A show, which keeps nothing from frame to frame.
+#[derive(Drop)]
+struct Show {}
+
+impl Machine for Show {
+    ghost State = { Unit {0} };
+
+    ghost state = { λ _. tt };
+
+    ghost step = { showing };
+
+    ghost IsReady = { λ _. Unit {0} };
+
+    fn take(
+        &mut self,
+        alloc: Global,
+        _previous: Option<u64>,
+        frame: &Frame,
+        output: &mut Output,
+    ) -> Result<(), NoMemory> {
+        push_shown(alloc, frame, &mut output.lines)
+    }
+}
+
+/// Shows the messages in the capture of that name.
+pub(crate) fn show_capture<D: Desk>(
+    alloc: Global,
+    desk: &mut D,
+    input: &str,
+) -> Result<Status, DeskFault>
+    ensures answer { IfOk result (λ s. IfSome (D.told desk.old) (λ w.
+        let file = content input.now w.files in
+        Gives (after_header messages_shown file
+        (first_failing (header_rules file))) s (shown_of w) (shown (D.told desk.new)))) }
+    ensures end { IfOk result (λ s. IsTrue (is_end s)) }
+    ensures cause { HasCause (D.faults desk.old) (D.faults desk.new) result }
+{
+    let id = desk.open_file(alloc, input)?;
+    match CaptureReader::start(alloc, desk, id) {
+        Ok(reader) => show_frames(alloc, desk, reader),
+        Err(fault) => match fault {
+            CaptureFault::Host => Err(DeskFault::Failed),
+            CaptureFault::Memory => Err(DeskFault::Memory),
+            own => refuse_capture(alloc, desk, own),
+        },
+    }
+}
+
+fn show_frames<D: Desk>(
+    alloc: Global,
+    desk: &mut D,
+    reader: CaptureReader,
+) -> Result<Status, DeskFault>
+    requires { reader ≡ beginning reader.id reader.format }
+    ensures answer { IfOk result (λ s. IfSome (D.told desk.old) (λ w.
+        Gives (messages_shown (read_on reader.format begin (left_of reader.id w))) s (shown_of w)
+        (shown (D.told desk.new)))) }
+    ensures end { IfOk result (λ s. IsTrue (is_end s)) }
+    ensures cause { HasCause (D.faults desk.old) (D.faults desk.new) result }
+{
+    let ending = play(alloc, desk, &mut Show {}, reader, None)?;
+    let line = count_line(alloc, ending.frames)?;
+    close(alloc, desk, ending.fault, line.as_slice())
+}

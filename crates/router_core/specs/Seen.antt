@@ -1,0 +1,40 @@
+-- What the router's values say in terms of its definitions.
+use Rattle.std.specs.Prelude.{ℕ}
+use Rattle.ip_headers.specs.declared.packet.IpPacket.{IpPacket}
+use Rattle.router_log.specs.declared.verdict.Verdict.{Verdict}
+use Rattle.lisp_settings.specs.declared.settings.Settings.{Settings}
+use Rattle.router_model.specs.Course as model
+use Rattle.router_model.specs.View.{View}
+use Rattle.router_core.specs.declared.courses.Course.{Course}
+use Rattle.router_core.specs.declared.courses.Course.TheVariants.{Settled, Data, Control, Leaving}
+use Rattle.router_core.specs.declared.datagram.Datagram.{Datagram}
+
+-- a packet and its place
+abbrev pub packet_seen : IpPacket → model.FramePacket
+packet_seen packet =
+    record { base = packet.base; header = packet.header; octets = packet.octets.now }
+
+-- a datagram in its packet
+abbrev pub datagram_seen : Datagram → model.Datagram
+datagram_seen datagram = record { packet = packet_seen datagram.packet; udp = datagram.udp }
+
+-- what a frame is
+abbrev pub course_seen : Course → model.Course
+course_seen (Settled verdict) = model.Settled verdict
+course_seen (Data datagram) = model.Data (datagram_seen datagram)
+course_seen (Control datagram) = model.Control (datagram_seen datagram)
+course_seen (Leaving iid packet) = model.Leaving iid (packet_seen packet)
+
+-- a fact of the instance of a packet that leaves the site
+abbrev pub IfLeaving : Course → (ℕ → Type 0) → Type 0
+IfLeaving (Leaving iid packet) P = P iid
+IfLeaving _ P = Unit {0}
+
+-- a fact of the verdict on a frame that is settled
+abbrev pub IfSettled : Course → (Verdict → Type 0) → Type 0
+IfSettled (Settled verdict) P = P verdict
+IfSettled _ P = Unit {0}
+
+-- what the settings' mappings alone let a decision see
+abbrev pub view_of : Settings → View
+view_of settings = record { mappings = settings.mappings }

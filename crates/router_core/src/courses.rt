@@ -1,0 +1,126 @@
+// What a frame is to the router: settled, a packet in a tunnel, a control message, or a packet that
+// leaves the site.
+ghost use Rattle.std.specs.Prelude.{◌≡◌, ◌<◌, ◌^◌, None, Ok, IfOk, IfSome};
+ghost use Rattle.octets.specs.Refusals.{refusal_of};
+ghost use Rattle.octets.specs.Rules.{first_failing};
+ghost use Rattle.ip_headers.specs.Packet.{IsPacketOf};
+ghost use Rattle.ip_headers.specs.Udp.{udp_read};
+ghost use Rattle.capture_io.specs.Link.{link_octets, link_place, link_vlan};
+ghost use Rattle.lisp_settings.specs.Lawful.{IsLawful};
+ghost use Rattle.router_model.specs.Course.{arriving, by_port, course_of, datagram_cases, frame_refusal, packet_course};
+ghost use Rattle.router_model.specs.Plain.{packet_of};
+ghost use Rattle.router_core.specs.Seen.{course_seen, packet_seen, IfLeaving, IfSettled};
+
+use crate::datagram::Datagram;
+use crate::site::{instance_of, is_own};
+use capture_io::{Frame, link_payload};
+use ip_headers::{IpPacket, Refused, UDP, UdpHeader, read_ip, read_udp};
+use lisp_header::LISP_DATA_PORT;
+use lisp_settings::Settings;
+use map_messages::LISP_CONTROL_PORT;
+use router_log::{Reason, Verdict};
+
+/// What a frame is to the router, which no mapping and no journal changes.
+#[derive(Drop)]
+pub enum Course<'a> {
+    /// By a rule that fails, by its source, or for want of an instance.
+    Settled(Verdict),
+    /// A packet in a tunnel, to an own locator.
+    Data(Datagram<'a>),
+    /// A control message to an own locator.
+    Control(Datagram<'a>),
+    /// A packet of an instance, to another address.
+    Leaving { iid: u32, packet: IpPacket<'a> },
+}
+
+/// The VLAN of a frame, 0 without one, and its packet, or the first rule of either that fails.
+pub fn frame_packet<'a>(frame: &'a Frame) -> Result<(u16, IpPacket<'a>), Refused>
+    ensures refused { refusal_of result ≡ frame_refusal frame.now }
+    ensures vlan { IfOk result (λ read. read.0 ≡ link_vlan frame.now) }
+    ensures packet { IfOk result (λ read.
+        IsPacketOf (link_octets frame.now) (link_place frame.now) read.1) }
+{
+    let (vlan, octets) = link_payload(frame)?;
+    let place = (frame.octets.len() - octets.len()) as u32;
+    let packet = read_ip(octets, place)?;
+    Ok((vlan, packet))
+}
+
+/// What a frame is to the router.
+pub fn course_of<'a>(settings: &Settings, frame: &'a Frame) -> Course<'a>
+    requires lawful { IsLawful settings.now }
+    ensures course { course_seen result ≡ course_of settings.now frame.now }
+    ensures instance { IfLeaving result (λ iid. iid < 2 ^ 24) }
+    ensures quiet { IfSettled result (λ verdict. packet_of verdict ≡ None) }
+{
+    match frame_packet(frame) {
+        Ok((vlan, packet)) => packet_course(settings, vlan, packet),
+        Err(refused) => Course::Settled(Verdict::Drop(Reason::Refused(refused))),
+    }
+}
+
+// What a packet that came in a VLAN is.
+#[tactic(auto, unfolding(router_model::specs::Course::packet_course))]
+fn packet_course<'a>(settings: &Settings, vlan: u16, packet: IpPacket<'a>) -> Course<'a>
+    requires lawful { IsLawful settings.now }
+    ensures course { course_seen result
+        ≡ packet_course settings.now vlan (packet_seen packet.entry) }
+    ensures instance { IfLeaving result (λ iid. iid < 2 ^ 24) }
+    ensures quiet { IfSettled result (λ verdict. packet_of verdict ≡ None) }
+{
+    let locators = settings.locators.as_slice();
+    if is_own(locators, packet.header.source()) {
+        return Course::Settled(Verdict::Own);
+    }
+    if is_own(locators, packet.header.dest()) {
+        return arriving(packet);
+    }
+    match instance_of(settings.attachments.as_slice(), vlan) {
+        Some(iid) => Course::Leaving { iid, packet },
+        None => Course::Settled(Verdict::Drop(Reason::NoAttachment)),
+    }
+}
+
+// What a packet to an own locator is.
+#[tactic(auto, unfolding(router_model::specs::Course::arriving))]
+fn arriving<'a>(packet: IpPacket<'a>) -> Course<'a>
+    ensures course { course_seen result ≡ arriving (packet_seen packet.entry) }
+    ensures stays { IfLeaving result (λ iid. iid < 2 ^ 24) }
+    ensures quiet { IfSettled result (λ verdict. packet_of verdict ≡ None) }
+{
+    if let Some(verdict) = no_datagram(&packet) {
+        return Course::Settled(verdict);
+    }
+    match read_udp(&packet) {
+        Ok(udp) => by_port(packet, udp),
+        Err(refused) => Course::Settled(Verdict::Drop(Reason::Refused(refused))),
+    }
+}
+
+fn no_datagram(packet: &IpPacket) -> Option<Verdict>
+    ensures verdict { result ≡ first_failing (datagram_cases packet.now.header) }
+    ensures quiet { IfSome result (λ verdict. packet_of verdict ≡ None) }
+{
+    if packet.header.is_fragment() {
+        return Some(Verdict::Drop(Reason::Fragment));
+    }
+    if packet.header.protocol() != UDP {
+        return Some(Verdict::Drop(Reason::NotTunnel));
+    }
+    None
+}
+
+fn by_port<'a>(packet: IpPacket<'a>, udp: UdpHeader) -> Course<'a>
+    requires { udp_read packet ≡ Ok udp }
+    ensures course { course_seen result ≡ by_port (packet_seen packet.entry) udp }
+    ensures stays { IfLeaving result (λ iid. iid < 2 ^ 24) }
+    ensures quiet { IfSettled result (λ verdict. packet_of verdict ≡ None) }
+{
+    if udp.dest == LISP_DATA_PORT {
+        Course::Data(Datagram { packet, udp })
+    } else if udp.dest == LISP_CONTROL_PORT || udp.source == LISP_CONTROL_PORT {
+        Course::Control(Datagram { packet, udp })
+    } else {
+        Course::Settled(Verdict::Drop(Reason::NotTunnel))
+    }
+}

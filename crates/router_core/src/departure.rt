@@ -1,0 +1,206 @@
+// A packet from the site: into a tunnel, past the tunnels, or dropped.
+ghost use Rattle.std.specs.Prelude.{◌≡◌, ◌<◌, ◌^◌, IfOk, IfSome, Some, None};
+ghost use Rattle.octets.specs.Rules.{first_failing};
+ghost use Rattle.ip_headers.specs.Addr.{width};
+ghost use Rattle.lisp_header.specs.Header.{InRange};
+ghost use Rattle.encap.specs.Rules.{encap_rules, forward_rules};
+ghost use Rattle.lisp_settings.specs.Lawful.{IsLawful};
+ghost use Rattle.router_model.specs.Decide.{by_action, is_multicast, lisp_header, mapped, natively, routed, sent, site_cases, towards};
+ghost use Rattle.router_model.specs.Plain.{packet_of, FitsRecord};
+ghost use Rattle.router_core.specs.Seen.{packet_seen, view_of};
+
+use crate::choice::chosen;
+use crate::site::{ours, own_bits};
+use encap::{EncapDrop, encapsulate, forward_native};
+use ip_headers::{Addr, IpPacket, five_tuple};
+use lisp_header::LispHeader;
+use lisp_settings::{Record, Settings, home};
+use locator_choice::{flow_hash, source_port};
+use mapping_records::{Action, longest};
+use octets::NoMemory;
+use router_log::{Reason, Verdict};
+use std::alloc::Global;
+
+/// The verdict on a packet of an instance.
+#[tactic(auto, unfolding(router_model::specs::Decide::routed))]
+pub(crate) fn routed(
+    alloc: Global,
+    settings: &Settings,
+    iid: u32,
+    packet: &IpPacket,
+) -> Result<Verdict, NoMemory>
+    requires lawful { IsLawful settings.now }
+    requires instance { iid < 2 ^ 24 }
+    ensures verdict { IfOk result (λ verdict. verdict
+        ≡ routed settings.now (view_of settings.now) iid (packet_seen packet.now)) }
+    ensures size { IfOk result FitsRecord }
+{
+    if let Some(verdict) = kept_out(settings, iid, packet) {
+        return Ok(verdict);
+    }
+    match longest(settings.mappings.as_slice(), iid, packet.header.dest()) {
+        Some(mapping) => mapped(alloc, settings, iid, packet, mapping),
+        None => Ok(Verdict::Drop(Reason::Miss)),
+    }
+}
+
+// The verdict on a packet that stays out of a tunnel.
+fn kept_out(settings: &Settings, iid: u32, packet: &IpPacket) -> Option<Verdict>
+    ensures verdict { result ≡ first_failing (site_cases settings.now iid packet.now.header) }
+    ensures none { IfSome result (λ verdict. packet_of verdict ≡ None) }
+{
+    let dest = packet.header.dest();
+    if is_multicast(dest) {
+        return Some(Verdict::Drop(Reason::Multicast));
+    }
+    if home(settings, iid, &dest).is_some() {
+        return Some(Verdict::Local);
+    }
+    if home(settings, iid, &packet.header.source()).is_none() {
+        return Some(Verdict::Drop(Reason::NotSite));
+    }
+    None
+}
+
+fn is_multicast(address: Addr) -> bool
+    ensures { result ≡ is_multicast address }
+{
+    match address {
+        Addr::V4(number) => number >> 28 == 14 || number == 0xffff_ffff,
+        Addr::V6(number) => number >> 120 == 255,
+    }
+}
+
+// The verdict by the mapping in force.
+fn mapped(
+    alloc: Global,
+    settings: &Settings,
+    iid: u32,
+    packet: &IpPacket,
+    mapping: &Record,
+) -> Result<Verdict, NoMemory>
+    requires lawful { IsLawful settings.now }
+    requires instance { iid < 2 ^ 24 }
+    ensures verdict { IfOk result (λ verdict. verdict
+        ≡ mapped settings.now iid (packet_seen packet.now) (Some mapping.now)) }
+    ensures size { IfOk result FitsRecord }
+{
+    if mapping.locators.len() == 0 {
+        return by_action(alloc, packet, Action::of(mapping.action));
+    }
+    match chosen(settings.locators.as_slice(), mapping.locators.as_slice()) {
+        Some(to) => towards(alloc, settings, iid, packet, to),
+        None => Ok(Verdict::Drop(Reason::NoLocator)),
+    }
+}
+
+// The verdict by the action of a mapping without locators.
+fn by_action(alloc: Global, packet: &IpPacket, action: Action) -> Result<Verdict, NoMemory>
+    ensures verdict { IfOk result (λ verdict. verdict ≡ by_action packet.now.octets.now action) }
+    ensures size { IfOk result FitsRecord }
+{
+    let reason = match action {
+        Action::NativelyForward => return natively(alloc, packet),
+        Action::NoAction => Reason::NoAction,
+        Action::SendMapRequest => Reason::SendRequest,
+        Action::DropNoReason => Reason::DropNoReason,
+        Action::DropPolicy => Reason::DropPolicy,
+        Action::DropAuth => Reason::DropAuth,
+    };
+    Ok(Verdict::Drop(reason))
+}
+
+// The packet, past the tunnels.
+fn natively(alloc: Global, packet: &IpPacket) -> Result<Verdict, NoMemory>
+    ensures verdict { IfOk result (λ verdict. verdict
+        ≡ natively packet.now.octets.now (first_failing (forward_rules packet.now.octets.now))) }
+    ensures size { IfOk result FitsRecord }
+{
+    match forward_native(alloc, packet) {
+        Ok(packet) => Ok(Verdict::Native { packet }),
+        Err(EncapDrop::TtlExpired) => Ok(Verdict::Drop(Reason::TtlExpired)),
+        Err(EncapDrop::TooBig) => Ok(Verdict::Drop(Reason::TooBig)),
+        Err(EncapDrop::Memory) => Err(NoMemory),
+    }
+}
+
+// The packet, in a tunnel to that locator.
+fn towards(
+    alloc: Global,
+    settings: &Settings,
+    iid: u32,
+    packet: &IpPacket,
+    to: Addr,
+) -> Result<Verdict, NoMemory>
+    requires lawful { IsLawful settings.now }
+    requires instance { iid < 2 ^ 24 }
+    ensures verdict { IfOk result (λ verdict. verdict
+        ≡ towards settings.now iid (packet_seen packet.now) (Some to)) }
+    ensures size { IfOk result FitsRecord }
+{
+    match ours(settings.locators.as_slice(), to) {
+        Some(from) => sent(alloc, settings, iid, packet, from, to),
+        None => Ok(Verdict::Drop(Reason::NoLocator)),
+    }
+}
+
+// The packet, in a tunnel between two locators.
+fn sent(
+    alloc: Global,
+    settings: &Settings,
+    iid: u32,
+    packet: &IpPacket,
+    from: Addr,
+    to: Addr,
+) -> Result<Verdict, NoMemory>
+    requires lawful { IsLawful settings.now }
+    requires instance { iid < 2 ^ 24 }
+    requires family { width from ≡ width to }
+    ensures verdict { IfOk result (λ verdict. verdict
+        ≡ sent settings.now iid (packet_seen packet.now) from to
+        (first_failing (encap_rules packet.now.octets.now from))) }
+    ensures size { IfOk result FitsRecord }
+{
+    let port = source_port(flow_hash(&five_tuple(packet)));
+    let header = lisp_header(settings, iid);
+    match encapsulate(alloc, packet, from, to, port, &header) {
+        Ok(packet) => Ok(Verdict::Encapsulated {
+            from,
+            to,
+            port,
+            packet,
+        }),
+        Err(EncapDrop::TtlExpired) => Ok(Verdict::Drop(Reason::TtlExpired)),
+        Err(EncapDrop::TooBig) => Ok(Verdict::Drop(Reason::TooBig)),
+        Err(EncapDrop::Memory) => Err(NoMemory),
+    }
+}
+
+// The header of a tunnel packet: the status bits of the own locators, and the instance where it
+// is not 0.
+fn lisp_header(settings: &Settings, iid: u32) -> LispHeader
+    requires lawful { IsLawful settings.now }
+    requires instance { iid < 2 ^ 24 }
+    ensures header { result ≡ lisp_header settings.now iid }
+    ensures range { InRange result }
+{
+    let bits = own_bits(settings.locators.as_slice()) as u32;
+    if iid == 0 {
+        return LispHeader {
+            nonce: None,
+            echo: false,
+            versions: None,
+            status: Some(bits),
+            instance: None,
+            key: 0,
+        };
+    }
+    LispHeader {
+        nonce: None,
+        echo: false,
+        versions: None,
+        status: Some(bits % 256),
+        instance: Some(iid),
+        key: 0,
+    }
+}

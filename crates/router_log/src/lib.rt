@@ -1,0 +1,23 @@
+//! What a router writes down: the entries of its journal, what it notices and emits, what becomes
+//! of a frame, and the line that a report has of it.
+#![tactic(auto)]
+
+mod emit;
+mod entry;
+mod lines;
+mod notice;
+mod numbers;
+mod refusals;
+mod verdict;
+
+pub use emit::{Emit, Emits};
+pub use entry::{Entries, Entry};
+pub use ip_headers::{Addr, Prefix, Refused};
+pub use lines::{frame_line, push_frame_line};
+pub use map_messages::MapReply;
+pub use mapping_records::{Eid, Record};
+pub use notice::{Notice, Notices};
+pub use numbers::{push_address, push_hex, push_named, push_number, push_octets};
+pub use octets::{Items, NoMemory, Octets};
+pub use refusals::push_refused;
+pub use verdict::{Done, Reason, Verdict};

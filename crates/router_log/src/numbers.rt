@@ -1,0 +1,163 @@
+// Numbers and addresses as a report writes them.
+ghost use Rattle.std.specs.Prelude.{◌≡◌, ◌<◌, ◌+◌, ◌%◌, ◌++◌, flat_map, OnOk};
+ghost use Rattle.std.specs.Fmt.{decimal};
+ghost use Rattle.router_log.specs.Numbers.{address_text, dotted, fixed_decimal, fixed_hex, four_groups, groups, hex_16, hex_glyph, named};
+
+use ip_headers::Addr;
+use octets::{NoMemory, Octets};
+
+/// Appends a number in decimal digits.
+pub fn push_number(number: u64, out: &mut Octets) -> Result<(), NoMemory>
+    ensures { OnOk result (out.new ≡ out.old ++ decimal number) }
+{
+    if number >= 10 {
+        push_number(number / 10, out)?;
+    }
+    out.push(b'0' + (number % 10) as u8)
+}
+
+/// Appends a name and a number.
+#[tactic(auto, unfolding(crate::specs::Numbers::named))]
+pub fn push_named(name: &[u8], number: u64, out: &mut Octets) -> Result<(), NoMemory>
+    ensures { OnOk result (out.new ≡ out.old ++ named name.now number) }
+{
+    out.append(name)?;
+    push_number(number, out)
+}
+
+/// Appends nine decimal digits, with leading zeros.
+pub fn push_nine_digits(number: u32, out: &mut Octets) -> Result<(), NoMemory>
+    requires { number < 1000000000 }
+    ensures { OnOk result (out.new ≡ out.old ++ fixed_decimal 9 number) }
+{
+    let digits = [
+        digit(number / 100_000_000),
+        digit(number / 10_000_000),
+        digit(number / 1_000_000),
+        digit(number / 100_000),
+        digit(number / 10_000),
+        digit(number / 1000),
+        digit(number / 100),
+        digit(number / 10),
+        digit(number),
+    ];
+    out.append(&digits)
+}
+
+/// Appends sixteen hexadecimal digits, with leading zeros.
+#[tactic(auto, unfolding(crate::specs::Numbers::hex_16))]
+pub fn push_hex(number: u64, out: &mut Octets) -> Result<(), NoMemory>
+    ensures { OnOk result (out.new ≡ out.old ++ hex_16 number) }
+{
+    let digits = [
+        hex_digit(number / 0x1000_0000_0000_0000),
+        hex_digit(number / 0x100_0000_0000_0000),
+        hex_digit(number / 0x10_0000_0000_0000),
+        hex_digit(number / 0x1_0000_0000_0000),
+        hex_digit(number / 0x1000_0000_0000),
+        hex_digit(number / 0x100_0000_0000),
+        hex_digit(number / 0x10_0000_0000),
+        hex_digit(number / 0x1_0000_0000),
+        hex_digit(number / 0x1000_0000),
+        hex_digit(number / 0x100_0000),
+        hex_digit(number / 0x10_0000),
+        hex_digit(number / 0x1_0000),
+        hex_digit(number / 0x1000),
+        hex_digit(number / 0x100),
+        hex_digit(number / 0x10),
+        hex_digit(number),
+    ];
+    out.append(&digits)
+}
+
+/// Appends two hexadecimal digits for each octet.
+pub fn push_octets(octets: &[u8], out: &mut Octets) -> Result<(), NoMemory>
+    ensures { OnOk result (out.new ≡ out.old ++ flat_map (fixed_hex 2) octets.now) }
+{
+    for octet in octets {
+        push_octet(*octet, out)?;
+    }
+    Ok(())
+}
+
+fn push_octet(octet: u8, out: &mut Octets) -> Result<(), NoMemory>
+    ensures { OnOk result (out.new ≡ out.old ++ fixed_hex 2 octet) }
+{
+    let octet = u64::from(octet);
+    out.append(&[hex_digit(octet / 16), hex_digit(octet)])
+}
+
+// The lowest decimal digit.
+fn digit(number: u32) -> u8
+    ensures { result ≡ 48 + number % 10 }
+{
+    b'0' + (number % 10) as u8
+}
+
+/// Appends an address: IPv4 dotted, IPv6 as eight groups of four hexadecimal digits.
+pub fn push_address(address: Addr, out: &mut Octets) -> Result<(), NoMemory>
+    ensures { OnOk result (out.new ≡ out.old ++ address_text address) }
+{
+    match address {
+        Addr::V4(number) => push_dotted(number, out),
+        Addr::V6(number) => push_groups(number, out),
+    }
+}
+
+fn push_dotted(number: u32, out: &mut Octets) -> Result<(), NoMemory>
+    ensures { OnOk result (out.new ≡ out.old ++ dotted number) }
+{
+    push_number(u64::from(number / 16_777_216), out)?;
+    out.push(b'.')?;
+    push_number(u64::from(number / 65_536 % 256), out)?;
+    out.push(b'.')?;
+    push_number(u64::from(number / 256 % 256), out)?;
+    out.push(b'.')?;
+    push_number(u64::from(number % 256), out)
+}
+
+fn push_groups(number: u128, out: &mut Octets) -> Result<(), NoMemory>
+    ensures { OnOk result (out.new ≡ out.old ++ groups number) }
+{
+    out.append(&four_groups((number / 0x1_0000_0000_0000_0000) as u64))?;
+    out.push(b':')?;
+    out.append(&four_groups((number % 0x1_0000_0000_0000_0000) as u64))
+}
+
+#[tactic(auto, unfolding(crate::specs::Numbers::four_groups))]
+fn four_groups(half: u64) -> [u8; 19]
+    ensures { result ≡ four_groups half }
+{
+    let a = group_text((half / 0x1_0000_0000_0000) as u16);
+    let b = group_text((half / 0x1_0000_0000 % 0x1_0000) as u16);
+    let c = group_text((half / 0x1_0000 % 0x1_0000) as u16);
+    let d = group_text((half % 0x1_0000) as u16);
+    [
+        a[0], a[1], a[2], a[3], b':', b[0], b[1], b[2], b[3], b':', c[0], c[1], c[2], c[3], b':',
+        d[0], d[1], d[2], d[3],
+    ]
+}
+
+fn group_text(group: u16) -> [u8; 4]
+    ensures { result ≡ fixed_hex 4 group }
+{
+    let group = u64::from(group);
+    [
+        hex_digit(group / 4096),
+        hex_digit(group / 256),
+        hex_digit(group / 16),
+        hex_digit(group),
+    ]
+}
+
+// The lowest hexadecimal digit, in lower case.
+fn hex_digit(number: u64) -> u8
+    ensures { result ≡ hex_glyph (number % 16) }
+{
+    let digit = (number % 16) as u8;
+    if digit < 10 {
+        b'0' + digit
+    } else {
+        b'a' - 10 + digit
+    }
+}

@@ -1,0 +1,109 @@
+-- What a frame is to the router, which no mapping and no journal changes (RFC 9300, section 5.3).
+use Rattle.std.specs.Prelude.{ℕ, ◌==◌, ◌||◌, not, Bool, List, [], ◌∷◌, Option, Some, None, Result, Ok, Err, if◌then◌else◌}
+use Rattle.std.specs.Option.{option_or}
+use Rattle.octets.specs.Rules.{first_failing}
+use Rattle.octets.specs.declared.refused.Refused.{Refused}
+use Rattle.ip_headers.specs.Ip.{dest_of, header_at, ip_rules, is_fragment, packet_in, payload_place, protocol_of, source_of}
+use Rattle.ip_headers.specs.Udp.{answer_of, udp_at, udp_rules}
+use Rattle.ip_headers.specs.declared.header.IpHeader.{IpHeader}
+use Rattle.ip_headers.specs.declared.header.UdpHeader.{UdpHeader}
+use Rattle.capture_io.specs.Frame.{Frame}
+use Rattle.capture_io.specs.Link.{link_octets, link_place, link_rules, link_vlan}
+use Rattle.lisp_settings.specs.declared.settings.Settings.{Settings}
+use Rattle.router_log.specs.declared.verdict.Reason.TheVariants.{Refused as IsRefused, Fragment, NotTunnel, NoAttachment}
+use Rattle.router_log.specs.declared.verdict.Verdict.{Verdict}
+use Rattle.router_log.specs.declared.verdict.Verdict.TheVariants.{Own, Drop}
+use Rattle.router_model.specs.Site.{instance_of, is_own}
+
+-- a packet, and where it stands in its frame
+pub record FramePacket : Type 0 where
+  pub base : ℕ
+  pub header : IpHeader
+  pub octets : List ℕ
+
+-- a packet with a UDP datagram, and the datagram's header
+pub record Datagram : Type 0 where
+  pub packet : FramePacket
+  pub udp : UdpHeader
+
+-- settled by a rule or its source, a packet in a tunnel, a control message, or a packet of an
+-- instance that leaves the site
+pub data Course : Type 0 where
+  Settled : Verdict → Course
+  Data : Datagram → Course
+  Control : Datagram → Course
+  Leaving : ℕ → FramePacket → Course
+
+-- what is settled, or else what follows
+abbrev pub unless_settled : Option Verdict → Course → Course
+unless_settled None course = course
+unless_settled (Some verdict) course = Settled verdict
+
+-- port 4341 has packets in tunnels, 4342 on either side control messages
+abbrev pub by_port : FramePacket → UdpHeader → Course
+by_port packet udp =
+    if udp.dest == 4341 then Data (record { packet = packet; udp = udp })
+    else if udp.dest == 4342 || udp.source == 4342
+    then Control (record { packet = packet; udp = udp })
+    else Settled (Drop NotTunnel)
+
+-- a packet with a datagram by its UDP header, where the rules of UDP hold
+abbrev pub by_udp : FramePacket → Result UdpHeader Refused → Course
+by_udp packet (Err refused) = Settled (Drop (IsRefused refused))
+by_udp packet (Ok udp) = by_port packet udp
+
+-- the cases in which a packet to the router has no datagram
+abbrev pub datagram_cases : IpHeader → List (Bool × Verdict)
+datagram_cases header =
+    (not (is_fragment header), Drop Fragment) ∷ (protocol_of header == 17, Drop NotTunnel) ∷ []
+
+-- the UDP header of a packet, or the first rule that fails
+abbrev pub datagram_read : FramePacket → Result UdpHeader Refused
+datagram_read packet =
+    answer_of (first_failing (udp_rules packet.base (payload_place packet.header) packet.octets))
+    (udp_at (payload_place packet.header) packet.octets)
+
+-- a packet to an own locator
+unfoldable pub arriving : FramePacket → Course
+arriving packet =
+    unless_settled (first_failing (datagram_cases packet.header))
+    (by_udp packet (datagram_read packet))
+
+-- a packet to another address, of the instance of its VLAN
+abbrev pub leaving : FramePacket → Option ℕ → Course
+leaving packet None = Settled (Drop NoAttachment)
+leaving packet (Some iid) = Leaving iid packet
+
+-- a packet that came in a VLAN
+unfoldable pub packet_course : Settings → ℕ → FramePacket → Course
+packet_course settings vlan packet =
+    if is_own settings.locators (source_of packet.header) then Settled Own
+    else if is_own settings.locators (dest_of packet.header) then arriving packet
+    else leaving packet (instance_of settings.attachments vlan)
+
+-- ### from frame to packet
+
+-- the first rule that a frame fails: those of its link, then those of the packet behind it
+abbrev pub frame_refusal : Frame → Option Refused
+frame_refusal frame =
+    option_or (first_failing (link_rules frame))
+    (first_failing (ip_rules (link_place frame) (link_octets frame)))
+
+-- the packet of a frame that keeps them
+abbrev pub frame_packet : Frame → FramePacket
+frame_packet frame = record {
+  base = link_place frame;
+  header = header_at (link_octets frame);
+  octets = packet_in (link_octets frame);
+}
+
+-- the course of a frame, unless a rule refuses it
+abbrev pub unless_refused : Option Refused → Course → Course
+unless_refused None course = course
+unless_refused (Some refused) course = Settled (Drop (IsRefused refused))
+
+-- what a frame is
+abbrev pub course_of : Settings → Frame → Course
+course_of settings frame =
+    unless_refused (frame_refusal frame)
+    (packet_course settings (link_vlan frame) (frame_packet frame))

@@ -1,0 +1,183 @@
+-- What the router does with a frame (RFC 9300, sections 5.3 and 10; this router's order of cases).
+use Rattle.std.specs.Prelude.{ℕ, ◌/◌, ◌%◌, ◌^◌, ◌==◌, ◌||◌, not, Bool, false, List, [], ◌∷◌, drop, length, Option, Some, None, is_none, is_some, unwrap_or, if◌then◌else◌}
+use Rattle.octets.specs.Rules.{first_failing}
+use Rattle.ip_headers.specs.Ip.{dest_of, header_at, packet_in, source_of}
+use Rattle.ip_headers.specs.Tuple.{five_tuple_of}
+use Rattle.ip_headers.specs.Udp.{payload_in}
+use Rattle.ip_headers.specs.declared.addr.Addr.{Addr}
+use Rattle.ip_headers.specs.declared.addr.Addr.TheVariants.{V4, V6}
+use Rattle.ip_headers.specs.declared.header.IpHeader.{IpHeader}
+use Rattle.lisp_header.specs.Header.{header_at as lisp_header_at}
+use Rattle.lisp_header.specs.declared.header.LispHeader.{LispHeader}
+use Rattle.encap.specs.Forwarded.{forwarded}
+use Rattle.encap.specs.Rules.{Unsent, encap_rules, forward_rules}
+use Rattle.encap.specs.Rules as encap
+use Rattle.encap.specs.Wrapped.{wrapped}
+use Rattle.decap.specs.Delivered.{Undelivered, deliver_rules, delivered}
+use Rattle.decap.specs.Delivered as decap
+use Rattle.decap.specs.Opened.{opened_rules}
+use Rattle.decap.specs.declared.fault.OpenDrop.{OpenDrop}
+use Rattle.decap.specs.declared.fault.OpenDrop.TheVariants as open_drop
+use Rattle.capture_io.specs.Frame.{Frame}
+use Rattle.mapping_records.specs.Action.{action_of}
+use Rattle.mapping_records.specs.declared.action.Action.{Action}
+use Rattle.mapping_records.specs.declared.action.Action.TheVariants as action
+use Rattle.mapping_records.specs.declared.record.Record.{Record}
+use Rattle.lisp_settings.specs.Home.{home_of}
+use Rattle.lisp_settings.specs.declared.settings.Database.{Database}
+use Rattle.lisp_settings.specs.declared.settings.Settings.{Settings}
+use Rattle.locator_choice.specs.Hash.{flow_hash, source_port}
+use Rattle.router_log.specs.declared.verdict.Reason.{Reason}
+use Rattle.router_log.specs.declared.verdict.Reason.TheVariants as reason
+use Rattle.router_log.specs.declared.verdict.Reason.TheVariants.{NotBuilt, Encrypted, NotOurs, CongestionMark, TtlExpired, Multicast, NotSite, Miss, NoAction, SendRequest, DropNoReason, DropPolicy, DropAuth, NoLocator, TooBig}
+use Rattle.router_log.specs.declared.verdict.Verdict.{Verdict}
+use Rattle.router_log.specs.declared.verdict.Verdict.TheVariants.{Local, Encapsulated, Delivered, Native, Drop}
+use Rattle.router_model.specs.Choice.{chosen}
+use Rattle.router_model.specs.Course.{Course, Datagram, FramePacket, Settled, Data, Control, Leaving, course_of}
+use Rattle.router_model.specs.Site.{ours, own_bits}
+use Rattle.router_model.specs.View.{View, force}
+
+-- ### a packet in a tunnel to the router
+
+-- the reason of a packet that isn't delivered
+abbrev pub delivery_reason : Undelivered → Reason
+delivery_reason decap.CongestionMark = CongestionMark
+delivery_reason decap.TtlExpired = TtlExpired
+
+-- a packet for the site, which leaves its tunnel unless a rule drops it
+abbrev pub leaves : ℕ → IpHeader → List ℕ → Option Undelivered → Verdict
+leaves iid outer inner (Some why) = Drop (delivery_reason why)
+leaves iid outer inner None = Delivered iid (delivered inner outer)
+
+-- a packet in a tunnel by the database prefix of its destination
+abbrev pub for_home : ℕ → IpHeader → List ℕ → Option Database → Verdict
+for_home iid outer inner None = Drop NotOurs
+for_home iid outer inner (Some home) =
+    leaves iid outer inner (first_failing (deliver_rules inner outer))
+
+-- the instance of a LISP header, 0 without one
+abbrev pub iid_of : LispHeader → ℕ
+iid_of lisp = unwrap_or lisp.instance 0
+
+-- the packet behind a LISP header
+abbrev pub unwrapped : Settings → IpHeader → LispHeader → List ℕ → Verdict
+unwrapped settings outer lisp octets =
+    for_home (iid_of lisp) outer (packet_in octets)
+    (home_of settings.databases (iid_of lisp) (dest_of (header_at octets)))
+
+-- the reason of a tunnel packet that isn't opened
+abbrev pub open_reason : OpenDrop → Reason
+open_reason (open_drop.Refused refused) = reason.Refused refused
+open_reason open_drop.Encrypted = Encrypted
+
+-- a tunnel packet by its payload, where the rules of opening hold
+abbrev pub opened : Settings → IpHeader → List ℕ → Option OpenDrop → Verdict
+opened settings outer payload (Some why) = Drop (open_reason why)
+opened settings outer payload None =
+    unwrapped settings outer (lisp_header_at payload) (drop 8 payload)
+
+-- a packet in a tunnel
+abbrev pub tunnelled : Settings → Datagram → Verdict
+tunnelled settings d =
+    opened settings d.packet.header (payload_in d.packet.octets d.udp)
+    (first_failing (opened_rules d.packet.base d.packet.header d.packet.octets d.udp))
+
+-- ### a packet from the site
+
+-- 224.0.0.0/4, 255.255.255.255 and ff00::/8
+abbrev pub is_multicast : Addr → Bool
+is_multicast (V4 n) = n / 2 ^ 28 == 14 || n == 0xffffffff
+is_multicast (V6 n) = n / 2 ^ 120 == 255
+
+-- the cases in which a packet of an instance stays out of a tunnel, in order: each the test that it
+-- isn't so, and the verdict where it is
+abbrev pub site_cases : Settings → ℕ → IpHeader → List (Bool × Verdict)
+site_cases settings iid header =
+    (not (is_multicast (dest_of header)), Drop Multicast)
+    ∷ (is_none (home_of settings.databases iid (dest_of header)), Local)
+    ∷ (is_some (home_of settings.databases iid (source_of header)), Drop NotSite)
+    ∷ []
+
+-- what is settled by a case, or else what follows
+abbrev pub unless_decided : Option Verdict → Verdict → Verdict
+unless_decided None verdict = verdict
+unless_decided (Some decided) verdict = decided
+
+-- the LISP header of a tunnel packet: the own status bits, beside an instance the lowest 8
+abbrev pub lisp_header : Settings → ℕ → LispHeader
+lisp_header settings iid = record {
+  nonce = None;
+  echo = false;
+  versions = None;
+  status = Some (if iid == 0 then own_bits settings.locators else own_bits settings.locators % 256);
+  instance = if iid == 0 then None else Some iid;
+  key = 0;
+}
+
+-- the source port of a packet's tunnel
+abbrev pub port_of : IpHeader → List ℕ → ℕ
+port_of header packet = source_port (flow_hash (five_tuple_of header packet))
+
+-- the reason of a packet that isn't sent
+abbrev pub unsent_reason : Unsent → Reason
+unsent_reason encap.TtlExpired = TtlExpired
+unsent_reason encap.TooBig = TooBig
+
+-- the packet, in a tunnel between two locators, unless it can't be sent
+abbrev pub sent : Settings → ℕ → FramePacket → Addr → Addr → Option Unsent → Verdict
+sent settings iid packet from to (Some why) = Drop (unsent_reason why)
+sent settings iid packet from to None =
+    let port = port_of packet.header packet.octets in
+    Encapsulated from to port (wrapped packet.octets from to port (lisp_header settings iid))
+
+-- the packet, from ours of the family of a locator
+abbrev pub from_ours : Settings → ℕ → FramePacket → Addr → Option Addr → Verdict
+from_ours settings iid packet to None = Drop NoLocator
+from_ours settings iid packet to (Some from) =
+    sent settings iid packet from to (first_failing (encap_rules packet.octets from))
+
+-- the packet, to the locator that is chosen
+abbrev pub towards : Settings → ℕ → FramePacket → Option Addr → Verdict
+towards settings iid packet None = Drop NoLocator
+towards settings iid packet (Some to) =
+    from_ours settings iid packet to (ours settings.locators to)
+
+-- the packet goes on as it is, with one hop less
+abbrev pub natively : List ℕ → Option Unsent → Verdict
+natively packet (Some why) = Drop (unsent_reason why)
+natively packet None = Native (forwarded packet)
+
+-- the packet, by the action of a mapping without locators (RFC 9301, section 5.4)
+abbrev pub by_action : List ℕ → Action → Verdict
+by_action packet action.NoAction = Drop NoAction
+by_action packet action.NativelyForward = natively packet (first_failing (forward_rules packet))
+by_action packet action.SendMapRequest = Drop SendRequest
+by_action packet action.DropNoReason = Drop DropNoReason
+by_action packet action.DropPolicy = Drop DropPolicy
+by_action packet action.DropAuth = Drop DropAuth
+
+-- a packet of an instance by the mapping in force for its destination
+abbrev pub mapped : Settings → ℕ → FramePacket → Option Record → Verdict
+mapped settings iid packet None = Drop Miss
+mapped settings iid packet (Some mapping) =
+    if length mapping.locators == 0 then by_action packet.octets (action_of mapping.action)
+    else towards settings iid packet (chosen settings.locators mapping.locators)
+
+-- a packet of an instance
+unfoldable pub routed : Settings → View → ℕ → FramePacket → Verdict
+routed settings v iid packet =
+    unless_decided (first_failing (site_cases settings iid packet.header))
+    (mapped settings iid packet (force v iid (dest_of packet.header)))
+
+-- ### any frame
+
+-- the verdict on a frame of that course; control messages aren't built yet
+abbrev pub decide_course : Settings → View → Course → Verdict
+decide_course settings v (Settled verdict) = verdict
+decide_course settings v (Data datagram) = tunnelled settings datagram
+decide_course settings v (Control datagram) = Drop NotBuilt
+decide_course settings v (Leaving iid packet) = routed settings v iid packet
+
+-- the verdict on a frame, by a view
+abbrev pub decide : Settings → View → Frame → Verdict
+decide settings v frame = decide_course settings v (course_of settings frame)

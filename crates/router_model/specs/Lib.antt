@@ -1,0 +1,7 @@
+pub mod Choice
+pub mod Course
+pub mod Decide
+pub mod Journal
+pub mod Plain
+pub mod Site
+pub mod View

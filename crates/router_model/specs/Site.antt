@@ -1,0 +1,29 @@
+-- What the settings say of addresses: own locators and attachments.
+use Rattle.std.specs.Prelude.{ℕ, ◌+◌, ◌*◌, ◌==◌, ◌&&◌, Bool, List, [], ◌∷◌, Option, Some, None, if◌then◌else◌}
+use Rattle.std.specs.List.{list_any}
+use Rattle.ip_headers.specs.Addr.{width}
+use Rattle.ip_headers.specs.declared.addr.Addr.{Addr}
+use Rattle.mapping_records.specs.Eids.{same_address}
+use Rattle.lisp_settings.specs.declared.settings.Attachment.{Attachment}
+use Rattle.lisp_settings.specs.declared.settings.OwnLocator.{OwnLocator}
+
+-- an own locator, up or not, has this address
+abbrev pub is_own : List OwnLocator → Addr → Bool
+is_own locators address = list_any (λ own. same_address own.addr address) locators
+
+-- ours, for the family of an address: the first own locator that is up, in order of address
+abbrev pub ours : List OwnLocator → Addr → Option Addr
+ours [] to = None
+ours (own ∷ others) to =
+    if own.up && (width own.addr == width to) then Some own.addr else ours others to
+
+-- the status bits of the own locators, the first one's lowest (RFC 9300, section 5.1)
+abbrev pub own_bits : List OwnLocator → ℕ
+own_bits [] = 0
+own_bits (own ∷ others) = (if own.up then 1 else 0) + 2 * own_bits others
+
+-- the instance that a VLAN is attached to
+abbrev pub instance_of : List Attachment → ℕ → Option ℕ
+instance_of [] vlan = None
+instance_of (attachment ∷ others) vlan =
+    if attachment.vlan == vlan then Some attachment.iid else instance_of others vlan
