@@ -2,7 +2,7 @@
 top=$(cd "$(dirname "$0")/.." && pwd)
 folder=$(mktemp -d)
 trap 'rm -rf "$folder"' EXIT
-"$top/lispr" >/dev/null 2>&1 || true
+"$top/lispr" >/dev/null || true
 program=$top/crates/replay_cli/out/replay_cli
 
 measured() {

@@ -1,22 +1,41 @@
 #!/usr/bin/env bash
 # Replays captures of many frames, and prints frames a second, user and system time and the greatest
-# memory, beside `cat` of the same file to a new one.
-# usage: bench/encapsulate.sh [FRAMES [SEED]]
+# memory, beside an older program where one is given, and beside `cat` of the same file to a new one.
+# Where strace is installed, also the system calls of a frame, over 10,000 raw ones.
+# usage: bench/encapsulate.sh [FRAMES [SEED [OLD]]]
 set -eu
 frames=${1:-1000000}
 seed=${2:-1}
 . "$(dirname "$0")/common.sh"
 
+names=(lispr older)
+programs=("$program" ${3:+"$3"})
+words=(replay --settings "$folder/settings.toml" --in "$folder/capture.pcap" --out "$folder/out.pcap")
+
+make_capture() {
+    python3 "$top/bench/encapsulate.py" "$folder" "$count" "$seed" "$1"
+    echo "$1: $count frames, $(stat -c %s "$folder/capture.pcap") octets"
+}
+
 for kind in raw ethernet ipv6 tunnels mappings; do
     # A look-up goes over all mappings, so there are fewer frames where there are many.
     count=$frames
     [ "$kind" = mappings ] && count=$((frames / 100))
-    python3 "$top/bench/encapsulate.py" "$folder" "$count" "$seed" "$kind"
-    size=$(stat -c %s "$folder/capture.pcap")
-    echo "$kind: $count frames, $size octets"
-    measured "  lispr" "$count" "$folder/report" "$program" replay --settings "$folder/settings.toml" \
-        --in "$folder/capture.pcap" --out "$folder/out.pcap"
-    tail -n 1 "$folder/report" | sed 's/^/  /'
+    make_capture "$kind"
+    for i in "${!programs[@]}"; do
+        measured "  ${names[i]}" "$count" "$folder/report" "${programs[i]}" "${words[@]}"
+        tail -n 1 "$folder/report" | sed 's/^/  /'
+    done
     measured "  cat  " "$count" "$folder/copy" cat "$folder/capture.pcap"
     rm -f "$folder/out.pcap" "$folder/copy"
 done
+
+if command -v strace >/dev/null; then
+    count=10000
+    make_capture raw
+    for i in "${!programs[@]}"; do
+        strace -f -qq -o "$folder/calls" "${programs[i]}" "${words[@]}" >"$folder/report"
+        awk -v name="${names[i]}" -v count="$count" \
+            'END { printf "  %s: %.3f system calls a frame\n", name, NR / count }' "$folder/calls"
+    done
+fi
