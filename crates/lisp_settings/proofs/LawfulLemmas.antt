@@ -1,5 +1,5 @@
 -- What is read keeps to the ranges, limits and orders of settings.
-use Rattle.std.proofs.Common.{replicate, ◌≡◌, All, option_and_then, ℕ, ◌≤◌, nat_le, ◌&&◌, true, false, ℤ, pos, negsuc, List, length, map, Option, Some, None, IfSome, Ok, IfOk, Ordering, codes, refl, sym, subst, arith, leb-true, nat_cmp, Result}
+use Rattle.std.proofs.Common.{replicate, All, option_and_then, ℕ, ◌≤◌, nat_le, ◌&&◌, true, false, ℤ, pos, negsuc, List, length, map, Option, Some, None, IfSome, Ok, IfOk, Ordering, codes, refl, arith, leb-true, nat_cmp, Result, Err, IsTrue}
 use Rattle.std.proofs.lemmas.Bool.{cond_both, and_parts}
 use Rattle.std.proofs.lemmas.Cmp.{nat_cmp_total}
 use Rattle.std.proofs.lemmas.Result.{IfOk-weaker}
@@ -7,17 +7,19 @@ use Rattle.std.specs.Cmp.{IsTotalOrder}
 use Rattle.std.specs.List.Sorted.{IsStrictlySortedBy}
 use Rattle.toml.specs.Data.{Data, Members, as_integer}
 use Rattle.ip_headers.specs.declared.addr.Addr.{Addr}
-use Rattle.lisp_settings.specs.Lawful.{IsLawful, IsLawfulAttachment, IsLawfulDatabase, IsLawfulLocator, IsLawfulMapping, IsReachable}
+use Rattle.lisp_settings.specs.Lawful.{IsLawful, IsLawfulAttachment, IsLawfulDatabase, IsLawfulLocator, IsLawfulMapping}
 use Rattle.lisp_settings.specs.Lists.{any_ascending, ascending, nonces_at, one_or_more}
-use Rattle.lisp_settings.specs.Orders.{addr_order, eid_order}
+use Rattle.mapping_records.specs.Orders.{addr_order, eid_order}
 use Rattle.lisp_settings.specs.Settings.{attachment_in, attachments, database_in, databases, eid_in, locator_in, locator_of, mapped_in, mapped_locators, mapping_in, mappings, own_locators, settings_in, top_keys, version_in}
 use Rattle.lisp_settings.specs.Fields.{only_keys, optional}
-use Rattle.lisp_settings.specs.Values.{off, seed, in_range, number, nothing}
+use Rattle.lisp_settings.specs.Resolver.{is_reachable, only_reachable, resolver_in}
+use Rattle.lisp_settings.specs.Values.{off, seed, in_range, number}
 use Rattle.lisp_settings.specs.declared.settings.OwnLocator.{OwnLocator}
 use Rattle.lisp_settings.specs.declared.fault.SettingsFault.{SettingsFault}
+use Rattle.lisp_settings.specs.declared.fault.SettingsFault.TheVariants.{BadValue}
 use Rattle.lisp_settings.proofs.AscendingLemmas.{ascending-all, ascending-few, ascending-some, ascending-sorted}
 use Rattle.lisp_settings.proofs.EachLemmas.{AreFew, IfOk-any, pass, step, required-holds, optional-holds, any_number-few, one_or_more-some}
-use Rattle.lisp_settings.proofs.OrderLemmas.{addr_order-total, eid_order-total}
+use Rattle.mapping_records.proofs.OrderLemmas.{addr_order-total, eid_order-total}
 
 -- between the two
 abbrev IsWithin : ℕ → ℕ → ℕ → Type 0
@@ -108,21 +110,31 @@ mappings-lawful : (top : Members) → IfOk (mappings top) (AreKept (λ mapping. 
 mappings-lawful top =
     any_ascending-kept (codes "mapping") mapping_in (λ mapping. mapping.eid) eid_order eid_order-total IsLawfulMapping mapping_in-lawful 65536 top
 
+-- the resolver is reachable where there is one
+abbrev IsReached : List OwnLocator → Option Addr → Type 0
+IsReached locators resolver = IfSome resolver (λ addr. IsTrue (is_reachable locators addr))
+
+only_reachable-reached : (locators : List OwnLocator) (resolver : Option Addr) → IfOk (only_reachable locators resolver) (λ r. IsReached locators resolver)
+only_reachable-reached locators None = tt
+only_reachable-reached locators (Some addr) =
+    cond_both (is_reachable locators addr) (Ok (Some addr)) (Err (BadValue (codes "resolver"))) (λ r. IfOk r (λ reached. IsTrue (is_reachable locators addr))) (λ is. is) (λ not. tt)
+
 -- what is read in a top table
 pub settings_in-lawful : (top : Members) → IfOk (settings_in top) IsLawful
 settings_in-lawful top =
     pass IsLawful (only_keys top_keys top) _ (λ known.
     pass IsLawful (optional (codes "seed") seed (replicate 32 0) top) _ (λ seed.
     pass IsLawful (nonces_at (codes "nonces") 4096 top) _ (λ nonces.
-    step (λ resolver. resolver ≡ None) IsLawful (optional (codes "resolver") nothing None top) _ (optional-holds (λ resolver. resolver ≡ None) (codes "resolver") nothing None top refl (λ value. tt)) (λ resolver none.
+    pass IsLawful (resolver_in top) _ (λ resolver.
     step (IsWithin 1 4294967294) IsLawful (optional (codes "ttl") (number 1 4294967294) 1440 top) _ (optional-holds (IsWithin 1 4294967294) (codes "ttl") (number 1 4294967294) 1440 top (omega arith, omega arith) (number-within 1 4294967294)) (λ ttl within.
     pass IsLawful (optional (codes "probe") off false top) _ (λ probe.
     pass IsLawful (optional (codes "echo") off false top) _ (λ echo.
     step AreOwn IsLawful (own_locators top) _ (own_locators-lawful top) (λ locators own.
     step (AreKept (λ attachment. attachment.vlan) nat_cmp IsLawfulAttachment 4096) IsLawful (attachments top) _ (attachments-lawful top) (λ attachments attached.
     step (AreKept (λ database. database.eid) eid_order IsLawfulDatabase 64) IsLawful (databases top) _ (databases-lawful top) (λ databases based.
-    step (AreKept (λ mapping. mapping.eid) eid_order IsLawfulMapping 65536) IsLawful (mappings top)
-    (λ mappings. Ok (record {
+    step (AreKept (λ mapping. mapping.eid) eid_order IsLawfulMapping 65536) IsLawful (mappings top) _ (mappings-lawful top) (λ mappings mapped.
+    step (λ r. IsReached locators resolver) IsLawful (only_reachable locators resolver)
+    (λ r. Ok (record {
       seed = seed;
       nonces = nonces;
       resolver = resolver;
@@ -133,9 +145,9 @@ settings_in-lawful top =
       attachments = attachments;
       databases = databases;
       mappings = mappings;
-    })) (mappings-lawful top) (λ mappings mapped.
+    })) (only_reachable-reached locators resolver) (λ r reached.
     record {
-      resolver = subst (λ r. IfSome r (IsReachable locators)) (sym none) tt;
+      resolver = reached;
       ttl = within;
       some_locators = own.1;
       few_locators = own.0.few;
@@ -149,4 +161,4 @@ settings_in-lawful top =
       few_mappings = mapped.few;
       mappings = mapped.all;
       eids = mapped.sorted;
-    })))))))))))
+    }))))))))))))

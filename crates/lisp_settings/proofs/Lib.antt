@@ -5,7 +5,6 @@ pub mod FieldLemmas
 pub mod HexLemmas
 pub mod LawfulLemmas
 pub mod ListLemmas
-pub mod OrderLemmas
 pub mod PrefixLemmas
 pub mod ReadingLemmas
 pub mod TextLemmas

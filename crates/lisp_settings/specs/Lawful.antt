@@ -1,16 +1,14 @@
 -- What every settings file that is read keeps to: ranges, limits and orders.
-use Rattle.std.specs.Prelude.{◌≡◌, ◌≤◌, ◌<◌, ◌^◌, ◌==◌, ◌&&◌, false, true, IsTrue, IfSome, List, length, map}
-use Rattle.std.specs.List.{All, IsDistinct, list_any}
+use Rattle.std.specs.Prelude.{◌≡◌, ◌≤◌, ◌<◌, ◌^◌, false, true, IsTrue, IfSome, length, map}
+use Rattle.std.specs.List.{All, IsDistinct}
 use Rattle.std.specs.List.Sorted.{IsStrictlySortedBy}
 use Rattle.std.specs.Ordering.{eq_by_cmp, nat_cmp}
-use Rattle.ip_headers.specs.Addr.{width}
-use Rattle.ip_headers.specs.declared.addr.Addr.{Addr}
 use Rattle.mapping_records.specs.declared.record.Locator.{Locator}
 use Rattle.mapping_records.specs.declared.record.Record.{Record}
-use Rattle.lisp_settings.specs.Orders.{addr_order, eid_order}
+use Rattle.mapping_records.specs.Orders.{addr_order, eid_order}
+use Rattle.lisp_settings.specs.Resolver.{is_reachable}
 use Rattle.lisp_settings.specs.declared.settings.Attachment.{Attachment}
 use Rattle.lisp_settings.specs.declared.settings.Database.{Database}
-use Rattle.lisp_settings.specs.declared.settings.OwnLocator.{OwnLocator}
 use Rattle.lisp_settings.specs.declared.settings.Settings.{Settings}
 
 -- the instance of a VLAN, each in its bits
@@ -39,14 +37,9 @@ pub record IsLawfulMapping (mapping : Record) : Type 0 where
   pub locators : All IsLawfulLocator mapping.locators
   pub distinct : IsDistinct (eq_by_cmp addr_order) (map (λ locator. locator.addr) mapping.locators)
 
--- an own locator of that family is up
-abbrev pub IsReachable : List OwnLocator → Addr → Type 0
-IsReachable locators addr =
-    IsTrue (list_any (λ own. own.up && (width own.addr == width addr)) locators)
-
 -- settings in their ranges, limits and orders; a list that ascends strictly has no duplicates
 pub record IsLawful (settings : Settings) : Type 0 where
-  pub resolver : IfSome settings.resolver (IsReachable settings.locators)
+  pub resolver : IfSome settings.resolver (λ addr. IsTrue (is_reachable settings.locators addr))
   pub ttl : (1 ≤ settings.ttl) × (settings.ttl ≤ 4294967294)
   pub some_locators : 1 ≤ length settings.locators
   pub few_locators : length settings.locators ≤ 32

@@ -5,7 +5,7 @@ pub mod Home
 pub mod Lawful
 pub mod Lists
 pub mod Nonces
-pub mod Orders
 pub mod Places
+pub mod Resolver
 pub mod Settings
 pub mod Values

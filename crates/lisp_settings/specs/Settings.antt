@@ -12,8 +12,9 @@ use Rattle.mapping_records.specs.declared.record.Record.{Record}
 use Rattle.lisp_settings.specs.AddressText.{some_if}
 use Rattle.lisp_settings.specs.Fields.{◌>>=◌, only_keys, taken, required, optional}
 use Rattle.lisp_settings.specs.Lists.{any_ascending, any_number, one_or_more, ascending, nonces_at}
-use Rattle.lisp_settings.specs.Orders.{addr_order, eid_order}
-use Rattle.lisp_settings.specs.Values.{number, address, prefix, seed, off, nothing}
+use Rattle.mapping_records.specs.Orders.{addr_order, eid_order}
+use Rattle.lisp_settings.specs.Resolver.{resolver_in, only_reachable}
+use Rattle.lisp_settings.specs.Values.{number, address, prefix, seed, off}
 use Rattle.lisp_settings.specs.declared.fault.SettingsFault.{SettingsFault}
 use Rattle.lisp_settings.specs.declared.fault.SettingsFault.TheVariants.{NotToml, TooLong}
 use Rattle.lisp_settings.specs.declared.settings.OwnLocator.{OwnLocator}
@@ -138,7 +139,7 @@ settings_in top = do
   known ← only_keys top_keys top
   seed ← optional (codes "seed") seed (replicate 32 0) top
   nonces ← nonces_at (codes "nonces") 4096 top
-  resolver ← optional (codes "resolver") nothing None top
+  resolver ← resolver_in top
   ttl ← optional (codes "ttl") (number 1 4294967294) 1440 top
   probe ← optional (codes "probe") off false top
   echo ← optional (codes "echo") off false top
@@ -146,6 +147,7 @@ settings_in top = do
   attachments ← attachments top
   databases ← databases top
   mappings ← mappings top
+  reachable ← only_reachable locators resolver
   Ok (record {
     seed = seed;
     nonces = nonces;

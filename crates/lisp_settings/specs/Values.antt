@@ -49,7 +49,3 @@ abbrev pub off : Data → Option Bool
 off value = do
   on ← as_bool value
   if on then None else Some false
-
--- no value, as long as the key isn't built
-abbrev pub nothing : {A : Type 0} → Data → Option A
-nothing value = None

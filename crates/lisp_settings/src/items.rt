@@ -3,7 +3,7 @@ ghost use Rattle.std.specs.Prelude.{◌≡◌, ◌≢◌, ◌≤◌, IfOk, IfErr
 ghost use Rattle.std.proofs.Common.{rules};
 ghost use Rattle.std.specs.Ordering.{nat_cmp};
 ghost use Rattle.toml.specs.View.{table_view};
-ghost use Rattle.lisp_settings.specs.Orders.{addr_order, eid_order};
+ghost use Rattle.mapping_records.specs.Orders.{addr_order, eid_order};
 ghost use Rattle.lisp_settings.specs.Settings.{attachment_in, database_in, eid_in, locator_in, mapped_in, mapped_locators, mapping_in, version_in};
 ghost use Rattle.lisp_settings.specs.declared.fault.SettingsFault.TheVariants as fault;
 

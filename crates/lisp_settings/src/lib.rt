@@ -12,6 +12,7 @@ mod lists;
 mod nonces;
 mod places;
 mod reading;
+mod resolver;
 mod settings;
 mod values;
 

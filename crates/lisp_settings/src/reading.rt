@@ -1,21 +1,20 @@
 // The settings in a text.
-ghost use Rattle.std.specs.Prelude.{◌≡◌, ◌≢◌, IfOk, IfErr, Ok, Err, Option, None, codes, replicate};
-ghost use Rattle.ip_headers.specs.declared.addr.Addr.{Addr};
+ghost use Rattle.std.specs.Prelude.{◌≡◌, ◌≢◌, IfOk, IfErr, Ok, Err, codes, replicate};
 ghost use Rattle.toml.specs.View.{table_view};
 ghost use Rattle.lisp_settings.specs.Fields.{optional};
 ghost use Rattle.lisp_settings.specs.Lawful.{IsLawful};
 ghost use Rattle.lisp_settings.specs.Settings.{own_locators, settings_in, settings_of};
-ghost use Rattle.lisp_settings.specs.Values.{nothing, seed};
+ghost use Rattle.lisp_settings.specs.Values.{seed};
 ghost use Rattle.lisp_settings.specs.declared.fault.SettingsFault.TheVariants as fault;
 
-use crate::fault::{Key, SettingsFault};
+use crate::fault::SettingsFault;
 use crate::fields::{number_or, off_at, only_keys, taken, value_at};
 use crate::items::MOST_LOCATORS;
 use crate::lists::{any_ascending, ascending, one_or_more};
 use crate::nonces::nonces_at;
+use crate::resolver::{only_reachable, resolver_at};
 use crate::settings::{OwnLocator, OwnLocators, Settings};
 use crate::values;
-use ip_headers::Addr;
 use std::alloc::Global;
 use toml::Table;
 
@@ -61,7 +60,7 @@ fn read_top(alloc: Global, top: &Table) -> Result<Settings, SettingsFault>
         "mapping",
     ];
     only_keys(alloc, top, &known)?;
-    Ok(Settings {
+    let settings = Settings {
         seed: seed_at(alloc, top)?,
         nonces: nonces_at(alloc, top)?,
         resolver: resolver_at(alloc, top)?,
@@ -72,7 +71,9 @@ fn read_top(alloc: Global, top: &Table) -> Result<Settings, SettingsFault>
         attachments: any_ascending(alloc, top, "attachment", MOST_ATTACHMENTS)?,
         databases: any_ascending(alloc, top, "database", MOST_DATABASES)?,
         mappings: any_ascending(alloc, top, "mapping", MOST_MAPPINGS)?,
-    })
+    };
+    only_reachable(alloc, settings.locators.as_slice(), settings.resolver)?;
+    Ok(settings)
 }
 
 fn seed_at(alloc: Global, top: &Table) -> Result<[u8; 32], SettingsFault>
@@ -84,19 +85,6 @@ fn seed_at(alloc: Global, top: &Table) -> Result<[u8; 32], SettingsFault>
     match value_at(top, "seed") {
         Some(value) => taken(alloc, "seed", values::seed(value)),
         None => Ok([0; 32]),
-    }
-}
-
-/// No resolver: Map-Requests aren't built yet, so its key has no value that is taken.
-fn resolver_at(alloc: Global, top: &Table) -> Result<Option<Addr>, SettingsFault>
-    ensures ok { IfOk result (λ read.
-        optional (codes "resolver") nothing None (table_view top.now) ≡ Ok read) }
-    ensures err { IfErr result (λ e. e ≢ fault.Memory
-        → optional {A = Option Addr} (codes "resolver") nothing None (table_view top.now) ≡ Err e) }
-{
-    match value_at(top, "resolver") {
-        Some(_) => Err(SettingsFault::BadValue(Key::copied(alloc, "resolver")?)),
-        None => Ok(None),
     }
 }
 

@@ -52,7 +52,7 @@ pub struct Settings {
     /// The key of the ChaCha8 stream that gives the nonces past the listed ones.
     pub seed: [u8; 32],
     pub nonces: Nonces,
-    /// The Map-Resolver that Map-Requests go to.
+    /// The Map-Resolver that Map-Requests go to; an own locator of its family is up.
     pub resolver: Option<Addr>,
     /// The TTL of the router's own mappings, in minutes.
     pub ttl: u32,

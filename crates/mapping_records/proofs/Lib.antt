@@ -1,9 +1,10 @@
 pub mod EidLemmas
+pub mod EidPrefixLemmas
+pub mod EqualValue
 pub mod LocatorLemmas
+pub mod LongestLemmas
+pub mod OrderLemmas
 pub mod RecordLemmas
 pub mod SpelledRecord
-pub mod EqualValue
-pub mod EidPrefixLemmas
 pub mod WholeRecord
 pub mod WrittenRecord
-pub mod LongestLemmas

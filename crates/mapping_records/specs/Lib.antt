@@ -3,4 +3,5 @@ pub mod Address
 pub mod Eid
 pub mod Eids
 pub mod Locator
+pub mod Orders
 pub mod Record

@@ -23,8 +23,11 @@ fn the_top_keys_are_judged_in_their_order(rt: HostRuntime) -> Result<(), Fail> {
             "nonces.2",
         ),
         ("resolver = '192.0.2.9'\nnonces = 1", "bad-value", "nonces"),
-        ("resolver = '192.0.2.9'", "bad-value", "resolver"),
-        ("ttl = 1\nresolver = 1", "bad-value", "resolver"),
+        ("resolver = '192.0.2.9'", "missing", "locator"),
+        ("ttl = 0\nresolver = 1", "bad-value", "resolver"),
+        ("ttl = 0\nresolver = '192.0.2.09'", "bad-value", "resolver"),
+        ("ttl = 0\nresolver = '::192.0.2.9'", "bad-value", "resolver"),
+        ("ttl = 0\nresolver = '192.0.2.9'", "bad-value", "ttl"),
         ("ttl = 0", "bad-value", "ttl"),
         ("ttl = 4294967295", "bad-value", "ttl"),
         ("ttl = '1'", "bad-value", "ttl"),
@@ -195,6 +198,51 @@ fn the_other_lists_are_judged_after_the_locators(rt: HostRuntime) -> Result<(), 
         let (said, at) = fault(alloc, text.as_str())?;
         assert_eq!(rt; said, word, "{keys}");
         assert_eq!(rt; at.as_str(), place, "{keys}");
+    }
+    Ok(())
+}
+
+#[test]
+fn a_resolver_is_judged_by_the_own_locators_last_of_all(rt: HostRuntime) -> Result<(), Fail> {
+    let alloc = rt.alloc();
+    for (resolver, locators, others, place) in [
+        ("203.0.113.9", "{address = '::1'}", "", "resolver"),
+        ("2001:db8::9", "{address = '192.0.2.1'}", "", "resolver"),
+        (
+            "203.0.113.9",
+            "{address = '192.0.2.1', up = false}, {address = '::1'}",
+            "",
+            "resolver",
+        ),
+        (
+            "2001:db8::9",
+            "{address = '192.0.2.1'}, {address = '::1', up = false}",
+            "",
+            "resolver",
+        ),
+        (
+            "203.0.113.9",
+            "{address = '::1', up = 1}",
+            "",
+            "locator.0.up",
+        ),
+        (
+            "203.0.113.9",
+            "{address = '::1'}",
+            "database = 1",
+            "database",
+        ),
+        (
+            "203.0.113.9",
+            "{address = '192.0.2.1', up = false}",
+            "mapping = [{iid = 0, prefix = '::/0', action = 8}]",
+            "mapping.0.action",
+        ),
+    ] {
+        let text = format!(in alloc; "resolver = '{resolver}'\nlocator = [{locators}]\n{others}")?;
+        let (said, at) = fault(alloc, text.as_str())?;
+        assert_eq!(rt; said, "bad-value", "{text}");
+        assert_eq!(rt; at.as_str(), place, "{text}");
     }
     Ok(())
 }

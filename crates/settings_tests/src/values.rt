@@ -101,6 +101,33 @@ mapping = [{iid = 7, prefix = "10.2.3.4/16", version = 0, action = 7}]
 }
 
 #[test]
+fn a_resolver_has_an_own_locator_of_its_family_up(rt: HostRuntime) -> Result<(), Fail> {
+    let alloc = rt.alloc();
+    for (resolver, locators, addr) in [
+        (
+            "203.0.113.9",
+            "{address = '192.0.2.1'}",
+            Addr::V4(0xcb00_7109),
+        ),
+        (
+            "192.0.2.2",
+            "{address = '192.0.2.1', up = false}, {address = '192.0.2.2'}",
+            Addr::V4(0xc000_0202),
+        ),
+        (
+            "2001:DB8::9",
+            "{address = '192.0.2.1', up = false}, {address = '::1', priority = 255}",
+            Addr::V6(0x2001_0db8_0000_0000_0000_0000_0000_0009),
+        ),
+    ] {
+        let text = format!(in alloc; "resolver = '{resolver}'\nlocator = [{locators}]")?;
+        let settings = read(alloc, text.as_str())?;
+        assert_eq!(rt; settings.resolver, Some(addr), "{resolver}");
+    }
+    Ok(())
+}
+
+#[test]
 fn lists_ascend_but_the_locators_of_a_mapping(rt: HostRuntime) -> Result<(), Fail> {
     let alloc = rt.alloc();
     let settings = read(

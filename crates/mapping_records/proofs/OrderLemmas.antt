@@ -5,7 +5,7 @@ use Rattle.std.specs.Cmp.{IsTotalOrder}
 use Rattle.std.specs.Ordering.{ordering_reverse}
 use Rattle.ip_headers.specs.declared.addr.Addr.{Addr}
 use Rattle.ip_headers.specs.declared.addr.Addr.TheVariants.{V4, V6}
-use Rattle.lisp_settings.specs.Orders.{addr_order, prefix_order, eid_order}
+use Rattle.mapping_records.specs.Orders.{addr_order, prefix_order, eid_order}
 
 pub addr_order-total : IsTotalOrder addr_order
 addr_order-total = record { antisymm = antisymm; trans = trans; congr = congr }
