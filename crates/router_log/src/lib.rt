@@ -2,17 +2,21 @@
 //! of a frame, and the line that a report has of it.
 #![tactic(auto)]
 
+mod decision;
 mod emit;
 mod entry;
+mod kept;
 mod lines;
 mod notice;
 mod numbers;
 mod refusals;
 mod verdict;
 
+pub use decision::Decision;
 pub use emit::{Emit, Emits};
 pub use entry::{Entries, Entry};
 pub use ip_headers::{Addr, Prefix, Refused};
+pub use kept::{EchoOut, EchoStart, EchoWish, Probe, ProbeState, Solicitation};
 pub use lines::{frame_line, push_frame_line};
 pub use map_messages::MapReply;
 pub use mapping_records::{Eid, Record};
