@@ -1,0 +1,5 @@
+pub mod Store
+pub mod Lends
+pub mod Sound
+pub mod Adding
+pub mod LendsSlot

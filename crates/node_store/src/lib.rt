@@ -1,0 +1,10 @@
+//! Nodes under names, each read of one counted.
+#![tactic(auto)]
+
+mod reads;
+mod rooms;
+mod store;
+
+pub use octets::NoMemory;
+pub use reads::Reads;
+pub use store::NodeStore;

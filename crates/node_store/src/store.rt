@@ -1,0 +1,145 @@
+// Nodes under names that the store picks.
+ghost use Rattle.std.specs.Prelude.{◌≡◌, ◌+◌, ◌^◌, ◌<◌, ◌≤◌, [], max, length, OnOk, OnErr, Some, None, IsOk, IsSome};
+ghost use Rattle.std.specs.Borrow.{sem};
+ghost use Rattle.node_store.specs.LendsSlot.{lends_slot};
+ghost use Rattle.node_store.specs.Store.{node_at, IsLive, live, SameNodes, Changes};
+
+use crate::rooms::add_slots;
+use crate::{NoMemory, Reads};
+use std::alloc::Global;
+use std::marker::Model;
+use std::mem;
+
+/// Nodes, each under a name. A name keeps its node until that is dropped. `read` alone shows a node
+/// to a reader, and counts.
+#[derive(Drop)]
+pub struct NodeStore<T> {
+    slots: Vec<Option<T>>,
+    // The names of the vacant slots, with room for the names of all.
+    free: Vec<u32>,
+}
+
+impl<T> Model for NodeStore<T> {
+    ghost use Rattle.std.specs.Prelude.{length, vec_capacity};
+    ghost use Rattle.node_store.specs.Store.{Store};
+    ghost use Rattle.node_store.specs.Sound.{IsSound};
+
+    ghost Value = { Store T };
+
+    ghost view = { λ store. record { slots = store.slots.items; rooms = length store.free.items } };
+
+    ghost invariant = { λ store. IsSound store.slots.items store.free.items
+        (vec_capacity store.free) };
+}
+
+fn node_mut<T>(slot: &mut Option<T>) -> &mut T
+    requires { IsSome slot.old }
+    ensures* writes_back { sem 𝓛 (lends_slot T.row slot.entry result) }
+    ensures node { slot.old ≡ Some result.now }
+{
+    match slot {
+        Some(node) => node,
+        None => unreachable!(),
+    }
+}
+
+impl<T> NodeStore<T> {
+    ghost use Rattle.node_store.specs.Lends.{lends_node};
+
+    /// An empty store, with no room. Takes no memory.
+    pub fn new(alloc: Global) -> Self
+        ensures empty { result.slots ≡ [] }
+        ensures rooms { result.rooms ≡ 0 }
+    {
+        NodeStore {
+            slots: Vec::new(alloc),
+            free: Vec::new(alloc),
+        }
+    }
+
+    /// Makes room for `n` nodes in all, with those that there is room for already.
+    pub fn make_room(&mut self, n: u32) -> Result<(), NoMemory>
+        requires { live self.old + n < 2 ^ 32 }
+        ensures nodes { SameNodes self.old self.new }
+        ensures ok { OnOk result (self.new.rooms ≡ max self.old.rooms n) }
+        ensures enough { n ≤ self.old.rooms → IsOk result }
+        ensures slots { length self.new.slots ≡ live self.old + self.new.rooms }
+        ensures err { OnErr result (self.new ≡ self.old) }
+    {
+        let rooms = self.free.len();
+        if n as usize <= rooms {
+            return Ok(());
+        }
+        let more = n as usize - rooms;
+        let all = self.slots.len() + more;
+        self.slots.reserve_exact(more)?;
+        self.free.reserve_exact(all - rooms)?;
+        add_slots(&mut self.slots, &mut self.free, all);
+        Ok(())
+    }
+
+    /// For how many nodes there is room.
+    pub fn rooms(&self) -> u32
+        ensures rooms { result ≡ self.now.rooms }
+        ensures slots { length self.now.slots ≡ live self.now + result }
+    {
+        self.free.len() as u32
+    }
+
+    /// The node of that name. The count of reads rises by one.
+    pub fn read(&self, id: u32, reads: &mut Reads) -> &T
+        requires live { IsLive self.now id }
+        requires counts { reads.old + 1 < 2 ^ 64 }
+        ensures node { node_at self.now id ≡ Some result.now }
+        ensures count { reads.new ≡ reads.old + 1 }
+    {
+        reads.add_one();
+        let Some(node) = &self.slots[id as usize] else {
+            unreachable!();
+        };
+        node
+    }
+
+    /// Puts a node under a name that had none. Takes no memory.
+    pub fn put(&mut self, node: T) -> u32
+        requires { 0 < self.old.rooms }
+        ensures fresh { node_at self.old result ≡ None }
+        ensures changes { Changes self.old self.new result (Some node) }
+        ensures rooms { self.new.rooms + 1 ≡ self.old.rooms }
+        ensures slots { length self.new.slots ≡ length self.old.slots }
+    {
+        let Some(name) = self.free.pop() else {
+            unreachable!();
+        };
+        match mem::replace(&mut self.slots[name as usize], Some(node)) {
+            None => name,
+            Some(_) => unreachable!(),
+        }
+    }
+
+    /// The node of that name, to be written.
+    pub fn edit(&mut self, id: u32) -> &mut T
+        requires { IsLive self.old id }
+        ensures* writes_back { sem 𝓛 (lends_node T.row self.entry id result) }
+        ensures node { node_at self.old id ≡ Some result.now }
+    {
+        node_mut(&mut self.slots[id as usize])
+    }
+
+    /// Takes the node of that name out, which leaves room for another.
+    pub fn drop_node(&mut self, id: u32) -> T
+        requires { IsLive self.old id }
+        ensures node { node_at self.old id ≡ Some result }
+        ensures changes { Changes self.old self.new id None }
+        ensures rooms { self.new.rooms ≡ self.old.rooms + 1 }
+        ensures slots { length self.new.slots ≡ length self.old.slots }
+    {
+        match self.slots[id as usize].take() {
+            Some(node) => {
+                self.free.push_reserved(id);
+                node
+            }
+            None => unreachable!(),
+        }
+    }
+}

@@ -1,0 +1,207 @@
+-- Tries in a store, and the node at their top.
+use Rattle.std.proofs.Common.{◌≡◌, ℕ, zero, suc, ◌+◌, ◌<◌, ◌≤◌, false, List, [], ◌∷◌, ◌++◌, All, Option, Some, None, inl, inr, subst, refl, sym, ap, ◌∙◌, arith}
+use Rattle.std.proofs.lemmas.Option.{same_Some}
+use Rattle.std.proofs.lemmas.Bool.{false≢true}
+use Rattle.std.proofs.lemmas.List.Elements.{All-nil, All-cons, All-append}
+use Rattle.mapping_records.specs.declared.eid.Eid.{Eid}
+use Rattle.node_store.specs.Store.{Store, node_at, Changes}
+use Rattle.prefix_table.specs.declared.node.Node.{Node}
+use Rattle.mapping_records.specs.Eids.{covers_eid}
+use Rattle.prefix_table.specs.Keys.{key_width, key_len, key_bits}
+use Rattle.prefix_table.specs.Tree.{Tree, pair_of, pairs, Fits, IsTrie, IsSomething, Branches, side_bits}
+use Rattle.prefix_table.specs.Tree.Tree.{none, node}
+use Rattle.prefix_table.specs.Pairs.{with_pair, value_in}
+use Rattle.prefix_table.specs.Spelled.{name_of, Spells, tree_of, tree_within, grown}
+use Rattle.prefix_table.specs.Grown.{Uses}
+use Rattle.prefix_table.proofs.Bits.{Covers, covers_trans, below_covers, side_fits, covers_from}
+use Rattle.prefix_table.proofs.LongestLemmas.{OnPair, All-pairs, each_fits}
+use Rattle.prefix_table.proofs.OrderLemmas.{Same, Lt-covers, Lt-bits, Same-covers, IsBefore, IsAfter, with_pair-before, value_in-past, value_in-before, value_in-missing, covers-Same}
+use Rattle.prefix_table.proofs.SearchLemmas.{Opened, key_len-most}
+
+module _ {V : Type 0} where
+  -- a tree's name has a node whose key fits
+  pub used_at : (store : Store (Node V)) (tree : Tree V) (n iid width bits len : ℕ) → Spells store tree → IsTrie iid width bits len tree → Uses n tree → (top : Node V) × (node_at store n ≡ Some top) × Fits iid width bits len top.eid
+  used_at store none n iid width bits len spelled trie used = absurd used
+  used_at store (node name key value low high) n iid width bits len spelled trie used =
+      elim used [
+        | inl here ↦ (record { eid = key; value = value; zero = name_of low; one = name_of high }, ap (node_at store) here ∙ spelled.0, trie.0)
+        | inr below ↦
+            elim below [
+              | inl in_low ↦
+                  let found = used_at store low n iid width (side_bits key 0) (key_len key + 1) spelled.1 trie.1 in_low in
+                  (found.0, found.1, side_fits key (found.0).eid iid width bits len 0 (omega arith) trie.0 found.2)
+              | inr in_high ↦
+                  let found = used_at store high n iid width (side_bits key 1) (key_len key + 1) spelled.2 trie.2 in_high in
+                  (found.0, found.1, side_fits key (found.0).eid iid width bits len 1 (omega arith) trie.0 found.2)
+            ]
+      ]
+
+  -- a tree stays whose nodes stay
+  pub spells_kept : (old new : Store (Node V)) (tree : Tree V) → Spells old tree → ((n : ℕ) (top : Node V) → Uses n tree → node_at old n ≡ Some top → node_at new n ≡ Some top) → Spells new tree
+  spells_kept old new none spelled kept = tt
+  spells_kept old new (node name key value low high) spelled kept = (
+    kept name (record { eid = key; value = value; zero = name_of low; one = name_of high }) (inl refl) spelled.0,
+    spells_kept old new low spelled.1 (λ n top used. kept n top (inr (inl used))),
+    spells_kept old new high spelled.2 (λ n top used. kept n top (inr (inr used))),
+  )
+
+  -- the name of a node is none of those of longer keys
+  pub apart : (store : Store (Node V)) (tree : Tree V) (at iid width bits len : ℕ) (top : Node V) → Spells store tree → IsTrie iid width bits len tree → node_at store at ≡ Some top → key_len top.eid < len → Uses at tree → ⊥
+  apart store tree at iid width bits len top spelled trie found shorter used =
+      let other = used_at store tree at iid width bits len spelled trie used in
+      let same : other.0 ≡ top = same_Some other.0 top (sym other.1 ∙ found) in
+      let len_is : key_len (other.0).eid ≡ key_len top.eid = ap (λ (t : Node V). key_len t.eid) same in
+      absurd (omega (arith, shorter, len_is, (other.2).longer))
+
+  -- no name is one of two trees whose keys differ in their first bits
+  pub sides_apart : (store : Store (Node V)) (a b : Tree V) (n iid width bits other len : ℕ) → Spells store a → Spells store b → IsTrie iid width bits len a → IsTrie iid width other len b → (bits ≡ other → ⊥) → Uses n a → Uses n b → ⊥
+  sides_apart store a b n iid width bits other len spells_a spells_b trie_a trie_b differs used_a used_b =
+      let in_a = used_at store a n iid width bits len spells_a trie_a used_a in
+      let in_b = used_at store b n iid width other len spells_b trie_b used_b in
+      let same : in_a.0 ≡ in_b.0 = same_Some in_a.0 in_b.0 (sym in_a.1 ∙ in_b.1) in
+      differs (sym (in_a.2).front ∙ ap (λ (t : Node V). key_bits t.eid len) same ∙ (in_b.2).front)
+
+  -- a name that had no node changes none
+  pub fresh_keeps : (old new : Store (Node V)) (name : ℕ) (made : Option (Node V)) → node_at old name ≡ None → Changes old new name made → (n : ℕ) (top : Node V) → node_at old n ≡ Some top → node_at new n ≡ Some top
+  fresh_keeps old new name made fresh changes n top found =
+      changes.others n (λ same. absurd (cc (ap (node_at old) same, fresh, found))) ∙ found
+
+-- a key is the same as itself
+pub same_self : (key : Eid) → Same key key
+same_self key = Same-covers key key (record { same_iid = refl; same_width = refl; shorter = omega arith; front = refl }) refl
+
+-- a node, and the tries below it
+pub record Top {V : Type 0} (store : Store (Node V)) (at : ℕ) (top : Node V) (iid width bits len : ℕ) (low high : Tree V) : Type 0 where
+  pub found : node_at store at ≡ Some top
+  pub low_named : name_of low ≡ top.zero
+  pub high_named : name_of high ≡ top.one
+  pub low_spelled : Spells store low
+  pub high_spelled : Spells store high
+  pub fits : Fits iid width bits len top.eid
+  pub low_trie : IsTrie iid width (side_bits top.eid 0) (key_len top.eid + 1) low
+  pub high_trie : IsTrie iid width (side_bits top.eid 1) (key_len top.eid + 1) high
+  pub branches : Branches top.value low high
+
+-- a tree with a name is something
+pub something : {V : Type 0} (tree : Tree V) (name : ℕ) → name_of tree ≡ Some name → IsSomething tree
+something none name named = absurd (cc (named))
+something (node other key value low high) name named = tt
+
+-- the branches stay two where a side is still something
+pub branches_low : {V : Type 0} (value : Option V) (low high made : Tree V) → Branches value low high → IsSomething made → Branches value made high
+branches_low None low high made b is = (is, b.1)
+branches_low (Some v) low high made b is = tt
+
+pub branches_high : {V : Type 0} (value : Option V) (low high made : Tree V) → Branches value low high → IsSomething made → Branches value low made
+branches_high None low high made b is = (b.0, is)
+branches_high (Some v) low high made b is = tt
+
+pub OnPair-all : {V : Type 0} (P : Eid × V → Type 0) (key : Eid) (value : Option V) → ((v : V) → P (key, v)) → OnPair P key value
+OnPair-all P key None of = tt
+OnPair-all P key (Some v) of = of v
+
+module _ {V : Type 0} where
+  pub Spells-top : (store : Store (Node V)) (at : ℕ) (top : Node V) (iid width bits len : ℕ) (low high : Tree V) → Top store at top iid width bits len low high → Spells store (node at top.eid top.value low high)
+  Spells-top store at top iid width bits len low high t = (
+    rw (t.low_named, t.high_named) t.found,
+    t.low_spelled,
+    t.high_spelled,
+  )
+
+  pub IsTrie-top : (store : Store (Node V)) (at : ℕ) (top : Node V) (iid width bits len : ℕ) (low high : Tree V) → Top store at top iid width bits len low high → IsTrie iid width bits len (node at top.eid top.value low high)
+  IsTrie-top store at top iid width bits len low high t = (t.fits, t.low_trie, t.high_trie, t.branches)
+
+  -- the top of a trie under a name
+  pub top_of : (store : Store (Node V)) (rest : Tree V) (at : ℕ) (top : Node V) (iid width bits len : ℕ) → IsTrie iid width bits len rest → (o : Opened store rest at top) → node_at store at ≡ Some top → Top store at top iid width bits len o.low o.high
+  top_of store rest at top iid width bits len trie o found =
+      let t = subst (λ (r : Tree V). IsTrie iid width bits len r) o.is trie in
+      record {
+        found = found;
+        low_named = o.low_named;
+        high_named = o.high_named;
+        low_spelled = o.low_spelled;
+        high_spelled = o.high_spelled;
+        fits = t.0;
+        low_trie = t.1;
+        high_trie = t.2;
+        branches = t.3;
+      }
+
+  -- lists with the pair on one side of a key
+  pub after_side : (tree : Tree V) (key eid : Eid) (iid width len : ℕ) → eid.iid ≡ iid → key_width eid ≡ width → IsTrie iid width (side_bits key 1) len tree → key_bits eid len ≡ side_bits key 0 → All (IsAfter eid) (pairs tree)
+  after_side tree key eid iid width len same_iid same_width trie on =
+      All-pairs (IsAfter eid) tree (each_fits (IsAfter eid) tree iid width (side_bits key 1) len trie (λ k v fits. Lt-bits eid k len (same_iid ∙ sym fits.same_iid) (same_width ∙ sym fits.same_width) (omega (arith, on, fits.front))))
+
+  pub before_side : (tree : Tree V) (key eid : Eid) (iid width len : ℕ) → eid.iid ≡ iid → key_width eid ≡ width → IsTrie iid width (side_bits key 0) len tree → key_bits eid len ≡ side_bits key 1 → All (IsBefore eid) (pairs tree)
+  before_side tree key eid iid width len same_iid same_width trie on =
+      All-pairs (IsBefore eid) tree (each_fits (IsBefore eid) tree iid width (side_bits key 0) len trie (λ k v fits. Lt-bits k eid len (fits.same_iid ∙ sym same_iid) (fits.same_width ∙ sym same_width) (omega (arith, on, fits.front))))
+
+  pub own_before : (key eid : Eid) (value : Option V) → Covers key eid → key_len key < key_len eid → All (IsBefore eid) (pair_of key value)
+  own_before key eid None c shorter = All-nil (IsBefore eid)
+  own_before key eid (Some v) c shorter = All-cons (IsBefore eid) (key, v) [] (Lt-covers key eid c shorter) (All-nil (IsBefore eid))
+
+  -- the value of an EID on a side is that of the side
+  pub value_low : (old : Store (Node V)) (at : ℕ) (top : Node V) (iid width bits len : ℕ) (low high : Tree V) (eid : Eid) → Top old at top iid width bits len low high → eid.iid ≡ iid → key_width eid ≡ width → Covers top.eid eid → key_len top.eid < key_len eid → key_bits eid (key_len top.eid + 1) ≡ side_bits top.eid 0 → value_in eid (pairs (node at top.eid top.value low high)) ≡ value_in eid (pairs low)
+  value_low old at top iid width bits len low high eid t same_iid same_width c shorter on =
+      value_in-past eid (pair_of top.eid top.value) (pairs low ++ pairs high) (own_before top.eid eid top.value c shorter)
+      ∙ value_in-before eid (pairs low) (pairs high) (after_side high top.eid eid iid width (key_len top.eid + 1) same_iid same_width t.high_trie on)
+
+  pub value_high : (old : Store (Node V)) (at : ℕ) (top : Node V) (iid width bits len : ℕ) (low high : Tree V) (eid : Eid) → Top old at top iid width bits len low high → eid.iid ≡ iid → key_width eid ≡ width → Covers top.eid eid → key_len top.eid < key_len eid → key_bits eid (key_len top.eid + 1) ≡ side_bits top.eid 1 → value_in eid (pairs (node at top.eid top.value low high)) ≡ value_in eid (pairs high)
+  value_high old at top iid width bits len low high eid t same_iid same_width c shorter on =
+      value_in-past eid (pair_of top.eid top.value) (pairs low ++ pairs high) (own_before top.eid eid top.value c shorter)
+      ∙ value_in-past eid (pairs low) (pairs high) (before_side low top.eid eid iid width (key_len top.eid + 1) same_iid same_width t.low_trie on)
+
+  -- where the top doesn't cover an EID, it isn't there
+  pub all_missed : (old : Store (Node V)) (at : ℕ) (top : Node V) (iid width bits len : ℕ) (low high : Tree V) (eid : Eid) → Top old at top iid width bits len low high → covers_eid top.eid eid ≡ false → All (λ pair. Same pair.0 eid → ⊥) (pairs (node at top.eid top.value low high))
+  all_missed old at top iid width bits len low high eid t missed =
+      let P = λ (pair : Eid × V). Same pair.0 eid → ⊥ in
+      let not_top : Covers top.eid eid → ⊥ = λ c. false≢true (sym missed ∙ covers_from top.eid eid c) in
+      let side = λ (k : Eid) (s : ℕ) (bit : s < 2) (fits : Fits iid width (side_bits top.eid s) (key_len top.eid + 1) k) (same : Same k eid).
+      not_top (covers_trans top.eid k eid (below_covers top.eid k iid width s bit (t.fits).same_iid (t.fits).same_width fits) (covers-Same k eid same)) in
+      All-pairs P (node at top.eid top.value low high) (
+        OnPair-all P top.eid top.value (λ v same. not_top (covers-Same top.eid eid same)),
+        each_fits P low iid width (side_bits top.eid 0) (key_len top.eid + 1) t.low_trie (λ k v fits same. side k 0 (omega arith) fits same),
+        each_fits P high iid width (side_bits top.eid 1) (key_len top.eid + 1) t.high_trie (λ k v fits same. side k 1 (omega arith) fits same),
+      )
+
+  pub value_missed : (old : Store (Node V)) (at : ℕ) (top : Node V) (iid width bits len : ℕ) (low high : Tree V) (eid : Eid) → Top old at top iid width bits len low high → covers_eid top.eid eid ≡ false → value_in eid (pairs (node at top.eid top.value low high)) ≡ None
+  value_missed old at top iid width bits len low high eid t missed =
+      value_in-missing eid (pairs (node at top.eid top.value low high)) (all_missed old at top iid width bits len low high eid t missed)
+
+  -- what is put before a list that is all after
+  pub with_pair-first : (eid : Eid) (value : V) (ys : List (Eid × V)) → All (IsAfter eid) ys → with_pair eid value ys ≡ (eid, value) ∷ ys
+  with_pair-first eid value ys after = with_pair-before eid value [] ys after
+
+  pub value_in-first : (eid : Eid) (ys : List (Eid × V)) → All (IsAfter eid) ys → value_in eid ys ≡ None
+  value_in-first eid ys after = value_in-before eid [] ys after
+
+  -- all keys below a node are after its own
+  pub below_after : (old : Store (Node V)) (at : ℕ) (top : Node V) (iid width bits len : ℕ) (low high : Tree V) → Top old at top iid width bits len low high → All (IsAfter top.eid) (pairs low ++ pairs high)
+  below_after old at top iid width bits len low high t =
+      All-append (IsAfter top.eid) (pairs low) (pairs high) (on_side low 0 (omega arith) t.low_trie) (on_side high 1 (omega arith) t.high_trie)
+    where
+      on_side : (tree : Tree V) (side : ℕ) → side < 2 → IsTrie iid width (side_bits top.eid side) (key_len top.eid + 1) tree → All (IsAfter top.eid) (pairs tree)
+      on_side tree side bit trie =
+          All-pairs (IsAfter top.eid) tree (each_fits (IsAfter top.eid) tree iid width (side_bits top.eid side) (key_len top.eid + 1) trie (λ k v fits. Lt-covers top.eid k (below_covers top.eid k iid width side bit (t.fits).same_iid (t.fits).same_width fits) (omega (arith, fits.longer))))
+
+  -- before what is after it, a key's own value is the first
+  pub value_there : (key : Eid) (v : Option V) (ys : List (Eid × V)) → All (IsAfter key) ys → value_in key (pair_of key v ++ ys) ≡ v
+  value_there key None ys after = value_in-first key ys after
+  value_there key (Some v) ys after = let s = same_self key in rw (s.not_below) refl
+
+  -- what a trie's depth can be at most
+  pub tree_within-spelled : (depth : ℕ) (store : Store (Node V)) (tree : Tree V) (iid width bits len : ℕ) → Spells store tree → IsTrie iid width bits len tree → 130 ≤ depth + len → tree_within depth store (name_of tree) ≡ tree
+  unfolding tree_within
+  tree_within-spelled zero store none iid width bits len spelled trie deep = refl
+  tree_within-spelled (suc depth) store none iid width bits len spelled trie deep = refl
+  tree_within-spelled zero store (node name key value low high) iid width bits len spelled trie deep =
+      absurd (omega (arith, deep, (trie.0).longer, key_len-most key))
+  tree_within-spelled (suc depth) store (node name key value low high) iid width bits len spelled trie deep =
+      ap (grown (tree_within depth store) name) spelled.0
+      ∙ ap (λ l. node name key value l (tree_within depth store (name_of high))) (tree_within-spelled depth store low iid width (side_bits key 0) (key_len key + 1) spelled.1 trie.1 (omega (arith, deep, (trie.0).longer)))
+      ∙ ap (λ h. node name key value low h) (tree_within-spelled depth store high iid width (side_bits key 1) (key_len key + 1) spelled.2 trie.2 (omega (arith, deep, (trie.0).longer)))
+
+  pub tree_of-spelled : (store : Store (Node V)) (tree : Tree V) (root : Option ℕ) (iid width bits : ℕ) → name_of tree ≡ root → Spells store tree → IsTrie iid width bits 0 tree → tree_of store root ≡ tree
+  unfolding tree_of
+  tree_of-spelled store tree root iid width bits named spelled trie =
+      ap (tree_within 130 store) (sym named) ∙ tree_within-spelled 130 store tree iid width bits 0 spelled trie (omega arith)

@@ -1,0 +1,11 @@
+pub mod Keys
+pub mod Tree
+pub mod Longest
+pub mod Spelled
+pub mod Pairs
+pub mod Common
+pub mod Grown
+pub mod Shrunk
+pub mod Roots
+pub mod Table
+pub mod Under

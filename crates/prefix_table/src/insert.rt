@@ -1,0 +1,130 @@
+// A pair is put into a trie.
+ghost use Rattle.std.specs.Prelude.{◌≡◌, ◌≢◌, ◌<◌, ◌≤◌, ◌+◌, true, false, Some, None};
+ghost use Rattle.node_store.specs.Store.{node_at, IsLive};
+ghost use Rattle.mapping_records.specs.Eids.{covers_eid};
+ghost use Rattle.prefix_table.specs.Keys.{key_bits, key_len, key_width};
+ghost use Rattle.prefix_table.specs.Grown.{Puts, Takes};
+
+use crate::common::common;
+use crate::node::Node;
+use crate::place::{link_one, link_zero, set_value};
+use crate::search::next_bit;
+use mapping_records::Eid;
+use node_store::{NodeStore, Reads};
+
+/// Puts a pair into the trie under a name, whose keys have at least that length, or replaces the
+/// value of its EID. The name of the trie then, and the former value. Takes no memory.
+pub(crate) fn put_below<V>(
+    store: &mut NodeStore<Node<V>>,
+    at: Option<u32>,
+    eid: Eid,
+    value: V,
+    least: u8,
+) -> (u32, Option<V>)
+    requires { Takes store.old at least eid }
+    ensures { Puts store.old store.new at least eid value result.0 result.1 }
+{
+    let Some(at) = at else {
+        return (put_leaf(store, eid, value), None);
+    };
+    let mut reads = Reads::new();
+    let node = store.read(at, &mut reads);
+    let key = node.eid;
+    let zero = node.zero;
+    let one = node.one;
+    if !key.covers(&eid) {
+        if eid.covers(&key) {
+            return (put_above(store, at, key, eid, value), None);
+        }
+        return (put_beside(store, at, key, eid, value, least), None);
+    }
+    if key.prefix.len == eid.prefix.len {
+        return (at, set_value(store, at, value));
+    }
+    if next_bit(eid.prefix.addr, key.prefix.len) {
+        let (name, was) = put_below(store, one, eid, value, key.prefix.len + 1);
+        link_one(store, at, Some(name));
+        return (at, was);
+    }
+    let (name, was) = put_below(store, zero, eid, value, key.prefix.len + 1);
+    link_zero(store, at, Some(name));
+    (at, was)
+}
+
+// A leaf, where nothing was.
+fn put_leaf<V>(store: &mut NodeStore<Node<V>>, eid: Eid, value: V) -> u32
+    requires { 2 ≤ store.old.rooms }
+    ensures { (least : _) → Puts store.old store.new None least eid value result None }
+{
+    store.put(Node {
+        eid,
+        value: Some(value),
+        zero: None,
+        one: None,
+    })
+}
+
+// A node above the trie, whose keys it covers.
+fn put_above<V>(store: &mut NodeStore<Node<V>>, at: u32, key: Eid, eid: Eid, value: V) -> u32
+    requires rooms { 2 ≤ store.old.rooms }
+    requires top { (top : _) → node_at store.old at ≡ Some top → top.eid ≡ key }
+    requires live { IsLive store.old at }
+    requires above { covers_eid eid key ≡ true }
+    requires not_below { covers_eid key eid ≡ false }
+    ensures { (least : _) → Puts store.old store.new (Some at) least eid value result None }
+{
+    if next_bit(key.prefix.addr, eid.prefix.len) {
+        return store.put(Node {
+            eid,
+            value: Some(value),
+            zero: None,
+            one: Some(at),
+        });
+    }
+    store.put(Node {
+        eid,
+        value: Some(value),
+        zero: Some(at),
+        one: None,
+    })
+}
+
+// A node with no value above the trie and a new leaf.
+fn put_beside<V>(
+    store: &mut NodeStore<Node<V>>,
+    at: u32,
+    key: Eid,
+    eid: Eid,
+    value: V,
+    least: u8,
+) -> u32
+    requires rooms { 2 ≤ store.old.rooms }
+    requires top { (top : _) → node_at store.old at ≡ Some top → top.eid ≡ key }
+    requires live { IsLive store.old at }
+    requires takes { Takes store.old (Some at) least eid }
+    requires not_above { covers_eid eid key ≡ false }
+    requires not_below { covers_eid key eid ≡ false }
+    ensures { Puts store.old store.new (Some at) least eid value result None }
+{
+    let over = common(key, eid, least);
+    let leaf = store.put(Node {
+        eid,
+        value: Some(value),
+        zero: None,
+        one: None,
+    });
+    if next_bit(eid.prefix.addr, over.prefix.len) {
+        return store.put(Node {
+            eid: over,
+            value: None,
+            zero: Some(at),
+            one: Some(leaf),
+        });
+    }
+    store.put(Node {
+        eid: over,
+        value: None,
+        zero: Some(leaf),
+        one: Some(at),
+    })
+}

@@ -1,0 +1,15 @@
+//! Pairs of EIDs and values, with the longest match.
+#![tactic(auto)]
+
+mod common;
+mod insert;
+mod node;
+mod place;
+mod removal;
+mod rooted;
+mod roots;
+mod search;
+mod table;
+
+pub use node_store::{NoMemory, Reads};
+pub use table::PrefixTable;

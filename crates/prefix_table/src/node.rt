@@ -1,0 +1,18 @@
+// The nodes of the tries, and their roots.
+use mapping_records::Eid;
+
+/// A node. One with no value has something on both sides.
+#[derive(Drop)]
+pub(crate) struct Node<V> {
+    pub(crate) eid: Eid,
+    pub(crate) value: Option<V>,
+    pub(crate) zero: Option<u32>,
+    pub(crate) one: Option<u32>,
+}
+
+/// The trie of an instance and family.
+#[derive(Clone, Copy, Drop)]
+pub(crate) struct Root {
+    pub(crate) key: u64,
+    pub(crate) name: u32,
+}

@@ -1,0 +1,96 @@
+// A pair is taken out of a trie.
+ghost use Rattle.std.specs.Prelude.{◌≡◌, length, Some, is_some};
+ghost use Rattle.node_store.specs.Store.{node_at, IsLive};
+ghost use Rattle.prefix_table.specs.Shrunk.{Holds, Shrinks, StaysWhere, GoesWhere};
+
+use crate::node::Node;
+use crate::place::{clear_value, drop_value, link_one, link_zero};
+use crate::search::next_bit;
+use mapping_records::Eid;
+use node_store::{NodeStore, Reads};
+
+/// Takes the pair of an EID out of the trie under a name, whose keys have at least that length. The
+/// name of the trie then, if something is left of it, and the value. Takes no memory.
+pub(crate) fn take_below<V>(
+    store: &mut NodeStore<Node<V>>,
+    at: Option<u32>,
+    eid: Eid,
+    least: u8,
+) -> (Option<u32>, Option<V>)
+    requires { Holds store.old at least eid }
+    ensures { Shrinks store.old store.new at least eid result.0 result.1 }
+{
+    let Some(at) = at else {
+        return (None, None);
+    };
+    let mut reads = Reads::new();
+    let node = store.read(at, &mut reads);
+    let key = node.eid;
+    let valued = node.value.is_some();
+    let zero = node.zero;
+    let one = node.one;
+    if !key.covers(&eid) {
+        return (Some(at), None);
+    }
+    if key.prefix.len == eid.prefix.len {
+        if zero.is_some() && one.is_some() {
+            return (Some(at), clear_value(store, at));
+        }
+        return (zero.or(one), drop_value(store, at));
+    }
+    if next_bit(eid.prefix.addr, key.prefix.len) {
+        let (below, was) = take_below(store, one, eid, key.prefix.len + 1);
+        return (relink_one(store, at, valued, zero, below), was);
+    }
+    let (below, was) = take_below(store, zero, eid, key.prefix.len + 1);
+    (relink_zero(store, at, valued, one, below), was)
+}
+
+// Names what is left below a node on the side of the next bit 0, or drops the node where it has no
+// value and nothing is left there. The name of the trie then.
+fn relink_zero<V>(
+    store: &mut NodeStore<Node<V>>,
+    at: u32,
+    valued: bool,
+    one: Option<u32>,
+    below: Option<u32>,
+) -> Option<u32>
+    requires live { IsLive store.old at }
+    requires valued { (top : _) → node_at store.old at ≡ Some top → valued ≡ is_some top.value }
+    ensures stays { StaysWhere store.old store.new at (λ top. record top { zero = below }) below result }
+    ensures goes { GoesWhere store.old store.new at one below result }
+    ensures slots { length store.new.slots ≡ length store.old.slots }
+{
+    if valued || below.is_some() {
+        link_zero(store, at, below);
+        return Some(at);
+    }
+    match drop_value(store, at) {
+        None => one,
+        Some(_) => unreachable!(),
+    }
+}
+
+// The same on the side of the next bit 1.
+fn relink_one<V>(
+    store: &mut NodeStore<Node<V>>,
+    at: u32,
+    valued: bool,
+    zero: Option<u32>,
+    below: Option<u32>,
+) -> Option<u32>
+    requires live { IsLive store.old at }
+    requires valued { (top : _) → node_at store.old at ≡ Some top → valued ≡ is_some top.value }
+    ensures stays { StaysWhere store.old store.new at (λ top. record top { one = below }) below result }
+    ensures goes { GoesWhere store.old store.new at zero below result }
+    ensures slots { length store.new.slots ≡ length store.old.slots }
+{
+    if valued || below.is_some() {
+        link_one(store, at, below);
+        return Some(at);
+    }
+    match drop_value(store, at) {
+        None => zero,
+        Some(_) => unreachable!(),
+    }
+}

@@ -1,0 +1,81 @@
+// Lookups: down from a root, one read a node.
+ghost use Rattle.std.specs.Prelude.{◌≡◌, ◌≤◌, ◌+◌, ◌^◌, ◌<◌, ◌%◌, ◌==◌, IsTrue, IsSome, All, MatchOption, Some, None};
+ghost use Rattle.std.specs.Fn.{FnReturnsAt};
+ghost use Rattle.std.specs.Option.{option_map};
+ghost use Rattle.ip_headers.specs.Addr.{first_bits, width};
+ghost use Rattle.prefix_table.specs.Keys.{key_width};
+ghost use Rattle.prefix_table.specs.Tree.{pairs};
+ghost use Rattle.prefix_table.specs.Longest.{IsRefused, IsLongestWhere, After, seen};
+ghost use Rattle.prefix_table.specs.Spelled.{tree_of, IsRoot};
+
+use crate::node::Node;
+use mapping_records::{Addr, Eid};
+use node_store::{NodeStore, Reads};
+
+/// The bit of an address behind its first `len` bits.
+pub(crate) fn next_bit(addr: Addr, len: u8) -> bool
+    requires { len < width addr }
+    ensures { result ≡ (first_bits addr (len + 1) % 2 == 1) }
+{
+    match addr {
+        Addr::V4(n) => (n >> (31 - len)) % 2 == 1,
+        Addr::V6(n) => (n >> (127 - len)) % 2 == 1,
+    }
+}
+
+// What was found so far, after a look at the node.
+fn better<'a, V, F: Fn(&V) -> bool>(
+    node: &'a Node<V>,
+    test: &F,
+    best: Option<(&'a Eid, &'a V)>,
+) -> Option<(&'a Eid, &'a V)>
+    requires { F.IsAlwaysCallable test.now }
+    ensures { After (FnReturnsAt F.Fn test.now) (option_map seen best.entry)
+        node.now.eid node.now.value (option_map seen result) }
+{
+    let Some(value) = &node.value else {
+        return best;
+    };
+    if test(value) {
+        return Some((&node.eid, value));
+    }
+    best
+}
+
+/// The longest pair of the trie that covers the EID and passes the test. Each node on the way down
+/// is read once.
+pub(crate) fn longest_where<'a, V, F: Fn(&V) -> bool>(
+    store: &'a NodeStore<Node<V>>,
+    root: Option<u32>,
+    eid: &Eid,
+    test: F,
+    reads: &mut Reads,
+) -> Option<(&'a Eid, &'a V)>
+    requires callable { F.IsAlwaysCallable test }
+    requires root { IsRoot store.now root eid.now.iid (key_width eid.now) }
+    requires counts { reads.old < 2 ^ 63 }
+    ensures longest { MatchOption result
+        (All (IsRefused (FnReturnsAt F.Fn test) eid.now) (pairs (tree_of store.now root)))
+        (λ found. IsLongestWhere (FnReturnsAt F.Fn test) eid.now
+        (pairs (tree_of store.now root)) (seen found)) }
+    ensures reads { reads.new ≤ reads.old + 129 }
+{
+    let mut at = root;
+    let mut best: Option<(&'a Eid, &'a V)> = None;
+    while let Some(name) = at {
+        let node = store.read(name, reads);
+        if !node.eid.covers(eid) {
+            return best;
+        }
+        best = better(node, &test, best);
+        if node.eid.prefix.len == eid.prefix.len {
+            return best;
+        }
+        if next_bit(eid.prefix.addr, node.eid.prefix.len) {
+            at = node.one;
+        } else {
+            at = node.zero;
+        }
+    }
+    best
+}
