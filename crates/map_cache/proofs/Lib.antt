@@ -1,0 +1,5 @@
+pub mod AscendingLemmas
+pub mod BitLemmas
+pub mod EidLemmas
+pub mod LastingLemmas
+pub mod PlaceLemmas

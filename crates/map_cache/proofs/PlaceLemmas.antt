@@ -1,0 +1,37 @@
+-- Where an item is put in order, and how many mappings are left once one is taken away.
+use Rattle.std.proofs.Common.{◌≡◌, ◌≤◌, suc, ◌+◌, ◌&&◌, Bool, true, false, cond, not, List, [], ◌∷◌, length, filter, insert, Some, is_some, Ordering, is_lt, refl, ap, ◌∙◌, arith}
+use Rattle.std.specs.List.{position_or_len}
+use Rattle.mapping_records.specs.Eids.{same_eid}
+use Rattle.mapping_records.specs.Orders.{put_in_order}
+use Rattle.mapping_records.specs.declared.eid.Eid.{Eid}
+use Rattle.map_cache.specs.Cache.{exact, without_eid}
+use Rattle.map_cache.specs.declared.mapping.Mapping.{Mapping}
+
+-- an item goes before the first of a greater key
+pub insert-position : {I K : Type 0} (key : I → K) (order : K → K → Ordering) (x : I) (items : List I) → insert items (position_or_len (λ i. is_lt (order (key x) (key i))) items) x ≡ put_in_order key order x items
+insert-position key order x [] = refl
+insert-position {I} key order x (i ∷ items) = by (is_lt (order (key x) (key i))) (insert-position key order x items)
+  where
+    by : (b : Bool) → insert items (position_or_len (λ j. is_lt (order (key x) (key j))) items) x ≡ put_in_order key order x items → insert (i ∷ items) (cond (not b) (1 + position_or_len (λ j. is_lt (order (key x) (key j))) items) 0) x ≡ cond b (x ∷ i ∷ items) (i ∷ put_in_order key order x items)
+    by true h = refl
+    by false h =
+        let next : 1 + position_or_len (λ j. is_lt (order (key x) (key j))) items ≡ suc (position_or_len (λ j. is_lt (order (key x) (key j))) items) = omega arith in
+        ap (λ n. insert (i ∷ items) n x) next ∙ ap (λ l. i ∷ l) h
+
+-- where there is a mapping of the EID, at least that one goes
+pub length-without_eid : (eid : Eid) (mappings : List Mapping) → length (without_eid eid mappings) + cond (is_some (exact mappings eid)) 1 0 ≤ length mappings
+length-without_eid eid [] = omega arith
+length-without_eid eid (x ∷ others) = by (same_eid x.eid eid) (length-without_eid eid others)
+  where
+    by : (b : Bool) → length (without_eid eid others) + cond (is_some (exact others eid)) 1 0 ≤ length others → length (cond (not b) (x ∷ without_eid eid others) (without_eid eid others)) + cond (is_some (cond b (Some x) (exact others eid))) 1 0 ≤ length (x ∷ others)
+    by true h = omega (arith, h)
+    by false h = omega (arith, h)
+
+-- those that pass both of two tests
+pub filter_twice : {A : Type 0} (p q : A → Bool) (items : List A) → filter q (filter p items) ≡ filter (λ item. p item && q item) items
+filter_twice p q [] = refl
+filter_twice {A} p q (x ∷ items) = by (p x) (filter_twice p q items)
+  where
+    by : (b : Bool) → filter q (filter p items) ≡ filter (λ item. p item && q item) items → filter q (cond b (x ∷ filter p items) (filter p items)) ≡ cond (b && q x) (x ∷ filter (λ item. p item && q item) items) (filter (λ item. p item && q item) items)
+    by true h = ap (λ l. cond (q x) (x ∷ l) l) h
+    by false h = h

@@ -1,0 +1,88 @@
+-- The map-cache: mappings until their TTL is over (RFC 9301, section 5.4), with status bits (RFC 9300, section 10).
+use Rattle.std.specs.Prelude.{ℕ, ◌+◌, ◌*◌, ◌-◌, ◌/◌, ◌%◌, ◌^◌, ◌==◌, ◌||◌, nat_lt, not, Bool, List, filter, length, map, Option, is_some, if◌then◌else◌}
+use Rattle.mapping_records.specs.Eids.{exactly, longest, same_eid}
+use Rattle.mapping_records.specs.Orders.{eid_order, put_in_order}
+use Rattle.mapping_records.specs.declared.eid.Eid.{Eid}
+use Rattle.mapping_records.specs.declared.record.Record.{Record}
+use Rattle.router_log.specs.Moments.{seconds}
+use Rattle.map_cache.specs.declared.fault.TheConstants.{MOST_MAPPINGS}
+use Rattle.map_cache.specs.declared.mapping.Mapping.{Mapping}
+
+-- how long a TTL of minutes lasts, in nanoseconds; where its sender leaves it open, a day (this router's choice)
+abbrev pub lifetime : ℕ → ℕ
+lifetime ttl = seconds (60 * (if ttl == 0xffffffff then 1440 else ttl))
+
+-- when a mapping that was learned at a moment ends
+abbrev pub end_of : ℕ → Record → Bool → ℕ
+end_of moment mapping fixed = if fixed then 0 else moment + lifetime mapping.ttl
+
+-- a mapping that hasn't ended
+abbrev pub lasts : ℕ → Mapping → Bool
+lasts now mapping = mapping.fixed || nat_lt now mapping.end
+
+-- a number with its lowest bits taken from another
+abbrev pub lowest_from : ℕ → ℕ → ℕ → ℕ
+lowest_from width old new = old / 2 ^ width * 2 ^ width + new % 2 ^ width
+
+-- a mapping that was just learned: nothing was told of its locators
+abbrev pub fresh : ℕ → Record → Bool → Mapping
+fresh moment mapping fixed = record {
+  eid = mapping.eid;
+  fixed = fixed;
+  end = end_of moment mapping fixed;
+  details = mapping;
+  known = 0;
+  bits = 0;
+}
+
+-- a mapping of which so many of the lowest status bits were told
+abbrev pub with_bits : ℕ → ℕ → Mapping → Mapping
+with_bits bits width mapping = record mapping {
+  known = lowest_from width mapping.known (2 ^ width - 1);
+  bits = lowest_from width mapping.bits bits;
+}
+
+-- the same, where it is the mapping of that EID
+abbrev pub told_mapping : Eid → ℕ → ℕ → Mapping → Mapping
+told_mapping eid bits width mapping = if same_eid mapping.eid eid then with_bits bits width mapping else mapping
+
+-- ### lists of mappings
+
+-- those that haven't ended
+abbrev pub lasting : ℕ → List Mapping → List Mapping
+lasting now mappings = filter (lasts now) mappings
+
+-- those of other EIDs
+abbrev pub without_eid : Eid → List Mapping → List Mapping
+without_eid eid mappings = filter (λ mapping. not (same_eid mapping.eid eid)) mappings
+
+-- the mapping of exactly that EID
+abbrev pub exact : List Mapping → Eid → Option Mapping
+exact mappings eid = exactly (λ mapping. mapping.eid) mappings eid
+
+-- the mapping in force for an EID: the longest that covers it
+abbrev pub in_force : List Mapping → Eid → Option Mapping
+in_force mappings eid = longest (λ mapping. mapping.eid) mappings eid.iid eid.prefix.addr eid.prefix.len
+
+-- a mapping may be learned: it takes one away, replaces one, or is within the limit
+abbrev pub has_room : Record → List Mapping → Bool
+has_room mapping mappings =
+    (mapping.ttl == 0) || (is_some (exact mappings mapping.eid) || nat_lt (length mappings) MOST_MAPPINGS)
+
+-- those that haven't ended, once a mapping was learned in place of that of its EID: a TTL of 0 takes it away, unless it is
+-- fixed
+abbrev pub learned : ℕ → Record → Bool → List Mapping → List Mapping
+learned m mapping fixed mappings =
+    if fixed || not (mapping.ttl == 0)
+    then put_in_order (λ item. item.eid) eid_order (fresh m mapping fixed) (without_eid mapping.eid (lasting m mappings))
+    else without_eid mapping.eid (lasting m mappings)
+
+-- those of which so many of the lowest status bits of an EID's mapping were told
+abbrev pub bits_told : Eid → ℕ → ℕ → List Mapping → List Mapping
+bits_told eid bits width mappings = map (told_mapping eid bits width) mappings
+
+-- a cache as callers see it: the greatest moment that it was handed, its mappings, and how many more it has room for
+pub record Cache : Type 0 where
+  pub now : ℕ
+  pub mappings : List Mapping
+  pub spare : ℕ

@@ -1,0 +1,31 @@
+-- What a cache keeps true of its list.
+use Rattle.std.specs.Prelude.{◌≡◌, ℕ, true, List, [], ◌∷◌, is_some, if◌then◌else◌}
+use Rattle.std.specs.declared.cmp.Ordering.TheVariants.{Less}
+use Rattle.mapping_records.specs.Orders.{eid_order}
+use Rattle.mapping_records.specs.declared.eid.Eid.{Eid}
+use Rattle.map_cache.specs.Cache.{exact, lasts}
+use Rattle.map_cache.specs.declared.mapping.Mapping.{Mapping}
+
+-- an EID is below those of all mappings
+abbrev pub IsBelow : Eid → List Mapping → Type 0
+IsBelow eid [] = Unit {0}
+IsBelow eid (mapping ∷ others) = (eid_order eid mapping.eid ≡ Less) × IsBelow eid others
+
+-- each EID is below those behind it, so that each is there once
+abbrev pub IsAscending : List Mapping → Type 0
+IsAscending [] = Unit {0}
+IsAscending (mapping ∷ others) = IsBelow mapping.eid others × IsAscending others
+
+-- an EID is above those of all mappings
+abbrev pub IsAbove : Eid → List Mapping → Type 0
+IsAbove eid [] = Unit {0}
+IsAbove eid (mapping ∷ others) = (eid_order mapping.eid eid ≡ Less) × IsAbove eid others
+
+-- none has ended at a moment
+abbrev pub AllLast : ℕ → List Mapping → Type 0
+AllLast now [] = Unit {0}
+AllLast now (mapping ∷ others) = (lasts now mapping ≡ true) × AllLast now others
+
+-- how many of a cache's mappings have an EID
+abbrev pub count_of : Eid → List Mapping → ℕ
+count_of eid mappings = if is_some (exact mappings eid) then 1 else 0

@@ -1,0 +1,28 @@
+// Why a mapping wasn't learned.
+ghost use Rattle.std.specs.Prelude.{◌≡◌};
+ghost use Rattle.map_cache.specs.declared.fault.LearnFault.TheVariants.{Memory};
+
+use std::alloc::AllocError;
+
+/// The most mappings that a cache holds (this router's choice).
+pub const MOST_MAPPINGS: usize = 65_536;
+
+/// The most locators of a mapping that is learned (this router's choice).
+pub const MOST_LOCATORS: usize = 32;
+
+/// A mapping wasn't learned. Only the purge has taken place.
+#[derive(Clone, Copy, Debug, PartialEq, Eq)]
+pub enum LearnFault {
+    /// So many mappings of other EIDs are live that there is no place for one more.
+    CacheFull,
+    /// An allocation was refused.
+    Memory,
+}
+
+impl From<AllocError> for LearnFault {
+    ghost from_gives = { λ _ fault. fault ≡ Memory };
+
+    fn from(_: AllocError) -> Self {
+        LearnFault::Memory
+    }
+}

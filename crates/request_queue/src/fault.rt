@@ -1,0 +1,25 @@
+// Why a request wasn't taken.
+ghost use Rattle.std.specs.Prelude.{◌≡◌};
+ghost use Rattle.request_queue.specs.declared.fault.AskFault.TheVariants.{Memory};
+
+use std::alloc::AllocError;
+
+/// The most requests that wait at once (this router's choice).
+pub const MOST_REQUESTS: usize = 1024;
+
+/// A request wasn't taken. Only the purge has taken place.
+#[derive(Clone, Copy, Debug, PartialEq, Eq)]
+pub enum AskFault {
+    /// So many requests wait that there is no place for one more.
+    QueueFull,
+    /// An allocation was refused.
+    Memory,
+}
+
+impl From<AllocError> for AskFault {
+    ghost from_gives = { λ _ fault. fault ≡ Memory };
+
+    fn from(_: AllocError) -> Self {
+        AskFault::Memory
+    }
+}

@@ -1,0 +1,15 @@
+//! Map-Requests that were sent and wait for an answer (RFC 9301, section 5.3), in asking order.
+#![tactic(auto)]
+
+mod fault;
+mod queue;
+mod request;
+mod searching;
+
+pub use fault::{AskFault, MOST_REQUESTS};
+pub use ip_headers::Addr;
+pub use mapping_records::Eid;
+pub use node_store::Reads;
+pub use octets::NoMemory;
+pub use queue::RequestQueue;
+pub use request::Request;

@@ -1,0 +1,116 @@
+// Times and limits of mappings, by hand.
+ghost use Rattle.std.specs.Prelude.{◌≡◌, ◌≤◌, IfOk};
+
+use crate::rows::{SECOND, eid, record};
+use ip_headers::{Addr, Prefix};
+use map_cache::{LearnFault, MapCache};
+use mapping_records::Eid;
+use node_store::Reads;
+use std::alloc::Global;
+use std::test::Fail;
+
+const MINUTE: u64 = 60 * SECOND;
+
+// The length of the prefix in force.
+fn length_in_force(cache: &MapCache, moment: u64, eid: &Eid) -> Option<u8>
+    requires { cache.now.now ≤ moment }
+{
+    let mut reads = Reads::new();
+    let mapping = cache.in_force(moment, eid, &mut reads)?;
+    Some(mapping.eid.prefix.len)
+}
+
+// Which status bits of a mapping are known, and what they are.
+fn bits(cache: &MapCache, moment: u64, eid: &Eid) -> Option<(u32, u32)>
+    requires { cache.now.now ≤ moment }
+{
+    let mut reads = Reads::new();
+    let mapping = cache.exact(moment, eid, &mut reads)?;
+    Some((mapping.known, mapping.bits))
+}
+
+#[test]
+fn a_mapping_lasts_until_its_ttl_is_over(rt: HostRuntime) -> Result<(), Fail> {
+    let mut cache = MapCache::new(rt.alloc());
+    let tenant = eid(0x0a02_0000, 16)?;
+    cache.learn(0, record(rt.alloc(), tenant, 1), false)?;
+    for (moment, count, known) in [
+        (0, 1, Some((0, 0))),
+        (MINUTE - 1, 1, Some((0, 0))),
+        (MINUTE, 0, None),
+    ] {
+        assert_eq!(rt; cache.live_count(moment), count);
+        assert_eq!(rt; bits(&cache, moment, &tenant), known);
+    }
+    Ok(())
+}
+
+#[test]
+fn the_longest_prefix_is_in_force_until_it_ends(rt: HostRuntime) -> Result<(), Fail> {
+    let mut cache = MapCache::new(rt.alloc());
+    cache.learn(0, record(rt.alloc(), eid(0x0a02_0000, 16)?, 1), false)?;
+    cache.learn(0, record(rt.alloc(), eid(0x0a00_0000, 8)?, 2), false)?;
+    let host = eid(0x0a02_0009, 32)?;
+    for (moment, len) in [
+        (MINUTE - 1, Some(16)),
+        (MINUTE, Some(8)),
+        (2 * MINUTE - 1, Some(8)),
+        (2 * MINUTE, None),
+    ] {
+        assert_eq!(rt; length_in_force(&cache, moment, &host), len);
+    }
+    Ok(())
+}
+
+#[test]
+fn status_bits_are_known_until_the_mapping_is_replaced(rt: HostRuntime) -> Result<(), Fail> {
+    let mut cache = MapCache::new(rt.alloc());
+    let tenant = eid(0x0a02_0000, 16)?;
+    cache.learn(0, record(rt.alloc(), tenant, 1), false)?;
+    cache.set_bits(&tenant, 0b101, 8);
+    assert_eq!(rt; bits(&cache, 0, &tenant), Some((0xff, 0b101)));
+    cache.set_bits(&tenant, 0b110, 1);
+    assert_eq!(rt; bits(&cache, 0, &tenant), Some((0xff, 0b100)));
+    cache.learn(0, record(rt.alloc(), tenant, 1), false)?;
+    assert_eq!(rt; bits(&cache, 0, &tenant), Some((0, 0)));
+    Ok(())
+}
+
+#[test]
+fn a_fixed_mapping_has_no_end_and_a_ttl_of_0_takes_it_away(rt: HostRuntime) -> Result<(), Fail> {
+    let mut cache = MapCache::new(rt.alloc());
+    cache.reserve(1, 32)?;
+    let tenant = eid(0x0a02_0000, 16)?;
+    cache.learn(0, record(rt.alloc(), tenant, 1), true)?;
+    cache.purge(MINUTE);
+    assert_eq!(rt; cache.now(), MINUTE);
+    assert_eq!(rt; cache.live_count(MINUTE), 1);
+    cache.learn(MINUTE, record(rt.alloc(), tenant, 0), false)?;
+    assert_eq!(rt; cache.live_count(MINUTE), 0);
+    Ok(())
+}
+
+// So many hosts, from the first address on, for a minute.
+fn filled(alloc: Global, hosts: u32) -> Result<MapCache, Fail>
+    ensures { IfOk result (λ cache. cache.now ≡ 0) }
+{
+    let mut cache = MapCache::new(alloc);
+    for host in 0..hosts {
+        let prefix = Prefix::host(Addr::V4(host));
+        cache.learn(0, record(alloc, Eid { iid: 100, prefix }, 1), false)?;
+    }
+    Ok(cache)
+}
+
+#[test]
+fn a_full_cache_takes_no_other_eid(rt: HostRuntime) -> Result<(), Fail> {
+    let mut cache = filled(rt.alloc(), 65_536)?;
+    let other = eid(0x0a02_0000, 16)?;
+    let full = cache.learn(0, record(rt.alloc(), other, 1), false);
+    assert_eq!(rt; full, Err(LearnFault::CacheFull));
+    cache.learn(0, record(rt.alloc(), eid(65_535, 32)?, 1), false)?;
+    assert_eq!(rt; cache.live_count(0), 65_536);
+    cache.learn(MINUTE, record(rt.alloc(), other, 1), false)?;
+    assert_eq!(rt; cache.live_count(MINUTE), 1);
+    Ok(())
+}

@@ -1,0 +1,83 @@
+// Times and limits of requests, by hand.
+use crate::rows::{SECOND, eid};
+use ip_headers::Addr;
+use mapping_records::Eid;
+use node_store::Reads;
+use request_queue::{AskFault, RequestQueue};
+use std::alloc::Global;
+use std::test::Fail;
+
+const LATE: u64 = 7 * SECOND;
+
+// A request waits that covers an EID.
+fn is_open(queue: &RequestQueue, moment: u64, eid: &Eid) -> bool {
+    let mut reads = Reads::new();
+    queue.open_for(moment, eid, &mut reads)
+}
+
+#[test]
+fn a_request_waits_for_seven_seconds(rt: HostRuntime) -> Result<(), Fail> {
+    let mut queue = RequestQueue::new(rt.alloc());
+    queue.reserve(1)?;
+    let source = Some(Addr::V4(0x0a01_0005));
+    queue.ask(0, eid(0x0a02_0000, 16)?, source, false, 42)?;
+    let host = eid(0x0a02_0009, 32)?;
+    for (moment, count, open) in [(0, 1, true), (LATE - 1, 1, true), (LATE, 0, false)] {
+        assert_eq!(rt; queue.open_count(moment), count);
+        assert_eq!(rt; queue.find(moment, 42).is_some(), open);
+        assert_eq!(rt; is_open(&queue, moment, &host), open);
+    }
+    assert!(rt; queue.find(0, 43).is_none());
+    queue.purge(LATE);
+    assert_eq!(rt; queue.open_count(0), 0);
+    Ok(())
+}
+
+#[test]
+fn an_answered_request_is_gone(rt: HostRuntime) -> Result<(), Fail> {
+    let mut queue = RequestQueue::new(rt.alloc());
+    queue.ask(0, eid(0x0a02_0000, 16)?, None, false, 1)?;
+    queue.ask(0, eid(0x0a03_0000, 16)?, None, true, 2)?;
+    queue.answer(1);
+    assert!(rt; queue.find(0, 1).is_none());
+    assert!(rt; queue.find(0, 2).is_some());
+    assert_eq!(rt; queue.open_count(0), 1);
+    Ok(())
+}
+
+#[test]
+fn of_a_repeated_nonce_the_last_request_counts(rt: HostRuntime) -> Result<(), Fail> {
+    let mut queue = RequestQueue::new(rt.alloc());
+    let first = eid(0x0a02_0000, 16)?;
+    let last = eid(0x0a03_0000, 16)?;
+    queue.ask(0, first, None, false, 42)?;
+    queue.ask(SECOND, last, None, false, 42)?;
+    assert_eq!(rt; queue.open_count(SECOND), 1);
+    let request = queue.find(LATE, 42).ok_or("no request")?;
+    assert_eq!(rt; (request.eid, request.start), (last, SECOND));
+    assert_eq!(rt; is_open(&queue, SECOND, &first), false);
+    Ok(())
+}
+
+// So many requests with the nonces from 0 on.
+fn filled(alloc: Global, requests: u64) -> Result<RequestQueue, Fail> {
+    let mut queue = RequestQueue::new(alloc);
+    for nonce in 0..requests {
+        queue.ask(0, eid(0x0a02_0000, 16)?, None, false, nonce)?;
+    }
+    Ok(queue)
+}
+
+#[test]
+fn a_full_queue_takes_no_request_until_seven_seconds_are_over(rt: HostRuntime) -> Result<(), Fail> {
+    let mut queue = filled(rt.alloc(), 1024)?;
+    let other = eid(0x0a03_0000, 16)?;
+    for nonce in [0, 1024] {
+        let full = queue.ask(LATE - 1, other, None, false, nonce);
+        assert_eq!(rt; full, Err(AskFault::QueueFull));
+    }
+    assert_eq!(rt; queue.open_count(LATE - 1), 1024);
+    queue.ask(LATE, other, None, false, 1024)?;
+    assert_eq!(rt; queue.open_count(LATE), 1);
+    Ok(())
+}
