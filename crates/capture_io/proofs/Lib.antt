@@ -1,5 +1,7 @@
 pub mod CallLemmas
 pub mod Fronts
+pub mod MomentLemmas
+pub mod OrderLemmas
 pub mod Records
 pub mod Runs
 pub mod StandardFacts

@@ -1,11 +1,11 @@
 -- The frames of a file, record by record, and what a reader answers of them.
-use Rattle.std.proofs.Common.{◌≡◌, ◌≤◌, ◌+◌, ℕ, zero, suc, List, [], ◌∷◌, drop, length, Option, Some, None, Ok, Err, refl, sym, ap, ◌∙◌, arith}
-use Rattle.std.proofs.lemmas.Bool.{leb-true}
+use Rattle.std.proofs.Common.{◌≡◌, ◌≤◌, ◌<◌, ◌+◌, ℕ, zero, suc, List, [], ◌∷◌, drop, length, Option, Some, None, Ok, Err, refl, sym, ap, ◌∙◌, arith}
+use Rattle.std.proofs.lemmas.Bool.{leb-true, ltb-true}
 use Rattle.std.proofs.lemmas.List.{length-take, length-drop}
 use Rattle.octets.specs.Rules.{first_failing}
 use Rattle.octets.proofs.RuleLemmas.{all_hold}
 use Rattle.capture_io.specs.Answers.{unless}
-use Rattle.capture_io.specs.Capture.{header_rules, format_of, begin, record_rules, frame, body, kept, outcome, advanced}
+use Rattle.capture_io.specs.Capture.{header_rules, format_of, begin, record_rules, frame, body, kept, outcome, advanced, fraction, per_second}
 use Rattle.capture_io.specs.Frame.{Frame}
 use Rattle.capture_io.specs.Frames.{ended, before, goes_on, rest, read_within, read_on, opened, capture}
 use Rattle.capture_io.specs.Reading.{Reading, started, beginning, passed}
@@ -40,7 +40,7 @@ unless_frame None f g e = (refl, cc)
 unless_frame (Some fault) f g e = (cc, cc)
 
 -- the frame at the front, where a reader gives one, is as long as its record says
-frame_given : (format : Format) (at : Position) (left : List ℕ) (f : Frame) → Ok (Some f) ≡ outcome format at left → (f ≡ frame format at left (body format left)) × (length f.octets ≡ kept format left)
+pub frame_given : (format : Format) (at : Position) (left : List ℕ) (f : Frame) → Ok (Some f) ≡ outcome format at left → (f ≡ frame format at left (body format left)) × (length f.octets ≡ kept format left)
 frame_given format at [] f e = (cc, cc)
 frame_given format at (x ∷ left) f e =
     let l = x ∷ left in
@@ -48,6 +48,22 @@ frame_given format at (x ∷ left) f e =
     let all = all_hold (record_rules format at l) is.0 in
     let there = leb-true (kept format l) (length (body format l)) all.1.1.1.1.0 in
     (is.1, ap (λ (g : Frame). length g.octets) is.1 ∙ omega (arith, there, length-take (kept format l) (drop 16 l)))
+
+-- where a frame is given, there were fewer records than may be
+pub frame_room : (format : Format) (at : Position) (left : List ℕ) (f : Frame) → Ok (Some f) ≡ outcome format at left → at.count < 1000000000
+frame_room format at [] f e = cc
+frame_room format at (x ∷ left) f e =
+    let l = x ∷ left in
+    let is = unless_frame (first_failing (record_rules format at l)) f (frame format at l (body format l)) e in
+    ltb-true at.count 1000000000 (all_hold (record_rules format at l) is.0).0
+
+-- and its fraction is less than a second
+pub fraction_fits : (format : Format) (at : Position) (left : List ℕ) (f : Frame) → Ok (Some f) ≡ outcome format at left → fraction format left < per_second format.fraction
+fraction_fits format at [] f e = cc
+fraction_fits format at (x ∷ left) f e =
+    let l = x ∷ left in
+    let is = unless_frame (first_failing (record_rules format at l)) f (frame format at l (body format l)) e in
+    ltb-true (fraction format l) (per_second format.fraction) (all_hold (record_rules format at l) is.0).1.1.0
 
 -- a reader that gives a frame stands where the rest is read from
 pub passed_frame : (format : Format) (at : Position) (left : List ℕ) (f : Frame) → Ok (Some f) ≡ outcome format at left → passed at f ≡ advanced format at left

@@ -1,5 +1,5 @@
 -- All frames of a capture, and the fault at its end.
-use Rattle.std.specs.Prelude.{ℕ, zero, suc, ◌+◌, List, [], ◌∷◌, length, drop, Option, Some, None, Result, Ok, Err}
+use Rattle.std.specs.Prelude.{ℕ, zero, suc, ◌+◌, ◌≤◌, List, [], ◌∷◌, length, drop, Option, Some, None, Result, Ok, Err}
 use Rattle.octets.specs.Rules.{first_failing}
 use Rattle.capture_io.specs.Capture.{header_rules, format_of, begin, outcome, advanced, kept}
 use Rattle.capture_io.specs.Frame.{Frame}
@@ -50,3 +50,8 @@ opened (Some fault) run = ended (Some fault)
 unfoldable pub capture : List ℕ → Run
 capture file =
     opened (first_failing (header_rules file)) (read_on (format_of file) begin (drop 24 file))
+
+-- moments that don't fall, from a moment on
+abbrev pub AreLater : ℕ → List Frame → Type 0
+AreLater m [] = Unit {0}
+AreLater m (frame ∷ frames) = (m ≤ frame.moment) × AreLater frame.moment frames

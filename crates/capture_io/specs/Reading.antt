@@ -1,5 +1,6 @@
 -- A reader of a capture, as contracts see it.
 use Rattle.std.specs.Prelude.{◌≡◌, ◌≤◌, ◌<◌, ◌+◌, ◌*◌, ◌^◌, ℕ, Bool, true, ◌&&◌, nat_le, nat_lt, List, length, Option, Some, None, unwrap_or, Result}
+use Rattle.std.specs.List.{All}
 use Rattle.octets.specs.Rules.{first_failing}
 use Rattle.capture_io.specs.Answers.{unless}
 use Rattle.capture_io.specs.Capture.{header_rules, format_of, begin}
@@ -44,6 +45,7 @@ pub record IsNext (format : Format) (at : Position) (f : Frame) : Type 0 where
   pub moment : f.moment < 2 ^ 32 * 1000000000
   pub link : f.link ≡ format.link
   pub size : length f.octets ≤ MOST_FRAME_OCTETS
+  pub octets : All (λ octet. octet < 256) f.octets
 
 -- where a reader stands after a frame
 abbrev pub passed : Position → Frame → Position

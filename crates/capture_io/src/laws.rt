@@ -1,8 +1,11 @@
-// The law of a whole capture. The function only states it.
-ghost use Rattle.std.specs.Prelude.{◌≡◌, ℕ, List, drop, Some, IfOk, IfErr};
+// The laws of a whole capture. Each function only states its law.
+ghost use Rattle.std.specs.Prelude.{◌≡◌, ◌≤◌, ◌<◌, ◌*◌, ◌^◌, ℕ, List, length, drop, Some, IfOk, IfErr};
+ghost use Rattle.std.specs.List.{All};
 ghost use Rattle.capture_io.specs.Calls.{later_answer, frame_or_end};
-ghost use Rattle.capture_io.specs.Frames.{capture, ended};
+ghost use Rattle.capture_io.specs.Capture.{begin};
+ghost use Rattle.capture_io.specs.Frames.{AreLater, capture, ended, read_on};
 ghost use Rattle.capture_io.specs.Reading.{started};
+ghost use Rattle.capture_io.specs.declared.format.Format.{Format};
 
 /// A reader answers the frames of its file in order, and then at each call none, or the file's
 /// fault; it doesn't start where that fault is one of the header. By the clauses `call`, `after`
@@ -12,4 +15,15 @@ pub fn frames_come_in_order()
         later_answer k r (drop 24 file) ≡ frame_or_end k (capture file)) }
     ensures refused { (id : ℕ) (file : List ℕ) → IfErr (started id file) (λ fault.
         capture file ≡ ended (Some fault)) }
+{}
+
+/// The moments of a file's frames don't fall, and there are at most 1,000,000,000 frames. In a file
+/// of octets no moment is of 2^32 seconds or more.
+pub fn moments_do_not_fall()
+    ensures later { (format : Format) (octets : List ℕ) →
+        AreLater 0 (read_on format begin octets).frames }
+    ensures few { (format : Format) (octets : List ℕ) →
+        length (read_on format begin octets).frames ≤ 1000000000 }
+    ensures early { (format : Format) (octets : List ℕ) → All (λ octet. octet < 256) octets →
+        All (λ frame. frame.moment < 2 ^ 32 * 1000000000) (read_on format begin octets).frames }
 {}

@@ -20,7 +20,7 @@ pub use desk::{
 };
 pub use fault::CaptureFault;
 pub use frame::{Frame, MOST_FRAME_OCTETS};
-pub use laws::frames_come_in_order;
+pub use laws::{frames_come_in_order, moments_do_not_fall};
 pub use link::Link;
 pub use octets::{Items, Layer, NoMemory, Octets, Refused, Why};
 pub use payload::link_payload;

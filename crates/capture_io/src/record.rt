@@ -1,5 +1,6 @@
 // One record of a capture.
-ghost use Rattle.std.specs.Prelude.{◌≡◌, ◌≤◌, List, false, length, take, option_map, None, Result, Ok, Err, IfOk, IfErr, IfSome, IsErrOf, IsTrue};
+ghost use Rattle.std.specs.List.{All};
+ghost use Rattle.std.specs.Prelude.{◌≡◌, ◌≤◌, ◌<◌, List, false, length, take, option_map, None, Result, Ok, Err, IfOk, IfErr, IfSome, IsErrOf, IsTrue};
 ghost use Rattle.octets.specs.Rules.{first_failing};
 ghost use Rattle.octets.specs.Causes.{Rose};
 ghost use Rattle.desk.specs.Causes.{HasCause};
@@ -87,7 +88,7 @@ fn frame_of(
     ensures next { IfOk result (IsNext format at) }
     ensures file { IfErr result (λ fault. is_outside_fault fault ≡ false) }
 {
-    if octets.len() < format.order.number_32(head, 8) as usize {
+    if octet_count(octets.as_slice()) < format.order.number_32(head, 8) as usize {
         return Err(CaptureFault::CutRecord(at.place));
     }
     let moment = moment_of(format, head);
@@ -100,4 +101,12 @@ fn frame_of(
         link: format.link,
         octets,
     })
+}
+
+// How many they are, and that they are octets.
+fn octet_count(octets: &[u8]) -> usize
+    ensures count { result ≡ length octets.now }
+    ensures octets { All (λ octet. octet < 256) octets.now }
+{
+    octets.len()
 }

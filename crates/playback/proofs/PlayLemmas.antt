@@ -2,6 +2,8 @@
 use Rattle.std.proofs.Common.{◌≡◌, ℕ, ◌+◌, List, [], ◌∷◌, ◌++◌, length, drop, Option, Some, None, Ok, Err, append_assoc, refl, sym, ap, ap₂, ◌∙◌, arith, subst}
 use Rattle.std.specs.Option.{option_map, IfSome, IsSomeAnd}
 use Rattle.std.proofs.lemmas.List.{append-nil, length-append}
+use Rattle.std.specs.List.{All}
+use Rattle.std.proofs.lemmas.List.Elements.{All-cons, All-nil}
 use Rattle.std.proofs.lemmas.List.Concat.{flat_map-append}
 use Rattle.desk.specs.declared.file.NamedFile.{NamedFile}
 use Rattle.desk.specs.World.{World, Shown, left_of, after_read, after_say, after_write, extended, shown_of, shown}
@@ -17,7 +19,7 @@ use Rattle.capture_io.specs.declared.format.Format.{Format}
 use Rattle.capture_io.specs.declared.position.Position.{Position}
 use Rattle.capture_io.specs.declared.fault.CaptureFault.{CaptureFault}
 use Rattle.playback.specs.Events.{Event, Outcome, Packet, events_after, events_of, followed, idle, played, records_of}
-use Rattle.playback.specs.Playing.{after_output, handed_on, outcome_of, with_outcome, with_output, written, Ends, Gathers}
+use Rattle.playback.specs.Playing.{after_output, handed_on, outcome_of, with_outcome, with_output, written, Ends, Gathers, IsRead}
 use Rattle.playback.specs.declared.output.Output.{Output}
 use Rattle.playback.proofs.EventLemmas.{played-frame}
 
@@ -104,6 +106,7 @@ module _ {S : Type 0} (step : S → Event → Outcome S) (id : ℕ) (file : Opti
     pub after : (rest_at at state w).after ≡ whole.after
     pub frames : at.count + length (left_at at w).frames ≡ length run.frames
     pub fault : (left_at at w).fault ≡ run.fault
+    pub read : All IsRead (left_at at w).frames → All IsRead run.frames
 
   -- the run of a file that is read from the header's end
   abbrev pub run_of : World → Run
@@ -119,7 +122,7 @@ module _ {S : Type 0} (step : S → Event → Outcome S) (id : ℕ) (file : Opti
   begins state at output None is lines records = tt
   begins state at output (Some w) is lines records =
       let here : Going begin state 0 (run_of w) (outcome_of step state (run_of w)) (with_outcome file (outcome_of step state (run_of w)) (shown_of w)) w =
-      record { shown = refl; written = omega arith; after = refl; frames = omega arith; fault = refl } in
+      record { shown = refl; written = omega arith; after = refl; frames = omega arith; fault = refl; read = λ all. all } in
       let moved : Going at state 0 (run_of w) (outcome_of step state (run_of w)) (with_outcome file (outcome_of step state (run_of w)) (shown_of w)) w =
       subst (λ (p : Position). Going p state 0 (run_of w) (outcome_of step state (run_of w)) (with_outcome file (outcome_of step state (run_of w)) (shown_of w)) w) (sym is) here in
       subst (λ (v : World). Going at state 0 (run_of w) (outcome_of step state (run_of w)) (with_outcome file (outcome_of step state (run_of w)) (shown_of w)) v)
@@ -127,10 +130,10 @@ module _ {S : Type 0} (step : S → Event → Outcome S) (id : ℕ) (file : Opti
 
   -- one frame more
   frame_step : (at : Position) (state : S) (count : ℕ) (run : Run) (whole : Outcome S) (aim : Shown) (w : World) (f : Frame)
-      → Going at state count run whole aim w → Ok (Some f) ≡ outcome format at (left_of id w) → f.number ≡ at.count + 1
+      → Going at state count run whole aim w → Ok (Some f) ≡ outcome format at (left_of id w) → f.number ≡ at.count + 1 → IsRead f
       → let done = played step state (events_of at.greatest f) in
       Going (passed at f) done.after (count + length done.packets) run whole aim (after_output file done.lines (records_of done.packets) (after_read id (16 + length f.octets) w))
-  frame_step at state count run whole aim w f going is next =
+  frame_step at state count run whole aim w f going is next read =
       let size = 16 + length f.octets in
       let done = played step state (events_of at.greatest f) in
       let v = after_output file done.lines (records_of done.packets) (after_read id size w) in
@@ -152,17 +155,18 @@ module _ {S : Type 0} (step : S → Event → Outcome S) (id : ℕ) (file : Opti
         after = ap (λ (o : Outcome S). o.after) rest_is ∙ ap (λ (o : Outcome S). o.after) (sym split) ∙ going.after;
         frames = ap (λ (r : Run). f.number + length r.frames) new ∙ omega arith;
         fault = ap (λ (r : Run). r.fault) new ∙ ap (λ (r : Run). r.fault) (sym old) ∙ going.fault;
+        read = λ all. going.read (subst (λ (r : Run). All IsRead r.frames) (sym old) (All-cons IsRead f more.frames read (subst (λ (r : Run). All IsRead r.frames) new all)));
       }
 
   -- a frame was read, its outcome was gathered, and nothing was handed on
   gathered_step : (at : Position) (state : S) (run : Run) (whole : Outcome S) (aim : Shown) (w : World) (before after : Output) (f : Frame)
-      → Going at state before.written run whole aim (after_output file before.lines before.records w) → Ok (Some f) ≡ outcome format at (left_of id w) → f.number ≡ at.count + 1
+      → Going at state before.written run whole aim (after_output file before.lines before.records w) → Ok (Some f) ≡ outcome format at (left_of id w) → f.number ≡ at.count + 1 → IsRead f
       → Gathers (played step state (events_of at.greatest f)) before after
       → Going (passed at f) (played step state (events_of at.greatest f)).after after.written run whole aim (after_output file after.lines after.records (after_read id (16 + length f.octets) w))
-  gathered_step at state run whole aim w before after f going is next gathers =
+  gathered_step at state run whole aim w before after f going is next was_read gathers =
       let done = played step state (events_of at.greatest f) in
       let read = after_read id (16 + length f.octets) w in
-      let stepped = frame_step at state before.written run whole aim (after_output file before.lines before.records w) f going is next in
+      let stepped = frame_step at state before.written run whole aim (after_output file before.lines before.records w) f going is next was_read in
       let world : after_output file done.lines (records_of done.packets) (after_output file before.lines before.records read) ≡ after_output file after.lines after.records read =
       after_output-twice file before.lines done.lines before.records (records_of done.packets) read
       ∙ sym (ap₂ (λ (l o : List ℕ). after_output file l o read) gathers.lines gathers.records) in
@@ -171,14 +175,14 @@ module _ {S : Type 0} (step : S → Event → Outcome S) (id : ℕ) (file : Opti
 
   -- the same, over what the desk tells
   pub goes_on : (first : S) (at : Position) (state : S) (old mid read now : Option World) (before after out : Output) (f : Frame)
-      → Ongoing first at state before.written old (handed_on file before mid) → IfSome mid (λ w. Ok (Some f) ≡ outcome format at (left_of id w)) → f.number ≡ at.count + 1
+      → Ongoing first at state before.written old (handed_on file before mid) → IfSome mid (λ w. Ok (Some f) ≡ outcome format at (left_of id w)) → f.number ≡ at.count + 1 → IsRead f
       → read ≡ option_map (after_read id (16 + length f.octets)) mid → Gathers (played step state (events_of at.greatest f)) before after
       → handed_on file out now ≡ handed_on file after read → out.written ≡ after.written
       → Ongoing first (passed at f) (played step state (events_of at.greatest f)).after out.written old (handed_on file out now)
-  goes_on first at state None mid read now before after out f going is next reads gathers handed same = tt
-  goes_on first at state (Some w) None read now before after out f going is next reads gathers handed same = absurd going
-  goes_on first at state (Some w) (Some v) read now before after out f going is next reads gathers handed same =
-      let stepped = gathered_step at state (run_of w) (outcome_of step first (run_of w)) (with_outcome file (outcome_of step first (run_of w)) (shown_of w)) v before after f going is next gathers in
+  goes_on first at state None mid read now before after out f going is next was_read reads gathers handed same = tt
+  goes_on first at state (Some w) None read now before after out f going is next was_read reads gathers handed same = absurd going
+  goes_on first at state (Some w) (Some v) read now before after out f going is next was_read reads gathers handed same =
+      let stepped = gathered_step at state (run_of w) (outcome_of step first (run_of w)) (with_outcome file (outcome_of step first (run_of w)) (shown_of w)) v before after f going is next was_read gathers in
       let world : handed_on file out now ≡ Some (after_output file after.lines after.records (after_read id (16 + length f.octets) v)) = handed ∙ ap (handed_on file after) reads in
       rw (world, same) stepped
 
@@ -211,6 +215,13 @@ module _ {S : Type 0} (step : S → Event → Outcome S) (id : ℕ) (file : Opti
   ends first at state (Some w) (Some v) read now output fault going over same handed =
       let ended = end_step at state output.written (run_of w) (outcome_of step first (run_of w)) (with_outcome file (outcome_of step first (run_of w)) (shown_of w)) (after_output file output.lines output.records v) fault going over in
       (ended.0, ap shown handed ∙ shown-handed_on output read (Some v) same ∙ ap Some ended.1, ended.2)
+
+  -- then all that were given were read
+  pub ends_read : (first : S) (at : Position) (state : S) (old mid : Option World) (output : Output) (fault : Option CaptureFault)
+      → Ongoing first at state output.written old (handed_on file output mid) → IfSome mid (λ w. left_at at w ≡ ended fault) → IfSome old (λ w. All IsRead (run_of w).frames)
+  ends_read first at state None mid output fault going over = tt
+  ends_read first at state (Some w) None output fault going over = absurd going
+  ends_read first at state (Some w) (Some v) output fault going over = going.read (subst (λ (r : Run). All IsRead r.frames) (sym over) (All-nil IsRead))
 
   pub at_end : (at : Position) (told : Option World) → IfSome told (λ w. Ok None ≡ outcome format at (left_of id w)) → IfSome told (λ w. left_at at w ≡ ended None)
   at_end at None is = tt

@@ -1,5 +1,6 @@
 -- What a play of a capture leaves at its desk.
-use Rattle.std.specs.Prelude.{◌≡◌, ℕ, ◌+◌, ◌≤◌, List, ◌++◌, length, Option, Some, None, option_map, Result, Ok, Err}
+use Rattle.std.specs.Prelude.{◌≡◌, ℕ, ◌+◌, ◌*◌, ◌^◌, ◌≤◌, ◌<◌, List, ◌++◌, length, Option, Some, None, option_map, Result, Ok, Err}
+use Rattle.std.specs.List.{All}
 use Rattle.desk.specs.declared.file.NamedFile.{NamedFile}
 use Rattle.desk.specs.World.{World, Shown, changed_at, extended}
 use Rattle.capture_io.specs.Frame.{Frame}
@@ -39,11 +40,16 @@ pub record Gathers {S : Type 0} (outcome : Outcome S) (old new : Output) : Type 
   pub lines : new.lines ≡ old.lines ++ outcome.lines
   pub records : new.records ≡ old.records ++ records_of outcome.packets
   pub written : new.written ≡ old.written + length outcome.packets
-  pub few : length outcome.packets ≤ 1
+  pub few : length outcome.packets ≤ 65536
 
 -- the outcome of all frames of a run
 abbrev pub outcome_of : {S : Type 0} → (S → Event → Outcome S) → S → Run → Outcome S
 outcome_of step state run = played step state (events run.frames)
+
+-- what is known of a frame that was read, whatever its file holds: its moment in nanoseconds, and that it is of octets
+pub record IsRead (f : Frame) : Type 0 where
+  pub moment : f.moment < 2 ^ 32 * 1000000000
+  pub octets : All (λ octet. octet < 256) f.octets
 
 -- how a play ends
 pub record Ends {S : Type 0} (outcome : Outcome S) (run : Run) (ending : Ending) : Type 0 where

@@ -1,11 +1,12 @@
 // The frames of a capture, one after another, through a machine.
-ghost use Rattle.std.specs.Prelude.{◌≡◌, Some, IfOk, IfSome, OnOk, option_map};
+ghost use Rattle.std.specs.Prelude.{◌≡◌, None, Some, IfOk, IfSome, OnOk, option_map};
+ghost use Rattle.std.specs.List.{All};
 ghost use Rattle.desk.specs.Causes.{HasCause};
 ghost use Rattle.desk.specs.World.{left_of, shown, shown_of};
 ghost use Rattle.capture_io.specs.Capture.{begin};
 ghost use Rattle.capture_io.specs.Frames.{read_on};
 ghost use Rattle.capture_io.specs.Reading.{beginning};
-ghost use Rattle.playback.specs.Playing.{outcome_of, with_outcome, Ends};
+ghost use Rattle.playback.specs.Playing.{outcome_of, with_outcome, Ends, IsRead};
 
 use crate::machine::Machine;
 use crate::output::{Output, hand_on, hand_on_full};
@@ -32,10 +33,13 @@ pub fn play<D: Desk, M: Machine>(
     file: Option<FileId>,
 ) -> Result<Ending, DeskFault>
     requires begins { reader ≡ beginning reader.id reader.format }
-    requires ready { M.IsReady machine.old }
+    requires ready { M.IsReady 0 None machine.old }
     ensures ends { IfOk result (λ ending. IfSome (D.told desk.old) (λ w.
         let run = read_on reader.format begin (left_of reader.id w) in
         Ends (outcome_of M.step (M.state machine.old) run) run ending)) }
+    // Each frame was given as one, so that it is in the range of its type.
+    ensures read { IfOk result (λ ending. IfSome (D.told desk.old) (λ w.
+        All IsRead (read_on reader.format begin (left_of reader.id w)).frames)) }
     ensures shown { OnOk result (IfSome (D.told desk.old) (λ w.
         let run = read_on reader.format begin (left_of reader.id w) in
         shown (D.told desk.new) ≡ Some (with_outcome (option_map (λ id. id.number) file)

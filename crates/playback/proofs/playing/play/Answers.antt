@@ -5,7 +5,7 @@ use Rattle.capture_io.specs.Frame.{Frame}
 use Rattle.capture_io.specs.Reading.{Reading, passed}
 use Rattle.capture_io.specs.declared.position.Position.{Position}
 use Rattle.desk.specs.declared.desk.FileId.{FileId}
-use Rattle.playback.proofs.PlayLemmas.{at_end, at_fault, begins, ends, goes_on}
+use Rattle.playback.proofs.PlayLemmas.{at_end, at_fault, begins, ends, ends_read, goes_on}
 use Rattle.playback.proofs.playing.play.Goals as goal
 
 pub loop-output-init : goal.loop-output-init
@@ -41,7 +41,7 @@ loop-output-preserved g c =
     let handed = c.in_ok-hand_on_full-in-Frame.ensures in
     let count = step.1.number in
     let going = goes_on g.M.Machine.step c.args.reader.id (option_map (λ id. id.number) c.args.file) c.args.reader.format (g.M.Machine.state c.args.machine.now) c.loop-output.reader.position (g.M.Machine.state c.loop-output.machine)
-    (g.D.Desk.told c.args.desk.now) (g.D.Desk.told c.loop-output.desk) (g.D.Desk.told c.next_frame.new.desk) (g.D.Desk.told c.hand_on_full.new.desk) c.loop-output.output c.take.new.output c.hand_on_full.new.output f inv.going next count told gathers handed.told handed.written in
+    (g.D.Desk.told c.args.desk.now) (g.D.Desk.told c.loop-output.desk) (g.D.Desk.told c.next_frame.new.desk) (g.D.Desk.told c.hand_on_full.new.desk) c.loop-output.output c.take.new.output c.hand_on_full.new.output f inv.going next count (record { moment = step.1.moment; octets = step.1.octets }) told gathers handed.told handed.written in
     record {
       fault = ap (λ (r : Reading). r.fault) step.0 ∙ inv.fault;
       id = ap (λ (r : Reading). r.id) step.0 ∙ inv.id;
@@ -49,7 +49,7 @@ loop-output-preserved g c =
       previous = ap Some moment ∙ ap (λ (p : Position). p.greatest) (sym position);
       frames = number ∙ ap (λ (p : Position). p.count) (sym position);
       few = omega (arith, inv.few, inv.frames, gathers.written, gathers.few, handed.written, number, count);
-      ready = taken.ready;
+      ready = rw (number, moment) taken.ready;
       going = rw (position, state) going;
       faults = omega (arith, inv.faults, c.in_ok-frame.ensures.cause.later, handed.cause.later);
     }
@@ -64,6 +64,15 @@ returns-in-End-clause-ends g c =
     let all = ends g.M.Machine.step c.args.reader.id file c.args.reader.format (g.M.Machine.state c.args.machine.now) c.loop-output.reader.position (g.M.Machine.state c.loop-output.machine)
     (g.D.Desk.told c.args.desk.now) (g.D.Desk.told c.loop-output.desk) (g.D.Desk.told c.next_frame.new.desk) _ c.loop-output.output None inv.going over c.in_ok-frame.ensures.shown handed.told in
     rw (inv.frames, handed.written) (IfSome_then (g.D.Desk.told c.args.desk.now) all (λ w h. h.0))
+
+pub returns-in-End-clause-read : goal.returns-in-End-clause-read
+returns-in-End-clause-read g c =
+    let inv = c.loop-output.invariant in
+    let file = option_map (λ (id : FileId). id.number) c.args.file in
+    let next = rw (c.in-End.is, inv.id, inv.format) at c.in_ok-frame.ensures.outcome in
+    let over = at_end g.M.Machine.step c.args.reader.id file c.args.reader.format c.loop-output.reader.position (g.D.Desk.told c.loop-output.desk) next in
+    ends_read g.M.Machine.step c.args.reader.id file c.args.reader.format (g.M.Machine.state c.args.machine.now) c.loop-output.reader.position (g.M.Machine.state c.loop-output.machine)
+    (g.D.Desk.told c.args.desk.now) (g.D.Desk.told c.loop-output.desk) c.loop-output.output None inv.going over
 
 pub returns-in-End-clause-shown : goal.returns-in-End-clause-shown
 returns-in-End-clause-shown g c =
@@ -97,6 +106,15 @@ returns-in-Fault-clause-ends g c =
     let all = ends g.M.Machine.step c.args.reader.id file c.args.reader.format (g.M.Machine.state c.args.machine.now) c.loop-output.reader.position (g.M.Machine.state c.loop-output.machine)
     (g.D.Desk.told c.args.desk.now) (g.D.Desk.told c.loop-output.desk) (g.D.Desk.told c.next_frame.new.desk) _ c.loop-output.output (Some c.in-Fault.fault) inv.going over c.in_ok-frame.ensures.shown handed.told in
     rw (inv.frames, handed.written) (IfSome_then (g.D.Desk.told c.args.desk.now) all (λ w h. h.0))
+
+pub returns-in-Fault-clause-read : goal.returns-in-Fault-clause-read
+returns-in-Fault-clause-read g c =
+    let inv = c.loop-output.invariant in
+    let file = option_map (λ (id : FileId). id.number) c.args.file in
+    let next = rw (c.in-Fault.is, inv.id, inv.format) at c.in_ok-frame.ensures.outcome in
+    let over = at_fault g.M.Machine.step c.args.reader.id file c.args.reader.format c.loop-output.reader.position (g.D.Desk.told c.loop-output.desk) c.in-Fault.fault next in
+    ends_read g.M.Machine.step c.args.reader.id file c.args.reader.format (g.M.Machine.state c.args.machine.now) c.loop-output.reader.position (g.M.Machine.state c.loop-output.machine)
+    (g.D.Desk.told c.args.desk.now) (g.D.Desk.told c.loop-output.desk) c.loop-output.output (Some c.in-Fault.fault) inv.going over
 
 pub returns-in-Fault-clause-shown : goal.returns-in-Fault-clause-shown
 returns-in-Fault-clause-shown g c =
