@@ -2,6 +2,7 @@
 #![tactic(auto)]
 
 mod asked_eid;
+mod control_header;
 mod ecm_reading;
 mod ecm_writing;
 mod items;
@@ -18,6 +19,7 @@ mod reply_writing;
 mod request_reading;
 mod request_writing;
 
+pub use control_header::write_control_header;
 pub use laws::{canonical_message_spells, one_message_is_spelled, written_message_is_read_again};
 pub use mapping_records::{Addr, Eid, NoMemory, Octets, Prefix, Record, Refused};
 pub use message::{

@@ -1,5 +1,5 @@
 use Rattle.map_messages.specs.Control.{control_header}
-use Rattle.map_messages.proofs.ecm_writing.write_header.Goals as goal
+use Rattle.map_messages.proofs.control_header.write_control_header.Goals as goal
 
 pub returns-in-V4-V4 : goal.returns-in-V4-V4
 unfolding control_header
