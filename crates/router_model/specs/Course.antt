@@ -1,5 +1,5 @@
 -- What a frame is to the router, which no mapping and no journal changes (RFC 9300, section 5.3).
-use Rattle.std.specs.Prelude.{ℕ, ◌==◌, ◌||◌, not, Bool, List, [], ◌∷◌, Option, Some, None, Result, Ok, Err, if◌then◌else◌}
+use Rattle.std.specs.Prelude.{ℕ, ◌==◌, ◌||◌, not, Bool, List, [], ◌∷◌, true, false, Option, Some, None, Result, Ok, Err, if◌then◌else◌}
 use Rattle.std.specs.Option.{option_or}
 use Rattle.octets.specs.Rules.{first_failing}
 use Rattle.octets.specs.declared.refused.Refused.{Refused}
@@ -107,3 +107,12 @@ abbrev pub course_of : Settings → Frame → Course
 course_of settings frame =
     unless_refused (frame_refusal frame)
     (packet_course settings (link_vlan frame) (frame_packet frame))
+
+-- it is a control message
+abbrev pub is_message : Course → Bool
+is_message (Control datagram) = true
+is_message _ = false
+
+-- the frame is a control message, which is heard, and not decided
+abbrev pub control : Settings → Frame → Bool
+control settings frame = is_message (course_of settings frame)

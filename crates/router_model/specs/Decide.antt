@@ -1,6 +1,7 @@
--- What the router does with a frame (RFC 9300, sections 5.3 and 10; this router's order of cases).
-use Rattle.std.specs.Prelude.{ℕ, ◌/◌, ◌%◌, ◌^◌, ◌==◌, ◌||◌, not, Bool, false, List, [], ◌∷◌, drop, length, Option, Some, None, is_none, is_some, unwrap_or, if◌then◌else◌}
+-- What the router does with a frame (RFC 9300, sections 5.3 and 10; this router's order of cases), and what it notices.
+use Rattle.std.specs.Prelude.{ℕ, ◌/◌, ◌%◌, ◌^◌, ◌==◌, ◌||◌, not, Bool, false, List, [], ◌∷◌, drop, length, Option, Some, None, is_none, is_some, option_map, option_to_list, unwrap_or, if◌then◌else◌}
 use Rattle.octets.specs.Rules.{first_failing}
+use Rattle.ip_headers.specs.Addr.{width}
 use Rattle.ip_headers.specs.Ip.{dest_of, header_at, packet_in, source_of}
 use Rattle.ip_headers.specs.Tuple.{five_tuple_of}
 use Rattle.ip_headers.specs.Udp.{payload_in}
@@ -22,20 +23,36 @@ use Rattle.capture_io.specs.Frame.{Frame}
 use Rattle.mapping_records.specs.Action.{action_of}
 use Rattle.mapping_records.specs.declared.action.Action.{Action}
 use Rattle.mapping_records.specs.declared.action.Action.TheVariants as action
-use Rattle.mapping_records.specs.declared.record.Record.{Record}
 use Rattle.lisp_settings.specs.Home.{home_of}
 use Rattle.lisp_settings.specs.declared.settings.Database.{Database}
 use Rattle.lisp_settings.specs.declared.settings.Settings.{Settings}
 use Rattle.locator_choice.specs.Hash.{flow_hash, source_port}
+use Rattle.router_log.specs.declared.decision.Decision.{Decision}
+use Rattle.router_log.specs.declared.notice.Notice.TheVariants.{Ask}
 use Rattle.router_log.specs.declared.verdict.Reason.{Reason}
 use Rattle.router_log.specs.declared.verdict.Reason.TheVariants as reason
-use Rattle.router_log.specs.declared.verdict.Reason.TheVariants.{NotBuilt, Encrypted, NotOurs, CongestionMark, TtlExpired, Multicast, NotSite, Miss, NoAction, SendRequest, DropNoReason, DropPolicy, DropAuth, NoLocator, TooBig}
+use Rattle.router_log.specs.declared.verdict.Reason.TheVariants.{NotTunnel, Encrypted, NotOurs, CongestionMark, TtlExpired, Multicast, NotSite, Miss, NoAction, SendRequest, DropNoReason, DropPolicy, DropAuth, NoLocator, TooBig}
 use Rattle.router_log.specs.declared.verdict.Verdict.{Verdict}
 use Rattle.router_log.specs.declared.verdict.Verdict.TheVariants.{Local, Encapsulated, Delivered, Native, Drop}
 use Rattle.router_model.specs.Choice.{chosen}
 use Rattle.router_model.specs.Course.{Course, Datagram, FramePacket, Settled, Data, Control, Leaving, course_of}
+use Rattle.router_model.specs.Hosts.{host_eid}
+use Rattle.router_model.specs.Journal.{Journal}
+use Rattle.router_model.specs.Mappings.{Held, force}
 use Rattle.router_model.specs.Site.{ours, own_bits}
-use Rattle.router_model.specs.View.{View, force}
+use Rattle.router_model.specs.View.{View, view}
+
+-- a verdict without notices
+abbrev pub alone : Verdict → Decision
+alone verdict = record { verdict = verdict; notices = [] }
+
+-- a drop without notices
+abbrev pub drops : Reason → Decision
+drops why = alone (Drop why)
+
+-- the mapping in force for an address of an instance
+abbrev pub force_for : View → ℕ → Addr → Option Held
+force_for v iid addr = force v.mappings iid addr (width addr)
 
 -- ### a packet in a tunnel to the router
 
@@ -44,7 +61,8 @@ abbrev pub delivery_reason : Undelivered → Reason
 delivery_reason decap.CongestionMark = CongestionMark
 delivery_reason decap.TtlExpired = TtlExpired
 
--- a packet for the site, which leaves its tunnel unless a rule drops it
+-- a packet for the site, which leaves its tunnel unless a rule drops it (not built: versions, and
+-- what a delivered packet tells)
 abbrev pub leaves : ℕ → IpHeader → List ℕ → Option Undelivered → Verdict
 leaves iid outer inner (Some why) = Drop (delivery_reason why)
 leaves iid outer inner None = Delivered iid (delivered inner outer)
@@ -99,11 +117,20 @@ site_cases settings iid header =
     ∷ []
 
 -- what is settled by a case, or else what follows
-abbrev pub unless_decided : Option Verdict → Verdict → Verdict
-unless_decided None verdict = verdict
-unless_decided (Some decided) verdict = decided
+abbrev pub unless_decided : Option Verdict → Decision → Decision
+unless_decided None decision = decision
+unless_decided (Some decided) decision = alone decided
 
--- the LISP header of a tunnel packet: the own status bits, beside an instance the lowest 8
+-- a drop, after which a mapping for the destination is to be asked for
+abbrev pub asking : ℕ → IpHeader → Reason → Decision
+asking iid header why = record {
+  verdict = Drop why;
+  notices = option_to_list
+      (option_map (λ eid. Ask eid (Some (source_of header))) (host_eid iid (dest_of header)));
+}
+
+-- the LISP header of a tunnel packet: the own status bits, beside an instance the lowest 8 (not
+-- built: echoes and versions)
 abbrev pub lisp_header : Settings → ℕ → LispHeader
 lisp_header settings iid = record {
   nonce = None;
@@ -148,36 +175,40 @@ natively packet (Some why) = Drop (unsent_reason why)
 natively packet None = Native (forwarded packet)
 
 -- the packet, by the action of a mapping without locators (RFC 9301, section 5.4)
-abbrev pub by_action : List ℕ → Action → Verdict
-by_action packet action.NoAction = Drop NoAction
-by_action packet action.NativelyForward = natively packet (first_failing (forward_rules packet))
-by_action packet action.SendMapRequest = Drop SendRequest
-by_action packet action.DropNoReason = Drop DropNoReason
-by_action packet action.DropPolicy = Drop DropPolicy
-by_action packet action.DropAuth = Drop DropAuth
+abbrev pub by_action : ℕ → FramePacket → Action → Decision
+by_action iid packet action.NoAction = drops NoAction
+by_action iid packet action.NativelyForward = alone (natively packet.octets (first_failing (forward_rules packet.octets)))
+by_action iid packet action.SendMapRequest = asking iid packet.header SendRequest
+by_action iid packet action.DropNoReason = drops DropNoReason
+by_action iid packet action.DropPolicy = drops DropPolicy
+by_action iid packet action.DropAuth = drops DropAuth
 
 -- a packet of an instance by the mapping in force for its destination
-abbrev pub mapped : Settings → ℕ → FramePacket → Option Record → Verdict
-mapped settings iid packet None = Drop Miss
-mapped settings iid packet (Some mapping) =
-    if length mapping.locators == 0 then by_action packet.octets (action_of mapping.action)
-    else towards settings iid packet (chosen settings.locators mapping.locators)
+abbrev pub mapped : Settings → View → ℕ → FramePacket → Option Held → Decision
+mapped settings v iid packet None = asking iid packet.header Miss
+mapped settings v iid packet (Some held) =
+    if length held.mapping.locators == 0 then by_action iid packet (action_of held.mapping.action)
+    else alone (towards settings iid packet (chosen settings v held.up held.mapping.locators))
 
 -- a packet of an instance
-unfoldable pub routed : Settings → View → ℕ → FramePacket → Verdict
+unfoldable pub routed : Settings → View → ℕ → FramePacket → Decision
 routed settings v iid packet =
     unless_decided (first_failing (site_cases settings iid packet.header))
-    (mapped settings iid packet (force v iid (dest_of packet.header)))
+    (mapped settings v iid packet (force_for v iid (dest_of packet.header)))
 
 -- ### any frame
 
--- the verdict on a frame of that course; control messages aren't built yet
-abbrev pub decide_course : Settings → View → Course → Verdict
-decide_course settings v (Settled verdict) = verdict
-decide_course settings v (Data datagram) = tunnelled settings datagram
-decide_course settings v (Control datagram) = Drop NotBuilt
+-- the decision on a frame of that course; a control message is heard, and has none
+abbrev pub decide_course : Settings → View → Course → Decision
+decide_course settings v (Settled verdict) = alone verdict
+decide_course settings v (Data datagram) = alone (tunnelled settings datagram)
+decide_course settings v (Control datagram) = drops NotTunnel
 decide_course settings v (Leaving iid packet) = routed settings v iid packet
 
--- the verdict on a frame, by a view
-abbrev pub decide : Settings → View → Frame → Verdict
-decide settings v frame = decide_course settings v (course_of settings frame)
+-- the decision on a frame, by a view
+unfoldable pub decide_by : Settings → View → Frame → Decision
+decide_by settings v frame = decide_course settings v (course_of settings frame)
+
+-- the decision on a frame at m, by the journal
+abbrev pub decide : Settings → Journal → ℕ → Frame → Decision
+decide settings journal m frame = decide_by settings (view journal m) frame

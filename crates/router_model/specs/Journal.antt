@@ -1,12 +1,57 @@
--- The journal: all that a router learnt and did, each at its moment. Its newest entry stands first.
-use Rattle.std.specs.Prelude.{true, List, [], ◌∷◌, map}
+-- The journal: all that the router learnt, sent and saw, each at its moment. Its newest entry stands first.
+use Rattle.std.specs.Prelude.{ℕ, ◌-◌, ◌≤◌, max, Bool, true, false, List, [], ◌∷◌, count_by, drop, length, map}
 use Rattle.lisp_settings.specs.declared.settings.Settings.{Settings}
 use Rattle.router_log.specs.declared.entry.Entry.{Entry}
-use Rattle.router_log.specs.declared.entry.Entry.TheVariants.{Learned}
+use Rattle.router_log.specs.declared.entry.Entry.TheVariants.{Learned, Asked, Retried, Answered, Probed, ProbeAnswered, Bits, EchoStarted, EchoHeard, DataFrom, EchoWanted, Solicited}
 
 -- the entries, the newest first
 abbrev pub Journal : Type 0
 Journal = List Entry
+
+-- the moment of an entry, in nanoseconds
+abbrev pub moment_of : Entry → ℕ
+moment_of (Learned moment mapping fixed) = moment
+moment_of (Asked moment eid source invoked nonce) = moment
+moment_of (Retried moment nonce) = moment
+moment_of (Answered moment nonce) = moment
+moment_of (Probed moment rloc nonce) = moment
+moment_of (ProbeAnswered moment nonce) = moment
+moment_of (Bits moment eid bits width) = moment
+moment_of (EchoStarted moment rloc nonce) = moment
+moment_of (EchoHeard moment rloc) = moment
+moment_of (DataFrom moment rloc) = moment
+moment_of (EchoWanted moment rloc nonce) = moment
+moment_of (Solicited moment rloc eid nonce) = moment
+
+-- the moment of the last entry, 0 before the first
+abbrev pub last_moment : Journal → ℕ
+last_moment [] = 0
+last_moment (entry ∷ before) = moment_of entry
+
+-- moments don't fall
+abbrev pub IsRising : Journal → Type 0
+IsRising [] = Unit {0}
+IsRising (entry ∷ before) = (last_moment before ≤ moment_of entry) × IsRising before
+
+-- the moment at which a question counts that is asked at m: that of the last entry, if it is later
+abbrev pub at : Journal → ℕ → ℕ
+at journal m = max m (last_moment journal)
+
+-- the entry used a nonce
+abbrev pub uses_nonce : Entry → Bool
+uses_nonce (Asked moment eid source invoked nonce) = true
+uses_nonce (Probed moment rloc nonce) = true
+uses_nonce (EchoStarted moment rloc nonce) = true
+uses_nonce (Solicited moment rloc eid nonce) = true
+uses_nonce _ = false
+
+-- how many nonces were used
+abbrev pub drawn : Journal → ℕ
+drawn journal = count_by uses_nonce journal
+
+-- the first n entries
+abbrev pub first : ℕ → Journal → Journal
+first n journal = drop (length journal - n) journal
 
 -- the journal with further entries, the oldest of them at the head of the list
 abbrev pub extended : Journal → List Entry → Journal

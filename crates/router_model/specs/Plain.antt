@@ -1,24 +1,27 @@
 -- The plain router: it decides each packet of a capture by all of its journal.
-use Rattle.std.specs.Prelude.{ℕ, ◌≤◌, List, [], ◌∷◌, length, Option, Some, None, IfSome}
+use Rattle.std.specs.Prelude.{ℕ, ◌≤◌, List, [], ◌∷◌, ◌++◌, length, map, Option, Some, None, IfSome, if◌then◌else◌}
 use Rattle.capture_io.specs.Frame.{Frame}
 use Rattle.capture_io.specs.declared.frame.TheConstants.{MOST_FRAME_OCTETS}
 use Rattle.lisp_settings.specs.declared.settings.Settings.{Settings}
 use Rattle.playback.specs.Events.{Event, Outcome, Packet, Tick, Arrival, idle}
 use Rattle.router_log.specs.Lines.{frame_line}
+use Rattle.router_log.specs.declared.decision.Decision.{Decision}
+use Rattle.router_log.specs.declared.emit.Emit.{Emit}
 use Rattle.router_log.specs.declared.verdict.Verdict.{Verdict}
 use Rattle.router_log.specs.declared.verdict.Verdict.TheVariants.{Encapsulated, Delivered, Native}
-use Rattle.router_model.specs.Decide.{decide}
+use Rattle.router_model.specs.Changes.{Change, Ledger, each, unchanged}
+use Rattle.router_model.specs.Changes as ledgers
+use Rattle.router_model.specs.Course.{control}
+use Rattle.router_model.specs.Decide.{decide_by}
+use Rattle.router_model.specs.Emits.{emit_packet}
+use Rattle.router_model.specs.Hear.{Heard, hear_by}
 use Rattle.router_model.specs.Journal.{Journal, statics}
-use Rattle.router_model.specs.View.{view}
+use Rattle.router_model.specs.Note.{noted}
 
--- a router between two events: its settings, and its journal
-pub record Router : Type 0 where
+-- a router between two events: its settings, and what it remembers
+pub record Router (S : Type 0) : Type 0 where
   pub settings : Settings
-  pub journal : Journal
-
--- a router as it begins, with its static mappings
-abbrev pub started : Settings → Router
-started settings = record { settings = settings; journal = statics settings }
+  pub memory : S
 
 -- the packet that a verdict sends
 abbrev pub packet_of : Verdict → Option (List ℕ)
@@ -32,19 +35,55 @@ abbrev pub packets_of : ℕ → Option (List ℕ) → List Packet
 packets_of moment None = []
 packets_of moment (Some packet) = record { moment = moment; octets = packet } ∷ []
 
--- what a verdict on a frame adds, by a journal of n entries
-abbrev pub after_verdict : Router → Frame → Verdict → Outcome Router
-after_verdict router frame verdict = record {
-  lines = frame_line frame.number frame.moment (length router.journal) verdict;
-  packets = packets_of frame.moment (packet_of verdict);
-  after = router;
-}
+-- the packets of emits, at a moment
+abbrev pub emit_packets : Settings → ℕ → List Emit → List Packet
+emit_packets settings moment emits =
+    map (λ emit. record { moment = moment; octets = emit_packet settings emit }) emits
 
--- what a router does at an event: it decides a frame by all of its journal, and nothing at a second
-abbrev pub after_event : Router → Event → Outcome Router
-after_event router (Tick second) = idle router
-after_event router (Arrival frame) =
-    after_verdict router frame (decide router.settings (view router.journal) frame)
+module _ {S : Type 0} (ledger : Ledger S) where
+  -- the line of a frame, with the number of entries by which it was decided, and what follows from it
+  abbrev pub after_frame : Router S → Frame → Verdict → List Packet → S → Outcome (Router S)
+  after_frame router frame verdict packets memory = record {
+    lines = frame_line frame.number frame.moment (ledger.count router.memory) verdict;
+    packets = packets;
+    after = record router { memory = memory };
+  }
+
+  -- a control message, which was heard
+  abbrev pub after_message : Router S → Frame → Heard S → Outcome (Router S)
+  after_message router frame heard =
+      after_frame router frame heard.verdict
+      (emit_packets router.settings frame.moment heard.change.emits) heard.change.after
+
+  -- a data packet, which was decided, and what its notices changed
+  abbrev pub after_data : Router S → Frame → Verdict → Change S → Outcome (Router S)
+  after_data router frame verdict change =
+      after_frame router frame verdict
+      (packets_of frame.moment (packet_of verdict) ++ emit_packets router.settings frame.moment change.emits)
+      change.after
+
+  -- a data packet by its decision, whose notices are noted in order
+  abbrev pub after_decision : Router S → Frame → Decision → Outcome (Router S)
+  after_decision router frame decision =
+      after_data router frame decision.verdict
+      (each (noted ledger router.settings frame.moment) decision.notices (unchanged router.memory))
+
+  -- what a router does at an event (not built: requests sent again, probes)
+  abbrev pub after_event : Router S → Event → Outcome (Router S)
+  after_event router (Tick second) = idle router
+  after_event router (Arrival frame) =
+      if control router.settings frame
+      then after_message router frame (hear_by ledger router.settings frame.moment frame (unchanged router.memory))
+      else after_decision router frame
+      (decide_by router.settings (ledger.see router.memory frame.moment) frame)
+
+-- a router as it begins, with its static mappings
+abbrev pub started : Settings → Router Journal
+started settings = record { settings = settings; memory = statics settings }
+
+-- what the plain router does at an event: it decides a frame by all of its journal
+abbrev pub plain : Router Journal → Event → Outcome (Router Journal)
+plain router event = after_event ledgers.journal router event
 
 -- the packet that a verdict sends, if it sends one, fits a record
 abbrev pub FitsRecord : Verdict → Type 0

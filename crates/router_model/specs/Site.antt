@@ -1,10 +1,12 @@
--- What the settings say of addresses: own locators and attachments.
-use Rattle.std.specs.Prelude.{ℕ, ◌+◌, ◌*◌, ◌==◌, ◌&&◌, Bool, List, [], ◌∷◌, Option, Some, None, if◌then◌else◌}
+-- What the settings say of addresses: own locators, attachments, the site's prefixes.
+use Rattle.std.specs.Prelude.{ℕ, ◌+◌, ◌*◌, ◌==◌, ◌&&◌, Bool, List, [], ◌∷◌, filter, Option, Some, None, if◌then◌else◌}
 use Rattle.std.specs.List.{list_any}
 use Rattle.ip_headers.specs.Addr.{width}
 use Rattle.ip_headers.specs.declared.addr.Addr.{Addr}
-use Rattle.mapping_records.specs.Eids.{same_address}
+use Rattle.mapping_records.specs.Eids.{longest, same_address}
+use Rattle.mapping_records.specs.declared.eid.Eid.{Eid}
 use Rattle.lisp_settings.specs.declared.settings.Attachment.{Attachment}
+use Rattle.lisp_settings.specs.declared.settings.Database.{Database}
 use Rattle.lisp_settings.specs.declared.settings.OwnLocator.{OwnLocator}
 
 -- an own locator, up or not, has this address
@@ -17,6 +19,10 @@ ours [] to = None
 ours (own ∷ others) to =
     if own.up && (width own.addr == width to) then Some own.addr else ours others to
 
+-- the own locators that are up
+abbrev pub up_locators : List OwnLocator → List OwnLocator
+up_locators locators = filter (λ own. own.up) locators
+
 -- the status bits of the own locators, the first one's lowest (RFC 9300, section 5.1)
 abbrev pub own_bits : List OwnLocator → ℕ
 own_bits [] = 0
@@ -27,3 +33,8 @@ abbrev pub instance_of : List Attachment → ℕ → Option ℕ
 instance_of [] vlan = None
 instance_of (attachment ∷ others) vlan =
     if attachment.vlan == vlan then Some attachment.iid else instance_of others vlan
+
+-- the longest of the site's prefixes that covers an EID
+abbrev pub database_of : List Database → Eid → Option Database
+database_of databases eid =
+    longest (λ database. database.eid) databases eid.iid eid.prefix.addr eid.prefix.len

@@ -1,27 +1,82 @@
--- What a decision asks of the journal.
-use Rattle.std.specs.Prelude.{ℕ, true, List, [], ◌∷◌, ◌++◌, Option}
-use Rattle.ip_headers.specs.Addr.{width}
+-- What a decision asks of the journal at a moment.
+use Rattle.std.specs.Prelude.{◌≡◌, ℕ, ◌&&◌, Bool, List, Option}
 use Rattle.ip_headers.specs.declared.addr.Addr.{Addr}
-use Rattle.mapping_records.specs.Eids.{longest}
-use Rattle.mapping_records.specs.declared.record.Record.{Record}
-use Rattle.router_log.specs.declared.entry.Entry.TheVariants.{Learned}
-use Rattle.router_model.specs.Journal.{Journal}
+use Rattle.mapping_records.specs.declared.eid.Eid.{Eid}
+use Rattle.router_log.specs.declared.kept.EchoOut.{EchoOut}
+use Rattle.request_queue.specs.declared.request.Request.{Request}
+use Rattle.router_model.specs.Journal.{Journal, at, drawn}
+use Rattle.router_model.specs.Mappings.{Held, live_mappings}
+use Rattle.router_model.specs.Observed.{Observed, data_due, echo_on, echo_out, echo_up, last_probe, may_solicit, may_start, may_want, observed, probe_count, probe_open, probe_up}
+use Rattle.router_model.specs.Requests.{open_requests}
 
--- all that decisions are judged by
+-- all that decisions and entries are judged by
 pub record View : Type 0 where
-  -- the live mappings, in the order in which they were learnt
-  pub mappings : List Record
+  -- the moment of asking
+  pub now : ℕ
+  -- the live mappings, in order of EID
+  pub mappings : List Held
+  -- the open requests, in asking order
+  pub requests : List Request
+  -- the locator of the open probe with a nonce
+  pub probe_open : ℕ → Option Addr
+  -- the moment of a locator's last probe within 600 seconds
+  pub last_probe : Addr → Option ℕ
+  -- the number of probes within 600 seconds
+  pub probe_count : ℕ
+  -- neither probes nor echoes speak against a locator
+  pub up : Addr → Bool
+  -- the nonce of the echo that is asked of a locator
+  pub echo_on : Addr → Option ℕ
+  -- that echo is asked for, and no packet came since
+  pub data_due : Addr → Bool
+  -- what a header to a locator does about echoes
+  pub echo_out : Addr → EchoOut
+  -- an echo may be asked of a locator
+  pub may_start : Addr → Bool
+  -- the wish of a locator for an echo may be noted
+  pub may_want : Addr → ℕ → Bool
+  -- a locator may be solicited for an EID
+  pub may_solicit : Addr → Eid → Bool
+  -- the number of nonces used
+  pub drawn : ℕ
 
--- the mappings that are live: the static ones always are
-abbrev pub live_mappings : Journal → List Record
-live_mappings [] = []
-live_mappings (Learned moment mapping true ∷ before) = live_mappings before ++ mapping ∷ []
-live_mappings (_ ∷ before) = live_mappings before
+-- the view of the mappings, requests and observations that count now
+abbrev pub view_of : ℕ → List Held → List Request → Observed → ℕ → View
+view_of now mappings requests o drawn = record {
+  now = now;
+  mappings = mappings;
+  requests = requests;
+  probe_open = probe_open now o.probes;
+  last_probe = last_probe now o.probes;
+  probe_count = probe_count now o.probes;
+  up = λ rloc. probe_up now o.probes rloc && echo_up now o.starts rloc;
+  echo_on = echo_on now o.starts;
+  data_due = data_due now o.starts;
+  echo_out = echo_out now o;
+  may_start = may_start now o;
+  may_want = may_want now o.wishes;
+  may_solicit = may_solicit now o.solicits;
+  drawn = drawn;
+}
 
--- the journal as a decision sees it
-abbrev pub view : Journal → View
-view journal = record { mappings = live_mappings journal }
+-- the journal, seen at m
+unfoldable pub view : Journal → ℕ → View
+view journal m =
+    view_of (at journal m) (live_mappings (at journal m) journal) (open_requests (at journal m) journal) (observed journal) (drawn journal)
 
--- the mapping in force: the longest of an instance that covers the address (RFC 9301, section 5.5)
-abbrev pub force : View → ℕ → Addr → Option Record
-force v iid addr = longest (λ mapping. mapping.eid) v.mappings iid addr (width addr)
+-- two views answer each question alike
+pub record Agrees (v w : View) : Type 0 where
+  pub now : v.now ≡ w.now
+  pub mappings : v.mappings ≡ w.mappings
+  pub requests : v.requests ≡ w.requests
+  pub probe_open : (nonce : ℕ) → v.probe_open nonce ≡ w.probe_open nonce
+  pub last_probe : (rloc : Addr) → v.last_probe rloc ≡ w.last_probe rloc
+  pub probe_count : v.probe_count ≡ w.probe_count
+  pub up : (rloc : Addr) → v.up rloc ≡ w.up rloc
+  pub echo_on : (rloc : Addr) → v.echo_on rloc ≡ w.echo_on rloc
+  pub data_due : (rloc : Addr) → v.data_due rloc ≡ w.data_due rloc
+  pub echo_out : (rloc : Addr) → v.echo_out rloc ≡ w.echo_out rloc
+  pub may_start : (rloc : Addr) → v.may_start rloc ≡ w.may_start rloc
+  pub may_want : (rloc : Addr) (nonce : ℕ) → v.may_want rloc nonce ≡ w.may_want rloc nonce
+  pub may_solicit : (rloc : Addr) (eid : Eid) → v.may_solicit rloc eid ≡ w.may_solicit rloc eid
+  pub drawn : v.drawn ≡ w.drawn

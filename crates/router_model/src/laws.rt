@@ -1,15 +1,110 @@
 // Laws of the definitions. Each function only states its law.
-ghost use Rattle.std.specs.Prelude.{◌≡◌, length};
+ghost use Rattle.std.specs.Prelude.{◌≡◌, ℕ, List, false, length, None, Some};
+ghost use Rattle.capture_io.specs.Frame.{Frame};
 ghost use Rattle.lisp_settings.specs.declared.settings.Settings.{Settings};
-ghost use Rattle.router_model.specs.Journal.{statics};
-ghost use Rattle.router_model.specs.View.{view};
+ghost use Rattle.map_messages.specs.Message.{IsMessageAt};
+ghost use Rattle.map_messages.specs.declared.message.MapReply.{MapReply};
+ghost use Rattle.map_messages.specs.declared.message.Message.{Message};
+ghost use Rattle.request_queue.specs.Queue.{with_nonce};
+ghost use Rattle.router_log.specs.declared.verdict.Reason.{Reason};
+ghost use Rattle.router_log.specs.declared.verdict.Reason.TheVariants.{Unsolicited};
+ghost use Rattle.router_log.specs.declared.verdict.Verdict.TheVariants.{Drop};
+ghost use Rattle.router_model.specs.Changes.{journal as of_journal, unchanged};
+ghost use Rattle.router_model.specs.Decide.{decide_by};
+ghost use Rattle.router_model.specs.Hear.{drops, hear, reply_heard};
+ghost use Rattle.router_model.specs.Journal.{Journal, statics};
+ghost use Rattle.router_model.specs.Lifting.{AllAbsorbed, BitsKept, EntryAbsorbed, EventsInOrder, LiveIsExact, NoticesFew, PartsAnswer, ProperRises, ReadFits, ReadInOrder, RunReplays, StandingAbsorbs, StandingAdmits, StandingSees, StaticsStand, TableDecides, TableHears, TableNotes, TableReplays};
+ghost use Rattle.router_model.specs.Received.{message_in};
+ghost use Rattle.router_model.specs.View.{Agrees, View, view};
 
-/// A router that begins sees just its static mappings, in order of EID.
-pub fn static_mappings_are_live()
-    ensures { (settings : Settings) → (view (statics settings)).mappings ≡ settings.mappings }
-{}
-
-/// Its journal has one entry for each of them.
+/// The journal of a router that begins has one entry for each static mapping.
 pub fn the_journal_has_the_static_mappings()
     ensures { (settings : Settings) → length (statics settings) ≡ length settings.mappings }
+{}
+
+/// Views that answer each question alike are equal, and decide alike.
+pub fn views_that_agree_decide_alike()
+    ensures equal { (v w : View) → Agrees v w → v ≡ w }
+    ensures decide { (settings : Settings) (v w : View) (frame : Frame) → Agrees v w
+        → decide_by settings v frame ≡ decide_by settings w frame }
+{}
+
+/// A Map-Reply to no open request is dropped, and changes nothing.
+pub fn closed_requests_hear_nothing()
+    ensures { (settings : Settings) (before : Journal) (m : ℕ) (reply : MapReply)
+        → reply.probe ≡ false → with_nonce (view before m).requests reply.nonce ≡ None
+        → reply_heard of_journal settings m reply (unchanged before)
+        ≡ drops Unsolicited (unchanged before) }
+{}
+
+/// A message that is dropped, for whatever reason, changes nothing.
+pub fn dropped_messages_change_nothing()
+    ensures { (settings : Settings) (before : Journal) (m : ℕ) (frame : Frame) (why : Reason)
+        → (hear settings before m frame).verdict ≡ Drop why
+        → hear settings before m frame ≡ drops why (unchanged before) }
+{}
+
+/// Octets at whose front a message is read have it as their message.
+pub fn messages_are_read()
+    ensures { (octets : List ℕ) (message : Message) → IsMessageAt octets message
+        → message_in octets ≡ Some message }
+{}
+
+/// The parts of a journal answer each question at each moment as the scans of the journal do.
+/// So do the status bits that are kept.
+pub fn parts_answer()
+    ensures answer { PartsAnswer }
+    ensures bits { BitsKept }
+{}
+
+/// An entry that fits is admitted by the parts, and makes of them the parts of the journal with it.
+pub fn entries_are_absorbed()
+    ensures one { EntryAbsorbed }
+    ensures all { AllAbsorbed }
+{}
+
+/// Moments don't fall in a journal that a router can have.
+pub fn proper_journals_rise()
+    ensures { ProperRises }
+{}
+
+/// What stands for a journal is seen as the journal, and goes on to stand for it.
+pub fn what_stands_goes_on()
+    ensures statics { StaticsStand }
+    ensures sees { StandingSees }
+    ensures admits { StandingAdmits }
+    ensures absorbs { StandingAbsorbs }
+{}
+
+/// What a table decides, notes and hears is what the journal says, for each journal for which it
+/// stands; and then it stands for that journal with the entries.
+pub fn tables_go_as_journals()
+    ensures decides { TableDecides }
+    ensures notes { TableNotes }
+    ensures hears { TableHears }
+{}
+
+/// A decision gives at most one notice.
+pub fn decisions_give_few_notices()
+    ensures { NoticesFew }
+{}
+
+/// From the static mappings on, a table replays events in order as the plain router does; the
+/// events of a capture are in order if its frames are.
+pub fn tables_replay_plainly()
+    ensures replays { TableReplays }
+    ensures order { EventsInOrder }
+{}
+
+/// Of a capture whose frames were read, whatever its octets are, a table with lawful settings gives
+/// the lines and packets of the plain router.
+pub fn captures_replay_plainly()
+    ensures order { ReadInOrder }
+    ensures room { ReadFits }
+    ensures replays { RunReplays }
+{}
+
+/// Of the live mappings of a journal that of an EID is the one last learnt for it, if that is live.
+pub fn the_live_mapping_was_learnt_last()
+    ensures { LiveIsExact }
 {}

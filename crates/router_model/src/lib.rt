@@ -1,7 +1,14 @@
-//! The router as definitions: what a frame is to it, what it does with it, its journal, and the
-//! plain router that decides each frame by all of that.
+//! The router as definitions: what a frame is to it, its journal, each question that is asked of
+//! it, and what a frame, a message or a notice makes of it; and the laws between the journal and
+//! the short lists that a table keeps of it.
 #![tactic(auto)]
 
 mod laws;
 
-pub use laws::{static_mappings_are_live, the_journal_has_the_static_mappings};
+pub use laws::{
+    captures_replay_plainly, closed_requests_hear_nothing, decisions_give_few_notices,
+    dropped_messages_change_nothing, entries_are_absorbed, messages_are_read, parts_answer,
+    proper_journals_rise, tables_go_as_journals, tables_replay_plainly,
+    the_journal_has_the_static_mappings, the_live_mapping_was_learnt_last,
+    views_that_agree_decide_alike, what_stands_goes_on,
+};

@@ -1,0 +1,136 @@
+-- A message is heard by a table as by the journal.
+use Rattle.std.proofs.Common.{◌≡◌, ℕ, suc, ◌+◌, ◌≤◌, ◌&&◌, nat_le, min, not, Bool, true, false, cond, List, [], ◌∷◌, length, take, Option, Some, None, is_some, refl, sym, ap, subst, arith}
+use Rattle.std.specs.List.{list_all}
+use Rattle.std.proofs.lemmas.Bool.Decides.{nat_tests}
+use Rattle.std.proofs.lemmas.List.{length-take}
+use Rattle.octets.specs.Rules.{first_failing}
+use Rattle.octets.specs.declared.refused.Refused.{Refused}
+use Rattle.ip_headers.specs.Udp.{payload_in, sum_rules}
+use Rattle.mapping_records.specs.declared.eid.Eid.{Eid}
+use Rattle.mapping_records.specs.declared.record.Record.{Record}
+use Rattle.map_messages.specs.Message.{message_rules}
+use Rattle.map_messages.specs.declared.message.MapReply.{MapReply}
+use Rattle.map_messages.specs.declared.message.MapRequest.{MapRequest}
+use Rattle.map_messages.specs.declared.message.Message.{Message}
+use Rattle.map_messages.specs.declared.message.Message.TheVariants as message
+use Rattle.lisp_settings.specs.declared.settings.Settings.{Settings}
+use Rattle.request_queue.specs.Queue.{with_nonce}
+use Rattle.request_queue.specs.declared.request.Request.{Request}
+use Rattle.router_log.specs.declared.entry.Entry.TheVariants as entry
+use Rattle.router_log.specs.declared.verdict.Reason.{Reason}
+use Rattle.router_log.specs.declared.verdict.Reason.TheVariants as reason
+use Rattle.router_log.specs.declared.verdict.Reason.TheVariants.{NotBuilt, NotTunnel, Unexpected, Unfit, Unsolicited}
+use Rattle.router_model.specs.Changes.{Change, each, entered, has_room, journal as of_journal, seen}
+use Rattle.router_model.specs.Course.{Course, Control, Datagram, course_of}
+use Rattle.router_model.specs.Hear.{Heard, carried, course_heard, datagram_heard, drops, is_asked_for, is_fit, is_static, payload_heard, read_heard, replied_to, reply_heard, shortened, tallied, taught, unless_refused}
+use Rattle.router_model.specs.Journal.{Journal}
+use Rattle.router_model.specs.Lifting.{FramesLift, Goes, Hears, MessagesLift, Ready, entries_in, is_bounded, is_sound_message, tabled}
+use Rattle.router_model.specs.Parts.{Parts, table}
+use Rattle.router_model.specs.Received.{message_in}
+use Rattle.router_model.specs.View.{View, view}
+use Rattle.router_model.proofs.LiftLemmas.{goes-entered, goes-if, seen-same}
+use Rattle.router_model.proofs.PartsLemmas.{and_both}
+
+module _ (settings : Settings) (m : ℕ) where
+  pub fewer-ready : (more fewer : ℕ) (journal : Journal) → fewer ≤ more → Ready settings m more journal → Ready settings m fewer journal
+  fewer-ready more fewer journal less ready = record { proper = ready.proper; last = ready.last; room = (let room = ready.room in omega (arith, room, less)) }
+
+  -- step by step, for items that pass a test
+  pub goes-each : {A : Type 0} (by_table : A → Change Parts → Change Parts) (by_journal : A → Change Journal → Change Journal) (test : A → Bool) (one : (more : ℕ) (a : A) (change : Change Journal) → test a ≡ true → Ready settings m (suc more) change.after → Goes settings m more (by_table a (tabled change)) (by_journal a change)) (items : List A) → list_all test items ≡ true → (more : ℕ) (t : Change Parts) (j : Change Journal) → Goes settings m (more + length items) t j → Goes settings m more (each by_table items t) (each by_journal items j)
+  goes-each by_table by_journal test one [] pass more t j goes = record { same = goes.same; ready = fewer-ready (more + 0) more j.after (omega arith) goes.ready }
+  goes-each by_table by_journal test one (a ∷ items) pass more t j goes =
+      goes-each by_table by_journal test one items (and_both (test a) _ pass).1 more (by_table a t) (by_journal a j)
+      (subst (λ u. Goes settings m (more + length items) (by_table a u) (by_journal a j)) (sym goes.same)
+      (one (more + length items) a j (and_both (test a) _ pass).0 (fewer-ready (more + suc (length items)) (suc (more + length items)) j.after (omega arith) goes.ready)))
+
+  -- a drop changes nothing
+  drops-alike : (more : ℕ) (why : Reason) (change : Change Journal) → Ready settings m more change.after → Hears settings m more (drops why (tabled change)) (drops why change)
+  drops-alike more why change ready = record { same = refl; ready = ready }
+
+  -- ### Map-Replies
+
+  bounded-range : (mapping : Record) → is_bounded mapping ≡ true → (nat_le mapping.action 7 && (nat_le mapping.version 4095 && nat_le (length (take 32 mapping.locators)) 32)) ≡ true
+  bounded-range mapping bounded =
+      let parts = and_both (nat_le mapping.action 7) _ bounded in
+      rw (parts.0, parts.1) (few (length (take 32 mapping.locators)) (length mapping.locators) (length-take 32 mapping.locators))
+    where
+      few : (n k : ℕ) → n ≡ min 32 k → nat_le n 32 ≡ true
+      few n k is = grind (arith, nat_tests)
+
+  taught-alike : (asked : Eid) (mappings : List Record) (more : ℕ) (mapping : Record) (change : Change Journal) → is_bounded mapping ≡ true → Ready settings m (suc more) change.after → Goes settings m more (taught table settings m asked mappings mapping (tabled change)) (taught of_journal settings m asked mappings mapping change)
+  taught-alike asked mappings more mapping change bounded ready =
+      goes-if settings m more change (λ v. is_asked_for asked mappings mapping && (not (is_static settings mapping) && has_room v mapping)) _ _ ready
+      (λ is. goes-entered settings m more change (entry.Learned m (shortened mapping) false) ready refl
+      (rw (bounded-range mapping bounded) (and_both (not (is_static settings mapping)) _ (and_both (is_asked_for asked mappings mapping) _ is).1).1) refl)
+
+  tallied-alike : (more : ℕ) (reply : MapReply) (t : Change Parts) (j : Change Journal) → Goes settings m more t j → Hears settings m more (tallied table settings m reply t) (tallied of_journal settings m reply j)
+  tallied-alike more reply t j goes = record { same = ap (tallied table settings m reply) goes.same; ready = goes.ready }
+
+  replied_to-alike : (more : ℕ) (reply : MapReply) (o : Option Request) (change : Change Journal) → list_all is_bounded reply.mappings ≡ true → Ready settings m (suc (more + length reply.mappings)) change.after → with_nonce (view change.after m).requests reply.nonce ≡ o → Hears settings m more (replied_to table settings m reply o (tabled change)) (replied_to of_journal settings m reply o change)
+  replied_to-alike more reply None change bounded ready found = drops-alike more Unsolicited change (fewer-ready _ more change.after (omega arith) ready)
+  replied_to-alike more reply (Some request) change bounded ready found = by (is_fit request.eid reply.mappings)
+    where
+      t : Change Parts
+      t = entered table settings m (entry.Answered m reply.nonce) (tabled change)
+
+      j : Change Journal
+      j = entered of_journal settings m (entry.Answered m reply.nonce) change
+
+      first : Goes settings m (more + length reply.mappings) t j
+      first = goes-entered settings m (more + length reply.mappings) change (entry.Answered m reply.nonce) ready refl (ap is_some found) refl
+
+      by : (b : Bool) → Hears settings m more (cond b (tallied table settings m reply (each (taught table settings m request.eid reply.mappings) reply.mappings t)) (drops Unfit (tabled change))) (cond b (tallied of_journal settings m reply (each (taught of_journal settings m request.eid reply.mappings) reply.mappings j)) (drops Unfit change))
+      by true =
+          tallied-alike more reply _ _
+          (goes-each (taught table settings m request.eid reply.mappings) (taught of_journal settings m request.eid reply.mappings) is_bounded (taught-alike request.eid reply.mappings) reply.mappings bounded more t j first)
+      by false = drops-alike more Unfit change (fewer-ready _ more change.after (omega arith) ready)
+
+  pub reply_heard-alike : (more : ℕ) (reply : MapReply) (change : Change Journal) → list_all is_bounded reply.mappings ≡ true → Ready settings m (suc (more + length reply.mappings)) change.after → Hears settings m more (reply_heard table settings m reply (tabled change)) (reply_heard of_journal settings m reply change)
+  unfolding reply_heard
+  reply_heard-alike more reply change bounded ready =
+      subst (λ v. Hears settings m more (cond reply.probe (drops Unsolicited (tabled change)) (replied_to table settings m reply (with_nonce v.requests reply.nonce) (tabled change))) (reply_heard of_journal settings m reply change))
+      (sym (seen-same settings m _ change ready)) (by reply.probe)
+    where
+      v : View
+      v = seen of_journal settings m change
+
+      by : (b : Bool) → Hears settings m more (cond b (drops Unsolicited (tabled change)) (replied_to table settings m reply (with_nonce v.requests reply.nonce) (tabled change))) (cond b (drops Unsolicited change) (replied_to of_journal settings m reply (with_nonce v.requests reply.nonce) change))
+      by true = drops-alike more Unsolicited change (fewer-ready _ more change.after (omega arith) ready)
+      by false = replied_to-alike more reply (with_nonce v.requests reply.nonce) change bounded ready refl
+
+  carried-alike : (more : ℕ) (o : Option MapRequest) (change : Change Journal) → Ready settings m more change.after → Hears settings m more (carried table settings m o (tabled change)) (carried of_journal settings m o change)
+  carried-alike more None change ready = drops-alike more Unexpected change ready
+  carried-alike more (Some request) change ready = drops-alike more NotBuilt change ready
+
+pub messages-lift : MessagesLift
+messages-lift settings m more (message.Request request) before sound ready = drops-alike settings m more NotBuilt before (fewer-ready settings m _ more before.after (omega arith) ready)
+messages-lift settings m more (message.Reply reply) before sound ready = reply_heard-alike settings m more reply before sound (fewer-ready settings m _ _ before.after (omega arith) ready)
+messages-lift settings m more (message.Control ecm) before sound ready = carried-alike settings m more ecm.request before (fewer-ready settings m _ more before.after (omega arith) ready)
+
+-- ### frames
+
+module _ (settings : Settings) (m more most : ℕ) (change : Change Journal) (ready : Ready settings m (more + most) change.after) where
+  enough : Ready settings m more change.after
+  enough = fewer-ready settings m (more + most) more change.after (omega arith) ready
+
+  refused-alike : (o : Option Refused) (t : Heard Parts) (j : Heard Journal) → Hears settings m more t j → Hears settings m more (unless_refused table settings m o (tabled change) t) (unless_refused of_journal settings m o change j)
+  refused-alike None t j hears = hears
+  refused-alike (Some refused) t j hears = drops-alike settings m more (reason.Refused refused) change enough
+
+  read-alike : (o : Option Message) → ((read : Message) → o ≡ Some read → (is_sound_message read ≡ true) × (entries_in read ≤ most)) → Hears settings m more (read_heard table settings m o (tabled change)) (read_heard of_journal settings m o change)
+  read-alike None sound = drops-alike settings m more Unexpected change enough
+  read-alike (Some read) sound =
+      let few = (sound read refl).1 in
+      messages-lift settings m more read change (sound read refl).0
+      (fewer-ready settings m (more + most) (more + entries_in read) change.after (omega (arith, few)) ready)
+
+  course-alike : (c : Course) → ((d : Datagram) (read : Message) → c ≡ Control d → message_in (payload_in d.packet.octets d.udp) ≡ Some read → (is_sound_message read ≡ true) × (entries_in read ≤ most)) → Hears settings m more (course_heard table settings m c (tabled change)) (course_heard of_journal settings m c change)
+  unfolding datagram_heard payload_heard
+  course-alike (Control d) sound =
+      refused-alike (first_failing (sum_rules d.packet.base d.packet.header d.packet.octets d.udp false)) _ _
+      (refused-alike (first_failing (message_rules (d.packet.base + d.udp.at + 8) (payload_in d.packet.octets d.udp))) _ _
+      (read-alike (message_in (payload_in d.packet.octets d.udp)) (λ read is. sound d read refl is)))
+  course-alike _ sound = drops-alike settings m more NotTunnel change enough
+
+pub frames-lift : FramesLift
+frames-lift settings m more most frame before sound ready = course-alike settings m more most before ready (course_of settings frame) sound

@@ -1,0 +1,74 @@
+-- Entries and packets that come one after another, each judged by what stands before it.
+use Rattle.std.specs.Prelude.{ℕ, ◌==◌, ◌||◌, ◌&&◌, nat_lt, not, Bool, List, [], ◌∷◌, ◌++◌, fold, length, Option, is_some}
+use Rattle.ip_headers.specs.declared.addr.Addr.{Addr}
+use Rattle.mapping_records.specs.declared.eid.Eid.{Eid}
+use Rattle.mapping_records.specs.declared.record.Record.{Record}
+use Rattle.lisp_settings.specs.Nonces.{nonce_of}
+use Rattle.lisp_settings.specs.declared.settings.Settings.{Settings}
+use Rattle.router_log.specs.declared.emit.Emit.{Emit}
+use Rattle.router_log.specs.declared.emit.Emit.TheVariants as emit
+use Rattle.router_log.specs.declared.entry.Entry.{Entry}
+use Rattle.router_log.specs.declared.entry.Entry.TheVariants as entry
+use Rattle.router_model.specs.Journal.{Journal}
+use Rattle.router_model.specs.Mappings.{exact}
+use Rattle.request_queue.specs.Queue.{covered}
+use Rattle.router_model.specs.View.{View, view}
+
+-- what keeps entries: it is seen at a moment, takes one entry more, and counts them
+pub record Ledger (S : Type 0) : Type 0 where
+  pub see : S → ℕ → View
+  pub add : S → Entry → S
+  pub count : S → ℕ
+
+-- the journal itself
+abbrev pub journal : Ledger Journal
+journal = record { see = view; add = λ before entry. entry ∷ before; count = length }
+
+-- what stands now, and the entries and packets that came so far, in order
+pub record Change (S : Type 0) : Type 0 where
+  pub after : S
+  pub entries : List Entry
+  pub emits : List Emit
+
+-- nothing came yet
+abbrev pub unchanged : {S : Type 0} → S → Change S
+unchanged before = record { after = before; entries = []; emits = [] }
+
+-- a step for each item, in order
+abbrev pub each : {S A : Type 0} → (A → Change S → Change S) → List A → Change S → Change S
+each step items change = fold (λ so_far item. step item so_far) change items
+
+-- one packet more
+abbrev pub emitted : {S : Type 0} → Emit → Change S → Change S
+emitted packet change = record change { emits = change.emits ++ packet ∷ [] }
+
+-- an EID may be asked for: there is a resolver, no open request covers it, and there is room
+abbrev pub may_ask : Settings → View → Eid → Bool
+may_ask settings v eid = is_some settings.resolver && (not (covered v.requests eid) && nat_lt (length v.requests) 1024)
+
+-- a mapping may be learnt: it takes one away, or replaces one, or there is room
+abbrev pub has_room : View → Record → Bool
+has_room v mapping =
+    (mapping.ttl == 0) || (is_some (exact v.mappings mapping.eid) || nat_lt (length v.mappings) 65536)
+
+module _ {S : Type 0} (ledger : Ledger S) (settings : Settings) (m : ℕ) where
+  -- what is seen by now
+  abbrev pub seen : Change S → View
+  seen change = ledger.see change.after m
+
+  -- one entry more
+  abbrev pub entered : Entry → Change S → Change S
+  entered entry change = record change { after = ledger.add change.after entry; entries = change.entries ++ entry ∷ [] }
+
+  -- the nonce that is used next
+  abbrev pub next_nonce : Change S → ℕ
+  next_nonce change = nonce_of settings.seed settings.nonces (seen change).drawn
+
+  -- a Map-Request goes out, with that nonce
+  abbrev pub asked_with : ℕ → Eid → Option Addr → Bool → Change S → Change S
+  asked_with nonce eid source invoked change =
+      emitted (emit.Request eid source invoked nonce) (entered (entry.Asked m eid source invoked nonce) change)
+
+  -- the same with the next nonce
+  abbrev pub asked : Eid → Option Addr → Bool → Change S → Change S
+  asked eid source invoked change = asked_with (next_nonce change) eid source invoked change

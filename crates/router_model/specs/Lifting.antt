@@ -1,0 +1,217 @@
+-- What is promised of parts: they stand for the journal.
+use Rattle.std.specs.Prelude.{◌≡◌, ℕ, suc, ◌+◌, ◌*◌, ◌^◌, ◌<◌, ◌≤◌, ◌&&◌, nat_le, Bool, true, List, [], ◌∷◌, ◌++◌, length, Some, None, option_map, if◌then◌else◌}
+use Rattle.std.specs.List.{All, list_all}
+use Rattle.ip_headers.specs.Udp.{payload_in}
+use Rattle.capture_io.specs.Frame.{Frame}
+use Rattle.capture_io.specs.Capture.{begin}
+use Rattle.capture_io.specs.Frames.{read_on}
+use Rattle.capture_io.specs.declared.format.Format.{Format}
+use Rattle.mapping_records.specs.declared.eid.Eid.{Eid}
+use Rattle.mapping_records.specs.declared.record.Record.{Record}
+use Rattle.map_messages.specs.declared.message.Message.{Message}
+use Rattle.map_messages.specs.declared.message.Message.TheVariants as message
+use Rattle.lisp_settings.specs.Lawful.{IsLawful}
+use Rattle.lisp_settings.specs.declared.settings.Settings.{Settings}
+use Rattle.playback.specs.Events.{Event, Outcome, Tick, Arrival, events, played}
+use Rattle.playback.specs.Playing.{IsRead, outcome_of}
+use Rattle.router_log.specs.Moments.{seconds}
+use Rattle.router_log.specs.declared.entry.Entry.{Entry}
+use Rattle.router_log.specs.declared.notice.Notice.{Notice}
+use Rattle.router_model.specs.Cache.{known_since, told_since}
+use Rattle.router_model.specs.Changes.{Change, journal as of_journal, unchanged}
+use Rattle.router_model.specs.Course.{Control, Datagram, course_of}
+use Rattle.router_model.specs.Decide.{decide, decide_by}
+use Rattle.router_model.specs.Hear.{Heard, hear, hear_by, message_heard}
+use Rattle.router_model.specs.Journal.{Journal, IsRising, last_moment, moment_of, statics}
+use Rattle.router_model.specs.Mappings.{bit, bit_told, exact, held, live, live_mappings}
+use Rattle.router_model.specs.Note.{note, noted}
+use Rattle.router_model.specs.Parts.{Parts, Stands, absorbed, admits, parts_in, parts_of, table, view_in}
+use Rattle.router_model.specs.Plain.{Router, after_event, plain, started}
+use Rattle.router_model.specs.Proper.{EachFits, IsProper, fits, is_admitted}
+use Rattle.router_model.specs.Received.{message_in}
+use Rattle.router_model.specs.View.{View, view}
+
+-- at each moment the parts of a journal are seen as the journal, where its moments don't fall
+abbrev pub PartsAnswer : Type 0
+PartsAnswer = (journal : Journal) (m : ℕ) → IsRising journal → view_in (parts_in journal) m ≡ view journal m
+
+-- an entry that fits is admitted, and makes of the parts those of the journal with it
+abbrev pub EntryAbsorbed : Type 0
+EntryAbsorbed = (settings : Settings) (journal : Journal) (entry : Entry) → IsRising journal → fits settings journal entry ≡ true → (admits (parts_in journal) entry ≡ true) × (absorbed (parts_in journal) entry ≡ parts_in (entry ∷ journal))
+
+-- entry by entry, from the static mappings on
+abbrev pub AllAbsorbed : Type 0
+AllAbsorbed = (settings : Settings) (entries : List Entry) → EachFits settings (statics settings) entries → parts_of settings entries ≡ parts_in (entries ++ statics settings)
+
+-- moments don't fall in a journal that a router can have
+abbrev pub ProperRises : Type 0
+ProperRises = (settings : Settings) (journal : Journal) → IsProper settings journal → IsRising journal
+
+-- what stands for a journal is seen as the journal
+abbrev pub StandingSees : Type 0
+StandingSees = (settings : Settings) (parts : Parts) (journal : Journal) (m : ℕ) → Stands settings parts journal → view_in parts m ≡ view journal m
+
+-- it admits what may follow the journal, the next nonce apart
+abbrev pub StandingAdmits : Type 0
+StandingAdmits = (settings : Settings) (parts : Parts) (journal : Journal) (entry : Entry) → Stands settings parts journal → admits parts entry ≡ is_admitted (length journal) (last_moment journal) (view journal (moment_of entry)) entry
+
+-- and goes on to stand for it after an entry that fits
+abbrev pub StandingAbsorbs : Type 0
+StandingAbsorbs = (settings : Settings) (parts : Parts) (journal : Journal) (entry : Entry) → Stands settings parts journal → fits settings journal entry ≡ true → (admits parts entry ≡ true) × Stands settings (absorbed parts entry) (entry ∷ journal)
+
+-- the bits that are kept of a mapping are those that the journal tells
+abbrev pub BitsKept : Type 0
+BitsKept = (eid : Eid) (i : ℕ) (journal : Journal) → (if bit i (known_since eid journal) then Some (bit i (told_since eid journal)) else None) ≡ bit_told eid i journal
+
+-- a table begins with the static mappings
+abbrev pub StaticsStand : Type 0
+StaticsStand = (settings : Settings) → Stands settings (parts_of settings []) (statics settings)
+
+-- ### what a table does, it does as the journal
+
+-- a journal that can be followed by so many entries more, at a moment
+pub record Ready (settings : Settings) (m more : ℕ) (journal : Journal) : Type 0 where
+  pub proper : IsProper settings journal
+  pub last : last_moment journal ≤ m
+  pub room : length journal + more ≤ 2 ^ 62
+
+-- the parts of the journal that a change made, with its entries and emits
+abbrev pub tabled : Change Journal → Change Parts
+tabled change =
+    record { after = parts_in change.after; entries = change.entries; emits = change.emits }
+
+-- the same of a verdict
+abbrev pub heard_tabled : Heard Journal → Heard Parts
+heard_tabled heard = record { verdict = heard.verdict; change = tabled heard.change }
+
+-- a table did as the journal, which is proper, and stays ready for so many entries more
+pub record Goes (settings : Settings) (m more : ℕ) (by_table : Change Parts) (by_journal : Change Journal) : Type 0 where
+  pub same : by_table ≡ tabled by_journal
+  pub ready : Ready settings m more by_journal.after
+
+-- a notice is noted by a table as by the journal: the same entries, which fit, and the same emits
+abbrev pub NotesLift : Type 0
+NotesLift = (settings : Settings) (m more : ℕ) (notice : Notice) (before : Change Journal) → Ready settings m (suc more) before.after → Goes settings m more (noted table settings m notice (tabled before)) (noted of_journal settings m notice before)
+
+-- a table answered a message as the journal
+pub record Hears (settings : Settings) (m more : ℕ) (by_table : Heard Parts) (by_journal : Heard Journal) : Type 0 where
+  pub same : by_table ≡ heard_tabled by_journal
+  pub ready : Ready settings m more by_journal.change.after
+
+-- action and version have their bits, as in each record that is read
+abbrev pub is_bounded : Record → Bool
+is_bounded mapping = nat_le mapping.action 7 && nat_le mapping.version 4095
+
+-- the records of a message that may be learnt have theirs
+abbrev pub is_sound_message : Message → Bool
+is_sound_message (message.Reply reply) = list_all is_bounded reply.mappings
+is_sound_message _ = true
+
+-- the entries that a message may make
+abbrev pub entries_in : Message → ℕ
+entries_in (message.Reply reply) = suc (length reply.mappings)
+entries_in _ = 0
+
+-- a message is heard by a table as by the journal: the same verdict, the same entries, which fit, and the same emits
+abbrev pub MessagesLift : Type 0
+MessagesLift = (settings : Settings) (m more : ℕ) (read : Message) (before : Change Journal) → is_sound_message read ≡ true → Ready settings m (more + entries_in read) before.after → Hears settings m more (message_heard table settings m read (tabled before)) (message_heard of_journal settings m read before)
+
+-- octets
+abbrev pub AreOctets : List ℕ → Type 0
+AreOctets octets = All (λ octet. octet < 256) octets
+
+-- so many entries at most come of a frame, and its records have their bits
+abbrev pub IsSoundFrame : Settings → Frame → ℕ → Type 0
+IsSoundFrame settings frame most = (d : Datagram) (read : Message) → course_of settings frame ≡ Control d → message_in (payload_in d.packet.octets d.udp) ≡ Some read → (is_sound_message read ≡ true) × (entries_in read ≤ most)
+
+-- a frame is heard by a table as by the journal
+abbrev pub FramesLift : Type 0
+FramesLift = (settings : Settings) (m more most : ℕ) (frame : Frame) (before : Change Journal) → IsSoundFrame settings frame most → Ready settings m (more + most) before.after → Hears settings m more (hear_by table settings m frame (tabled before)) (hear_by of_journal settings m frame before)
+
+-- ### the promises of a table
+
+-- the same entries and emits, and what is left stands for the journal
+pub record Follows (settings : Settings) (by_table : Change Parts) (by_journal : Change Journal) : Type 0 where
+  pub entries : by_table.entries ≡ by_journal.entries
+  pub emits : by_table.emits ≡ by_journal.emits
+  pub stands : Stands settings by_table.after by_journal.after
+
+-- a table may be asked at that moment: it isn't before the last entry's, and there is room
+abbrev pub MayGo : Journal → ℕ → Type 0
+MayGo journal m = (last_moment journal ≤ m) × (length journal < 2 ^ 61)
+
+abbrev pub TableDecides : Type 0
+TableDecides = (settings : Settings) (parts : Parts) (journal : Journal) (m : ℕ) (frame : Frame) → Stands settings parts journal → decide_by settings (view_in parts m) frame ≡ decide settings journal m frame
+
+abbrev pub TableNotes : Type 0
+TableNotes = (settings : Settings) (parts : Parts) (journal : Journal) (m : ℕ) (notice : Notice) → Stands settings parts journal → MayGo journal m → Follows settings (noted table settings m notice (unchanged parts)) (note settings journal m notice)
+
+abbrev pub TableHears : Type 0
+TableHears = (settings : Settings) (parts : Parts) (journal : Journal) (m : ℕ) (frame : Frame) → Stands settings parts journal → MayGo journal m → AreOctets frame.octets → let by_table = hear_by table settings m frame (unchanged parts) in let by_journal = hear settings journal m frame in (by_table.verdict ≡ by_journal.verdict) × Follows settings by_table.change by_journal.change
+
+-- a decision gives at most one notice
+abbrev pub NoticesFew : Type 0
+NoticesFew = (settings : Settings) (v : View) (frame : Frame) → length (decide_by settings v frame).notices ≤ 1
+
+-- ### whole replays
+
+-- the moment of an event
+abbrev pub event_moment : Event → ℕ
+event_moment (Tick s) = seconds s
+event_moment (Arrival frame) = frame.moment
+
+-- a frame has octets
+abbrev pub HasOctets : Event → Type 0
+HasOctets (Tick s) = Unit {0}
+HasOctets (Arrival frame) = AreOctets frame.octets
+
+-- events in order, from a moment on
+abbrev pub AreInOrder : ℕ → List Event → Type 0
+AreInOrder m [] = Unit {0}
+AreInOrder m (event ∷ events) = (m ≤ event_moment event) × (HasOctets event × AreInOrder (event_moment event) events)
+
+-- a router with the parts of its journal
+abbrev pub router_tabled : Router Journal → Router Parts
+router_tabled router = record { settings = router.settings; memory = parts_in router.memory }
+
+-- the same lines and packets, and what is left as a table keeps it
+abbrev pub outcome_tabled : Outcome (Router Journal) → Outcome (Router Parts)
+outcome_tabled outcome =
+    record { lines = outcome.lines; packets = outcome.packets; after = router_tabled outcome.after }
+
+-- from the static mappings on a table gives the lines and packets of the plain router, and its parts are those of that
+-- router's journal, which is proper
+abbrev pub TableReplays : Type 0
+TableReplays = (settings : Settings) (events : List Event) → AreInOrder 0 events → length (statics settings) + 2048 * length events ≤ 2 ^ 62 → (played (after_event table) (router_tabled (started settings)) events ≡ outcome_tabled (played plain (started settings) events)) × IsProper settings (played plain (started settings) events).after.memory
+
+-- the frames of a capture are in order, and have octets
+abbrev pub FramesInOrder : ℕ → List Frame → Type 0
+FramesInOrder m [] = Unit {0}
+FramesInOrder m (frame ∷ frames) = (m ≤ frame.moment) × (AreOctets frame.octets × FramesInOrder frame.moment frames)
+
+-- then so are the events of the capture
+abbrev pub EventsInOrder : Type 0
+EventsInOrder = (frames : List Frame) → FramesInOrder 0 frames → AreInOrder 0 (events frames)
+
+-- the frames of a capture that were read, from the start of its records on
+abbrev pub WereRead : Format → List ℕ → Type 0
+WereRead format octets = All IsRead (read_on format begin octets).frames
+
+-- those are in order
+abbrev pub ReadInOrder : Type 0
+ReadInOrder = (format : Format) (octets : List ℕ) → WereRead format octets → FramesInOrder 0 (read_on format begin octets).frames
+
+-- and a journal has room for all that comes of them and of the seconds between them
+abbrev pub ReadFits : Type 0
+ReadFits = (settings : Settings) (format : Format) (octets : List ℕ) → IsLawful settings → WereRead format octets → length (statics settings) + 2048 * length (events (read_on format begin octets).frames) ≤ 2 ^ 62
+
+-- so of a run that was read a table gives the lines and packets of the plain router, and its parts are those of that
+-- router's journal, which is proper
+abbrev pub RunReplays : Type 0
+RunReplays = (settings : Settings) (format : Format) (octets : List ℕ) → IsLawful settings → WereRead format octets → let run = read_on format begin octets in (outcome_of (after_event table) (router_tabled (started settings)) run ≡ outcome_tabled (outcome_of plain (started settings) run)) × IsProper settings (outcome_of plain (started settings) run).after.memory
+
+-- ### what the mappings of a view are
+
+-- that of an EID is the one that was learnt last for it, if it is live
+abbrev pub LiveIsExact : Type 0
+LiveIsExact = (t : ℕ) (journal : Journal) (eid : Eid) → exact (live_mappings t journal) eid ≡ option_map (held journal) (live t eid journal)

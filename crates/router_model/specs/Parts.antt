@@ -1,0 +1,91 @@
+-- What a table keeps of a journal: only what still counts, and so no journal.
+use Rattle.std.specs.Prelude.{◌≡◌, ℕ, suc, ◌+◌, max, Bool, List, [], ◌∷◌, filter, length, map, if◌then◌else◌}
+use Rattle.lisp_settings.specs.declared.settings.Settings.{Settings}
+use Rattle.router_log.specs.declared.entry.Entry.{Entry}
+use Rattle.map_cache.specs.declared.mapping.Mapping.{Mapping}
+use Rattle.request_queue.specs.declared.request.Request.{Request}
+use Rattle.router_model.specs.Cache.{held_of, kept_mappings, mapping_kind}
+use Rattle.map_cache.specs.Cache.{lasts}
+use Rattle.router_model.specs.Changes.{Ledger}
+use Rattle.router_model.specs.Journal.{Journal, drawn, last_moment, moment_of, uses_nonce, statics}
+use Rattle.router_model.specs.Kept.{absorb}
+use Rattle.router_model.specs.Observed.{Observed, observed, observing, recent}
+use Rattle.router_model.specs.Proper.{IsProper, is_admitted}
+use Rattle.router_model.specs.Requests.{open_requests, request_kind}
+use Rattle.request_queue.specs.Queue.{is_waiting}
+use Rattle.router_model.specs.View.{View, view_of}
+
+-- all that a table keeps, as of the last entry's moment
+pub record Parts : Type 0 where
+  -- the number of entries, of nonces used, and that moment
+  pub count : ℕ
+  pub drawn : ℕ
+  pub now : ℕ
+  -- in order of EID
+  pub mappings : List Mapping
+  -- in asking order
+  pub requests : List Request
+  pub observed : Observed
+
+-- ### the parts of a journal, by its whole list
+
+-- what counts of a journal at a moment
+abbrev pub parts_at : Journal → ℕ → Parts
+parts_at journal now = record {
+  count = length journal;
+  drawn = drawn journal;
+  now = now;
+  mappings = kept_mappings now journal;
+  requests = open_requests now journal;
+  observed = recent now (observed journal);
+}
+
+-- the parts of a journal
+abbrev pub parts_in : Journal → Parts
+parts_in journal = parts_at journal (last_moment journal)
+
+-- a table with these parts stands for a journal that a router of the settings can have
+pub record Stands (settings : Settings) (parts : Parts) (journal : Journal) : Type 0 where
+  pub proper : IsProper settings journal
+  pub whole : parts ≡ parts_in journal
+
+-- ### questions to parts
+
+-- the parts, seen at a moment that isn't before the last entry
+abbrev pub view_at : Parts → ℕ → View
+view_at parts now =
+    view_of now (map held_of (filter (lasts now) parts.mappings)) (filter (is_waiting now) parts.requests) parts.observed parts.drawn
+
+-- the parts, seen at m
+unfoldable pub view_in : Parts → ℕ → View
+view_in parts m = view_at parts (max m parts.now)
+
+-- the entry may follow what the parts are of, its nonce apart
+unfoldable pub admits : Parts → Entry → Bool
+admits parts entry = is_admitted parts.count parts.now (view_in parts (moment_of entry)) entry
+
+-- ### parts with one entry more
+
+-- of each list what still counts at an entry's moment, with its effect
+abbrev pub with_entry : Entry → Parts → Parts
+with_entry entry parts = record {
+  count = suc parts.count;
+  drawn = (if uses_nonce entry then 1 else 0) + parts.drawn;
+  now = moment_of entry;
+  mappings = absorb mapping_kind (lasts (moment_of entry)) entry parts.mappings;
+  requests = absorb request_kind (is_waiting (moment_of entry)) entry parts.requests;
+  observed = observing (moment_of entry) entry parts.observed;
+}
+
+-- the parts with an entry more, which an entry that isn't admitted leaves
+unfoldable pub absorbed : Parts → Entry → Parts
+absorbed parts entry = if admits parts entry then with_entry entry parts else parts
+
+-- the parts of the static mappings, and what entries that follow make of them, the newest of which stands first
+abbrev pub parts_of : Settings → List Entry → Parts
+parts_of settings [] = parts_in (statics settings)
+parts_of settings (entry ∷ entries) = absorbed (parts_of settings entries) entry
+
+-- parts keep entries as a journal does
+abbrev pub table : Ledger Parts
+table = record { see = view_in; add = absorbed; count = λ parts. parts.count }

@@ -1,0 +1,52 @@
+-- Journals that a router can have.
+use Rattle.std.specs.Prelude.{◌≡◌, ℕ, ◌%◌, ◌^◌, ◌==◌, ◌&&◌, nat_le, nat_lt, not, Bool, false, true, IsTrue, List, [], ◌∷◌, ◌++◌, length, is_some}
+use Rattle.mapping_records.specs.declared.record.Record.{Record}
+use Rattle.lisp_settings.specs.Nonces.{nonce_of}
+use Rattle.lisp_settings.specs.declared.settings.Settings.{Settings}
+use Rattle.router_log.specs.declared.entry.Entry.{Entry}
+use Rattle.router_log.specs.declared.entry.Entry.TheVariants.{Learned, Asked, Answered, Probed, EchoStarted, Solicited}
+use Rattle.router_model.specs.Changes.{has_room}
+use Rattle.router_model.specs.Journal.{Journal, drawn, last_moment, moment_of, statics}
+use Rattle.request_queue.specs.Queue.{with_nonce}
+use Rattle.router_model.specs.View.{View, view}
+
+-- action and version of a record have their bits, and its locators are at most 32
+abbrev pub is_in_range : Record → Bool
+is_in_range mapping = nat_le mapping.action 7 && (nat_le mapping.version 4095 && nat_le (length mapping.locators) 32)
+
+-- the entry may follow what is seen at its moment (not built: other kinds)
+abbrev pub suits : View → Entry → Bool
+suits v (Learned moment mapping fixed) = not fixed && (is_in_range mapping && has_room v mapping)
+suits v (Asked moment eid source invoked nonce) = nat_lt (length v.requests) 1024
+suits v (Answered moment nonce) = is_some (with_nonce v.requests nonce)
+suits v _ = false
+
+-- the entry may follow so many entries, of which the last has that moment, seen so at its own; its nonce apart
+abbrev pub is_admitted : ℕ → ℕ → View → Entry → Bool
+is_admitted count last v entry = (nat_lt count (2 ^ 62) && nat_le last (moment_of entry)) && suits v entry
+
+-- an entry that uses a nonce has this one, of which an echo has the low 24 bits
+abbrev pub has_nonce : ℕ → Entry → Bool
+has_nonce next (Asked moment eid source invoked nonce) = nonce == next
+has_nonce next (Probed moment rloc nonce) = nonce == next
+has_nonce next (EchoStarted moment rloc nonce) = nonce == next % 2 ^ 24
+has_nonce next (Solicited moment rloc eid nonce) = nonce == next
+has_nonce next _ = true
+
+-- the entry may follow the journal
+unfoldable pub fits : Settings → Journal → Entry → Bool
+fits settings journal entry =
+    is_admitted (length journal) (last_moment journal) (view journal (moment_of entry)) entry
+    && has_nonce (nonce_of settings.seed settings.nonces (drawn journal)) entry
+
+-- each of the entries, the newest of which stands first, fits what stands before it
+abbrev pub EachFits : Settings → Journal → List Entry → Type 0
+EachFits settings before [] = Unit {0}
+EachFits settings before (entry ∷ entries) =
+    IsTrue (fits settings (entries ++ before) entry) × EachFits settings before entries
+
+-- the static mappings, and further entries of which each fits
+pub record IsProper (settings : Settings) (journal : Journal) : Type 0 where
+  pub entries : List Entry
+  pub whole : journal ≡ entries ++ statics settings
+  pub fit : EachFits settings (statics settings) entries

@@ -1,0 +1,54 @@
+-- Map-Requests in the journal that wait for an answer.
+use Rattle.std.specs.Prelude.{ℕ, ◌==◌, not, List, [], ◌∷◌, ◌++◌, filter, filter_map, option_map, Option, Some, None, if◌then◌else◌}
+use Rattle.router_log.specs.declared.entry.Entry.{Entry}
+use Rattle.router_log.specs.declared.entry.Entry.TheVariants.{Asked, Retried, Answered}
+use Rattle.request_queue.specs.declared.request.Request.{Request}
+use Rattle.router_model.specs.Journal.{Journal}
+use Rattle.request_queue.specs.Queue.{is_waiting, once_more}
+use Rattle.router_model.specs.Kept.{Kind, last_put}
+use Rattle.router_model.specs.Lists.{only_if}
+
+-- the last request with that nonce, if no answer follows, with how often it was sent again
+abbrev pub unanswered : ℕ → Journal → Option Request
+unanswered nonce [] = None
+unanswered nonce (Answered moment answered ∷ before) = if answered == nonce then None else unanswered nonce before
+unanswered nonce (Retried moment retried ∷ before) =
+    if retried == nonce then option_map once_more (unanswered nonce before) else unanswered nonce before
+unanswered nonce (Asked moment eid source invoked asked ∷ before) =
+    if asked == nonce
+    then Some (record { eid = eid; source = source; invoked = invoked; nonce = asked; start = moment; sent_again = 0 })
+    else unanswered nonce before
+unanswered nonce (_ ∷ before) = unanswered nonce before
+
+-- the open request with that nonce
+abbrev pub open_asked : ℕ → ℕ → Journal → Option Request
+open_asked now nonce journal = only_if (is_waiting now) (unanswered nonce journal)
+
+-- the nonces that were ever asked with, each where it was last, the oldest first
+abbrev pub asked_nonces : Journal → List ℕ
+asked_nonces [] = []
+asked_nonces (Asked moment eid source invoked nonce ∷ before) = filter (λ other. not (other == nonce)) (asked_nonces before) ++ nonce ∷ []
+asked_nonces (_ ∷ before) = asked_nonces before
+
+-- the open requests, in asking order
+abbrev pub open_requests : ℕ → Journal → List Request
+open_requests now journal = filter_map (λ nonce. open_asked now nonce journal) (asked_nonces journal)
+
+-- ### what a table keeps
+
+-- the request that an entry begins
+abbrev pub begun_request : Entry → Option Request
+begun_request (Asked moment eid source invoked nonce) =
+    Some (record { eid = eid; source = source; invoked = invoked; nonce = nonce; start = moment; sent_again = 0 })
+begun_request _ = None
+
+-- what becomes of a request when an entry comes: its nonce is asked with anew, answered, or sent again
+abbrev pub request_step : Entry → Request → Option Request
+request_step (Asked moment eid source invoked nonce) request = if request.nonce == nonce then None else Some request
+request_step (Answered moment nonce) request = if request.nonce == nonce then None else Some request
+request_step (Retried moment nonce) request = Some (if request.nonce == nonce then once_more request else request)
+request_step _ request = Some request
+
+-- requests, in asking order
+abbrev pub request_kind : Kind Entry Request
+request_kind = record { begins = begun_request; step = request_step; put = last_put }
