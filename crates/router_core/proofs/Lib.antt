@@ -1,2 +1,10 @@
+pub mod ApplyLemmas
+pub mod ChangeLemmas
+pub mod CopyLemmas
 pub mod Drops
+pub mod EntryLemmas
+pub mod HeldLemmas
+pub mod HostLemmas
 pub mod SiteLemmas
+pub mod StaticLemmas
+pub mod WritableLemmas

@@ -1,1 +1,4 @@
+pub mod Copies
 pub mod Seen
+pub mod Sendable
+pub mod Table

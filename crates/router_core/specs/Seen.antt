@@ -2,9 +2,7 @@
 use Rattle.std.specs.Prelude.{ℕ}
 use Rattle.ip_headers.specs.declared.packet.IpPacket.{IpPacket}
 use Rattle.router_log.specs.declared.verdict.Verdict.{Verdict}
-use Rattle.lisp_settings.specs.declared.settings.Settings.{Settings}
 use Rattle.router_model.specs.Course as model
-use Rattle.router_model.specs.View.{View}
 use Rattle.router_core.specs.declared.courses.Course.{Course}
 use Rattle.router_core.specs.declared.courses.Course.TheVariants.{Settled, Data, Control, Leaving}
 use Rattle.router_core.specs.declared.datagram.Datagram.{Datagram}
@@ -34,7 +32,3 @@ IfLeaving _ P = Unit {0}
 abbrev pub IfSettled : Course → (Verdict → Type 0) → Type 0
 IfSettled (Settled verdict) P = P verdict
 IfSettled _ P = Unit {0}
-
--- what the settings' mappings alone let a decision see
-abbrev pub view_of : Settings → View
-view_of settings = record { mappings = settings.mappings }

@@ -7,7 +7,7 @@ ghost use Rattle.ip_headers.specs.Packet.{IsPacketOf};
 ghost use Rattle.ip_headers.specs.Udp.{udp_read};
 ghost use Rattle.capture_io.specs.Link.{link_octets, link_place, link_vlan};
 ghost use Rattle.lisp_settings.specs.Lawful.{IsLawful};
-ghost use Rattle.router_model.specs.Course.{arriving, by_port, course_of, datagram_cases, frame_refusal, packet_course};
+ghost use Rattle.router_model.specs.Course.{arriving, by_port, control, course_of, datagram_cases, frame_refusal, is_message, packet_course};
 ghost use Rattle.router_model.specs.Plain.{packet_of};
 ghost use Rattle.router_core.specs.Seen.{course_seen, packet_seen, IfLeaving, IfSettled};
 
@@ -31,6 +31,15 @@ pub enum Course<'a> {
     Control(Datagram<'a>),
     /// A packet of an instance, to another address.
     Leaving { iid: u32, packet: IpPacket<'a> },
+}
+
+impl<'a> Course<'a> {
+    /// It is a control message, which is heard, and not decided.
+    pub fn is_message(&self) -> bool
+        ensures { result ≡ is_message (course_seen self.now) }
+    {
+        matches!(self, Course::Control(_))
+    }
 }
 
 /// The VLAN of a frame, 0 without one, and its packet, or the first rule of either that fails.
@@ -57,6 +66,14 @@ pub fn course_of<'a>(settings: &Settings, frame: &'a Frame) -> Course<'a>
         Ok((vlan, packet)) => packet_course(settings, vlan, packet),
         Err(refused) => Course::Settled(Verdict::Drop(Reason::Refused(refused))),
     }
+}
+
+/// The frame is a control message to an own locator, which is heard, and not decided.
+pub fn is_control(settings: &Settings, frame: &Frame) -> bool
+    requires lawful { IsLawful settings.now }
+    ensures { result ≡ control settings.now frame.now }
+{
+    course_of(settings, frame).is_message()
 }
 
 // What a packet that came in a VLAN is.

@@ -1,33 +1,102 @@
-// The router's decision on a frame.
-ghost use Rattle.std.specs.Prelude.{◌≡◌, IfOk};
+// The router's decision on a frame that is no control message.
+ghost use Rattle.std.specs.Prelude.{◌≡◌, ◌<◌, ◌^◌, [], None, IfOk, max, option_map};
+ghost use Rattle.std.specs.Option.{option_copied};
 ghost use Rattle.lisp_settings.specs.Lawful.{IsLawful};
-ghost use Rattle.router_model.specs.Decide.{decide};
-ghost use Rattle.router_model.specs.Journal.{statics};
-ghost use Rattle.router_model.specs.Plain.{FitsRecord};
-ghost use Rattle.router_model.specs.View.{view};
-ghost use Rattle.router_core.specs.Seen.{course_seen};
+ghost use Rattle.router_model.specs.Cache.{held_of};
+ghost use Rattle.router_model.specs.Decide.{decide, decide_by, decide_course};
+ghost use Rattle.router_model.specs.Journal.{Journal};
+ghost use Rattle.router_model.specs.Mappings.{force};
+ghost use Rattle.router_model.specs.Parts.{Stands, view_in};
+ghost use Rattle.router_model.specs.Plain.{FitsRecord, packet_of};
+ghost use Rattle.router_core.specs.Seen.{course_seen, IfLeaving, IfSettled};
 
+use crate::Table;
 use crate::arrival::tunnelled;
 use crate::courses::{Course, course_of};
 use crate::departure::routed;
 use capture_io::Frame;
+use ip_headers::Addr;
 use lisp_settings::Settings;
-use octets::NoMemory;
-use router_log::{Reason, Verdict};
-use std::alloc::Global;
+use map_cache::Mapping;
+use mapping_records::Eid;
+use node_store::Reads;
+use octets::{Items, NoMemory};
+use router_log::{Decision, Reason, Verdict};
 
-/// The verdict on a frame, by a journal of the static mappings alone: the first case that holds.
-pub fn decide(alloc: Global, settings: &Settings, frame: &Frame) -> Result<Verdict, NoMemory>
-    requires { IsLawful settings.now }
-    ensures verdict { IfOk result (λ verdict. verdict
-        ≡ decide settings.now (view (statics settings.now)) frame.now) }
-    ensures size { IfOk result FitsRecord }
-{
-    match course_of(settings, frame) {
-        Course::Settled(verdict) => Ok(verdict),
-        Course::Data(datagram) => tunnelled(alloc, settings, &datagram),
-        // Not built yet.
-        Course::Control(_) => Ok(Verdict::Drop(Reason::NotBuilt)),
-        Course::Leaving { iid, packet } => routed(alloc, settings, iid, &packet),
+impl Table {
+    /// The decision on a frame that is no control message, at a moment, which may be one before the last
+    /// entry's: that of the journal. A control message is heard, and here dropped.
+    #[tactic(auto, unfolding(router_model::specs::Decide::decide_by))]
+    pub fn decide(&self, settings: &Settings, m: u64, frame: &Frame) -> Result<Decision, NoMemory>
+        requires { IsLawful settings.now }
+        ensures parts { IfOk result (λ decision. decision
+            ≡ decide_by settings.now (view_in self.now.parts m) frame.now) }
+        ensures journal { IfOk result (λ decision. (journal : Journal)
+            → Stands settings.now self.now.parts journal
+            → decision ≡ decide settings.now journal m frame.now) }
+        ensures size { IfOk result (λ decision. FitsRecord decision.verdict) }
+    {
+        self.decide_course(settings, m, course_of(settings, frame))
+    }
+
+    /// The decision on a frame that is this.
+    pub fn decide_course(
+        &self,
+        settings: &Settings,
+        m: u64,
+        course: Course,
+    ) -> Result<Decision, NoMemory>
+        requires lawful { IsLawful settings.now }
+        requires instance { IfLeaving course (λ iid. iid < 2 ^ 24) }
+        requires quiet { IfSettled course (λ verdict. packet_of verdict ≡ None) }
+        ensures parts { IfOk result (λ decision. decision
+            ≡ decide_course settings.now (view_in self.now.parts m) (course_seen course.entry)) }
+        ensures size { IfOk result (λ decision. FitsRecord decision.verdict) }
+    {
+        match course {
+            Course::Settled(verdict) => Ok(self.alone(verdict)),
+            Course::Data(datagram) => {
+                let verdict = tunnelled(self.alloc, settings, &datagram)?;
+                Ok(self.alone(verdict))
+            }
+            Course::Control(_) => Ok(self.alone(Verdict::Drop(Reason::NotTunnel))),
+            Course::Leaving { iid, packet } => routed(self, settings, m, iid, &packet),
+        }
+    }
+
+    /// A verdict without notices.
+    pub(crate) fn alone(&self, verdict: Verdict) -> Decision
+        ensures { result ≡ record { verdict = verdict; notices = [] } }
+    {
+        Decision {
+            verdict,
+            notices: Items::new(self.alloc),
+        }
+    }
+
+    /// The moment at which a question counts that is asked at another.
+    pub(crate) fn moment_at(&self, m: u64) -> u64
+        ensures { result ≡ max m self.now.parts.now }
+    {
+        m.max(self.cache.now())
+    }
+
+    /// Neither probes nor echoes speak against a locator: they aren't built yet.
+    #[tactic(auto, unfolding(router_model::specs::Parts::view_in))]
+    pub(crate) fn is_up(&self, _m: u64, _rloc: &Addr) -> bool
+        ensures { result ≡ (view_in self.now.parts _m).up _rloc.now }
+    {
+        let _ = &self.cache;
+        true
+    }
+
+    /// The mapping in force for an EID.
+    pub(crate) fn in_force(&self, m: u64, eid: &Eid) -> Option<&Mapping>
+        ensures { option_map held_of (option_copied result)
+            ≡ force (view_in self.now.parts m).mappings eid.now.iid eid.now.prefix.addr
+            eid.now.prefix.len }
+    {
+        self.cache
+            .in_force(self.moment_at(m), eid, &mut Reads::new())
     }
 }

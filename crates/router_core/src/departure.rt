@@ -2,46 +2,87 @@
 ghost use Rattle.std.specs.Prelude.{◌≡◌, ◌<◌, ◌^◌, IfOk, IfSome, Some, None};
 ghost use Rattle.octets.specs.Rules.{first_failing};
 ghost use Rattle.ip_headers.specs.Addr.{width};
+ghost use Rattle.ip_headers.specs.Ip.{dest_of};
 ghost use Rattle.lisp_header.specs.Header.{InRange};
 ghost use Rattle.encap.specs.Rules.{encap_rules, forward_rules};
 ghost use Rattle.lisp_settings.specs.Lawful.{IsLawful};
-ghost use Rattle.router_model.specs.Decide.{by_action, is_multicast, lisp_header, mapped, natively, routed, sent, site_cases, towards};
+ghost use Rattle.router_model.specs.Cache.{held_of};
+ghost use Rattle.router_model.specs.Decide.{asking, by_action, is_multicast, lisp_header, mapped, natively, routed, sent, site_cases, towards};
+ghost use Rattle.router_model.specs.Hosts.{host_eid};
+ghost use Rattle.router_model.specs.Parts.{view_in};
 ghost use Rattle.router_model.specs.Plain.{packet_of, FitsRecord};
-ghost use Rattle.router_core.specs.Seen.{packet_seen, view_of};
+ghost use Rattle.router_log.specs.declared.verdict.Verdict.TheVariants.{Drop};
+ghost use Rattle.router_core.specs.Seen.{packet_seen};
 
+use crate::Table;
 use crate::choice::chosen;
 use crate::site::{ours, own_bits};
 use encap::{EncapDrop, encapsulate, forward_native};
 use ip_headers::{Addr, IpPacket, five_tuple};
 use lisp_header::LispHeader;
-use lisp_settings::{Record, Settings, home};
+use lisp_settings::{Settings, home};
 use locator_choice::{flow_hash, source_port};
-use mapping_records::{Action, longest};
-use octets::NoMemory;
-use router_log::{Reason, Verdict};
+use map_cache::Mapping;
+use mapping_records::{Action, Eid, Prefix};
+use octets::{Items, NoMemory};
+use router_log::{Decision, Notice, Reason, Verdict};
 use std::alloc::Global;
 
-/// The verdict on a packet of an instance.
+/// The decision on a packet of an instance.
 #[tactic(auto, unfolding(router_model::specs::Decide::routed))]
 pub(crate) fn routed(
-    alloc: Global,
+    table: &Table,
     settings: &Settings,
+    m: u64,
     iid: u32,
     packet: &IpPacket,
-) -> Result<Verdict, NoMemory>
+) -> Result<Decision, NoMemory>
     requires lawful { IsLawful settings.now }
     requires instance { iid < 2 ^ 24 }
-    ensures verdict { IfOk result (λ verdict. verdict
-        ≡ routed settings.now (view_of settings.now) iid (packet_seen packet.now)) }
-    ensures size { IfOk result FitsRecord }
+    ensures decision { IfOk result (λ decision. decision
+        ≡ routed settings.now (view_in table.now.parts m) iid (packet_seen packet.now)) }
+    ensures size { IfOk result (λ decision. FitsRecord decision.verdict) }
 {
     if let Some(verdict) = kept_out(settings, iid, packet) {
-        return Ok(verdict);
+        return Ok(table.alone(verdict));
     }
-    match longest(settings.mappings.as_slice(), iid, packet.header.dest()) {
-        Some(mapping) => mapped(alloc, settings, iid, packet, mapping),
-        None => Ok(Verdict::Drop(Reason::Miss)),
+    let eid = host_eid(iid, packet.header.dest());
+    match table.in_force(m, &eid) {
+        Some(mapping) => mapped(table, settings, m, iid, packet, mapping),
+        None => asking(table.alloc, eid, packet, Reason::Miss),
     }
+}
+
+// The EID of one address.
+fn host_eid(iid: u32, addr: Addr) -> Eid
+    requires { iid < 2 ^ 24 }
+    ensures host { host_eid iid addr ≡ Some result }
+    ensures iid { result.iid ≡ iid }
+    ensures addr { result.prefix.addr ≡ addr }
+    ensures len { result.prefix.len ≡ width addr }
+{
+    Eid {
+        iid,
+        prefix: Prefix::host(addr),
+    }
+}
+
+// A drop, after which a mapping for the destination is to be asked for.
+fn asking(alloc: Global, eid: Eid, packet: &IpPacket, reason: Reason) -> Result<Decision, NoMemory>
+    requires dest { host_eid eid.iid (dest_of packet.now.header) ≡ Some eid }
+    ensures decision { IfOk result (λ decision. decision
+        ≡ asking eid.iid packet.now.header reason) }
+    ensures size { IfOk result (λ decision. FitsRecord decision.verdict) }
+{
+    let mut notices = Items::new(alloc);
+    notices.push(Notice::Ask {
+        eid,
+        source: Some(packet.header.source()),
+    })?;
+    Ok(Decision {
+        verdict: Verdict::Drop(reason),
+        notices,
+    })
 }
 
 // The verdict on a packet that stays out of a tunnel.
@@ -71,43 +112,62 @@ fn is_multicast(address: Addr) -> bool
     }
 }
 
-// The verdict by the mapping in force.
+// The decision by the mapping in force.
 fn mapped(
-    alloc: Global,
+    table: &Table,
     settings: &Settings,
+    m: u64,
     iid: u32,
     packet: &IpPacket,
-    mapping: &Record,
-) -> Result<Verdict, NoMemory>
+    mapping: &Mapping,
+) -> Result<Decision, NoMemory>
     requires lawful { IsLawful settings.now }
     requires instance { iid < 2 ^ 24 }
-    ensures verdict { IfOk result (λ verdict. verdict
-        ≡ mapped settings.now iid (packet_seen packet.now) (Some mapping.now)) }
-    ensures size { IfOk result FitsRecord }
+    ensures decision { IfOk result (λ decision. decision
+        ≡ mapped settings.now (view_in table.now.parts m) iid (packet_seen packet.now)
+        (Some (held_of mapping.now))) }
+    ensures size { IfOk result (λ decision. FitsRecord decision.verdict) }
 {
-    if mapping.locators.len() == 0 {
-        return by_action(alloc, packet, Action::of(mapping.action));
+    if mapping.details.locators.len() == 0 {
+        return by_action(table, iid, packet, Action::of(mapping.details.action));
     }
-    match chosen(settings.locators.as_slice(), mapping.locators.as_slice()) {
-        Some(to) => towards(alloc, settings, iid, packet, to),
-        None => Ok(Verdict::Drop(Reason::NoLocator)),
+    let locators = mapping.details.locators.as_slice();
+    match chosen(table, settings, m, mapping, 0, locators) {
+        Some(to) => {
+            let verdict = towards(table.alloc, settings, iid, packet, to)?;
+            Ok(table.alone(verdict))
+        }
+        None => Ok(table.alone(Verdict::Drop(Reason::NoLocator))),
     }
 }
 
-// The verdict by the action of a mapping without locators.
-fn by_action(alloc: Global, packet: &IpPacket, action: Action) -> Result<Verdict, NoMemory>
-    ensures verdict { IfOk result (λ verdict. verdict ≡ by_action packet.now.octets.now action) }
-    ensures size { IfOk result FitsRecord }
+// The decision by the action of a mapping without locators.
+fn by_action(
+    table: &Table,
+    iid: u32,
+    packet: &IpPacket,
+    action: Action,
+) -> Result<Decision, NoMemory>
+    requires { iid < 2 ^ 24 }
+    ensures decision { IfOk result (λ decision. decision
+        ≡ by_action iid (packet_seen packet.now) action) }
+    ensures size { IfOk result (λ decision. FitsRecord decision.verdict) }
 {
     let reason = match action {
-        Action::NativelyForward => return natively(alloc, packet),
+        Action::NativelyForward => {
+            let verdict = natively(table.alloc, packet)?;
+            return Ok(table.alone(verdict));
+        }
+        Action::SendMapRequest => {
+            let eid = host_eid(iid, packet.header.dest());
+            return asking(table.alloc, eid, packet, Reason::SendRequest);
+        }
         Action::NoAction => Reason::NoAction,
-        Action::SendMapRequest => Reason::SendRequest,
         Action::DropNoReason => Reason::DropNoReason,
         Action::DropPolicy => Reason::DropPolicy,
         Action::DropAuth => Reason::DropAuth,
     };
-    Ok(Verdict::Drop(reason))
+    Ok(table.alone(Verdict::Drop(reason)))
 }
 
 // The packet, past the tunnels.

@@ -1,16 +1,29 @@
-//! The router's decisions: what a frame is to it, and what it does with it by its settings.
+//! The router: what a frame is to it, what it does with it by its settings and its memory, and what
+//! that memory makes of a message or a notice.
 #![tactic(auto)]
 
+mod applying;
 mod arrival;
+mod changed;
 mod choice;
+mod control_writing;
+mod copies;
 mod courses;
 mod datagram;
 mod deciding;
 mod departure;
+mod emitting;
+mod hearing;
+mod learning;
+mod noting;
+mod own_requests;
 mod site;
+mod table;
 
-pub use courses::{Course, course_of, frame_packet};
+pub use changed::{Changed, Heard};
+pub use courses::{Course, course_of, frame_packet, is_control};
 pub use datagram::Datagram;
-pub use deciding::decide;
+pub use emitting::emit_octets;
 pub use lisp_settings::Settings;
-pub use router_log::{Reason, Verdict};
+pub use router_log::{Decision, Reason, Verdict};
+pub use table::Table;

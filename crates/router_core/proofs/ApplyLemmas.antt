@@ -1,0 +1,82 @@
+-- What is known of an entry that may follow.
+use Rattle.std.proofs.Common.{◌≡◌, ◌∙◌, ◌≤◌, ◌<◌, ◌^◌, ◌&&◌, ℕ, Bool, true, false, nat_lt, nat_le, ◌∷◌, length, Option, IsTrue, sym, ap, subst, refl, arith}
+use Rattle.std.proofs.lemmas.Bool.Decides.{nat_tests}
+use Rattle.ip_headers.specs.declared.addr.Addr.{Addr}
+use Rattle.lisp_settings.specs.declared.settings.Settings.{Settings}
+use Rattle.map_cache.specs.Cache as cache
+use Rattle.map_cache.specs.Cache.{lasting}
+use Rattle.mapping_records.specs.declared.eid.Eid.{Eid}
+use Rattle.mapping_records.specs.declared.record.Record.{Record}
+use Rattle.request_queue.specs.Queue.{waiting}
+use Rattle.router_log.specs.declared.entry.Entry.{Entry}
+use Rattle.router_log.specs.declared.entry.Entry.TheVariants.{Learned, Asked}
+use Rattle.router_model.specs.Journal.{Journal, moment_of}
+use Rattle.router_model.specs.Parts.{Parts, Stands, absorbed, admits, view_in, with_entry}
+use Rattle.router_model.specs.Proper.{fits, suits}
+use Rattle.router_model.proofs.StandsLemmas.{standing-absorbs}
+use Rattle.router_core.proofs.ChangeLemmas.{both, learned-place, may_ask-place}
+
+-- there is room in the journal, its moment isn't before the last one, and it suits what is seen
+pub record May (p : Parts) (e : Entry) : Type 0 where
+  pub few : p.count < 2 ^ 62
+  pub later : p.now ≤ moment_of e
+  pub suit : suits (view_in p (moment_of e)) e ≡ true
+
+pub may : (p : Parts) (e : Entry) → admits p e ≡ true → May p e
+unfolding admits
+may p e is =
+    let parts = both (nat_lt p.count (2 ^ 62) && nat_le p.now (moment_of e)) _ is in
+    let numbers = both (nat_lt p.count (2 ^ 62)) _ parts.0 in
+    record { few = below p.count numbers.0; later = upto p.now (moment_of e) numbers.1; suit = parts.1 }
+  where
+    below : (n : ℕ) → nat_lt n (2 ^ 62) ≡ true → n < 2 ^ 62
+    below n less = grind (arith, nat_tests)
+
+    upto : (a b : ℕ) → nat_le a b ≡ true → a ≤ b
+    upto a b less = grind (arith, nat_tests)
+
+-- it is absorbed
+pub is-absorbed : (p : Parts) (e : Entry) → admits p e ≡ true → with_entry e p ≡ absorbed p e
+unfolding absorbed
+is-absorbed p e is = rw is refl
+
+-- the same where the entry is known
+pub absorbed-as : (p : Parts) (e f : Entry) → e ≡ f → admits p e ≡ true → with_entry f p ≡ absorbed p e
+absorbed-as p e f is admitted = ap (λ (g : Entry). with_entry g p) (sym is) ∙ is-absorbed p e admitted
+
+-- and what then stands for a journal does so with the entry
+pub stands-with : (settings : Settings) (p q : Parts) (journal : Journal) (e : Entry) → q ≡ absorbed p e → Stands settings p journal → fits settings journal e ≡ true → Stands settings q (e ∷ journal)
+stands-with settings p q journal e is stands fit = subst (λ (r : Parts). Stands settings r (e ∷ journal)) (sym is) (standing-absorbs settings p journal e stands fit).1
+
+-- a mapping that may be learned isn't fixed, has 32 locators at most, and has its place
+pub record MayLearn (p : Parts) (m : ℕ) (mapping : Record) (fixed : Bool) : Type 0 where
+  pub learned : fixed ≡ false
+  pub locators : length mapping.locators ≤ 32
+  pub place : IsTrue (cache.has_room mapping (lasting m p.mappings))
+
+pub may-learn : (p : Parts) (m : ℕ) (mapping : Record) (fixed : Bool) → admits p (Learned m mapping fixed) ≡ true → MayLearn p m mapping fixed
+may-learn p m mapping true is = absurd (let never : false ≡ true = (may p (Learned m mapping true) is).suit in cc)
+may-learn p m mapping false is =
+    let known = may p (Learned m mapping false) is in
+    let two = both (nat_le mapping.action 7 && (nat_le mapping.version 4095 && nat_le (length mapping.locators) 32)) _ known.suit in
+    let range = both (nat_le mapping.version 4095) _ (both (nat_le mapping.action 7) _ two.0).1 in
+    record {
+      learned = refl;
+      locators = upto (length mapping.locators) 32 range.1;
+      place = learned-place p m mapping known.later two.1;
+    }
+  where
+    upto : (a b : ℕ) → nat_le a b ≡ true → a ≤ b
+    upto a b less = grind (arith, nat_tests)
+
+-- a request that may be made has its place
+pub may-ask : (p : Parts) (m : ℕ) (eid : Eid) (source : Option Addr) (invoked : Bool) (nonce : ℕ) → admits p (Asked m eid source invoked nonce) ≡ true → length (waiting m p.requests) < 1024
+may-ask p m eid source invoked nonce is =
+    let known = may p (Asked m eid source invoked nonce) is in
+    may_ask-place p m known.later known.suit
+
+-- the entry of such a mapping is absorbed
+pub absorbed-learned : (p : Parts) (m : ℕ) (mapping : Record) (fixed : Bool) (e : Entry) → e ≡ Learned m mapping fixed → admits p e ≡ true → with_entry (Learned m mapping false) p ≡ absorbed p e
+absorbed-learned p m mapping fixed e is admitted =
+    ap (λ (f : Bool). with_entry (Learned m mapping f) p) (sym (may-learn p m mapping fixed (rw is at admitted)).learned)
+    ∙ absorbed-as p e (Learned m mapping fixed) is admitted

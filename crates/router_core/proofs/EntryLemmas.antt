@@ -1,0 +1,141 @@
+-- What an entry makes of the lists of a table.
+use Rattle.std.proofs.Common.{◌≡◌, ℕ, suc, ◌+◌, ◌-◌, ◌*◌, ◌<◌, ◌≤◌, ◌==◌, ◌||◌, not, nat_lt, Bool, true, false, cond, IsTrue, IsFalse, List, [], ◌∷◌, ◌++◌, filter, filter_map, Option, Some, None, Result, Ok, Err, OnOk, ◌↔◌, refl, sym, ap, ap₂, ◌∙◌, arith}
+use Rattle.std.specs.List.{cons_option}
+use Rattle.std.proofs.lemmas.Bool.Decides.{nat_tests}
+use Rattle.ip_headers.specs.declared.addr.Addr.{Addr}
+use Rattle.mapping_records.specs.Eids.{same_eid}
+use Rattle.mapping_records.specs.Orders.{eid_order, put_in_order}
+use Rattle.mapping_records.specs.declared.eid.Eid.{Eid}
+use Rattle.mapping_records.specs.declared.record.Record.{Record}
+use Rattle.map_cache.specs.Cache.{fresh, lasting, lasts, learned, lifetime, without_eid}
+use Rattle.map_cache.specs.declared.fault.LearnFault.{LearnFault}
+use Rattle.map_cache.specs.declared.fault.LearnFault.TheVariants as learning
+use Rattle.map_cache.specs.declared.mapping.Mapping.{Mapping}
+use Rattle.request_queue.specs.Queue.{asked, is_waiting, waiting, without_nonce}
+use Rattle.request_queue.specs.declared.fault.AskFault.{AskFault}
+use Rattle.request_queue.specs.declared.fault.AskFault.TheVariants as asking
+use Rattle.request_queue.specs.declared.request.Request.{Request}
+use Rattle.router_log.specs.declared.entry.Entry.TheVariants.{Answered, Asked, Learned}
+use Rattle.router_model.specs.Cache.{mapping_kind, mapping_step}
+use Rattle.router_model.specs.Kept.{absorb}
+use Rattle.router_model.specs.Parts.{Parts, with_entry}
+use Rattle.router_model.specs.Requests.{request_kind, request_step}
+use Rattle.router_core.specs.Table.{nothing_observed}
+
+-- the parts of a table without observations
+abbrev pub parts_with : ℕ → ℕ → ℕ → List Mapping → List Request → Parts
+parts_with count drawn now mappings requests =
+    record { count = count; drawn = drawn; now = now; mappings = mappings; requests = requests; observed = nothing_observed }
+
+-- items that stay as they are
+filter_map-all : {A : Type 0} (items : List A) → filter_map (λ a. Some a) items ≡ items
+filter_map-all [] = refl
+filter_map-all (a ∷ items) = ap (λ (l : List _). a ∷ l) (filter_map-all items)
+
+-- those that pass a test go
+filter_map-drops : {A : Type 0} (test : A → Bool) (items : List A) → filter_map (λ a. cond (test a) None (Some a)) items ≡ filter (λ a. not (test a)) items
+filter_map-drops test [] = refl
+filter_map-drops {A} test (a ∷ items) = by (test a) (filter_map-drops test items)
+  where
+    by : (b : Bool) → filter_map (λ a. cond (test a) None (Some a)) items ≡ filter (λ a. not (test a)) items → cons_option (cond b None (Some a)) (filter_map (λ a. cond (test a) None (Some a)) items) ≡ cond (not b) (a ∷ filter (λ a. not (test a)) items) (filter (λ a. not (test a)) items)
+    by true h = h
+    by false h = ap (λ (l : List A). a ∷ l) h
+
+one_more : (n : ℕ) → n + 1 ≡ suc n
+one_more n = omega arith
+
+first_more : (n : ℕ) → n + 1 ≡ 1 + n
+first_more n = omega arith
+
+no_more : (n : ℕ) → n ≡ 0 + n
+no_more n = omega arith
+
+-- ### a mapping that is learned
+
+some_minutes : (ttl : ℕ) → (ttl == 0) ≡ false → 0 < lifetime ttl
+some_minutes ttl some = by (ttl == 0xffffffff) (positive ttl some)
+  where
+    positive : (n : ℕ) → (n == 0) ≡ false → 0 < n
+    positive n is = grind (arith, nat_tests)
+
+    by : (b : Bool) → 0 < ttl → 0 < 60 * (cond b 1440 ttl) * 1000000000
+    by true less = omega arith
+    by false less = omega (arith, less)
+
+-- it lasts when it is learned
+fresh-lasts : (m : ℕ) (mapping : Record) (fixed : Bool) → (fixed || not (mapping.ttl == 0)) ≡ true → lasts m (fresh m mapping fixed) ≡ true
+fresh-lasts m mapping true is = refl
+fresh-lasts m mapping false is = later (lifetime mapping.ttl) (some_minutes mapping.ttl (flip (mapping.ttl == 0) is))
+  where
+    flip : (b : Bool) → not b ≡ true → b ≡ false
+    flip true is = cc
+    flip false is = refl
+
+    later : (life : ℕ) → 0 < life → nat_lt m (m + life) ≡ true
+    later life less = grind (arith, nat_tests)
+
+pub absorb-learned : (m : ℕ) (mapping : Record) (fixed : Bool) (ms : List Mapping) → absorb mapping_kind (lasts m) (Learned m mapping fixed) ms ≡ learned m mapping fixed ms
+absorb-learned m mapping fixed ms = by (fixed || not (mapping.ttl == 0)) refl
+  where
+    left : List Mapping
+    left = filter_map (mapping_step (Learned m mapping fixed)) (lasting m ms)
+
+    others : left ≡ without_eid mapping.eid (lasting m ms)
+    others = filter_map-drops (λ (old : Mapping). same_eid old.eid mapping.eid) (lasting m ms)
+
+    put : List Mapping → List Mapping
+    put l = put_in_order (λ (item : Mapping). item.eid) eid_order (fresh m mapping fixed) l
+
+    by : (b : Bool) → (fixed || not (mapping.ttl == 0)) ≡ b → absorb mapping_kind (lasts m) (Learned m mapping fixed) ms ≡ learned m mapping fixed ms
+    by true is = rw (is, fresh-lasts m mapping fixed is) (ap put others)
+    by false is = rw is others
+
+pub learned-parts : (count drawn now : ℕ) (ms : List Mapping) (rs : List Request) (m : ℕ) (mapping : Record) (fixed : Bool) → parts_with (count + 1) drawn m (learned m mapping fixed ms) (waiting m rs) ≡ with_entry (Learned m mapping fixed) (parts_with count drawn now ms rs)
+learned-parts count drawn now ms rs m mapping fixed =
+    ap₂ (λ (l : List Mapping) (r : List Request). parts_with (count + 1) drawn m l r) (sym (absorb-learned m mapping fixed ms)) (sym (filter_map-all (waiting m rs)))
+    ∙ ap₂ (λ (n d : ℕ). parts_with n d m (absorb mapping_kind (lasts m) (Learned m mapping fixed) ms) (absorb request_kind (is_waiting m) (Learned m mapping fixed) rs)) (one_more count) (no_more drawn)
+
+-- a cache that has room and place took it
+pub was_learned : {P : Type 0} (r : Result (Unit {0}) LearnFault) (spare : ℕ) (place : Bool) → OnOk r P → (r ≡ Err learning.Memory → spare ≡ 0) → 0 < spare → ((r ≡ Err learning.CacheFull) ↔ IsFalse place) → IsTrue place → P
+was_learned (Ok u) spare place ok memory some full is = ok
+was_learned (Err learning.Memory) spare place ok memory some full is = let none = memory refl in absurd (omega (arith, none, some))
+was_learned (Err learning.CacheFull) spare place ok memory some full is = apart place (full.0 refl) is
+  where
+    apart : {Q : Type 0} (b : Bool) → IsFalse b → IsTrue b → Q
+    apart true isn't is' = cc
+    apart false isn't is' = cc
+
+-- ### a request that is made
+
+pub asked-parts : (count drawn now : ℕ) (ms : List Mapping) (rs : List Request) (m : ℕ) (eid : Eid) (source : Option Addr) (invoked : Bool) (nonce : ℕ) → parts_with (count + 1) (drawn + 1) m (lasting m ms) (asked m eid source invoked nonce rs) ≡ with_entry (Asked m eid source invoked nonce) (parts_with count drawn now ms rs)
+asked-parts count drawn now ms rs m eid source invoked nonce =
+    ap₂ (λ (l : List Mapping) (r : List Request). parts_with (count + 1) (drawn + 1) m l r) (sym (filter_map-all (lasting m ms))) (sym whole)
+    ∙ ap₂ (λ (n d : ℕ). parts_with n d m (absorb mapping_kind (lasts m) (Asked m eid source invoked nonce) ms) (absorb request_kind (is_waiting m) (Asked m eid source invoked nonce) rs)) (one_more count) (first_more drawn)
+  where
+    r : Request
+    r = record { eid = eid; source = source; invoked = invoked; nonce = nonce; start = m; sent_again = 0 }
+
+    young : (n : ℕ) → nat_lt (n - n) 7000000000 ≡ true
+    young n = grind (arith, nat_tests)
+
+    others : filter_map (request_step (Asked m eid source invoked nonce)) (waiting m rs) ≡ without_nonce nonce (waiting m rs)
+    others = filter_map-drops (λ (old : Request). old.nonce == nonce) (waiting m rs)
+
+    whole : absorb request_kind (is_waiting m) (Asked m eid source invoked nonce) rs ≡ asked m eid source invoked nonce rs
+    whole = rw (young m) (ap (λ (l : List Request). l ++ r ∷ []) others)
+
+-- a queue that has room and place took it
+pub was_asked : {P : Type 0} (r : Result (Unit {0}) AskFault) (spare waits : ℕ) → OnOk r P → (r ≡ Err asking.Memory → spare ≡ 0) → 0 < spare → ((r ≡ Err asking.QueueFull) ↔ (1024 ≤ waits)) → waits < 1024 → P
+was_asked (Ok u) spare waits ok memory some full few = ok
+was_asked (Err asking.Memory) spare waits ok memory some full few = let none = memory refl in absurd (omega (arith, none, some))
+was_asked (Err asking.QueueFull) spare waits ok memory some full few = let most = full.0 refl in absurd (omega (arith, most, few))
+
+-- ### a request that was answered
+
+pub answered-parts : (count drawn now : ℕ) (ms : List Mapping) (rs : List Request) (m nonce : ℕ) → parts_with (count + 1) drawn m (lasting m ms) (without_nonce nonce (waiting m rs)) ≡ with_entry (Answered m nonce) (parts_with count drawn now ms rs)
+answered-parts count drawn now ms rs m nonce =
+    ap₂ (λ (l : List Mapping) (r : List Request). parts_with (count + 1) drawn m l r) (sym (filter_map-all (lasting m ms))) (sym others)
+    ∙ ap₂ (λ (n d : ℕ). parts_with n d m (absorb mapping_kind (lasts m) (Answered m nonce) ms) (absorb request_kind (is_waiting m) (Answered m nonce) rs)) (one_more count) (no_more drawn)
+  where
+    others : filter_map (request_step (Answered m nonce)) (waiting m rs) ≡ without_nonce nonce (waiting m rs)
+    others = filter_map-drops (λ (old : Request). old.nonce == nonce) (waiting m rs)

@@ -1,0 +1,35 @@
+use Rattle.std.proofs.Common.{rules, arith}
+use Rattle.mapping_records.specs.Record.{InRange}
+use Rattle.router_core.proofs.CopyLemmas.{all-left, copies-left, length-left}
+use Rattle.router_core.proofs.table.Table.+learn_each.Goals as goal
+
+pub learn_each-requires : goal.learn_each-requires
+learn_each-requires t c =
+    let records = c.args.records.now in
+    let fewer = length-left records c.in-len1-up.len_at_least in
+    let some = c.in-len1-up.len_at_least in
+    let count = c.requires.count in
+    let one = c.learn_one.ensures.count in
+    let rooms = c.requires.mapping_room in
+    let room = c.learn_one.ensures.mapping_room in
+    let places = c.requires.room in
+    let most = c.learn_one.ensures.most in
+    let capacity = c.learn_one.ensures.capacity in (
+      search rules,
+      (
+        c.learn_one.ensures.now,
+        (
+          omega (arith, fewer, some, count, one),
+          (
+            all-left InRange records c.requires.range,
+            (
+              copies-left records c.args.copies.now.items c.remove-copy.new.self.items c.requires.copies c.remove-copy.ensures.by_index.2,
+              (
+                omega (arith, fewer, some, rooms, room),
+                omega (arith, fewer, some, places, most, capacity),
+              ),
+            ),
+          ),
+        ),
+      ),
+    )

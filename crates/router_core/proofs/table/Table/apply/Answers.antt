@@ -1,0 +1,37 @@
+use Rattle.std.proofs.Common.{◌∙◌}
+use Rattle.std.proofs.lemmas.Result.{on_ok_weaker}
+use Rattle.router_core.proofs.ApplyLemmas.{absorbed-as, absorbed-learned, may-ask, may-learn, stands-with}
+use Rattle.router_core.proofs.table.Table.apply.Goals as goal
+
+pub apply_learned-requires-clause-place : goal.apply_learned-requires-clause-place
+apply_learned-requires-clause-place c =
+    let p = c.args.self.now.parts in
+    (may-learn p c.in-Learned.moment c.in-Learned.mapping c.in-Learned.fixed (rw c.in-Learned.is at c.requires)).place
+
+pub apply_asked-requires-clause-place : goal.apply_asked-requires-clause-place
+apply_asked-requires-clause-place c =
+    let p = c.args.self.now.parts in
+    may-ask p c.in-Asked.moment c.in-Asked.eid c.in-Asked.source c.in-Asked.invoked c.in-Asked.nonce (rw c.in-Asked.is at c.requires)
+
+pub returns-in-Learned-clause-parts : goal.returns-in-Learned-clause-parts
+returns-in-Learned-clause-parts c =
+    let entry = c.in-Learned in
+    on_ok_weaker c.apply_learned.result (λ is. is ∙ absorbed-learned c.args.self.now.parts entry.moment entry.mapping entry.fixed c.args.entry.now entry.is c.requires) c.apply_learned.ensures.ok
+
+pub returns-in-Learned-clause-journal : goal.returns-in-Learned-clause-journal
+returns-in-Learned-clause-journal c =
+    on_ok_weaker c.apply_learned.result (λ is settings journal. stands-with settings c.args.self.now.parts c.apply_learned.new.self.parts journal c.args.entry.now is) (returns-in-Learned-clause-parts c)
+
+pub returns-in-Asked-clause-parts : goal.returns-in-Asked-clause-parts
+returns-in-Asked-clause-parts c =
+    on_ok_weaker c.apply_asked.result (λ is. is ∙ absorbed-as c.args.self.now.parts c.args.entry.now _ c.in-Asked.is c.requires) c.apply_asked.ensures.ok
+
+pub returns-in-Asked-clause-journal : goal.returns-in-Asked-clause-journal
+returns-in-Asked-clause-journal c =
+    on_ok_weaker c.apply_asked.result (λ is settings journal. stands-with settings c.args.self.now.parts c.apply_asked.new.self.parts journal c.args.entry.now is) (returns-in-Asked-clause-parts c)
+
+pub returns-in-Answered-clause-parts : goal.returns-in-Answered-clause-parts
+returns-in-Answered-clause-parts c = c.answer.ensures.parts ∙ absorbed-as c.args.self.now.parts c.args.entry.now _ c.in-Answered.is c.requires
+
+pub returns-in-Answered-clause-journal : goal.returns-in-Answered-clause-journal
+returns-in-Answered-clause-journal c settings journal = stands-with settings c.args.self.now.parts c.answer.new.self.parts journal c.args.entry.now (returns-in-Answered-clause-parts c)

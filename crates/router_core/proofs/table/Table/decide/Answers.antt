@@ -1,0 +1,23 @@
+use Rattle.std.proofs.Common.{◌≡◌, ◌∙◌, refl, ap}
+use Rattle.std.proofs.lemmas.Result.{IfOk-weaker}
+use Rattle.capture_io.specs.Frame.{Frame}
+use Rattle.lisp_settings.specs.declared.settings.Settings.{Settings}
+use Rattle.router_model.specs.Course.{course_of}
+use Rattle.router_model.specs.Decide.{decide_by, decide_course}
+use Rattle.router_model.specs.Parts.{view_in}
+use Rattle.router_model.specs.View.{View}
+use Rattle.router_model.proofs.FollowLemmas.{table-decides}
+use Rattle.router_core.proofs.table.Table.decide.Goals as goal
+
+by_course : (settings : Settings) (v : View) (frame : Frame) → decide_course settings v (course_of settings frame) ≡ decide_by settings v frame
+unfolding decide_by
+by_course settings v frame = refl
+
+pub returns-clause-journal : goal.returns-clause-journal
+returns-clause-journal c =
+    let settings = c.args.settings.now in
+    let p = c.args.self.now.parts in
+    let v = view_in p c.args.m in
+    IfOk-weaker c.decide_course.result _ _ (λ decision is journal stands.
+    is ∙ ap (decide_course settings v) c.course_of.ensures.course ∙ by_course settings v c.args.frame.now
+    ∙ table-decides settings p journal c.args.m c.args.frame.now stands) c.decide_course.ensures.parts

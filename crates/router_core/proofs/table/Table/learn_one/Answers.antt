@@ -1,0 +1,45 @@
+use Rattle.std.proofs.Common.{◌≡◌, ◌∙◌, ◌≤◌, ◌&&◌, ℕ, min, not, true, false, List, [], ◌∷◌, ◌++◌, length, take, sym, ap, arith}
+use Rattle.std.proofs.lemmas.List.{length-take}
+use Rattle.mapping_records.specs.declared.record.Record.{Record}
+use Rattle.router_log.specs.declared.entry.Entry.{Entry}
+use Rattle.router_log.specs.declared.entry.Entry.TheVariants.{Learned}
+use Rattle.router_model.specs.Changes.{has_room}
+use Rattle.router_model.specs.Hear.{is_asked_for, is_static, shortened}
+use Rattle.router_model.specs.Parts.{Parts, view_in, with_entry}
+use Rattle.router_core.specs.Table.{change_of}
+use Rattle.router_core.specs.declared.copies.Copies.{Copies}
+use Rattle.router_core.proofs.ChangeLemmas.{both, learned-place, taught-so}
+use Rattle.router_core.proofs.table.Table.learn_one.Goals as goal
+
+not_over : (a b : ℕ) → a ≡ b → a ≤ b
+not_over a b same = omega (arith, same)
+
+few : (mapping : Record) → length (shortened mapping).locators ≤ 32
+few mapping = least (length (take 32 mapping.locators)) (length mapping.locators) (length-take 32 mapping.locators)
+  where
+    least : (n k : ℕ) → n ≡ min 32 k → n ≤ 32
+    least n k is = omega (arith, is)
+
+pub learn-requires-clause-locators : goal.learn-requires-clause-locators
+learn-requires-clause-locators c = rw (ap (λ (copy : Copies). copy.kept) c.requires.copies) (few c.args.mapping.now)
+
+pub learn-requires-clause-place : goal.learn-requires-clause-place
+learn-requires-clause-place c =
+    let mapping = c.args.mapping.now in
+    let p = c.args.self.now.parts in
+    let is : (is_asked_for c.args.asked.now c.args.mappings.now mapping && (not (is_static c.args.settings.now mapping) && has_room (view_in p c.args.m) mapping)) ≡ true = sym c.is_taken.ensures ∙ c.if-not-is_taken.false in
+    rw (ap (λ (copy : Copies). copy.kept) c.requires.copies)
+    (learned-place p c.args.m (shortened mapping) (not_over p.now c.args.m c.requires.now) (both _ _ (both (is_asked_for c.args.asked.now c.args.mappings.now mapping) _ is).1).1)
+
+pub returns-clause-change : goal.returns-clause-change
+returns-clause-change c =
+    let mapping = c.args.mapping.now in
+    let p = c.args.self.now.parts in
+    let entries = c.args.entries.now.items in
+    let after : Record → List Entry → _ = λ r e. change_of (with_entry (Learned c.args.m r false) p) e [] in
+    let range = c.requires.range in
+    ap (λ (q : Parts). change_of q c.push_reserved.new.self.items []) c.learn.ensures.parts
+    ∙ ap (λ (e : List Entry). after c.args.copies.kept e) c.push_reserved.ensures.items
+    ∙ ap (λ (copy : Copies). after copy.kept (entries ++ Learned c.args.m copy.told false ∷ [])) c.requires.copies
+    ∙ taught-so c.args.settings.now c.args.m c.args.asked.now c.args.mappings.now mapping p entries (not_over p.now c.args.m c.requires.now) c.requires.count
+    range.action range.version (few mapping) (sym c.is_taken.ensures ∙ c.if-not-is_taken.false)

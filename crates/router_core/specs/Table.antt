@@ -1,0 +1,33 @@
+-- What a table is seen as, and what its calls leave.
+use Rattle.std.specs.Prelude.{ℕ, [], List}
+use Rattle.router_log.specs.declared.emit.Emit.{Emit}
+use Rattle.router_log.specs.declared.entry.Entry.{Entry}
+use Rattle.router_model.specs.Changes.{Change}
+use Rattle.router_model.specs.Hear as model
+use Rattle.router_model.specs.Observed.{Observed}
+use Rattle.router_model.specs.Parts.{Parts}
+use Rattle.router_core.specs.declared.changed.Changed.{Changed}
+use Rattle.router_core.specs.declared.changed.Heard.{Heard}
+
+-- the parts of a table, and how many mappings and requests more it has room for
+pub record Memory : Type 0 where
+  pub parts : Parts
+  pub mapping_room : ℕ
+  pub request_room : ℕ
+
+-- nothing is observed of locators (not built)
+abbrev pub nothing_observed : Observed
+nothing_observed = record { probes = []; starts = []; wishes = []; solicits = [] }
+
+-- a change, by its entries and emits and the parts that it left
+abbrev pub change_of : Parts → List Entry → List Emit → Change Parts
+change_of parts entries emits = record { after = parts; entries = entries; emits = emits }
+
+-- the change of an answer
+abbrev pub changed_seen : Parts → Changed → Change Parts
+changed_seen parts changed = change_of parts changed.entries changed.emits
+
+-- the same with a verdict
+abbrev pub heard_seen : Parts → Heard → model.Heard Parts
+heard_seen parts heard =
+    record { verdict = heard.verdict; change = change_of parts heard.entries heard.emits }

@@ -1,0 +1,96 @@
+// An entry, taken as it is.
+ghost use Rattle.std.specs.Prelude.{◌≡◌, ◌<◌, ◌≤◌, ◌∷◌, ◌^◌, true, false, length, IsTrue, OnErr, OnOk};
+ghost use Rattle.lisp_settings.specs.declared.settings.Settings.{Settings as SettingsValue};
+ghost use Rattle.map_cache.specs.Cache.{has_room, lasting};
+ghost use Rattle.request_queue.specs.Queue.{waiting};
+ghost use Rattle.router_log.specs.declared.entry.Entry.TheVariants.{Asked, Learned};
+ghost use Rattle.router_model.specs.Journal.{Journal};
+ghost use Rattle.router_model.specs.Parts.{Stands, absorbed, admits, with_entry};
+ghost use Rattle.router_model.specs.Proper.{fits};
+
+use crate::Table;
+use crate::copies::copied;
+use ip_headers::Addr;
+use mapping_records::{Eid, Record};
+use octets::NoMemory;
+use router_log::Entry;
+
+impl Table {
+    /// Takes an entry that may follow: the table then stands for the journal with it. Where memory is
+    /// refused, the table is as it was.
+    #[tactic(auto, unfolding(router_model::specs::Parts::admits))]
+    pub fn apply(&mut self, entry: &Entry) -> Result<(), NoMemory>
+        requires { admits self.old.parts entry.now ≡ true }
+        ensures parts { OnOk result (self.new.parts ≡ absorbed self.old.parts entry.now) }
+        ensures journal { OnOk result ((settings : SettingsValue) → (journal : Journal)
+            → Stands settings self.old.parts journal → fits settings journal entry.now ≡ true
+            → Stands settings self.new.parts (entry.now ∷ journal)) }
+        ensures err { OnErr result (self.new.parts ≡ self.old.parts) }
+    {
+        match entry {
+            Entry::Learned {
+                moment,
+                mapping,
+                ..
+            } => self.apply_learned(*moment, mapping),
+            Entry::Asked {
+                moment,
+                eid,
+                source,
+                invoked,
+                nonce,
+            } => self.apply_asked(*moment, *eid, *source, *invoked, *nonce),
+            Entry::Answered { moment, nonce } => {
+                self.answer(*moment, *nonce);
+                Ok(())
+            }
+            // Not built yet: none of these may follow.
+            Entry::Retried { .. }
+            | Entry::Probed { .. }
+            | Entry::ProbeAnswered { .. }
+            | Entry::Bits { .. }
+            | Entry::EchoStarted { .. }
+            | Entry::EchoHeard { .. }
+            | Entry::DataFrom { .. }
+            | Entry::EchoWanted { .. }
+            | Entry::Solicited { .. } => unreachable!(),
+        }
+    }
+
+    // Takes the entry of a mapping that was learned.
+    fn apply_learned(&mut self, m: u64, mapping: &Record) -> Result<(), NoMemory>
+        requires later { self.old.parts.now ≤ m }
+        requires locators { length mapping.now.locators ≤ 32 }
+        requires place { IsTrue (has_room mapping.now (lasting m self.old.parts.mappings)) }
+        requires count { self.old.parts.count < 2 ^ 62 }
+        ensures ok { OnOk result (self.new.parts
+            ≡ with_entry (Learned m mapping.now false) self.old.parts) }
+        ensures err { OnErr result (self.new.parts ≡ self.old.parts) }
+    {
+        let mapping = copied(self.alloc, mapping)?;
+        self.reserve(1, 0)?;
+        self.learn(m, mapping, false);
+        Ok(())
+    }
+
+    // Takes the entry of a request that was made.
+    fn apply_asked(
+        &mut self,
+        m: u64,
+        eid: Eid,
+        source: Option<Addr>,
+        invoked: bool,
+        nonce: u64,
+    ) -> Result<(), NoMemory>
+        requires later { self.old.parts.now ≤ m }
+        requires place { length (waiting m self.old.parts.requests) < 1024 }
+        requires count { self.old.parts.count < 2 ^ 62 }
+        ensures ok { OnOk result (self.new.parts
+            ≡ with_entry (Asked m eid source invoked nonce) self.old.parts) }
+        ensures err { OnErr result (self.new.parts ≡ self.old.parts) }
+    {
+        self.reserve(0, 1)?;
+        self.ask(m, eid, source, invoked, nonce);
+        Ok(())
+    }
+}

@@ -1,0 +1,60 @@
+// Control messages in the packets that this router makes.
+ghost use Rattle.std.specs.Prelude.{◌≡◌, ◌≤◌, length, IfOk};
+ghost use Rattle.ip_headers.specs.Addr.{width};
+ghost use Rattle.capture_io.specs.declared.frame.TheConstants.{MOST_FRAME_OCTETS};
+ghost use Rattle.map_messages.specs.Message.{canonical_message};
+ghost use Rattle.map_messages.specs.Range.{InRange};
+ghost use Rattle.map_messages.specs.declared.message.TheConstants.{MOST_MESSAGE_OCTETS};
+ghost use Rattle.router_model.specs.Emits.{message_packet};
+
+use ip_headers::{Addr, write_udp};
+use map_messages::{LISP_CONTROL_PORT, Message, write_control_header, write_message};
+use octets::{NoMemory, Octets};
+use std::alloc::Global;
+
+/// A message in its packet, from one address to another and a port.
+pub(crate) fn message_packet(
+    alloc: Global,
+    from: Addr,
+    to: Addr,
+    port: u16,
+    message: &Message,
+) -> Result<Octets, NoMemory>
+    requires family { width from ≡ width to }
+    requires range { InRange message.now }
+    requires short { length (canonical_message message.now) ≤ MOST_MESSAGE_OCTETS }
+    ensures octets { IfOk result (λ packet. packet
+        ≡ message_packet from to port (canonical_message message.now)) }
+    ensures size { IfOk result (λ packet. length packet ≤ MOST_FRAME_OCTETS) }
+{
+    let mut payload = Octets::new(alloc);
+    write_message(alloc, message, &mut payload)?;
+    datagram_packet(alloc, from, to, port, payload.as_slice())
+}
+
+// A datagram in its packet.
+fn datagram_packet(
+    alloc: Global,
+    from: Addr,
+    to: Addr,
+    port: u16,
+    payload: &[u8],
+) -> Result<Octets, NoMemory>
+    requires family { width from ≡ width to }
+    requires short { length payload.now ≤ MOST_MESSAGE_OCTETS }
+    ensures octets { IfOk result (λ packet. packet ≡ message_packet from to port payload.now) }
+    ensures size { IfOk result (λ packet. length packet ≤ MOST_FRAME_OCTETS) }
+{
+    let mut packet = Octets::new(alloc);
+    write_control_header(from, to, 8 + payload.len() as u16, &mut packet)?;
+    write_udp(
+        from,
+        to,
+        LISP_CONTROL_PORT,
+        port,
+        payload,
+        true,
+        &mut packet,
+    )?;
+    Ok(packet)
+}

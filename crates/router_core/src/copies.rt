@@ -1,0 +1,71 @@
+// Copies of mapping records.
+ghost use Rattle.std.specs.Prelude.{◌≡◌, IfOk};
+ghost use Rattle.router_model.specs.Hear.{shortened};
+ghost use Rattle.router_core.specs.Copies.{all_copies};
+
+use map_cache::MOST_LOCATORS;
+use mapping_records::{Locator, Locators, Record};
+use octets::{Items, NoMemory};
+use std::alloc::Global;
+
+/// A copy of a record.
+pub(crate) fn copied(alloc: Global, mapping: &Record) -> Result<Record, NoMemory>
+    ensures { IfOk result (λ copy. copy ≡ mapping.now) }
+{
+    let locators = copied_locators(alloc, mapping.locators.as_slice())?;
+    Ok(with_locators(mapping, locators))
+}
+
+/// A copy of a record with its first 32 locators.
+pub(crate) fn shortened(alloc: Global, mapping: &Record) -> Result<Record, NoMemory>
+    ensures { IfOk result (λ copy. copy ≡ shortened mapping.now) }
+{
+    let locators = mapping.locators.as_slice();
+    if locators.len() <= MOST_LOCATORS {
+        return copied(alloc, mapping);
+    }
+    let (first, _) = locators.split_at(MOST_LOCATORS);
+    let first = copied_locators(alloc, first)?;
+    Ok(with_locators(mapping, first))
+}
+
+fn copied_locators(alloc: Global, locators: &[Locator]) -> Result<Locators, NoMemory>
+    ensures { IfOk result (λ copy. copy ≡ locators.now) }
+{
+    let mut copies = Vec::new(alloc);
+    copies.extend_from_slice(locators)?;
+    Ok(Items::from_vec(copies))
+}
+
+fn with_locators(mapping: &Record, locators: Locators) -> Record
+    ensures { result ≡ record mapping.now { locators = locators } }
+{
+    Record {
+        ttl: mapping.ttl,
+        action: mapping.action,
+        authoritative: mapping.authoritative,
+        version: mapping.version,
+        eid: mapping.eid,
+        locators,
+    }
+}
+
+/// A record that may be learned, twice: for the table, and for the entry.
+#[derive(Drop)]
+pub(crate) struct Copies {
+    pub kept: Record,
+    pub told: Record,
+}
+
+/// Copies of records, each with its first 32 locators.
+pub(crate) fn all_copies(alloc: Global, mappings: &[Record]) -> Result<Vec<Copies>, NoMemory>
+    ensures { IfOk result (λ copies. copies.items ≡ all_copies mappings.now) }
+{
+    let mut copies = Vec::new(alloc);
+    for mapping in mappings {
+        let kept = shortened(alloc, mapping)?;
+        let told = shortened(alloc, mapping)?;
+        copies.push(Copies { kept, told })?;
+    }
+    Ok(copies)
+}

@@ -1,0 +1,123 @@
+// The packets that this router makes itself.
+ghost use Rattle.std.specs.Prelude.{◌≡◌, ◌≤◌, IsTrue, is_some, length, IfOk};
+ghost use Rattle.capture_io.specs.declared.frame.TheConstants.{MOST_FRAME_OCTETS};
+ghost use Rattle.map_messages.specs.Message.{canonical_message};
+ghost use Rattle.map_messages.specs.Range.{InRange};
+ghost use Rattle.map_messages.specs.declared.message.TheConstants.{MOST_MESSAGE_OCTETS};
+ghost use Rattle.lisp_settings.specs.Lawful.{IsLawful};
+ghost use Rattle.router_log.specs.declared.emit.Emit.TheVariants as emits;
+ghost use Rattle.router_model.specs.Emits.{emit_packet, packet_to};
+ghost use Rattle.router_model.specs.Site.{ours};
+ghost use Rattle.router_core.specs.Sendable.{IsSendable};
+
+use crate::control_writing::message_packet;
+use crate::own_requests::{probe_message, request_message, solicit_message};
+use crate::site::ours;
+use ip_headers::Addr;
+use lisp_settings::Settings;
+use map_messages::{Eid, LISP_CONTROL_PORT, Message};
+use octets::{NoMemory, Octets};
+use router_log::Emit;
+use std::alloc::Global;
+
+/// The packet that an emit stands for, with its IP and UDP headers (RFC 9301, section 5). A
+/// Map-Request goes to the resolver, encapsulated; one that probes or solicits goes to its locator.
+/// Replies aren't built yet.
+pub fn emit_octets(alloc: Global, settings: &Settings, emit: &Emit) -> Result<Octets, NoMemory>
+    requires lawful { IsLawful settings.now }
+    requires sendable { IsSendable settings.now emit.now }
+    ensures octets { IfOk result (λ packet. packet ≡ emit_packet settings.now emit.now) }
+    ensures size { IfOk result (λ packet. length packet ≤ MOST_FRAME_OCTETS) }
+{
+    match emit {
+        Emit::Request {
+            eid,
+            source,
+            invoked,
+            nonce,
+        } => request_octets(alloc, settings, *eid, *source, *invoked, *nonce),
+        Emit::Probe { to, eid, nonce } => probe_octets(alloc, settings, *to, *eid, *nonce),
+        Emit::Solicit { to, eid, nonce } => solicit_octets(alloc, settings, *to, *eid, *nonce),
+        Emit::Reply { .. } => unreachable!(),
+    }
+}
+
+// A Map-Request to the resolver.
+#[tactic(auto, unfolding(router_model::specs::Emits::emit_packet))]
+fn request_octets(
+    alloc: Global,
+    settings: &Settings,
+    eid: Eid,
+    source: Option<Addr>,
+    invoked: bool,
+    nonce: u64,
+) -> Result<Octets, NoMemory>
+    requires lawful { IsLawful settings.now }
+    requires resolver { IsTrue (is_some settings.now.resolver) }
+    ensures octets { IfOk result (λ packet. packet
+        ≡ emit_packet settings.now (emits.Request eid source invoked nonce)) }
+    ensures size { IfOk result (λ packet. length packet ≤ MOST_FRAME_OCTETS) }
+{
+    let Some(resolver) = settings.resolver else {
+        unreachable!()
+    };
+    let message = request_message(alloc, settings, eid, source, invoked, nonce)?;
+    packet_to(alloc, settings, resolver, &message)
+}
+
+// A Map-Request that probes a locator.
+#[tactic(auto, unfolding(router_model::specs::Emits::emit_packet))]
+fn probe_octets(
+    alloc: Global,
+    settings: &Settings,
+    to: Addr,
+    eid: Eid,
+    nonce: u64,
+) -> Result<Octets, NoMemory>
+    requires lawful { IsLawful settings.now }
+    requires sender { IsTrue (is_some (ours settings.now.locators to)) }
+    ensures octets { IfOk result (λ packet. packet
+        ≡ emit_packet settings.now (emits.Probe to eid nonce)) }
+    ensures size { IfOk result (λ packet. length packet ≤ MOST_FRAME_OCTETS) }
+{
+    let message = probe_message(alloc, settings, eid, nonce)?;
+    packet_to(alloc, settings, to, &message)
+}
+
+// A Map-Request that solicits one.
+#[tactic(auto, unfolding(router_model::specs::Emits::emit_packet))]
+fn solicit_octets(
+    alloc: Global,
+    settings: &Settings,
+    to: Addr,
+    eid: Eid,
+    nonce: u64,
+) -> Result<Octets, NoMemory>
+    requires lawful { IsLawful settings.now }
+    requires sender { IsTrue (is_some (ours settings.now.locators to)) }
+    ensures octets { IfOk result (λ packet. packet
+        ≡ emit_packet settings.now (emits.Solicit to eid nonce)) }
+    ensures size { IfOk result (λ packet. length packet ≤ MOST_FRAME_OCTETS) }
+{
+    let message = solicit_message(alloc, settings, eid, nonce)?;
+    packet_to(alloc, settings, to, &message)
+}
+
+// A message to an address, from the own one of its family.
+fn packet_to(
+    alloc: Global,
+    settings: &Settings,
+    to: Addr,
+    message: &Message,
+) -> Result<Octets, NoMemory>
+    requires sender { IsTrue (is_some (ours settings.now.locators to)) }
+    requires range { InRange message.now }
+    requires short { length (canonical_message message.now) ≤ MOST_MESSAGE_OCTETS }
+    ensures octets { IfOk result (λ packet. packet ≡ packet_to settings.now to message.now) }
+    ensures size { IfOk result (λ packet. length packet ≤ MOST_FRAME_OCTETS) }
+{
+    let Some(from) = ours(settings.locators.as_slice(), to) else {
+        unreachable!()
+    };
+    message_packet(alloc, from, to, LISP_CONTROL_PORT, message)
+}

@@ -1,0 +1,204 @@
+// A control message, heard.
+ghost use Rattle.std.specs.Prelude.{◌≡◌, ◌<◌, ◌≤◌, ◌+◌, ◌^◌, [], length, IfOk, OnErr};
+ghost use Rattle.lisp_settings.specs.Lawful.{IsLawful};
+ghost use Rattle.map_messages.specs.Range.{InRange, InRangeReply};
+ghost use Rattle.router_log.specs.declared.verdict.Reason.{Reason as ReasonValue};
+ghost use Rattle.router_log.specs.declared.verdict.Verdict.TheVariants.{Drop};
+ghost use Rattle.router_model.specs.Changes.{unchanged};
+ghost use Rattle.router_model.specs.Hear.{course_heard, datagram_heard, drops, hear, hear_by, message_heard, payload_heard, reply_heard};
+ghost use Rattle.router_model.specs.Journal.{Journal};
+ghost use Rattle.router_model.specs.Lifting.{AreOctets, Follows, MayGo};
+ghost use Rattle.router_model.specs.Parts.{Stands, table};
+ghost use Rattle.router_core.specs.Seen.{course_seen, datagram_seen};
+ghost use Rattle.router_core.specs.Table.{change_of, heard_seen};
+
+use crate::courses::{Course, course_of};
+use crate::{Datagram, Heard, Table};
+use capture_io::Frame;
+use ip_headers::{check_udp, udp_payload};
+use lisp_settings::Settings;
+use map_messages::{MapReply, Message, MessageFault, read_message};
+use octets::{Items, NoMemory};
+use router_log::{Reason, Verdict};
+
+impl Table {
+    /// Hears a frame that is a control message, at a moment: it takes the entries that come of it. Any
+    /// other frame is decided, and here dropped. Where memory is refused, the table is as it was.
+    pub fn hear(&mut self, settings: &Settings, m: u64, frame: &Frame) -> Result<Heard, NoMemory>
+        requires lawful { IsLawful settings.now }
+        requires later { self.old.parts.now ≤ m }
+        requires count { self.old.parts.count < 2 ^ 61 }
+        ensures parts { IfOk result (λ heard. heard_seen self.new.parts heard
+            ≡ hear_by table settings.now m frame.now (unchanged self.old.parts)) }
+        ensures verdict { IfOk result (λ heard. (journal : Journal)
+            → Stands settings.now self.old.parts journal → MayGo journal m
+            → heard.verdict ≡ (hear settings.now journal m frame.now).verdict) }
+        ensures journal { IfOk result (λ heard. (journal : Journal)
+            → Stands settings.now self.old.parts journal → MayGo journal m
+            → Follows settings.now (change_of self.new.parts heard.entries heard.emits)
+            (hear settings.now journal m frame.now).change) }
+        ensures drop { IfOk result (λ heard. (why : ReasonValue) → heard.verdict ≡ Drop why
+            → heard_seen self.new.parts heard ≡ drops why (unchanged self.old.parts)) }
+        ensures emits { IfOk result (λ heard. heard.emits ≡ []) }
+        ensures count { IfOk result (λ heard.
+            self.new.parts.count ≤ self.old.parts.count + 256) }
+        ensures now { IfOk result (λ heard. self.new.parts.now ≤ m) }
+        ensures err { OnErr result (self.new.parts ≡ self.old.parts) }
+    {
+        fit(frame.octets.as_slice());
+        self.hear_course(settings, m, course_of(settings, frame))
+    }
+
+    /// Hears a frame that is this.
+    pub fn hear_course(
+        &mut self,
+        settings: &Settings,
+        m: u64,
+        course: Course,
+    ) -> Result<Heard, NoMemory>
+        requires later { self.old.parts.now ≤ m }
+        requires count { self.old.parts.count < 2 ^ 61 }
+        ensures parts { IfOk result (λ heard. heard_seen self.new.parts heard
+            ≡ course_heard table settings.now m (course_seen course.entry)
+            (unchanged self.old.parts)) }
+        ensures emits { IfOk result (λ heard. heard.emits ≡ []) }
+        ensures count { IfOk result (λ heard.
+            self.new.parts.count ≤ self.old.parts.count + 256) }
+        ensures now { IfOk result (λ heard. self.new.parts.now ≤ m) }
+        ensures err { OnErr result (self.new.parts ≡ self.old.parts) }
+    {
+        match course {
+            Course::Control(datagram) => self.hear_datagram(settings, m, &datagram),
+            _ => Ok(self.dropped(Reason::NotTunnel)),
+        }
+    }
+
+    /// Hears the control message of a datagram.
+    #[tactic(auto, unfolding(router_model::specs::Hear::datagram_heard))]
+    pub fn hear_datagram(
+        &mut self,
+        settings: &Settings,
+        m: u64,
+        datagram: &Datagram,
+    ) -> Result<Heard, NoMemory>
+        requires later { self.old.parts.now ≤ m }
+        requires count { self.old.parts.count < 2 ^ 61 }
+        ensures parts { IfOk result (λ heard. heard_seen self.new.parts heard
+            ≡ datagram_heard table settings.now m (datagram_seen datagram.now)
+            (unchanged self.old.parts)) }
+        ensures emits { IfOk result (λ heard. heard.emits ≡ []) }
+        ensures count { IfOk result (λ heard.
+            self.new.parts.count ≤ self.old.parts.count + 256) }
+        ensures now { IfOk result (λ heard. self.new.parts.now ≤ m) }
+        ensures err { OnErr result (self.new.parts ≡ self.old.parts) }
+    {
+        let (packet, udp) = (&datagram.packet, &datagram.udp);
+        match check_udp(packet, udp, false) {
+            Ok(()) => {
+                let payload = udp_payload(packet, udp);
+                self.hear_payload(settings, m, packet.base + udp.at + 8, payload)
+            }
+            Err(refused) => Ok(self.dropped(Reason::Refused(refused))),
+        }
+    }
+
+    // Hears the octets of a control message, from a place on.
+    #[tactic(auto, unfolding(router_model::specs::Hear::payload_heard))]
+    fn hear_payload(
+        &mut self,
+        settings: &Settings,
+        m: u64,
+        base: u32,
+        payload: &[u8],
+    ) -> Result<Heard, NoMemory>
+        requires later { self.old.parts.now ≤ m }
+        requires count { self.old.parts.count < 2 ^ 61 }
+        requires place { base + length payload.now < 2 ^ 32 }
+        ensures parts { IfOk result (λ heard. heard_seen self.new.parts heard
+            ≡ payload_heard table settings.now m base payload.now (unchanged self.old.parts)) }
+        ensures emits { IfOk result (λ heard. heard.emits ≡ []) }
+        ensures count { IfOk result (λ heard.
+            self.new.parts.count ≤ self.old.parts.count + 256) }
+        ensures now { IfOk result (λ heard. self.new.parts.now ≤ m) }
+        ensures err { OnErr result (self.new.parts ≡ self.old.parts) }
+    {
+        match read_message(self.alloc, payload, base) {
+            Ok((message, _)) => self.hear_message(settings, m, &message),
+            Err(MessageFault::Refused(refused)) => Ok(self.dropped(Reason::Refused(refused))),
+            Err(MessageFault::Memory) => Err(NoMemory),
+        }
+    }
+
+    // Hears a message.
+    fn hear_message(
+        &mut self,
+        settings: &Settings,
+        m: u64,
+        message: &Message,
+    ) -> Result<Heard, NoMemory>
+        requires later { self.old.parts.now ≤ m }
+        requires count { self.old.parts.count < 2 ^ 61 }
+        requires range { InRange message.now }
+        ensures parts { IfOk result (λ heard. heard_seen self.new.parts heard
+            ≡ message_heard table settings.now m message.now (unchanged self.old.parts)) }
+        ensures emits { IfOk result (λ heard. heard.emits ≡ []) }
+        ensures count { IfOk result (λ heard.
+            self.new.parts.count ≤ self.old.parts.count + 256) }
+        ensures now { IfOk result (λ heard. self.new.parts.now ≤ m) }
+        ensures err { OnErr result (self.new.parts ≡ self.old.parts) }
+    {
+        match message {
+            Message::Reply(reply) => self.hear_reply(settings, m, reply),
+            Message::Control(ecm) if ecm.request.is_none() => Ok(self.dropped(Reason::Unexpected)),
+            // Not built yet.
+            _ => Ok(self.dropped(Reason::NotBuilt)),
+        }
+    }
+
+    // Hears a Map-Reply.
+    #[tactic(auto, unfolding(router_model::specs::Hear::reply_heard))]
+    fn hear_reply(
+        &mut self,
+        settings: &Settings,
+        m: u64,
+        reply: &MapReply,
+    ) -> Result<Heard, NoMemory>
+        requires later { self.old.parts.now ≤ m }
+        requires count { self.old.parts.count < 2 ^ 61 }
+        requires range { InRangeReply reply.now }
+        ensures parts { IfOk result (λ heard. heard_seen self.new.parts heard
+            ≡ reply_heard table settings.now m reply.now (unchanged self.old.parts)) }
+        ensures emits { IfOk result (λ heard. heard.emits ≡ []) }
+        ensures count { IfOk result (λ heard.
+            self.new.parts.count ≤ self.old.parts.count + 256) }
+        ensures now { IfOk result (λ heard. self.new.parts.now ≤ m) }
+        ensures err { OnErr result (self.new.parts ≡ self.old.parts) }
+    {
+        // No probe is ever open: they aren't built yet.
+        if reply.probe {
+            return Ok(self.dropped(Reason::Unsolicited));
+        }
+        match self.queue.find(m, reply.nonce).copied() {
+            Some(request) => self.learn_reply(settings, m, &request, reply),
+            None => Ok(self.dropped(Reason::Unsolicited)),
+        }
+    }
+
+    // A drop changes nothing.
+    pub(crate) fn dropped(&self, reason: Reason) -> Heard
+        ensures { result ≡ record { verdict = Drop reason; entries = []; emits = [] } }
+    {
+        Heard {
+            verdict: Verdict::Drop(reason),
+            entries: Items::new(self.alloc),
+            emits: Items::new(self.alloc),
+        }
+    }
+}
+
+// Octets are below 256, which bounds what the records of a message say.
+fn fit(octets: &[u8])
+    ensures { AreOctets octets.now }
+{
+    let _ = octets;
+}

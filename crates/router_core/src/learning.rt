@@ -1,0 +1,231 @@
+// What a Map-Reply teaches.
+ghost use Rattle.std.specs.Prelude.{◌≡◌, ◌<◌, ◌≤◌, ◌+◌, ◌^◌, ◌&&◌, ◌||◌, nat_lt, max, is_some, [], Some, not, length, IfOk, OnErr, vec_len, vec_capacity};
+ghost use Rattle.map_cache.specs.Cache.{exact, lasting};
+ghost use Rattle.map_cache.specs.declared.fault.TheConstants.{MOST_MAPPINGS};
+ghost use Rattle.std.specs.List.{All, list_any};
+ghost use Rattle.map_messages.specs.Range.{InRangeReply};
+ghost use Rattle.mapping_records.specs.Record.{InRange};
+ghost use Rattle.request_queue.specs.Queue.{waiting, with_nonce};
+ghost use Rattle.router_model.specs.Changes.{each, has_room, unchanged};
+ghost use Rattle.router_model.specs.Hear.{is_asked_for, is_fit, is_static, replied_to, taught};
+ghost use Rattle.mapping_records.specs.Eids.{same_eid};
+ghost use Rattle.router_model.specs.Parts.{table, view_in};
+ghost use Rattle.router_core.specs.Copies.{all_copies, copies_of};
+ghost use Rattle.router_core.specs.Table.{change_of, heard_seen};
+
+use crate::copies::{Copies, all_copies};
+use crate::{Heard, Table};
+use lisp_settings::Settings;
+use map_cache::MOST_MAPPINGS;
+use map_messages::MapReply;
+use mapping_records::{Eid, Record};
+use node_store::Reads;
+use octets::{Items, NoMemory};
+use request_queue::Request;
+use router_log::{Done, Entry, Reason, Verdict};
+
+impl Table {
+    /// Takes a Map-Reply to a request that is open at a moment.
+    pub(crate) fn learn_reply(
+        &mut self,
+        settings: &Settings,
+        m: u64,
+        request: &Request,
+        reply: &MapReply,
+    ) -> Result<Heard, NoMemory>
+        requires later { self.old.parts.now ≤ m }
+        requires count { self.old.parts.count < 2 ^ 61 }
+        requires range { InRangeReply reply.now }
+        requires open { with_nonce (waiting m self.old.parts.requests) reply.now.nonce
+            ≡ Some request.now }
+        ensures parts { IfOk result (λ heard. heard_seen self.new.parts heard
+            ≡ replied_to table settings.now m reply.now (Some request.now)
+            (unchanged self.old.parts)) }
+        ensures emits { IfOk result (λ heard. heard.emits ≡ []) }
+        ensures count { IfOk result (λ heard.
+            self.new.parts.count ≤ self.old.parts.count + 256) }
+        ensures now { IfOk result (λ heard. self.new.parts.now ≤ m) }
+        ensures err { OnErr result (self.new.parts ≡ self.old.parts) }
+    {
+        let mappings = reply.mappings.as_slice();
+        if !is_fit(&request.eid, mappings) {
+            return Ok(self.dropped(Reason::Unfit));
+        }
+        let mut entries = Vec::new(self.alloc);
+        entries.reserve(1 + mappings.len())?;
+        let mut copies = all_copies(self.alloc, mappings)?;
+        self.reserve(mappings.len() as u32, 0)?;
+        self.answer(m, reply.nonce);
+        entries.push_reserved(Entry::Answered {
+            moment: m,
+            nonce: reply.nonce,
+        });
+        self.learn_each(
+            settings,
+            m,
+            &request.eid,
+            mappings,
+            mappings,
+            &mut copies,
+            &mut entries,
+        );
+        let learned = entries.len() - 1;
+        let passed_over = mappings.len() - learned;
+        Ok(Heard {
+            verdict: Verdict::Control(Done::Learned(learned as u32, passed_over as u32)),
+            entries: Items::from_vec(entries),
+            emits: Items::new(self.alloc),
+        })
+    }
+
+    // Learns each of these records that is to be learned, and passes over the others.
+    fn learn_each(
+        &mut self,
+        settings: &Settings,
+        m: u64,
+        asked: &Eid,
+        mappings: &[Record],
+        records: &[Record],
+        copies: &mut Vec<Copies>,
+        entries: &mut Vec<Entry>,
+    )
+        requires now { self.old.parts.now ≡ m }
+        requires count { self.old.parts.count + length records.now < 2 ^ 62 }
+        requires range { All InRange records.now }
+        requires copies { copies.old.items ≡ all_copies records.now }
+        requires mapping_room { length records.now ≤ self.old.mapping_room }
+        requires room { vec_len entries.old + length records.now ≤ vec_capacity entries.old }
+        ensures change { change_of self.new.parts entries.new.items []
+            ≡ each (taught table settings.now m asked.now mappings.now) records.now
+            (change_of self.old.parts entries.old.items []) }
+        ensures now { self.new.parts.now ≡ m }
+        ensures count { self.new.parts.count ≤ self.old.parts.count + length records.now }
+        ensures more { vec_len entries.old ≤ vec_len entries.new }
+        ensures most { vec_len entries.new ≤ vec_len entries.old + length records.now }
+    {
+        let [mapping, others @ ..] = records else {
+            return;
+        };
+        let copy = copies.remove(0);
+        self.learn_one(settings, m, asked, mappings, mapping, copy, entries);
+        self.learn_each(settings, m, asked, mappings, others, copies, entries);
+    }
+
+    // Learns a record, if it is to be learned.
+    fn learn_one(
+        &mut self,
+        settings: &Settings,
+        m: u64,
+        asked: &Eid,
+        mappings: &[Record],
+        mapping: &Record,
+        copies: Copies,
+        entries: &mut Vec<Entry>,
+    )
+        requires now { self.old.parts.now ≡ m }
+        requires count { self.old.parts.count < 2 ^ 62 }
+        requires range { InRange mapping.now }
+        requires copies { copies ≡ copies_of mapping.now }
+        requires mapping_room { 0 < self.old.mapping_room }
+        requires room { vec_len entries.old < vec_capacity entries.old }
+        ensures change { change_of self.new.parts entries.new.items []
+            ≡ taught table settings.now m asked.now mappings.now mapping.now
+            (change_of self.old.parts entries.old.items []) }
+        ensures now { self.new.parts.now ≡ m }
+        ensures count { self.new.parts.count ≤ self.old.parts.count + 1 }
+        ensures mapping_room { self.old.mapping_room ≤ self.new.mapping_room + 1 }
+        ensures more { vec_len entries.old ≤ vec_len entries.new }
+        ensures most { vec_len entries.new ≤ vec_len entries.old + 1 }
+        ensures capacity { vec_capacity entries.new ≡ vec_capacity entries.old }
+    {
+        if !self.is_taken(settings, m, asked, mappings, mapping) {
+            return;
+        }
+        self.learn(m, copies.kept, false);
+        entries.push_reserved(Entry::Learned {
+            moment: m,
+            mapping: copies.told,
+            fixed: false,
+        });
+    }
+
+    // The record is to be learned.
+    fn is_taken(
+        &self,
+        settings: &Settings,
+        m: u64,
+        asked: &Eid,
+        mappings: &[Record],
+        mapping: &Record,
+    ) -> bool
+        ensures { result ≡ (is_asked_for asked.now mappings.now mapping.now
+            && (not (is_static settings.now mapping.now)
+            && has_room (view_in self.now.parts m) mapping.now)) }
+    {
+        is_asked_for(asked, mappings, mapping)
+            && !is_static(settings, mapping)
+            && self.has_room(m, mapping)
+    }
+
+    // The mapping may be learned: it takes one away, replaces one, or is within the limit.
+    fn has_room(&self, m: u64, mapping: &Record) -> bool
+        ensures { result ≡ has_room (view_in self.now.parts m) mapping.now }
+    {
+        mapping.ttl == 0 || self.has_place(m, &mapping.eid)
+    }
+
+    // A mapping of the EID is live, or there are fewer than the limit.
+    fn has_place(&self, m: u64, eid: &Eid) -> bool
+        ensures { let mappings = lasting (max m self.now.parts.now) self.now.parts.mappings in
+            result ≡ (is_some (exact mappings eid.now) || nat_lt (length mappings) MOST_MAPPINGS) }
+    {
+        let now = self.moment_at(m);
+        self.cache.exact(now, eid, &mut Reads::new()).is_some()
+            || (self.cache.live_count(now) as usize) < MOST_MAPPINGS
+    }
+}
+
+// A record covers the EID that was asked for.
+fn is_fit(asked: &Eid, mappings: &[Record]) -> bool
+    ensures { result ≡ is_fit asked.now mappings.now }
+{
+    let [mapping, others @ ..] = mappings else {
+        return false;
+    };
+    mapping.eid.covers(asked) || is_fit(asked, others)
+}
+
+// The record lies within one that covers the EID that was asked for.
+fn is_asked_for(asked: &Eid, mappings: &[Record], mapping: &Record) -> bool
+    ensures { result ≡ is_asked_for asked.now mappings.now mapping.now }
+{
+    let [wider, others @ ..] = mappings else {
+        return false;
+    };
+    (wider.eid.covers(asked) && wider.eid.covers(&mapping.eid))
+        || is_asked_for(asked, others, mapping)
+}
+
+// Its EID is that of a static mapping.
+fn is_static(settings: &Settings, mapping: &Record) -> bool
+    ensures { result ≡ is_static settings.now mapping.now }
+{
+    has_eid(settings.mappings.as_slice(), &mapping.eid)
+}
+
+fn has_eid(mappings: &[Record], eid: &Eid) -> bool
+    ensures { result ≡ list_any (λ mapping. same_eid mapping.eid eid.now) mappings.now }
+{
+    for mapping in mappings {
+        if same_eid(&mapping.eid, eid) {
+            return true;
+        }
+    }
+    false
+}
+
+fn same_eid(a: &Eid, b: &Eid) -> bool
+    ensures { result ≡ same_eid a.now b.now }
+{
+    a == b
+}

@@ -1,0 +1,181 @@
+// What is noticed, noted.
+ghost use Rattle.std.specs.Prelude.{◌≡◌, ◌<◌, ◌≤◌, ◌^◌, ◌∷◌, ◌+◌, [], length, is_some, All, IsTrue, IfOk, OnErr};
+ghost use Rattle.request_queue.specs.Queue.{waiting};
+ghost use Rattle.router_log.specs.declared.notice.Notice.TheVariants.{Ask};
+ghost use Rattle.router_model.specs.Changes.{asked, may_ask, unchanged};
+ghost use Rattle.router_model.specs.Journal.{Journal};
+ghost use Rattle.router_model.specs.Lifting.{Follows, MayGo};
+ghost use Rattle.router_model.specs.Note.{is_missing, is_wanting, note, noted};
+ghost use Rattle.router_model.specs.Mappings.{force};
+ghost use Rattle.router_model.specs.Parts.{Stands, table, view_in};
+ghost use Rattle.router_core.specs.Sendable.{IsSendable};
+ghost use Rattle.router_core.specs.Table.{changed_seen};
+
+use crate::{Changed, Table};
+use ip_headers::Addr;
+use lisp_settings::{Settings, nonce_at};
+use mapping_records::Eid;
+use node_store::Reads;
+use octets::{Items, NoMemory};
+use request_queue::MOST_REQUESTS;
+use router_log::{Emit, Entry, Notice};
+use std::alloc::Global;
+
+impl Table {
+    /// Notes what was noticed at a moment: it takes the entries that come of it. Where memory is
+    /// refused, the table is as it was.
+    #[tactic(auto, unfolding(router_model::specs::Note::noted))]
+    pub fn note(
+        &mut self,
+        settings: &Settings,
+        m: u64,
+        notice: &Notice,
+    ) -> Result<Changed, NoMemory>
+        requires later { self.old.parts.now ≤ m }
+        requires count { self.old.parts.count < 2 ^ 61 }
+        ensures parts { IfOk result (λ changed. changed_seen self.new.parts changed
+            ≡ noted table settings.now m notice.now (unchanged self.old.parts)) }
+        ensures journal { IfOk result (λ changed. (journal : Journal)
+            → Stands settings.now self.old.parts journal → MayGo journal m
+            → Follows settings.now (changed_seen self.new.parts changed)
+            (note settings.now journal m notice.now)) }
+        ensures sendable { IfOk result (λ changed. All (IsSendable settings.now) changed.emits) }
+        ensures few { IfOk result (λ changed. length changed.emits ≤ 1) }
+        ensures count { IfOk result (λ changed.
+            self.new.parts.count ≤ self.old.parts.count + 1) }
+        ensures now { IfOk result (λ changed. self.new.parts.now ≤ m) }
+        ensures err { OnErr result (self.new.parts ≡ self.old.parts) }
+    {
+        match notice {
+            Notice::Ask { eid, source } => self.note_missing(settings, m, eid, *source),
+            // Not built yet.
+            Notice::Refresh { .. }
+            | Notice::Bits { .. }
+            | Notice::EchoWanted { .. }
+            | Notice::EchoHeard { .. }
+            | Notice::DataFrom { .. }
+            | Notice::Solicit { .. }
+            | Notice::EchoDue { .. } => Ok(self.nothing()),
+        }
+    }
+
+    // Asks for a mapping that is missing, if it may be asked for.
+    #[tactic(auto, unfolding(router_model::specs::Note::noted))]
+    fn note_missing(
+        &mut self,
+        settings: &Settings,
+        m: u64,
+        eid: &Eid,
+        source: Option<Addr>,
+    ) -> Result<Changed, NoMemory>
+        requires later { self.old.parts.now ≤ m }
+        requires count { self.old.parts.count < 2 ^ 61 }
+        ensures parts { IfOk result (λ changed. changed_seen self.new.parts changed
+            ≡ noted table settings.now m (Ask eid.now source) (unchanged self.old.parts)) }
+        ensures sendable { IfOk result (λ changed. All (IsSendable settings.now) changed.emits) }
+        ensures few { IfOk result (λ changed. length changed.emits ≤ 1) }
+        ensures count { IfOk result (λ changed.
+            self.new.parts.count ≤ self.old.parts.count + 1) }
+        ensures now { IfOk result (λ changed. self.new.parts.now ≤ m) }
+        ensures err { OnErr result (self.new.parts ≡ self.old.parts) }
+    {
+        if !self.is_missing(settings, m, eid) {
+            return Ok(self.nothing());
+        }
+        self.make_request(settings, m, *eid, source, false)
+    }
+
+    // The EID has no mapping by which packets go, and may be asked for.
+    fn is_missing(&self, settings: &Settings, m: u64, eid: &Eid) -> bool
+        ensures { result ≡ is_missing settings.now (view_in self.now.parts m) eid.now }
+    {
+        self.is_wanting(m, eid) && self.may_ask(settings, m, eid)
+    }
+
+    // No mapping is in force for the EID, or one that says to ask.
+    fn is_wanting(&self, m: u64, eid: &Eid) -> bool
+        ensures { result ≡ is_wanting (force (view_in self.now.parts m).mappings eid.now.iid
+            eid.now.prefix.addr eid.now.prefix.len) }
+    {
+        match self.in_force(m, eid) {
+            None => true,
+            Some(mapping) => mapping.details.locators.len() == 0 && mapping.details.action == 2,
+        }
+    }
+
+    // There is a resolver, no open request covers the EID, and there is room for one more.
+    #[tactic(auto, unfolding(router_model::specs::Parts::view_in))]
+    fn may_ask(&self, settings: &Settings, m: u64, eid: &Eid) -> bool
+        ensures { result ≡ may_ask settings.now (view_in self.now.parts m) eid.now }
+    {
+        let now = self.moment_at(m);
+        settings.resolver.is_some()
+            && !self.queue.open_for(now, eid, &mut Reads::new())
+            && (self.queue.open_count(now) as usize) < MOST_REQUESTS
+    }
+
+    // Makes a request with the next nonce.
+    fn make_request(
+        &mut self,
+        settings: &Settings,
+        m: u64,
+        eid: Eid,
+        source: Option<Addr>,
+        invoked: bool,
+    ) -> Result<Changed, NoMemory>
+        requires later { self.old.parts.now ≤ m }
+        requires count { self.old.parts.count < 2 ^ 61 }
+        requires place { length (waiting m self.old.parts.requests) < 1024 }
+        requires resolver { IsTrue (is_some settings.now.resolver) }
+        ensures parts { IfOk result (λ changed. changed_seen self.new.parts changed
+            ≡ asked table settings.now m eid source invoked (unchanged self.old.parts)) }
+        ensures sendable { IfOk result (λ changed. All (IsSendable settings.now) changed.emits) }
+        ensures few { IfOk result (λ changed. length changed.emits ≤ 1) }
+        ensures count { IfOk result (λ changed.
+            self.new.parts.count ≤ self.old.parts.count + 1) }
+        ensures now { IfOk result (λ changed. self.new.parts.now ≤ m) }
+        ensures err { OnErr result (self.new.parts ≡ self.old.parts) }
+    {
+        let nonce = nonce_at(settings, self.drawn);
+        let entries = only(
+            self.alloc,
+            Entry::Asked {
+                moment: m,
+                eid,
+                source,
+                invoked,
+                nonce,
+            },
+        )?;
+        let emits = only(
+            self.alloc,
+            Emit::Request {
+                eid,
+                source,
+                invoked,
+                nonce,
+            },
+        )?;
+        self.reserve(0, 1)?;
+        self.ask(m, eid, source, invoked, nonce);
+        Ok(Changed { entries, emits })
+    }
+
+    fn nothing(&self) -> Changed
+        ensures { result ≡ record { entries = []; emits = [] } }
+    {
+        Changed {
+            entries: Items::new(self.alloc),
+            emits: Items::new(self.alloc),
+        }
+    }
+}
+
+// A list of one item.
+fn only<T: Drop>(alloc: Global, item: T) -> Result<Items<T>, NoMemory>
+    ensures { IfOk result (λ items. items ≡ item ∷ []) }
+{
+    let mut items = Items::new(alloc);
+    items.push(item)?;
+    Ok(items)
+}

@@ -1,0 +1,156 @@
+// The Map-Requests that this router makes.
+ghost use Rattle.std.specs.Prelude.{◌≡◌, map, true, false, Some, None, IfOk};
+ghost use Rattle.map_messages.specs.declared.message.Message.TheVariants.{Control, Request};
+ghost use Rattle.router_model.specs.Emits.{database_address, ecm_for, inner_source, no_address, request_for, source_eid};
+ghost use Rattle.router_model.specs.Site.{up_locators};
+
+use crate::site::ours;
+use ip_headers::Addr;
+use lisp_settings::{Database, OwnLocator, Settings};
+use map_messages::{Addrs, Ecm, Eid, Eids, LISP_CONTROL_PORT, MapRequest, Message};
+use octets::NoMemory;
+use std::alloc::{AllocError, Global};
+
+/// A Map-Request for an EID, in the packet that would have gone to it.
+pub(crate) fn request_message(
+    alloc: Global,
+    settings: &Settings,
+    eid: Eid,
+    source: Option<Addr>,
+    invoked: bool,
+    nonce: u64,
+) -> Result<Message, NoMemory>
+    ensures { let source = source_eid eid source in
+        let request = request_for settings.now false false invoked nonce source eid in
+        IfOk result (λ message. message ≡ Control (ecm_for settings.now eid request)) }
+{
+    let mut request = request_for(alloc, settings, nonce, source_eid(eid, source), eid)?;
+    request.invoked = invoked;
+    Ok(Message::Control(ecm_for(settings, eid, request)))
+}
+
+/// A Map-Request that probes the locator that it goes to.
+pub(crate) fn probe_message(
+    alloc: Global,
+    settings: &Settings,
+    eid: Eid,
+    nonce: u64,
+) -> Result<Message, NoMemory>
+    ensures { let request = request_for settings.now true false false nonce None eid in
+        IfOk result (λ message. message ≡ Request request) }
+{
+    let mut request = request_for(alloc, settings, nonce, None, eid)?;
+    request.probe = true;
+    Ok(Message::Request(request))
+}
+
+/// A Map-Request that solicits one, from an EID of the site.
+pub(crate) fn solicit_message(
+    alloc: Global,
+    settings: &Settings,
+    eid: Eid,
+    nonce: u64,
+) -> Result<Message, NoMemory>
+    ensures { let source = source_eid eid (Some eid.prefix.addr) in
+        IfOk result (λ message. message
+        ≡ Request (request_for settings.now false true false nonce source eid)) }
+{
+    let source = source_eid(eid, Some(eid.prefix.addr));
+    let mut request = request_for(alloc, settings, nonce, source, eid)?;
+    request.smr = true;
+    Ok(Message::Request(request))
+}
+
+// A Map-Request for one EID without flags, to which replies may go to each own locator that is up.
+fn request_for(
+    alloc: Global,
+    settings: &Settings,
+    nonce: u64,
+    source: Option<(u32, Addr)>,
+    eid: Eid,
+) -> Result<MapRequest, NoMemory>
+    ensures { IfOk result (λ request. request
+        ≡ request_for settings.now false false false nonce source eid) }
+{
+    let replies_to = Addrs::from_vec(up_addrs(alloc, settings.locators.as_slice())?);
+    let mut eids = Eids::new(alloc);
+    eids.push(eid)?;
+    Ok(MapRequest {
+        probe: false,
+        smr: false,
+        invoked: false,
+        nonce,
+        source,
+        replies_to,
+        eids,
+        piggyback: None,
+    })
+}
+
+// The addresses of the own locators that are up.
+fn up_addrs(alloc: Global, locators: &[OwnLocator]) -> Result<Vec<Addr>, AllocError>
+    ensures { let addrs = map (λ own. own.addr) (up_locators locators.now) in
+        IfOk result (λ up. up.items ≡ addrs) }
+{
+    locators
+        .iter()
+        .filter(|own| own.up)
+        .map(|own| own.addr)
+        .collect(alloc)
+}
+
+// The Source EID of a request: an address in the instance of the EID.
+fn source_eid(eid: Eid, source: Option<Addr>) -> Option<(u32, Addr)>
+    ensures { result ≡ source_eid eid source }
+{
+    match source {
+        Some(addr) => Some((eid.iid, addr)),
+        None => None,
+    }
+}
+
+// A Map-Request in the packet that would have gone to the EID.
+fn ecm_for(settings: &Settings, eid: Eid, request: MapRequest) -> Ecm
+    ensures { result ≡ ecm_for settings.now eid request }
+{
+    Ecm {
+        source: inner_source(settings, eid),
+        dest: eid.prefix.addr,
+        source_port: LISP_CONTROL_PORT,
+        request: Some(request),
+        reply: None,
+    }
+}
+
+// From where the inner packet of a request comes: an own address, one of the site, or none.
+fn inner_source(settings: &Settings, eid: Eid) -> Addr
+    ensures { result ≡ inner_source settings.now eid }
+{
+    let addr = eid.prefix.addr;
+    if let Some(own) = ours(settings.locators.as_slice(), addr) {
+        return own;
+    }
+    database_address(settings.databases.as_slice(), eid).unwrap_or(no_address(addr))
+}
+
+// The address of the first of the site's prefixes in the instance and the family of an EID.
+fn database_address(databases: &[Database], eid: Eid) -> Option<Addr>
+    ensures { result ≡ database_address databases.now eid }
+{
+    for database in databases {
+        let addr = database.eid.prefix.addr;
+        if database.eid.iid == eid.iid && addr.width() == eid.prefix.addr.width() {
+            return Some(addr);
+        }
+    }
+    None
+}
+
+fn no_address(addr: Addr) -> Addr
+    ensures { result ≡ no_address addr }
+{
+    match addr {
+        Addr::V4(_) => Addr::V4(0),
+        Addr::V6(_) => Addr::V6(0),
+    }
+}

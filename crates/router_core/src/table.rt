@@ -1,0 +1,148 @@
+// A table: what a router remembers of its journal.
+ghost use Rattle.std.specs.Prelude.{◌≡◌, ◌<◌, ◌≤◌, ◌+◌, ◌^◌, ◌≢◌, IsTrue, [], length, IfOk, OnOk};
+ghost use Rattle.map_cache.specs.Cache.{has_room, lasting};
+ghost use Rattle.request_queue.specs.Queue.{waiting};
+ghost use Rattle.lisp_settings.specs.Lawful.{IsLawful};
+ghost use Rattle.router_log.specs.declared.entry.Entry.TheVariants.{Answered, Asked, Learned};
+ghost use Rattle.router_model.specs.Journal.{statics};
+ghost use Rattle.router_model.specs.Parts.{Stands, parts_in, with_entry};
+
+use crate::copies::copied;
+use ip_headers::Addr;
+use lisp_settings::Settings;
+use map_cache::MapCache;
+use mapping_records::{Eid, Record};
+use octets::NoMemory;
+use request_queue::RequestQueue;
+use std::alloc::Global;
+use std::marker::Model;
+
+/// What a router remembers of its journal: of the mappings, requests and nonces what still counts, and
+/// so no journal.
+#[derive(Drop)]
+pub struct Table {
+    pub(crate) alloc: Global,
+    // The entries of the journal, and those of them that used a nonce.
+    pub(crate) count: u64,
+    pub(crate) drawn: u64,
+    pub(crate) cache: MapCache,
+    pub(crate) queue: RequestQueue,
+}
+
+impl Model for Table {
+    ghost use Rattle.std.specs.Prelude.{◌≤◌};
+    ghost use Rattle.router_core.specs.Table.{Memory, nothing_observed};
+
+    ghost Value = { Memory };
+
+    ghost view = { λ table. record {
+      parts = record {
+        count = table.count;
+        drawn = table.drawn;
+        now = table.cache.now;
+        mappings = table.cache.mappings;
+        requests = table.queue.requests;
+        observed = nothing_observed;
+      };
+      mapping_room = table.cache.spare;
+      request_room = table.queue.spare;
+    } };
+
+    ghost invariant = { λ table. table.drawn ≤ table.count };
+}
+
+impl Table {
+    /// The table of a router that begins: it stands for the journal of the static mappings.
+    pub fn new(alloc: Global, settings: &Settings) -> Result<Table, NoMemory>
+        requires { IsLawful settings.now }
+        ensures parts { IfOk result (λ table. table.parts ≡ parts_in (statics settings.now)) }
+        ensures stands { IfOk result (λ table.
+            Stands settings.now table.parts (statics settings.now)) }
+    {
+        let mappings = settings.mappings.as_slice();
+        let mut table = Table::empty(alloc);
+        table.reserve(mappings.len() as u32, 0)?;
+        for mapping in mappings {
+            let mapping = copied(alloc, mapping)?;
+            table.learn(0, mapping, true);
+        }
+        Ok(table)
+    }
+
+    fn empty(alloc: Global) -> Table
+        ensures { result.parts ≡ parts_in [] }
+    {
+        Table {
+            alloc,
+            count: 0,
+            drawn: 0,
+            cache: MapCache::new(alloc),
+            queue: RequestQueue::new(alloc),
+        }
+    }
+
+    /// The length of the journal.
+    pub fn count(&self) -> u64
+        ensures { result ≡ self.now.parts.count }
+    {
+        self.count
+    }
+
+    /// Makes room for so many further mappings and requests.
+    pub(crate) fn reserve(&mut self, mappings: u32, requests: u32) -> Result<(), NoMemory>
+        requires mappings { mappings ≤ 65536 }
+        requires requests { requests ≤ 16384 }
+        ensures parts { self.new.parts ≡ self.old.parts }
+        ensures mapping_room { OnOk result (mappings ≤ self.new.mapping_room) }
+        ensures request_room { OnOk result (requests ≤ self.new.request_room) }
+    {
+        self.cache.reserve(mappings, 0)?;
+        self.queue.reserve(requests)
+    }
+
+    /// Takes the entry of a mapping that was learned, for which there is room.
+    pub(crate) fn learn(&mut self, m: u64, mapping: Record, fixed: bool)
+        requires later { self.old.parts.now ≤ m }
+        requires locators { length mapping.locators ≤ 32 }
+        requires fixed { IsTrue fixed → mapping.ttl ≢ 0 }
+        requires place { IsTrue (has_room mapping (lasting m self.old.parts.mappings)) }
+        requires room { 0 < self.old.mapping_room }
+        requires count { self.old.parts.count < 2 ^ 63 }
+        ensures parts { self.new.parts ≡ with_entry (Learned m mapping fixed) self.old.parts }
+        ensures mapping_room { self.old.mapping_room ≤ self.new.mapping_room + 1 }
+        ensures request_room { self.old.request_room ≤ self.new.request_room }
+    {
+        let _ = self.cache.learn(m, mapping, fixed);
+        self.queue.purge(m);
+        self.count += 1;
+    }
+
+    /// Takes the entry of a request that was made, for which there is room.
+    pub(crate) fn ask(&mut self, m: u64, eid: Eid, source: Option<Addr>, invoked: bool, nonce: u64)
+        requires later { self.old.parts.now ≤ m }
+        requires place { length (waiting m self.old.parts.requests) < 1024 }
+        requires room { 0 < self.old.request_room }
+        requires count { self.old.parts.count < 2 ^ 63 }
+        ensures parts { self.new.parts
+            ≡ with_entry (Asked m eid source invoked nonce) self.old.parts }
+    {
+        self.cache.purge(m);
+        let _ = self.queue.ask(m, eid, source, invoked, nonce);
+        self.count += 1;
+        self.drawn += 1;
+    }
+
+    /// Takes the entry of a request that was answered.
+    pub(crate) fn answer(&mut self, m: u64, nonce: u64)
+        requires later { self.old.parts.now ≤ m }
+        requires count { self.old.parts.count < 2 ^ 63 }
+        ensures parts { self.new.parts ≡ with_entry (Answered m nonce) self.old.parts }
+        ensures mapping_room { self.old.mapping_room ≤ self.new.mapping_room }
+        ensures request_room { self.old.request_room ≤ self.new.request_room }
+    {
+        self.cache.purge(m);
+        self.queue.purge(m);
+        self.queue.answer(nonce);
+        self.count += 1;
+    }
+}
