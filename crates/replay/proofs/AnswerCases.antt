@@ -1,6 +1,7 @@
 -- The answer, case by case, and how steps of a run make it.
 use Rattle.octets.specs.Rules.{first_failing}
 use Rattle.std.proofs.Common.{◌≡◌, ℕ, List, [], ◌∷◌, ◌++◌, length, Option, Some, None, Result, Ok, Err, append_assoc, refl, sym, ap, subst, ◌∙◌}
+use Rattle.std.specs.List.{All}
 use Rattle.std.specs.Option.{option_map, IfSome}
 use Rattle.std.specs.Prelude.{codes}
 use Rattle.std.specs.Result.{IfOk, OnOk}
@@ -12,15 +13,21 @@ use Rattle.capture_io.specs.Capture.{begin, header_rules}
 use Rattle.capture_io.specs.Frames.{Run, read_on}
 use Rattle.capture_io.specs.Output.{out_header}
 use Rattle.capture_io.specs.declared.format.Format.{Format}
+use Rattle.lisp_settings.specs.Lawful.{IsLawful}
 use Rattle.lisp_settings.specs.Settings.{settings_of}
 use Rattle.lisp_settings.specs.declared.settings.Settings.{Settings}
 use Rattle.playback.specs.Events.{Outcome, records_of}
-use Rattle.playback.specs.Playing.{outcome_of, with_outcome, Ends}
+use Rattle.playback.specs.Playing.{outcome_of, with_outcome, Ends, IsRead}
 use Rattle.playback.specs.declared.playing.Ending.{Ending}
-use Rattle.router_model.specs.Plain.{Router, after_event, started}
+use Rattle.router_model.specs.Journal.{Journal, statics}
+use Rattle.router_model.specs.Lifting.{outcome_tabled, WereRead}
+use Rattle.router_model.specs.Parts.{Parts, parts_in, table}
+use Rattle.router_model.specs.Plain.{Router, after_event, plain, started}
+use Rattle.router_model.proofs.RunLemmas.{run-replays}
 use Rattle.replay.specs.Answer.{Answer, answer, after_words, after_settings, closing, replayed, told_off, status_of, made_files, Gives, after_header, messages_shown}
 use Rattle.replay.specs.Lines.{count_line, end_line}
 use Rattle.replay.specs.Show.{showing}
+use Rattle.replay.specs.Taking.{router_of}
 use Rattle.replay.specs.Words.{Names, Replay, Show, command_of}
 use Rattle.replay.specs.declared.status.Status.{Status}
 use Rattle.replay.specs.declared.status.Status.TheVariants as status
@@ -69,14 +76,14 @@ outcome_shown outcome id name w fresh =
     ∙ ap (λ (writers : List (ℕ × NamedFile)). record (shown_of w) { said = w.said ++ outcome.lines; writers = writers }) (changed_at-more id (extended (records_of outcome.packets)) (record { name = name; octets = out_header }) w.writers fresh)
 
 -- the outcome of a replay
-abbrev replay_of : Settings → Run → Outcome Router
-replay_of settings run = outcome_of after_event (started settings) run
+abbrev replay_of : Settings → Run → Outcome (Router Journal)
+replay_of settings run = outcome_of plain (started settings) run
 
 -- what the steps of a replay leave is its answer
 gives_replayed : (settings : Settings) (id : ℕ) (name : List ℕ) (run : Run) (w : World) (mid new : Option World) (ending : Ending) (entries : ℕ) (s : Status)
     → found_at id w.writers ≡ None → Ends (replay_of settings run) run ending
     → shown mid ≡ Some (with_outcome (Some id) (replay_of settings run) (shown_of (after_write id out_header (after_make id name w))))
-    → entries ≡ length (replay_of settings run).after.journal
+    → entries ≡ length (replay_of settings run).after.memory
     → new ≡ option_map (after_say (closing ending.fault (end_line ending.frames ending.written entries))) mid → s ≡ status_of ending.fault
     → Gives (replayed settings name run) s (shown_of w) (shown new)
 unfolding replayed
@@ -87,7 +94,7 @@ gives_replayed settings id name run w (Some v) new ending entries s fresh ends f
     let aim : Shown = record (shown_of w) { said = w.said ++ outcome.lines; writers = w.writers ++ (id, file) ∷ [] } in
     let is_aim : shown_of v ≡ aim = cc (frames, outcome_shown outcome id name w fresh) in
     let last = closing ending.fault (end_line ending.frames ending.written entries) in
-    let line : last ≡ closing run.fault (end_line (length run.frames) (length outcome.packets) (length outcome.after.journal)) = rw (ends.fault, ends.frames, ends.written, count) refl in
+    let line : last ≡ closing run.fault (end_line (length run.frames) (length outcome.packets) (length outcome.after.memory)) = rw (ends.fault, ends.frames, ends.written, count) refl in
     let status : s ≡ status_of run.fault = is ∙ ap status_of ends.fault in
     rw said (record {
       status = status;
@@ -103,12 +110,43 @@ pub frames_answered : (settings : Settings) (id reader : ℕ) (format : Format) 
     → IfSome old (λ w. found_at id w.writers ≡ None) → made ≡ option_map (λ w. after_write id out_header (after_make id name w)) old
     → IfSome made (λ w. Ends (replay_of settings (read_on format begin (left_of reader w))) (read_on format begin (left_of reader w)) ending)
     → IfSome made (λ w. shown now ≡ Some (with_outcome (Some id) (replay_of settings (read_on format begin (left_of reader w))) (shown_of w)))
-    → IfSome made (λ w. entries ≡ length (replay_of settings (read_on format begin (left_of reader w))).after.journal)
+    → IfSome made (λ w. entries ≡ length (replay_of settings (read_on format begin (left_of reader w))).after.memory)
     → new ≡ option_map (after_say (closing ending.fault (end_line ending.frames ending.written entries))) now → s ≡ status_of ending.fault
     → IfSome old (λ w. Gives (replayed settings name (read_on format begin (left_of reader w))) s (shown_of w) (shown new))
 frames_answered settings id reader format name None made now new ending entries s fresh makes ends frames count said is = tt
 frames_answered settings id reader format name (Some w) made now new ending entries s fresh makes ends frames count said is =
     gives_replayed settings id name (read_on format begin (left_of reader w)) w now new ending entries s fresh (rw makes at ends) (rw makes at frames) (rw makes at count) said is
+
+-- the frames of a file, by a table
+abbrev table_of : Settings → Parts → Run → Outcome (Router Parts)
+table_of settings parts run = outcome_of (after_event table) (router_of settings parts) run
+
+-- of frames that were read the table of the static mappings says and writes what the plain router does
+as_plain : (settings : Settings) (format : Format) (octets : List ℕ) (parts : Parts) → IsLawful settings → parts ≡ parts_in (statics settings) → WereRead format octets
+    → table_of settings parts (read_on format begin octets) ≡ outcome_tabled (replay_of settings (read_on format begin octets))
+as_plain settings format octets parts lawful begins read = rw begins (run-replays settings format octets lawful read).0
+
+-- what a table leaves is the answer of the plain router
+pub table_answered : (settings : Settings) (id reader : ℕ) (format : Format) (name : List ℕ) (old made now new : Option World) (ending : Ending) (entries : ℕ) (s : Status) (parts after : Parts) (kept : Settings)
+    → IsLawful settings → parts ≡ parts_in (statics settings)
+    → IfSome old (λ w. found_at id w.writers ≡ None) → made ≡ option_map (λ w. after_write id out_header (after_make id name w)) old
+    → IfSome made (λ w. All IsRead (read_on format begin (left_of reader w)).frames)
+    → IfSome made (λ w. Ends (table_of settings parts (read_on format begin (left_of reader w))) (read_on format begin (left_of reader w)) ending)
+    → IfSome made (λ w. shown now ≡ Some (with_outcome (Some id) (table_of settings parts (read_on format begin (left_of reader w))) (shown_of w)))
+    → IfSome made (λ w. router_of kept after ≡ (table_of settings parts (read_on format begin (left_of reader w))).after)
+    → entries ≡ after.count
+    → new ≡ option_map (after_say (closing ending.fault (end_line ending.frames ending.written entries))) now → s ≡ status_of ending.fault
+    → IfSome old (λ w. Gives (replayed settings name (read_on format begin (left_of reader w))) s (shown_of w) (shown new))
+table_answered settings id reader format name old None now new ending entries s parts after kept lawful begins fresh makes read ends frames left count said is =
+    frames_answered settings id reader format name old None now new ending entries s fresh makes tt tt tt said is
+table_answered settings id reader format name old (Some w) now new ending entries s parts after kept lawful begins fresh makes read ends frames left count said is =
+    let run = read_on format begin (left_of reader w) in
+    let same : table_of settings parts run ≡ outcome_tabled (replay_of settings run) = as_plain settings format (left_of reader w) parts lawful begins read in
+    let goes : Ends (outcome_tabled (replay_of settings run)) run ending = subst (λ (o : Outcome (Router Parts)). Ends o run ending) same ends in
+    frames_answered settings id reader format name old (Some w) now new ending entries s fresh makes
+    (record { fault = goes.fault; frames = goes.frames; written = goes.written })
+    (subst (λ (o : Outcome (Router Parts)). shown now ≡ Some (with_outcome (Some id) o (shown_of w))) same frames)
+    (count ∙ ap (λ (r : Router Parts). r.memory.count) (left ∙ ap (λ (o : Outcome (Router Parts)). o.after) same)) said is
 
 -- two facts of a value make a third
 pub ok_both : {T E : Type 0} (r : Result T E) {P R : T → Type 0} {Q : Type 0} → IfOk r P → OnOk r Q → ((x : T) → P x → Q → R x) → IfOk r R

@@ -1,46 +1,106 @@
 -- What a frame adds to a replay.
-use Rattle.std.proofs.Common.{◌≡◌, ◌+◌, ◌≤◌, ℕ, List, ◌++◌, length, Option, Some, None, Result, Ok, Err, sym, ap, ◌∙◌, refl, arith, subst}
+use Rattle.std.proofs.Common.{get_or, ◌≡◌, ◌+◌, ◌*◌, ◌-◌, ◌≤◌, ◌∙◌, ℕ, List, [], ◌∷◌, ◌++◌, length, Option, Some, None, Result, Ok, Err, false, append_assoc, arith, ap, refl, sym}
 use Rattle.std.specs.Result.{OnOk}
+use Rattle.std.proofs.lemmas.Grind.{flat_map-append}
+use Rattle.std.proofs.lemmas.List.{append-nil, length-append, length-map}
 use Rattle.capture_io.specs.Frame.{Frame}
+use Rattle.capture_io.specs.Output.{packet_record}
+use Rattle.lisp_settings.specs.Lawful.{IsLawful}
 use Rattle.lisp_settings.specs.declared.settings.Settings.{Settings}
-use Rattle.playback.specs.Events.{Arrival, events_of, played, records_of}
+use Rattle.playback.specs.Events.{Arrival, Packet, events_of, played, records_of}
 use Rattle.playback.specs.Playing.{Gathers}
 use Rattle.playback.specs.declared.output.Output.{Output}
 use Rattle.playback.proofs.EventLemmas.{played-quiet}
 use Rattle.router_log.specs.Lines.{frame_line}
+use Rattle.router_log.specs.declared.emit.Emit.{Emit}
 use Rattle.router_log.specs.declared.verdict.Verdict.{Verdict}
-use Rattle.router_model.specs.Decide.{decide}
+use Rattle.router_model.specs.Changes.{Change}
+use Rattle.router_model.specs.Emits.{emit_packet}
 use Rattle.router_model.specs.Journal.{statics}
-use Rattle.router_model.specs.Plain.{Router, after_event, after_verdict, packet_of, packets_of, started}
-use Rattle.router_model.specs.View.{view}
+use Rattle.router_model.specs.Parts.{Parts, parts_in, table, view_in}
+use Rattle.router_model.proofs.ReplayLemmas.{statics-first}
 use Rattle.router_model.proofs.StaticsLemmas.{length-statics}
+use Rattle.router_model.specs.Course.{Course, control, course_of}
+use Rattle.router_model.specs.Decide.{decide_by, decide_course}
+use Rattle.router_model.specs.Plain.{Router, after_data, after_decision, after_event, emit_packets, packet_of, packets_of}
+use Rattle.replay.specs.Taking.{router_of, Sends}
 
 -- a verdict sends at most one packet
-packets_few : (moment : ℕ) (packet : Option (List ℕ)) → length (packets_of moment packet) ≤ 1
+pub packets_few : (moment : ℕ) (packet : Option (List ℕ)) → length (packets_of moment packet) ≤ 1
 packets_few moment None = omega arith
 packets_few moment (Some packet) = omega arith
 
--- the line of a frame and the packet that its verdict sends were gathered
-pub verdict_gathered : (settings : Settings) (frame : Frame) (verdict : Verdict) (packet : Option (List ℕ)) (old new : Output)
-    → verdict ≡ decide settings (view (statics settings)) frame → packet ≡ packet_of verdict
-    → new.lines ≡ old.lines ++ frame_line frame.number frame.moment (length settings.mappings) verdict
-    → new.records ≡ old.records ++ records_of (packets_of frame.moment packet)
-    → new.written ≡ old.written + length (packets_of frame.moment packet)
-    → Gathers (after_event (started settings) (Arrival frame)) old new
-verdict_gathered settings frame verdict packet old new is sends lines records written =
-    let by_verdict : Gathers (after_verdict (started settings) frame verdict) old new = record {
-      lines = lines ∙ ap (λ (n : ℕ). old.lines ++ frame_line frame.number frame.moment n verdict) (sym (length-statics settings));
-      records = records ∙ ap (λ (p : Option (List ℕ)). old.records ++ records_of (packets_of frame.moment p)) sends;
-      written = written ∙ ap (λ (p : Option (List ℕ)). old.written + length (packets_of frame.moment p)) sends;
-      few = packets_few frame.moment (packet_of verdict);
-    } in
-    subst (λ (v : Verdict). Gathers (after_verdict (started settings) frame v) old new) is by_verdict
-
 -- at seconds a replay does nothing yet
-pub replay-quiet : (router : Router) (previous : Option ℕ) (frame : Frame) → played after_event router (events_of previous frame) ≡ after_event router (Arrival frame)
-replay-quiet router previous frame = played-quiet after_event router previous frame (λ second r. refl)
+pub replay-quiet : (router : Router Parts) (previous : Option ℕ) (frame : Frame) → played (after_event table) router (events_of previous frame) ≡ after_event table router (Arrival frame)
+replay-quiet router previous frame = played-quiet (after_event table) router previous frame (λ second r. refl)
 
 -- three facts make a fourth, where there is a value
 pub on_ok_three : {T E A B C D : Type 0} (r : Result T E) → OnOk r A → OnOk r B → OnOk r C → (A → B → C → D) → OnOk r D
 on_ok_three (Ok x) a b c all = all a b c
 on_ok_three (Err e) a b c all = tt
+
+-- one packet was gathered
+pub sends-one : (moment : ℕ) (octets : List ℕ) (old new : Output) → new.lines ≡ old.lines → new.records ≡ old.records ++ packet_record moment octets → new.written ≡ old.written + 1
+    → Sends (record { moment = moment; octets = octets } ∷ []) old new
+sends-one moment octets old new lines records written = record {
+  lines = lines;
+  records = records ∙ ap (λ (r : List ℕ). old.records ++ r) (sym (append-nil (packet_record moment octets)));
+  written = written;
+}
+
+-- the packets of one emit alone
+pub emits-one : (settings : Settings) (moment : ℕ) (emit : Emit) (emits : List Emit) → emits ≡ emit ∷ []
+    → record { moment = moment; octets = emit_packet settings emit } ∷ [] ≡ emit_packets settings moment emits
+emits-one settings moment emit emits is = rw is refl
+
+-- a line, the packet of a verdict and those of emits are what a frame gives
+pub data-gathers : (router : Router Parts) (frame : Frame) (verdict : Verdict) (change : Change Parts) (old first mid new : Output)
+    → first.lines ≡ old.lines ++ frame_line frame.number frame.moment router.memory.count verdict → first.records ≡ old.records → first.written ≡ old.written
+    → Sends (packets_of frame.moment (packet_of verdict)) first mid → Sends (emit_packets router.settings frame.moment change.emits) mid new → length change.emits ≤ 1
+    → Gathers (after_data table router frame verdict change) old new
+data-gathers router frame verdict change old first mid new lines records written sent emitted few =
+    let packets = packets_of frame.moment (packet_of verdict) in
+    let more = emit_packets router.settings frame.moment change.emits in
+    let one = packets_few frame.moment (packet_of verdict) in
+    let both = length-append packets more in
+    let count : length more ≡ length change.emits = length-map change.emits _ in
+    let a = sent.written in
+    let b = emitted.written in
+    record {
+      lines = emitted.lines ∙ sent.lines ∙ lines;
+      records = emitted.records ∙ ap (λ (r : List ℕ). r ++ records_of more) (sent.records ∙ ap (λ (r : List ℕ). r ++ records_of packets) records)
+          ∙ append_assoc old.records (records_of packets) (records_of more)
+          ∙ ap (λ (r : List ℕ). old.records ++ r) (sym (flat_map-append (λ (packet : Packet). packet_record packet.moment packet.octets) packets more));
+      written = b ∙ (let w : mid.written ≡ old.written + length packets = a ∙ ap (λ (n : ℕ). n + length packets) written in omega (arith, w, both));
+      few = omega (arith, one, both, count, few);
+    }
+
+-- a frame that is no message is decided by what it is to the router
+pub decided : (settings : Settings) (parts : Parts) (frame : Frame) (course : Course) → course ≡ course_of settings frame → control settings frame ≡ false
+    → after_decision table (router_of settings parts) frame (decide_course settings (view_in parts frame.moment) course) ≡ after_event table (router_of settings parts) (Arrival frame)
+unfolding decide_by
+decided settings parts frame course is apart = rw (apart, is) refl
+
+-- two facts make a third, where there is a value
+pub on_ok_two : {T E A B C : Type 0} (r : Result T E) → OnOk r A → OnOk r B → (A → B → C) → OnOk r C
+on_ok_two (Ok x) a b all = all a b
+on_ok_two (Err e) a b all = tt
+
+-- what a frame more may add to a journal
+pub ready-more : (number before after : ℕ) → before ≤ 65536 + 256 * (number - 1) → after ≤ before + 256 → 1 ≤ number → after ≤ 65536 + 256 * number
+ready-more number before after few more some = omega (arith, few, more, some)
+
+-- a router begins ready, with an entry for each static mapping
+pub ready-first : (settings : Settings) (parts : Parts) → IsLawful settings → parts ≡ parts_in (statics settings)
+    → IsLawful settings × ((parts.now ≤ 0) × (parts.count ≤ 65536 + 256 * 0))
+ready-first settings parts lawful is =
+    let count = length-statics settings in
+    let few = lawful.few_mappings in
+    let first = statics-first settings in
+    (lawful, (rw is first, rw is (let few_entries : length (statics settings) ≤ 65536 + 256 * 0 = omega (arith, count, few) in few_entries)))
+
+-- a list of one item
+pub single : {A : Type 0} (items : List A) (item : A) → 1 ≤ length items → length items ≤ 1 → item ≡ get_or items 0 item → items ≡ item ∷ []
+single [] item some few is = absurd (omega (arith, some))
+single (first ∷ []) item some few is = ap (λ (x : _). x ∷ []) (sym is)
+single (first ∷ (second ∷ rest)) item some few is = absurd (omega (arith, few))

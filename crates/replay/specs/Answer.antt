@@ -11,7 +11,7 @@ use Rattle.lisp_settings.specs.Settings.{settings_of}
 use Rattle.lisp_settings.specs.declared.fault.SettingsFault.{SettingsFault}
 use Rattle.lisp_settings.specs.declared.settings.Settings.{Settings}
 use Rattle.playback.specs.Events.{events, played, records_of}
-use Rattle.router_model.specs.Plain.{after_event, started}
+use Rattle.router_model.specs.Plain.{plain, started}
 use Rattle.replay.specs.Lines.{count_line, end_line, fault_line, settings_line}
 use Rattle.replay.specs.Show.{showing}
 use Rattle.replay.specs.Words.{Command, Replay, Show, command_of}
@@ -41,9 +41,9 @@ told_off status line = record { status = status; said = line; made = [] }
 -- the frames of a capture, replayed into a file: what the plain router says and writes for them
 unfoldable pub replayed : Settings → List ℕ → Run → Answer
 replayed settings output run =
-    let outcome = played after_event (started settings) (events run.frames) in
+    let outcome = played plain (started settings) (events run.frames) in
     let frames = length run.frames in
-    let entries = length outcome.after.journal in
+    let entries = length outcome.after.memory in
     record {
       status = status_of run.fault;
       said = outcome.lines ++ closing run.fault (end_line frames (length outcome.packets) entries);

@@ -3,4 +3,5 @@ pub mod Lines
 pub mod Messages
 pub mod Readings
 pub mod Show
+pub mod Taking
 pub mod Words

@@ -10,6 +10,7 @@ mod running;
 mod settings_file;
 mod showing;
 mod status;
+mod taking;
 mod words;
 
 pub use router_log::{Reason, Verdict};

@@ -1,5 +1,5 @@
 // A capture, replayed by the settings.
-ghost use Rattle.std.specs.Prelude.{◌≡◌, ◌<◌, ◌*◌, ◌^◌, length, IfOk, IfSome, IsTrue, OnOk};
+ghost use Rattle.std.specs.Prelude.{◌≡◌, ◌≤◌, ◌+◌, ◌*◌, unwrap_or, IfOk, IfSome, IsTrue};
 ghost use Rattle.octets.specs.Rules.{first_failing};
 ghost use Rattle.desk.specs.Causes.{HasCause};
 ghost use Rattle.desk.specs.World.{content, left_of, shown, shown_of};
@@ -8,39 +8,42 @@ ghost use Rattle.capture_io.specs.Frames.{read_on};
 ghost use Rattle.capture_io.specs.Reading.{beginning};
 ghost use Rattle.lisp_settings.specs.Lawful.{IsLawful};
 ghost use Rattle.lisp_settings.specs.Settings.{settings_of};
-ghost use Rattle.playback.specs.Events.{Arrival};
-ghost use Rattle.playback.specs.Playing.{Gathers};
-ghost use Rattle.router_model.specs.Plain.{Router, after_event, packet_of, started};
+ghost use Rattle.router_model.specs.Parts.{Parts, table};
+ghost use Rattle.router_model.specs.Plain.{Router, after_event};
+ghost use Rattle.replay.specs.Taking.{router_of};
 ghost use Rattle.replay.specs.Answer.{after_header, after_settings, is_end, is_of_form, replayed, Gives};
 
 use crate::Status;
 use crate::last_lines::{close, end_line, refuse_capture, refuse_settings};
 use crate::output_file::make_output;
 use crate::settings_file::load_settings;
+use crate::taking::take_frame;
 use crate::words::FileNames;
 use capture_io::{CaptureFault, CaptureReader, Frame};
 use desk::{Desk, DeskFault};
 use lisp_settings::Settings;
-use octets::{NoMemory, Octets};
+use octets::NoMemory;
 use playback::{Machine, Output, play};
-use router_core::decide;
-use router_log::{Verdict, push_frame_line};
+use router_core::Table;
 use std::alloc::Global;
 
-/// A router that is replayed. It learns nothing yet beside its static mappings.
+/// A router that is replayed.
 #[derive(Drop)]
 struct Replay<'a> {
     settings: &'a Settings,
+    table: Table,
 }
 
 impl<'a> Machine for Replay<'a> {
-    ghost State = { Router };
+    ghost State = { Router Parts };
 
-    ghost state = { λ replay. started replay.settings.now };
+    ghost state = { λ replay. router_of replay.settings.now replay.table.parts };
 
-    ghost step = { after_event };
+    ghost step = { after_event table };
 
-    ghost IsReady = { λ replay. IsLawful replay.settings.now };
+    ghost IsReady = { λ count previous replay. IsLawful replay.settings.now
+        × ((replay.table.parts.now ≤ unwrap_or previous 0)
+        × (replay.table.parts.count ≤ 65536 + 256 * count)) };
 
     fn take(
         &mut self,
@@ -49,47 +52,7 @@ impl<'a> Machine for Replay<'a> {
         frame: &Frame,
         output: &mut Output,
     ) -> Result<(), NoMemory> {
-        take_frame(alloc, self.settings, frame, output)
-    }
-}
-
-// Decides a frame, and gathers its line and the packet that is sent for it, if one is.
-fn take_frame(
-    alloc: Global,
-    settings: &Settings,
-    frame: &Frame,
-    output: &mut Output,
-) -> Result<(), NoMemory>
-    requires lawful { IsLawful settings.now }
-    requires moment { frame.now.moment < 2 ^ 32 * 1000000000 }
-    requires room { output.old.written < 2 ^ 32 }
-    ensures { OnOk result (Gathers (after_event (started settings.now) (Arrival frame.now))
-        output.old output.new) }
-{
-    let verdict = decide(alloc, settings, frame)?;
-    let entries = settings.mappings.len() as u64;
-    push_frame_line(
-        frame.number,
-        frame.moment,
-        entries,
-        &verdict,
-        &mut output.lines,
-    )?;
-    match sent_packet(verdict) {
-        Some(packet) => output.push_packet(frame.moment, packet.as_slice()),
-        None => Ok(()),
-    }
-}
-
-// The packet that a verdict sends.
-fn sent_packet(verdict: Verdict) -> Option<Octets>
-    ensures { result ≡ packet_of verdict }
-{
-    match verdict {
-        Verdict::Encapsulated { packet, .. }
-        | Verdict::Delivered { packet, .. }
-        | Verdict::Native { packet } => Some(packet),
-        Verdict::Own | Verdict::Local | Verdict::Control(_) | Verdict::Drop(_) => None,
+        take_frame(alloc, self.settings, &mut self.table, frame, output)
     }
 }
 
@@ -154,9 +117,10 @@ fn replay_frames<D: Desk>(
     ensures cause { HasCause (D.faults desk.old) (D.faults desk.new) result }
 {
     let file = make_output(alloc, desk, output)?;
-    let mut router = Replay { settings };
+    let table = Table::new(alloc, settings)?;
+    let mut router = Replay { settings, table };
     let ending = play(alloc, desk, &mut router, reader, Some(file))?;
-    let entries = router.settings.mappings.len() as u64;
+    let entries = router.table.count();
     let line = end_line(alloc, ending.frames, ending.written, entries)?;
     close(alloc, desk, ending.fault, line.as_slice())
 }

@@ -29,7 +29,7 @@ impl Machine for Show {
 
     ghost step = { showing };
 
-    ghost IsReady = { λ _. Unit {0} };
+    ghost IsReady = { λ _ _ _. Unit {0} };
 
     fn take(
         &mut self,

@@ -1,0 +1,24 @@
+use Rattle.std.proofs.Common.{◌≡◌, ◌∙◌, false, ap, sym, subst}
+use Rattle.std.specs.Result.{OnOk}
+use Rattle.playback.specs.Events.{Outcome}
+use Rattle.playback.specs.Playing.{Gathers}
+use Rattle.router_model.specs.Course.{control, is_message}
+use Rattle.router_model.specs.Parts.{Parts}
+use Rattle.router_model.specs.Plain.{Router}
+use Rattle.replay.specs.Taking.{router_of}
+use Rattle.replay.proofs.ReplayLemmas.{decided}
+use Rattle.replay.proofs.taking.take_frame.Goals as goal
+
+pub returns-else-is_message-clause-gathers : goal.returns-else-is_message-clause-gathers
+returns-else-is_message-clause-gathers c =
+    let apart : control c.args.settings.now c.args.frame.now ≡ false =
+    ap is_message (sym c.course_of-course.ensures.course) ∙ sym c.is_message.ensures ∙ c.if-is_message.false in
+    subst (λ (o : Outcome (Router Parts)). OnOk c.decide.result (Gathers o c.args.output.now c.decide.new.output))
+    (decided c.args.settings.now c.args.memory.now.parts c.args.frame.now _ c.course_of-course.ensures.course apart) c.decide.ensures.gathers
+
+pub returns-else-is_message-clause-state : goal.returns-else-is_message-clause-state
+returns-else-is_message-clause-state c =
+    let apart : control c.args.settings.now c.args.frame.now ≡ false =
+    ap is_message (sym c.course_of-course.ensures.course) ∙ sym c.is_message.ensures ∙ c.if-is_message.false in
+    subst (λ (o : Outcome (Router Parts)). OnOk c.decide.result (router_of c.args.settings.now c.decide.new.memory.parts ≡ o.after))
+    (decided c.args.settings.now c.args.memory.now.parts c.args.frame.now _ c.course_of-course.ensures.course apart) c.decide.ensures.state

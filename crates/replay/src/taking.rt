@@ -1,0 +1,202 @@
+// A frame of a capture, taken by a router.
+ghost use Rattle.std.specs.Prelude.{◌≡◌, ◌<◌, ◌≤◌, ◌+◌, ◌*◌, ◌^◌, length, All, None, OnOk};
+ghost use Rattle.lisp_settings.specs.Lawful.{IsLawful};
+ghost use Rattle.playback.specs.Events.{Arrival};
+ghost use Rattle.playback.specs.Playing.{Gathers};
+ghost use Rattle.router_core.specs.Seen.{course_seen, IfLeaving, IfSettled};
+ghost use Rattle.router_core.specs.Sendable.{IsSendable};
+ghost use Rattle.router_model.specs.Changes.{each, unchanged};
+ghost use Rattle.router_model.specs.Decide.{decide_course};
+ghost use Rattle.router_model.specs.Hear.{course_heard};
+ghost use Rattle.router_model.specs.Note.{noted};
+ghost use Rattle.router_model.specs.Parts.{table, view_in};
+ghost use Rattle.router_model.specs.Plain.{after_decision, after_event, after_message, emit_packets, packet_of, packets_of, FitsRecord};
+ghost use Rattle.replay.specs.Taking.{router_of, Sends};
+
+use capture_io::Frame;
+use lisp_settings::Settings;
+use octets::{NoMemory, Octets};
+use playback::Output;
+use router_core::{Course, Decision, Table, course_of, emit_octets};
+use router_log::{Emits, Notices, Verdict, push_frame_line};
+use std::alloc::Global;
+
+/// Hears a frame or decides it, and gathers its line and the packets that are sent for it.
+pub(crate) fn take_frame(
+    alloc: Global,
+    settings: &Settings,
+    memory: &mut Table,
+    frame: &Frame,
+    output: &mut Output,
+) -> Result<(), NoMemory>
+    requires lawful { IsLawful settings.now }
+    requires later { memory.old.parts.now ≤ frame.now.moment }
+    requires count { memory.old.parts.count < 2 ^ 61 }
+    requires moment { frame.now.moment < 2 ^ 32 * 1000000000 }
+    requires room { output.old.written < 2 ^ 48 }
+    ensures gathers { OnOk result (Gathers
+        (after_event table (router_of settings.now memory.old.parts) (Arrival frame.now))
+        output.old output.new) }
+    ensures state { OnOk result (router_of settings.now memory.new.parts
+        ≡ (after_event table (router_of settings.now memory.old.parts) (Arrival frame.now)).after) }
+    ensures now { OnOk result (memory.new.parts.now ≤ frame.now.moment) }
+    ensures count { OnOk result (memory.new.parts.count ≤ memory.old.parts.count + 256) }
+{
+    let course = course_of(settings, frame);
+    if course.is_message() {
+        hear(settings, memory, frame, course, output)
+    } else {
+        decide(alloc, settings, memory, frame, course, output)
+    }
+}
+
+// Hears a control message, and gathers its line. No packet is sent for one yet.
+fn hear(
+    settings: &Settings,
+    memory: &mut Table,
+    frame: &Frame,
+    course: Course,
+    output: &mut Output,
+) -> Result<(), NoMemory>
+    requires later { memory.old.parts.now ≤ frame.now.moment }
+    requires count { memory.old.parts.count < 2 ^ 61 }
+    ensures gathers { OnOk result (Gathers
+        (after_message table (router_of settings.now memory.old.parts) frame.now
+        (course_heard table settings.now frame.now.moment (course_seen course.entry)
+        (unchanged memory.old.parts))) output.old output.new) }
+    ensures state { OnOk result (memory.new.parts
+        ≡ (course_heard table settings.now frame.now.moment (course_seen course.entry)
+        (unchanged memory.old.parts)).change.after) }
+    ensures now { OnOk result (memory.new.parts.now ≤ frame.now.moment) }
+    ensures count { OnOk result (memory.new.parts.count ≤ memory.old.parts.count + 256) }
+{
+    let entries = memory.count();
+    let heard = memory.hear_course(settings, frame.moment, course)?;
+    push_frame_line(
+        frame.number,
+        frame.moment,
+        entries,
+        &heard.verdict,
+        &mut output.lines,
+    )
+}
+
+// Decides a frame that is no control message, and gathers its line, its packet and those of what is
+// noted of it.
+fn decide(
+    alloc: Global,
+    settings: &Settings,
+    memory: &mut Table,
+    frame: &Frame,
+    course: Course,
+    output: &mut Output,
+) -> Result<(), NoMemory>
+    requires lawful { IsLawful settings.now }
+    requires instance { IfLeaving course (λ iid. iid < 2 ^ 24) }
+    requires quiet { IfSettled course (λ verdict. packet_of verdict ≡ None) }
+    requires later { memory.old.parts.now ≤ frame.now.moment }
+    requires count { memory.old.parts.count < 2 ^ 61 }
+    requires moment { frame.now.moment < 2 ^ 32 * 1000000000 }
+    requires room { output.old.written < 2 ^ 48 }
+    ensures gathers { OnOk result (Gathers
+        (after_decision table (router_of settings.now memory.old.parts) frame.now
+        (decide_course settings.now (view_in memory.old.parts frame.now.moment)
+        (course_seen course.entry))) output.old output.new) }
+    ensures state { OnOk result (router_of settings.now memory.new.parts
+        ≡ (after_decision table (router_of settings.now memory.old.parts) frame.now
+        (decide_course settings.now (view_in memory.old.parts frame.now.moment)
+        (course_seen course.entry))).after) }
+    ensures now { OnOk result (memory.new.parts.now ≤ frame.now.moment) }
+    ensures count { OnOk result (memory.new.parts.count ≤ memory.old.parts.count + 1) }
+{
+    let entries = memory.count();
+    let Decision { verdict, notices } = memory.decide_course(settings, frame.moment, course)?;
+    push_frame_line(
+        frame.number,
+        frame.moment,
+        entries,
+        &verdict,
+        &mut output.lines,
+    )?;
+    push_sent(verdict, frame.moment, output)?;
+    note_all(alloc, settings, memory, frame.moment, &notices, output)
+}
+
+// Gathers the packet that a verdict sends.
+fn push_sent(verdict: Verdict, moment: u64, output: &mut Output) -> Result<(), NoMemory>
+    requires size { FitsRecord verdict }
+    requires moment { moment < 2 ^ 32 * 1000000000 }
+    requires room { output.old.written < 2 ^ 49 }
+    ensures { OnOk result (Sends (packets_of moment (packet_of verdict)) output.old output.new) }
+{
+    match sent_packet(verdict) {
+        Some(packet) => output.push_packet(moment, packet.as_slice()),
+        None => Ok(()),
+    }
+}
+
+// The packet that a verdict sends.
+fn sent_packet(verdict: Verdict) -> Option<Octets>
+    ensures { result ≡ packet_of verdict }
+{
+    match verdict {
+        Verdict::Encapsulated { packet, .. }
+        | Verdict::Delivered { packet, .. }
+        | Verdict::Native { packet } => Some(packet),
+        Verdict::Own | Verdict::Local | Verdict::Control(_) | Verdict::Drop(_) => None,
+    }
+}
+
+// Notes what a decision noticed, which is one notice at most, and gathers the packets that are sent.
+fn note_all(
+    alloc: Global,
+    settings: &Settings,
+    memory: &mut Table,
+    moment: u64,
+    notices: &Notices,
+    output: &mut Output,
+) -> Result<(), NoMemory>
+    requires lawful { IsLawful settings.now }
+    requires few { length notices.now ≤ 1 }
+    requires later { memory.old.parts.now ≤ moment }
+    requires count { memory.old.parts.count < 2 ^ 61 }
+    requires moment { moment < 2 ^ 32 * 1000000000 }
+    requires room { output.old.written < 2 ^ 49 }
+    ensures sends { OnOk result (Sends (emit_packets settings.now moment
+        (each (noted table settings.now moment) notices.now (unchanged memory.old.parts)).emits)
+        output.old output.new) }
+    ensures state { OnOk result (memory.new.parts
+        ≡ (each (noted table settings.now moment) notices.now (unchanged memory.old.parts)).after) }
+    ensures few { OnOk result (length (each (noted table settings.now moment) notices.now
+        (unchanged memory.old.parts)).emits ≤ 1) }
+    ensures now { OnOk result (memory.new.parts.now ≤ moment) }
+    ensures count { OnOk result (memory.new.parts.count ≤ memory.old.parts.count + 1) }
+{
+    let [notice, ..] = notices.as_slice() else {
+        return Ok(());
+    };
+    let changed = memory.note(settings, moment, notice)?;
+    push_emits(alloc, settings, moment, &changed.emits, output)
+}
+
+// Gathers the packet of an emit, if there is one.
+fn push_emits(
+    alloc: Global,
+    settings: &Settings,
+    moment: u64,
+    emits: &Emits,
+    output: &mut Output,
+) -> Result<(), NoMemory>
+    requires lawful { IsLawful settings.now }
+    requires sendable { All (IsSendable settings.now) emits.now }
+    requires few { length emits.now ≤ 1 }
+    requires moment { moment < 2 ^ 32 * 1000000000 }
+    requires room { output.old.written < 2 ^ 49 }
+    ensures { OnOk result (Sends (emit_packets settings.now moment emits.now) output.old output.new) }
+{
+    let [emit, ..] = emits.as_slice() else {
+        return Ok(());
+    };
+    let packet = emit_octets(alloc, settings, emit)?;
+    output.push_packet(moment, packet.as_slice())
+}
