@@ -5,8 +5,9 @@ use std::test::Fail;
 
 #[test]
 fn a_tunnel_packet_is_delivered_with_the_outer_marks(rt: HostRuntime) -> Result<(), Fail> {
-    // As it is, with a checksum, with two octets behind the packet inside, and with a nonce.
-    let rows: [Row<'_>; 4] = [
+    // As it is, with a checksum, with two octets behind the packet inside, with a nonce, and from
+    // the port of control messages.
+    let rows: [Row<'_>; 5] = [
         (&TUNNEL, 64, &[], "delivered 0"),
         (&TUNNEL, 64, &[(26, 0xfa), (27, 0x9c)], "delivered 0"),
         (
@@ -16,6 +17,7 @@ fn a_tunnel_packet_is_delivered_with_the_outer_marks(rt: HostRuntime) -> Result<
             "delivered 0",
         ),
         (&TUNNEL, 64, &[(28, 0x90), (31, 0x2a)], "delivered 0"),
+        (&TUNNEL, 64, &[(20, 0x10), (21, 0xf6)], "delivered 0"),
     ];
     for row in rows {
         assert_sent(&rt, rt.alloc(), SITE, row, &DELIVERED)?;
@@ -25,18 +27,11 @@ fn a_tunnel_packet_is_delivered_with_the_outer_marks(rt: HostRuntime) -> Result<
 
 #[test]
 fn a_packet_to_an_own_locator_is_dropped_by_the_first_rule(rt: HostRuntime) -> Result<(), Fail> {
-    let rows: [Row<'_>; 20] = [
+    let rows: [Row<'_>; 18] = [
         (&TUNNEL, 64, &[(6, 0x20), (10, 0xa3)], "drop 3 fragment"),
         (&TUNNEL, 64, &[(7, 1), (11, 0xb7)], "drop 3 fragment"),
         (&TUNNEL, 64, &[(9, 6), (11, 0xc3)], "drop 2 not-tunnel"),
         (&TUNNEL, 64, &[(23, 0xf4)], "drop 2 not-tunnel"),
-        (&TUNNEL, 64, &[(23, 0xf6)], "drop 0 not-built"),
-        (
-            &TUNNEL,
-            64,
-            &[(20, 0x10), (21, 0xf6), (22, 0x13), (23, 0x88)],
-            "drop 0 not-built",
-        ),
         (
             &TUNNEL,
             27,

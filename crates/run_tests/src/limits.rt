@@ -1,0 +1,189 @@
+// As many requests as may be open, and as many mappings as may be live.
+use crate::exchanges::{ASKED, Arrival, NANOSECONDS, TENANT, assert_exchange};
+use crate::packets::{CONTROL, PACKET, REPLY, changed, push_record};
+use crate::runs::{replayed, said};
+use octets::Octets;
+use replay::Status;
+use std::alloc::Global;
+use std::test::Fail;
+
+// The packet to the address so many behind 10.2.0.0.
+fn packet_to(alloc: Global, number: u16) -> Result<Vec<u8>, Fail> {
+    let [high, low] = number.to_be_bytes();
+    let [first, second] = 0x66ca_u16.wrapping_sub(number).to_be_bytes();
+    let edits = [(10, first), (11, second), (18, high), (19, low)];
+    changed(alloc, &PACKET, 28, &edits)
+}
+
+// Packets to 1,025 addresses, each a millisecond after the one before, and one more to the last
+// address at 7 s.
+fn capture_of_misses(alloc: Global) -> Result<Octets, Fail> {
+    let mut capture = Octets::copied(alloc, &NANOSECONDS)?;
+    for number in 0..1025_u16 {
+        let millisecond = u32::from(number);
+        let second = 1_700_000_000 + millisecond / 1000;
+        let nanosecond = millisecond % 1000 * 1_000_000;
+        push_record(second, nanosecond, &packet_to(alloc, number)?, &mut capture)?;
+    }
+    push_record(1_700_000_007, 0, &packet_to(alloc, 1024)?, &mut capture)?;
+    Ok(capture)
+}
+
+// What is said of them.
+fn report_of_misses(alloc: Global) -> Result<String, Fail> {
+    let mut report = String::new(alloc);
+    for number in 0..1025_u32 {
+        let frame = number + 1;
+        let second = 1_700_000_000 + number / 1000;
+        let millisecond = number % 1000;
+        report.push_str(&format!(in alloc;
+            "{frame} {second}.{millisecond:03}000000 n={number} drop 13 miss\n"
+        )?)?;
+    }
+    report.push_str("1026 1700000007.000000000 n=1024 drop 13 miss\n")?;
+    report.push_str("end frames=1026 written=1025 entries=1025\n")?;
+    Ok(report)
+}
+
+// The record of a request in an output.
+fn record_of(
+    alloc: Global,
+    second: u32,
+    nanosecond: u32,
+    edits: &[(usize, u8)],
+) -> Result<Octets, Fail> {
+    let mut record = Octets::new(alloc);
+    push_record(
+        second,
+        nanosecond,
+        &changed(alloc, &CONTROL, 116, edits)?,
+        &mut record,
+    )?;
+    Ok(record)
+}
+
+// What changes in a request for each of four addresses.
+const FIRST_ASKED: [(usize, u8); 5] = [(27, 0x8b), (43, 0x96), (51, 0), (59, 0x5a), (115, 0)];
+
+const SECOND_ASKED: [(usize, u8); 14] = [
+    (27, 0x8c),
+    (43, 0x95),
+    (51, 1),
+    (58, 0x40),
+    (59, 0x75),
+    (64, 0xd6),
+    (65, 0x40),
+    (66, 0x5f),
+    (67, 0x89),
+    (68, 0x2f),
+    (69, 0xef),
+    (70, 0),
+    (71, 0x3e),
+    (115, 1),
+];
+
+const LAST_ASKED: [(usize, u8); 18] = [
+    (26, 0x2f),
+    (27, 0x8a),
+    (42, 0x6a),
+    (43, 0x97),
+    (50, 3),
+    (51, 0xff),
+    (58, 0x4b),
+    (59, 0xd2),
+    (64, 0x40),
+    (65, 0xaf),
+    (66, 0xe1),
+    (67, 0x63),
+    (68, 0x73),
+    (69, 0xfc),
+    (70, 0xbc),
+    (71, 0x8e),
+    (114, 3),
+    (115, 0xff),
+];
+
+const LATE_ASKED: [(usize, u8); 18] = [
+    (26, 0x2f),
+    (27, 0x8b),
+    (42, 0x6a),
+    (43, 0x96),
+    (50, 4),
+    (51, 0),
+    (58, 0x2d),
+    (59, 0xbe),
+    (64, 0x7e),
+    (65, 0x67),
+    (66, 0x99),
+    (67, 0xef),
+    (68, 0xbf),
+    (69, 0x92),
+    (70, 0x98),
+    (71, 0xc6),
+    (114, 4),
+    (115, 0),
+];
+
+#[test]
+fn so_many_requests_are_open_at_once(rt: HostRuntime) -> Result<(), Fail> {
+    let alloc = rt.alloc();
+    let (status, desk) = replayed(alloc, TENANT, capture_of_misses(alloc)?)?;
+    assert_eq!(rt; said(&desk)?, report_of_misses(alloc)?.as_str());
+    assert_eq!(rt; status, Status::Done);
+    let output = desk.file("out").ok_or("no output")?;
+    assert_eq!(rt; output.len(), 135_324);
+    let first = record_of(alloc, 1_700_000_000, 0, &FIRST_ASKED)?;
+    let second = record_of(alloc, 1_700_000_000, 1_000_000, &SECOND_ASKED)?;
+    let last = record_of(alloc, 1_700_000_001, 23_000_000, &LAST_ASKED)?;
+    let late = record_of(alloc, 1_700_000_007, 0, &LATE_ASKED)?;
+    for (place, record) in [(24, first), (156, second), (135_060, last), (135_192, late)] {
+        assert_eq!(rt; output.get(place..place + 132), Some(record.as_slice()));
+    }
+    Ok(())
+}
+
+// A miss and its reply where no mapping more may be live.
+const FULL: [Arrival<'static>; 2] = [
+    (
+        0,
+        0,
+        (
+            &PACKET,
+            28,
+            &[],
+            "1 1700000000.000000000 n=65536 drop 13 miss",
+        ),
+    ),
+    (
+        0,
+        100_000_000,
+        (
+            &REPLY,
+            80,
+            &[],
+            "2 1700000000.100000000 n=65537 control reply learned=0 passed=1",
+        ),
+    ),
+];
+
+#[test]
+fn so_many_mappings_are_live_at_once(rt: HostRuntime) -> Result<(), Fail> {
+    let alloc = rt.alloc();
+    let mut settings = String::from_str(alloc, TENANT)?;
+    for number in 0..=u16::MAX {
+        let [high, low] = number.to_be_bytes();
+        settings.push_str(&format!(in alloc;
+            "[[mapping]]\niid = 100\nprefix = \"20.0.{high}.{low}/32\"\n"
+        )?)?;
+    }
+    let end = "end frames=2 written=1 entries=65538";
+    assert_exchange(
+        &rt,
+        alloc,
+        settings.as_str(),
+        &NANOSECONDS,
+        &FULL,
+        &[ASKED],
+        end,
+    )
+}
