@@ -2,11 +2,10 @@
 """Compares the built program with the plain router on captures made from a number.
 
 usage: compare.py PROGRAM [ROUNDS [SEED]]
-Each round makes settings and a capture of 2,000 frames: packets of the site, packets in tunnels and control
-messages in both families, half of them spoiled; and then 40 settings files with spoiled values. It ends with
-status 1 at the first difference.
+Each round makes settings and a capture of 2,000 frames: packets of the site, packets in tunnels, replies to what
+the router asked and other control messages, in both families, many of them spoiled or late; and then 40 settings
+files with spoiled values. It ends with status 1 at the first difference.
 """
-import ipaddress
 import os
 import random
 import struct
@@ -15,249 +14,108 @@ import sys
 import tempfile
 import tomllib
 
-from plain import ones_sum
+import settings as rules
+from makers import framed, packet, settings, spoiled_settings
+from plain import Site
+from talk import Talk
 
 HERE = os.path.dirname(os.path.abspath(__file__))
-MAC = bytes.fromhex("0200000000010200000000ff")
-OWN = ["192.0.2.1", "192.0.2.2", "2001:db8:f::1"]
-OTHERS = ["198.51.100.7", "198.51.100.8", "2001:db8:e::7"]
-HOMES = ["10.1.0.0/16", "10.1.2.0/24", "2001:db8:1::/48"]
-AWAY = ["10.2.0.0/16", "10.2.9.0/24", "10.2.9.8/29", "10.0.0.0/8", "2001:db8:2::/48", "2001:db8::/32"]
 
 
-def raw(text):
-    return ipaddress.ip_address(text).packed
+def unrelated(r, link, unit):
+    """Frames that don't regard what the router does."""
+    seconds = 1_700_000_000
+    for _ in range(2000):
+        seconds += r.choice([-1, 0, 0, 1])
+        yield seconds * 10**9 + r.randrange(10**9 // unit) * unit, framed(r, link, packet(r))
 
 
-def settings(r):
-    lines = []
-    for address in r.sample(OWN, r.randint(1, 3)):
-        lines += ["[[locator]]", f'address = "{address}"', f"up = {r.choice(['true', 'true', 'false'])}"]
-    for vlan in r.sample([0, 5, 6, 4095], r.choice([1, 3, 4, 4])):
-        lines += ["[[attachment]]", f"vlan = {vlan}", f"iid = {r.choice([0, 0, 0, 7, 300])}"]
-    for iid in (0, 7, 300):
-        for prefix in r.sample(HOMES, r.choice([0, 2, 3, 3])):
-            lines += ["[[database]]", f"iid = {iid}", f'prefix = "{prefix}"']
-        for prefix in r.sample(AWAY, r.randint(1, 6)):
-            lines += ["[[mapping]]", f"iid = {iid}", f'prefix = "{prefix}"', f"action = {r.randint(0, 7)}"]
-            for address in r.sample(OTHERS + OWN[:1], r.choice([0, 0, 1, 1, 2, 3])):
-                lines += ["[[mapping.locator]]", f'address = "{address}"',
-                          f"priority = {r.choice([0, 1, 255])}", f"up = {r.choice(['true', 'true', 'false'])}"]
-    return "\n".join(lines) + "\n"
+def frames(r, text, link, unit):
+    try:
+        site = Site(text.encode())
+    except rules.Fault:
+        return unrelated(r, link, unit)
+    if r.random() < 0.1:
+        return unrelated(r, link, unit)
+    return Talk(r, site, link, unit, r.random() < 0.25).frames(2000)
 
 
-WORDS = ["1", "-1", "0", "255", "256", "4095", "4096", "16777215", "16777216", "true", "false", "1.5", "[]", "{}",
-         "[1]", '""', '"::"', '"::1"', '"1:2:3:4:5:6:7::"', '"1::2:3:4:5:6:7:8"', '"1:2:3:4:5:6:7:8"', '"::1.2.3.4"',
-         '"1.2.3.04"', '"1.2.3.4"', '"1.2.3"', '"1.2.3.256"', '"10.1.2.3/16"', '"10.1.2.3/33"', '"10.1.2.3/016"',
-         '"::/128"', '"::/129"', '"2001:DB8::/32"', '"12345::"', '"a::b::c"', '"192.0.2.1"', '"+1.2.3.4"', '"::1/+1"',
-         '"' + "0aF" * 21 + "9" + '"', '"0123456789abcDEF"', '["0123456789abcdef", "0123456789abcdeg"]', "8", "7"]
-KEYS, UNKNOWN = ["seed", "nonces", "resolver", "ttl", "probe", "echo"], ["seeds", "A"]
-INNER = ["address", "priority", "weight", "up", "vlan", "iid", "prefix", "version", "action", "locator", "zone"]
-
-
-def spoiled_settings(r):
-    """Settings with some values of another kind, keys that aren't known, and items twice."""
-    top = [f"{key} = {r.choice(WORDS)}" for key in r.sample(KEYS, r.choice([0, 0, 1, 2]))]
-    top += [f"{key} = {r.choice(WORDS)}" for key in r.sample(UNKNOWN, r.choice([0] * 9 + [1, 2]))]
-    blocks = ("\n" + settings(r)).split("\n[[")[1:]
-    for _ in range(r.choice([0, 1, 1, 1, 2, 3])):
-        at = r.randrange(len(blocks))
-        lines = blocks[at].rstrip().split("\n")
-        kind = r.randrange(5)
-        if kind == 0:
-            blocks.insert(at, blocks[at])
-        elif kind == 1 and len(lines) > 1:
-            del lines[r.randrange(1, len(lines))]
-            blocks[at] = "\n".join(lines)
-        elif kind == 2:
-            key = r.choice(INNER)
-            others = [line for line in lines if not line.startswith(key + " ")]
-            blocks[at] = "\n".join([*others, f"{key} = {r.choice(WORDS)}"])
-        elif len(lines) > 1:
-            i = r.randrange(1, len(lines))
-            lines[i] = lines[i].split(" = ")[0] + " = " + r.choice(WORDS)
-            blocks[at] = "\n".join(lines)
-    return "\n".join(top) + "\n" + "".join("[[" + block.rstrip() + "\n" for block in blocks)
-
-
-def ip(r, source, dest, payload, protocol=17):
-    ttl, tos = r.choice([0, 1, 2, 3, 64, 255]), r.choice([0, 1, 2, 3, 0xB9, 0xFF])
-    if len(source) == 4:
-        options = bytes([1]) * (4 * r.choice([0, 0, 0, 1, 10]))
-        size = 20 + len(options) + len(payload)
-        flags = r.choice([0, 0, 0, 0x4000, 0x2000, 5])
-        first = 0x45 + len(options) // 4
-        front = struct.pack(">BBHHHBBH", first, tos, size, r.randrange(65536), flags, ttl, protocol, 0)
-        front += source + dest + options
-        return front[:10] + struct.pack(">H", 0xFFFF - ones_sum(front)) + front[12:] + payload
-    word = 6 << 28 | tos << 20 | r.randrange(1 << 20)
-    return struct.pack(">IHBB", word, len(payload), protocol, ttl) + source + dest + payload
-
-
-def udp(r, source, dest, payload, ports, summed=0.5):
-    length = 8 + len(payload)
-    datagram = struct.pack(">HHHH", *ports, length, 0) + payload
-    if r.random() < summed:
-        total = 0xFFFF - ones_sum(source + dest + struct.pack(">IHH", length, 0, 17) + datagram)
-        datagram = datagram[:6] + struct.pack(">H", total or 0xFFFF) + payload
-    return datagram + bytes(r.choice([0, 0, 0, 3]))
-
-
-def host(r, prefixes):
-    network = ipaddress.ip_network(r.choice(prefixes))
-    return network[r.choice([0, 1, 9, 13]) % network.num_addresses].packed
-
-
-def between(r, pick_source, pick_dest):
-    while True:
-        source, dest = pick_source(), pick_dest()
-        if len(source) == len(dest):
-            return source, dest
-
-
-def inside(r, to_site):
-    a, b = (AWAY, HOMES) if to_site else (HOMES, AWAY + HOMES)
-    source, dest = between(r, lambda: host(r, a), lambda: host(r, b))
-    if r.random() < 0.05:
-        dest = raw("224.0.0.5") if len(dest) == 4 else raw("ff02::1")
-    payload = bytes(r.choice([0, 4, 40, 1400, 1420, 1440, 1460]))
-    if r.random() < 0.7:
-        return ip(r, source, dest, udp(r, source, dest, payload, (r.randrange(65536), r.randrange(65536))))
-    return ip(r, source, dest, payload, r.choice([1, 6, 58]))
-
-
-def tunnelled(r):
-    source, dest = between(r, lambda: raw(r.choice(OTHERS + OWN)), lambda: raw(r.choice(OWN)))
-    flags = r.choice([0, 0x08, 0x48, 0x40, 0x80, 0xC8, 0x90, 0xFF, 0x01])
-    lisp = bytes([flags]) + r.randbytes(3) + struct.pack(">I", r.choice([0, 7, 300, 9]) << 8 | 1)
-    payload = lisp + inside(r, r.random() < 0.9) + bytes(r.choice([0, 0, 5]))
-    ports = r.choice([50000, 4342]), r.choice([4341] * 9 + [4342, 53])
-    return ip(r, source, dest, udp(r, source, dest, payload, ports))
-
-
-def eid(r, none=0.0):
-    if r.random() < none:
-        return bytes(2)
-    plain = located(host(r, HOMES + AWAY))
-    if r.random() < 0.5:
-        return plain
-    head = struct.pack(">HBBBB", 16387, r.randrange(256), r.randrange(256), 2, r.randrange(256))
-    return head + struct.pack(">HI", 4 + len(plain), r.randrange(1 << 24)) + plain
-
-
-def located(address):
-    return struct.pack(">H", 1 if len(address) == 4 else 2) + address
-
-
-def record(r):
-    count = r.choice([0, 1, 1, 2, 5])
-    front = r.randbytes(4) + bytes([count, r.choice([0, 8, 24, 32])]) + r.randbytes(4)
-    return front + eid(r) + b"".join(r.randbytes(6) + located(host(r, AWAY)) for _ in range(count))
-
-
-def plain_message(r):
-    if r.random() < 0.4:
-        count = r.choice([0, 1, 2, 4])
-        head = bytes([0x20 | r.choice([0, 8, 4, 1])]) + r.randbytes(2) + bytes([count]) + r.randbytes(8)
-        return head + b"".join(record(r) for _ in range(count))
-    addrs, eids, piggyback = r.choice([1, 1, 2, 4]), r.choice([0, 1, 1, 3]), r.random() < 0.2
-    first = 0x10 | (4 if piggyback else 0) | r.choice([0, 1, 2, 3, 8])
-    octets = bytes([first, r.choice([0, 64, 255]), 0xE0 * r.randrange(2) | addrs - 1, eids])
-    octets += r.randbytes(8) + eid(r, 0.3) + b"".join(located(host(r, AWAY)) for _ in range(addrs))
-    octets += b"".join(bytes([r.randrange(256), r.choice([0, 8, 24, 32])]) + eid(r) for _ in range(eids))
-    return octets + (record(r) if piggyback else b"")
-
-
-def control(r):
-    source, dest = between(r, lambda: raw(r.choice(OTHERS)), lambda: raw(r.choice(OWN + OTHERS)))
-    message = plain_message(r)
-    if r.random() < 0.4:
-        a, b = between(r, lambda: host(r, HOMES), lambda: host(r, AWAY))
-        ports = 4342, r.choice([4342] * 9 + [4341])
-        word = bytes([0x80 | r.choice([0, 0, 7]), 0, 0, r.randrange(256)])
-        message = word + ip(r, a, b, udp(r, a, b, spoiled(r, message, 0.3), ports))
-    message += bytes(r.choice([0, 0, 0, 3]))
-    ports = r.choice([(4342, 4342), (4342, 5000), (5000, 4342)])
-    return ip(r, source, dest, udp(r, source, dest, spoiled(r, message, 0.4), ports, 0.9))
-
-
-def spoiled(r, octets, how_often):
-    if r.random() >= how_often or not octets:
-        return octets
-    octets = bytearray(octets)
-    kind = r.randrange(4)
-    if kind == 0:
-        return bytes(octets[:r.randrange(len(octets) + 1)])
-    if kind == 1:
-        return bytes(octets) + r.randbytes(r.randint(1, 9))
-    for _ in range(kind):
-        at = r.randrange(min(len(octets), 80))
-        octets[at] = r.choice([0, 1, 2, 255, octets[at] ^ 1 << r.randrange(8), r.randrange(256)])
-    return bytes(octets)
-
-
-def frame(r, link):
-    packet = r.choice([inside, inside, tunnelled, tunnelled, control])
-    octets = inside(r, False) if packet is inside else packet(r)
-    octets = spoiled(r, octets, 0.25)
-    if link == 101:
-        return octets
-    tag = r.choice([b"", struct.pack(">HH", 0x8100, r.choice([0, 5, 6, 4095, 0xE005, 0xE005, 9]))])
-    kind = struct.pack(">H", r.choice([0x0800, 0x86DD] * 10 + [0x0806]))
-    return spoiled(r, MAC + tag + kind + octets + bytes(r.choice([0, 0, 18])), 0.05)
-
-
-def capture(r, path):
-    link, order, nanoseconds = r.choice([1, 101]), r.choice("<>"), r.random() < 0.5
+def capture(r, text, path):
+    link, order, unit = r.choice([1, 101]), r.choice("<>"), r.choice([1, 1, 1000])
     with open(path, "wb") as file:
-        magic = 0xA1B23C4D if nanoseconds else 0xA1B2C3D4
+        magic = 0xA1B23C4D if unit == 1 else 0xA1B2C3D4
         file.write(struct.pack(order + "IHHIIII", magic, 2, 4, 0, 0, 0, link))
-        seconds = 1_700_000_000
-        for _ in range(2000):
-            octets = frame(r, link)
-            seconds += r.choice([-1, 0, 0, 1])
-            fraction = r.randrange(10**9 if nanoseconds else 10**6)
-            file.write(struct.pack(order + "IIII", seconds, fraction, len(octets), 9) + octets)
+        for moment, octets in frames(r, text, link, unit):
+            seconds, rest = divmod(moment, 10**9)
+            file.write(struct.pack(order + "IIII", seconds, rest // unit, len(octets), 9) + octets)
 
 
 def run(*command):
     return subprocess.run(command, capture_output=True).stdout
 
 
+def contents(path):
+    if not os.path.exists(path):
+        return b""
+    with open(path, "rb") as file:
+        return file.read()
+
+
+def write(path, text):
+    with open(path, "w") as file:
+        file.write(text)
+
+
+class Round:
+    """The files of a round, and the two programs."""
+
+    def __init__(self, program, folder):
+        self.program = program
+        self.plain = [sys.executable, os.path.join(HERE, "plain.py")]
+        names = ("settings.toml", "capture.pcap", "ours.pcap", "plain.pcap")
+        self.settings, self.capture, self.ours, self.theirs = (os.path.join(folder, name) for name in names)
+
+    def same_replay(self):
+        for name in (self.ours, self.theirs):
+            if os.path.exists(name):
+                os.remove(name)
+        words = "--settings", self.settings, "--in", self.capture, "--out", self.ours
+        ours = run(self.program, "replay", *words)
+        theirs = run(*self.plain, "replay", self.settings, self.capture, self.theirs)
+        return ours == theirs and contents(self.ours) == contents(self.theirs)
+
+    def same_show(self):
+        return run(self.program, "show", "--in", self.capture) == run(*self.plain, "show", self.capture)
+
+    def same_settings(self, r):
+        text = spoiled_settings(r)
+        try:
+            tomllib.loads(text)
+        except tomllib.TOMLDecodeError:
+            return True
+        write(self.settings, text)
+        return self.same_replay()
+
+    def agrees(self, r):
+        text = settings(r)
+        write(self.settings, text)
+        capture(r, text, self.capture)
+        return self.same_replay() and self.same_show() and all(self.same_settings(r) for _ in range(40))
+
+
 def main():
-    program = sys.argv[1]
     rounds = int(sys.argv[2]) if len(sys.argv) > 2 else 20
     seed = int(sys.argv[3]) if len(sys.argv) > 3 else 1
-    plain = [sys.executable, os.path.join(HERE, "plain.py")]
     with tempfile.TemporaryDirectory() as folder:
-        names = [os.path.join(folder, name) for name in ("settings.toml", "capture.pcap", "ours.pcap", "plain.pcap")]
+        one = Round(sys.argv[1], folder)
         for i in range(rounds):
-            r = random.Random(f"{seed} {i}")
-            with open(names[0], "w") as file:
-                file.write(settings(r))
-            capture(r, names[1])
-            ours = run(program, "replay", "--settings", names[0], "--in", names[1], "--out", names[2])
-            theirs = run(*plain, "replay", *names[:2], names[3])
-            same = ours == theirs and open(names[2], "rb").read() == open(names[3], "rb").read()
-            same = same and run(program, "show", "--in", names[1]) == run(*plain, "show", names[1])
-            for _ in range(40):
-                if not same:
-                    break
-                text = spoiled_settings(r)
-                try:
-                    tomllib.loads(text)
-                except tomllib.TOMLDecodeError:
-                    continue
-                with open(names[0], "w") as file:
-                    file.write(text)
-                ours = run(program, "replay", "--settings", names[0], "--in", names[1], "--out", names[2])
-                same = ours == run(*plain, "replay", *names[:2], names[3])
-            if not same:
+            if not one.agrees(random.Random(f"{seed} {i}")):
                 print(f"round {i} of seed {seed} differs")
-                for name in names[:2]:
+                for name in (one.settings, one.capture):
                     os.replace(name, os.path.basename(name))
                 sys.exit(1)
     print(f"{rounds} rounds of 2,000 frames and 40 settings agree")
 
 
-main()
+if __name__ == "__main__":
+    main()

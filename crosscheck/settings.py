@@ -139,6 +139,11 @@ def mapping(table, path):
     return name
 
 
+def reaches(table, resolver):
+    """Whether an own locator is up in the resolver's family."""
+    return table.get("up", True) and len(address(table["address"])) == len(address(resolver))
+
+
 def check(top):
     """Raises the first fault of the top table."""
     keys = ("seed", "nonces", "resolver", "ttl", "probe", "echo", "locator", "attachment", "database", "mapping")
@@ -152,7 +157,7 @@ def check(top):
     for position, nonce in enumerate(nonces):
         if not hexadecimal(16)(nonce):
             fail("bad-value", ["nonces", position])
-    optional(top, "resolver", lambda value: False, [])
+    optional(top, "resolver", lambda value: address(value) is not None, [])
     optional(top, "ttl", number(1, 2**32 - 2), [])
     optional(top, "probe", lambda value: value is False, [])
     optional(top, "echo", lambda value: value is False, [])
@@ -160,3 +165,5 @@ def check(top):
     items(top, "attachment", 4096, attachment, [])
     items(top, "database", 64, database, [])
     items(top, "mapping", 65536, mapping, [])
+    if "resolver" in top and not any(reaches(table, top["resolver"]) for table in top["locator"]):
+        fail("bad-value", ["resolver"])

@@ -1,0 +1,31 @@
+#!/usr/bin/env bash
+# Replays frames to 1,000 destinations that the router must ask for, with the replies to its requests, and
+# prints frames a second, user and system time and the greatest memory; beside it the same frames
+# with the mappings in the settings, and `cat` of the file to a new one.
+# usage: bench/cache.sh [FRAMES [SEED]]
+set -eu
+frames=${1:-1000000}
+seed=${2:-1}
+. "$(dirname "$0")/common.sh"
+
+# A replay by those settings of that capture.
+words() {
+    words=(replay --settings "$folder/$1" --in "$folder/$2" --out "$folder/out.pcap")
+}
+
+python3 "$top/bench/cache.py" "$folder" "$frames" "$seed"
+words asking.toml first.pcap
+"$program" "${words[@]}" >"$folder/report"
+python3 "$top/bench/cache.py" "$folder" "$frames" "$seed" "$folder/out.pcap"
+echo "$frames frames, $(stat -c %s "$folder/frames.pcap") octets"
+
+words asking.toml answered.pcap
+measured "  learned" "$frames" "$folder/report" "$program" "${words[@]}"
+echo "  $(grep -c ' drop 13 miss$' "$folder/report") misses," \
+    "$(grep -c ' control reply learned=1 ' "$folder/report") replies learned," \
+    "$(grep -c ' encapsulated ' "$folder/report") encapsulated"
+tail -n 1 "$folder/report" | sed 's/^/  /'
+words static.toml frames.pcap
+measured "  static " "$frames" "$folder/report" "$program" "${words[@]}"
+tail -n 1 "$folder/report" | sed 's/^/  /'
+measured "  cat    " "$frames" "$folder/copy" cat "$folder/answered.pcap"
