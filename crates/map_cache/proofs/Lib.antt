@@ -1,5 +1,6 @@
 pub mod AscendingLemmas
 pub mod BitLemmas
 pub mod EidLemmas
+pub mod FewLemmas
 pub mod LastingLemmas
 pub mod PlaceLemmas

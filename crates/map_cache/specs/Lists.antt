@@ -1,9 +1,10 @@
 -- What a cache keeps true of its list.
-use Rattle.std.specs.Prelude.{◌≡◌, ℕ, true, List, [], ◌∷◌, is_some, if◌then◌else◌}
+use Rattle.std.specs.Prelude.{◌≡◌, ◌≤◌, ℕ, true, List, [], ◌∷◌, is_some, length, if◌then◌else◌}
 use Rattle.std.specs.declared.cmp.Ordering.TheVariants.{Less}
 use Rattle.mapping_records.specs.Orders.{eid_order}
 use Rattle.mapping_records.specs.declared.eid.Eid.{Eid}
 use Rattle.map_cache.specs.Cache.{exact, lasts}
+use Rattle.map_cache.specs.declared.fault.TheConstants.{MOST_LOCATORS}
 use Rattle.map_cache.specs.declared.mapping.Mapping.{Mapping}
 
 -- an EID is below those of all mappings
@@ -25,6 +26,15 @@ IsAbove eid (mapping ∷ others) = (eid_order mapping.eid eid ≡ Less) × IsAbo
 abbrev pub AllLast : ℕ → List Mapping → Type 0
 AllLast now [] = Unit {0}
 AllLast now (mapping ∷ others) = (lasts now mapping ≡ true) × AllLast now others
+
+-- a mapping has at most 32 locators
+abbrev pub IsFew : Mapping → Type 0
+IsFew mapping = length mapping.details.locators ≤ MOST_LOCATORS
+
+-- each of them has
+abbrev pub AllFew : List Mapping → Type 0
+AllFew [] = Unit {0}
+AllFew (mapping ∷ others) = IsFew mapping × AllFew others
 
 -- how many of a cache's mappings have an EID
 abbrev pub count_of : Eid → List Mapping → ℕ

@@ -1,13 +1,14 @@
 // A map-cache over a vector.
-ghost use Rattle.std.specs.Prelude.{◌≡◌, ◌≤◌, ◌<◌, ◌+◌, ◌*◌, ◌^◌, ◌↔◌, ◌≢◌, IsTrue, IsFalse, [], length, Err, OnOk, OnErr};
+ghost use Rattle.std.specs.Prelude.{◌≡◌, ◌≤◌, ◌<◌, ◌+◌, ◌*◌, ◌^◌, ◌↔◌, ◌≢◌, IfSome, IsTrue, IsFalse, [], length, Err, OnOk, OnErr};
 ghost use Rattle.std.specs.Option.{option_copied};
 ghost use Rattle.map_cache.specs.Cache.{bits_told, exact, has_room, in_force, lasting, learned};
+ghost use Rattle.map_cache.specs.Lists.{IsFew};
 ghost use Rattle.map_cache.specs.declared.fault.LearnFault.TheVariants.{CacheFull, Memory};
 ghost use Rattle.map_cache.specs.declared.fault.TheConstants.{MOST_LOCATORS, MOST_MAPPINGS};
 
 use crate::bits::tell;
 use crate::learning::{drop_eid, drop_ended, fresh, has_room, put};
-use crate::searching::{is_covering, is_exact, lasts, longer};
+use crate::searching::{is_exact, lasts, longest_covering};
 use crate::{LearnFault, Mapping, NoMemory, Reads};
 use mapping_records::{Eid, Record};
 use std::alloc::Global;
@@ -23,7 +24,7 @@ pub struct MapCache {
 
 impl Model for MapCache {
     ghost use Rattle.std.specs.Prelude.{◌≤◌, ◌-◌, vec_len, vec_capacity};
-    ghost use Rattle.map_cache.specs.Lists.{AllLast, IsAscending};
+    ghost use Rattle.map_cache.specs.Lists.{AllFew, AllLast, IsAscending};
     ghost use Rattle.map_cache.specs.Cache.{Cache};
     ghost use Rattle.map_cache.specs.declared.fault.TheConstants.{MOST_MAPPINGS};
 
@@ -36,7 +37,8 @@ impl Model for MapCache {
     } };
 
     ghost invariant = { λ cache. (vec_len cache.mappings ≤ MOST_MAPPINGS)
-        × (IsAscending cache.mappings.items × AllLast cache.now cache.mappings.items) };
+        × (IsAscending cache.mappings.items
+        × (AllLast cache.now cache.mappings.items × AllFew cache.mappings.items)) };
 }
 
 impl MapCache {
@@ -125,22 +127,17 @@ impl MapCache {
     }
 
     /// The mapping in force for an EID: the longest of those that haven't ended and cover it. None
-    /// where none does. Reads at most 129 nodes.
+    /// where none does. It has at most 32 locators. Reads at most 129 nodes.
     pub fn in_force(&self, m: u64, eid: &Eid, reads: &mut Reads) -> Option<&Mapping>
         requires later { self.now.now ≤ m }
         requires reads { reads.old < 2 ^ 63 }
         ensures found { option_copied result
             ≡ in_force (lasting m self.entry.now.mappings) eid.now }
+        ensures few { IfSome (option_copied result) IsFew }
         ensures counted { reads.old ≤ reads.new }
         ensures bound { reads.new ≤ reads.old + 129 }
     {
-        let mut best: Option<&Mapping> = None;
-        for mapping in &self.mappings {
-            if is_covering(m, eid, mapping) {
-                best = longer(best, mapping);
-            }
-        }
-        best
+        longest_covering(m, eid, &self.mappings)
     }
 
     /// The mapping of just that EID. None where there is none, or it has ended.

@@ -1,0 +1,44 @@
+-- The choice among locators by priority and weight (RFC 9301, section 5.4).
+use Rattle.std.specs.Prelude.{ℕ, suc, ◌-◌, ◌%◌, ◌==◌, ◌&&◌, min, nat_lt, Bool, true, List, [], ◌∷◌, filter, map, sum, Option, Some, None, option_map, if◌then◌else◌}
+use Rattle.std.specs.List.{list_all}
+use Rattle.locator_choice.specs.declared.choice.Candidate.{Candidate}
+
+-- the least priority of those that are usable, 255 without one
+abbrev pub least_priority : List Candidate → ℕ
+least_priority [] = 255
+least_priority (candidate ∷ others) =
+    if candidate.usable then min candidate.priority (least_priority others) else least_priority others
+
+-- usable, and of that priority
+abbrev pub takes_part : ℕ → Candidate → Bool
+takes_part priority candidate = candidate.usable && (candidate.priority == priority)
+
+-- those that take part
+abbrev pub partaking : ℕ → List Candidate → List Candidate
+partaking priority candidates = filter (takes_part priority) candidates
+
+-- all of these have one weight
+abbrev pub one_weight : List Candidate → Bool
+one_weight [] = true
+one_weight (candidate ∷ others) = list_all (λ other. other.weight == candidate.weight) others
+
+-- the share of a candidate: its weight, or 1 where all weights are equal; 0 where it takes no part
+abbrev pub share : Bool → ℕ → Candidate → ℕ
+share equal priority candidate =
+    if takes_part priority candidate then (if equal then 1 else candidate.weight) else 0
+
+-- the shares of all
+abbrev pub shares_by : ℕ → List Candidate → List ℕ
+shares_by priority candidates = map (share (one_weight (partaking priority candidates)) priority) candidates
+
+abbrev pub shares : List Candidate → List ℕ
+shares candidates = shares_by (least_priority candidates) candidates
+
+-- of intervals that are laid end to end, the one that holds the number
+abbrev pub interval_of : List ℕ → ℕ → Option ℕ
+interval_of [] n = None
+interval_of (size ∷ sizes) n = if nat_lt n size then Some 0 else option_map suc (interval_of sizes (n - size))
+
+-- the one whose interval holds the hash of the flow modulo the whole (this router's choice)
+abbrev pub chosen : List Candidate → ℕ → Option ℕ
+chosen candidates hash = interval_of (shares candidates) (hash % sum (shares candidates))
