@@ -12,7 +12,6 @@ use Rattle.router_log.specs.declared.verdict.Verdict.TheVariants as verdict
 
 -- a reason's number and word
 abbrev pub reason_text : Reason → List ℕ
-reason_text reason.NotBuilt = codes "0 not-built"
 reason_text (reason.Refused refused) = codes "1 refused " ++ refused_text refused
 reason_text reason.NotTunnel = codes "2 not-tunnel"
 reason_text reason.Fragment = codes "3 fragment"

@@ -102,7 +102,6 @@ fn push_reason(reason: Reason, out: &mut Octets) -> Result<(), NoMemory>
     ensures { OnOk result (out.new ≡ out.old ++ reason_text reason) }
 {
     match reason {
-        Reason::NotBuilt => out.append(b"0 not-built"),
         Reason::Refused(refused) => {
             out.append(b"1 refused ")?;
             push_refused(refused, out)
