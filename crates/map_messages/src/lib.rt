@@ -28,3 +28,4 @@ pub use message::{
 };
 pub use message_reading::read_message;
 pub use message_writing::write_message;
+pub use reply_writing::write_reply;

@@ -7,8 +7,8 @@ use crate::items::write_items;
 use crate::{MapReply, NoMemory, Octets};
 use std::alloc::Global;
 
-/// Appends a Map-Reply. Without memory a part of it stays.
-pub(crate) fn write_reply(alloc: Global, reply: &MapReply, out: &mut Octets) -> Result<(), NoMemory>
+/// Appends a Map-Reply (RFC 9301, section 5.4). Without memory a part of it stays.
+pub fn write_reply(alloc: Global, reply: &MapReply, out: &mut Octets) -> Result<(), NoMemory>
     requires { InRangeReply reply.now }
     ensures { OnOk result (out.new ≡ out.old ++ canonical_reply reply.now) }
 {
