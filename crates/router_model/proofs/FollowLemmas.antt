@@ -23,9 +23,9 @@ pub table-decides : TableDecides
 table-decides settings parts journal m frame stands = ap (λ v. decide_by settings v frame) (standing-sees settings parts journal m stands)
 
 pub table-notes : TableNotes
-table-notes settings parts journal m notice stands may =
+table-notes settings parts journal m notice stands may sound =
     subst (λ p. Follows settings (noted table settings m notice (unchanged p)) (note settings journal m notice)) (sym stands.whole)
-    (follows settings m 0 _ _ (notes-lift settings m 0 notice (unchanged journal) (ready-for settings parts journal m 1 stands may (omega arith))))
+    (follows settings m 0 _ _ (notes-lift settings m 0 notice (unchanged journal) sound (ready-for settings parts journal m 1 stands may (omega arith))))
 
 pub table-hears : TableHears
 table-hears settings parts journal m frame stands may octets =

@@ -1,11 +1,13 @@
 -- A message is heard by a table as by the journal.
-use Rattle.std.proofs.Common.{◌≡◌, ℕ, suc, ◌+◌, ◌≤◌, ◌&&◌, nat_le, min, not, Bool, true, false, cond, List, [], ◌∷◌, length, take, Option, Some, None, is_some, refl, sym, ap, subst, arith}
+use Rattle.std.proofs.Common.{◌≡◌, ℕ, suc, ◌+◌, ◌≤◌, ◌==◌, ◌&&◌, nat_le, nat_lt, min, not, Bool, true, false, cond, List, [], ◌∷◌, length, take, Option, Some, None, is_some, refl, sym, ap, subst, arith}
 use Rattle.std.specs.List.{list_all}
 use Rattle.std.proofs.lemmas.Bool.Decides.{nat_tests}
 use Rattle.std.proofs.lemmas.List.{length-take}
 use Rattle.octets.specs.Rules.{first_failing}
 use Rattle.octets.specs.declared.refused.Refused.{Refused}
+use Rattle.ip_headers.specs.Ip.{dest_of}
 use Rattle.ip_headers.specs.Udp.{payload_in, sum_rules}
+use Rattle.ip_headers.specs.declared.addr.Addr.{Addr}
 use Rattle.mapping_records.specs.declared.eid.Eid.{Eid}
 use Rattle.mapping_records.specs.declared.record.Record.{Record}
 use Rattle.map_messages.specs.Message.{message_rules}
@@ -19,16 +21,17 @@ use Rattle.request_queue.specs.declared.request.Request.{Request}
 use Rattle.router_log.specs.declared.entry.Entry.TheVariants as entry
 use Rattle.router_log.specs.declared.verdict.Reason.{Reason}
 use Rattle.router_log.specs.declared.verdict.Reason.TheVariants as reason
-use Rattle.router_log.specs.declared.verdict.Reason.TheVariants.{NotBuilt, NotTunnel, Unexpected, Unfit, Unsolicited}
-use Rattle.router_model.specs.Changes.{Change, each, entered, has_room, journal as of_journal, seen}
+use Rattle.router_log.specs.declared.verdict.Reason.TheVariants.{NotOurs, NotTunnel, Unexpected, Unfit, Unsolicited}
+use Rattle.router_model.specs.Changes.{Change, each, entered, has_room, journal as of_journal, may_ask, seen}
 use Rattle.router_model.specs.Course.{Course, Control, Datagram, course_of}
-use Rattle.router_model.specs.Hear.{Heard, carried, course_heard, datagram_heard, drops, is_asked_for, is_fit, is_static, payload_heard, read_heard, replied_to, reply_heard, shortened, tallied, taught, unless_refused}
+use Rattle.router_model.specs.Hear.{Asker, Heard, Path, Range, answered, answering, asked_again, carried, counted, course_heard, datagram_heard, drops, is_asked_for, is_fit, is_static, payload_heard, ranges_of, read_heard, renewable, renewed, replied, replied_to, reply_heard, reply_of, reply_path, requested, shortened, tallied, taught, unless_refused}
 use Rattle.router_model.specs.Journal.{Journal}
-use Rattle.router_model.specs.Lifting.{FramesLift, Goes, Hears, MessagesLift, Ready, entries_in, is_bounded, is_sound_message, tabled}
+use Rattle.router_model.specs.Lifting.{FramesLift, Goes, Hears, MessagesLift, Ready, entries_in, is_bounded, is_sound_message, requests_in, tabled}
+use Rattle.router_model.specs.Mappings.{Held, force}
 use Rattle.router_model.specs.Parts.{Parts, table}
 use Rattle.router_model.specs.Received.{message_in}
 use Rattle.router_model.specs.View.{View, view}
-use Rattle.router_model.proofs.LiftLemmas.{goes-entered, goes-if, seen-same}
+use Rattle.router_model.proofs.LiftLemmas.{goes-asked, goes-entered, goes-if, goes-on, may_ask-room, seen-same}
 use Rattle.router_model.proofs.PartsLemmas.{and_both}
 
 module _ (settings : Settings) (m : ℕ) where
@@ -98,14 +101,68 @@ module _ (settings : Settings) (m : ℕ) where
       by true = drops-alike more Unsolicited change (fewer-ready _ more change.after (omega arith) ready)
       by false = replied_to-alike more reply (with_nonce v.requests reply.nonce) change bounded ready refl
 
-  carried-alike : (more : ℕ) (o : Option MapRequest) (change : Change Journal) → Ready settings m more change.after → Hears settings m more (carried table settings m o (tabled change)) (carried of_journal settings m o change)
-  carried-alike more None change ready = drops-alike more Unexpected change ready
-  carried-alike more (Some request) change ready = drops-alike more NotBuilt change ready
+  -- ### Map-Requests
+
+  renewable-room : (v : View) (o : Option Held) (eid : Eid) → renewable settings v o ≡ Some eid → nat_lt (length v.requests) 1024 ≡ true
+  renewable-room v None eid is = cc
+  renewable-room v (Some held) eid is = by (not held.fixed && may_ask settings v held.eid) refl is
+    where
+      by : (b : Bool) → (not held.fixed && may_ask settings v held.eid) ≡ b → cond b (Some held.eid) None ≡ Some eid → nat_lt (length v.requests) 1024 ≡ true
+      by true may is = may_ask-room settings m v held.eid (and_both (not held.fixed) _ may).1
+      by false may is = cc
+
+  renewed-alike : (more : ℕ) (range : Range) (change : Change Journal) → Ready settings m (suc more) change.after → Goes settings m more (renewed table settings m range (tabled change)) (renewed of_journal settings m range change)
+  renewed-alike more range change ready =
+      subst (λ v. Goes settings m more (asked_again table settings m (renewable settings v (force v.mappings range.iid range.addr range.len)) (tabled change)) (renewed of_journal settings m range change))
+      (sym (seen-same settings m (suc more) change ready))
+      (by (renewable settings v (force v.mappings range.iid range.addr range.len)) refl)
+    where
+      v : View
+      v = seen of_journal settings m change
+
+      by : (o : Option Eid) → renewable settings v (force v.mappings range.iid range.addr range.len) ≡ o → Goes settings m more (asked_again table settings m o (tabled change)) (asked_again of_journal settings m o change)
+      by None is = goes-on settings m more change ready
+      by (Some eid) is = goes-asked settings m more change eid None true ready (renewable-room v _ eid is)
+
+  counted-alike : (more : ℕ) (t : Change Parts) (j : Change Journal) → Goes settings m more t j → Hears settings m more (counted table settings m t) (counted of_journal settings m j)
+  counted-alike more t j goes = record { same = ap (counted table settings m) goes.same; ready = goes.ready }
+
+  replied-alike : (more : ℕ) (asker : Asker) (reply : MapReply) (path : Option Path) (change : Change Journal) → Ready settings m more change.after → Hears settings m more (replied asker reply path (tabled change)) (replied asker reply path change)
+  replied-alike more asker reply None change ready = record { same = refl; ready = ready }
+  replied-alike more asker reply (Some path) change ready = record { same = refl; ready = ready }
+
+  answered-alike : (more : ℕ) (asker : Asker) (request : MapRequest) (change : Change Journal) → Ready settings m more change.after → Hears settings m more (answered settings asker request (tabled change)) (answered settings asker request change)
+  answered-alike more asker request change ready = by (length (answering settings.databases request.eids) == 0)
+    where
+      reply : MapReply
+      reply = reply_of settings asker request (answering settings.databases request.eids)
+
+      by : (b : Bool) → Hears settings m more (cond b (drops NotOurs (tabled change)) (replied asker reply (reply_path settings asker request) (tabled change))) (cond b (drops NotOurs change) (replied asker reply (reply_path settings asker request) change))
+      by true = drops-alike more NotOurs change ready
+      by false = replied-alike more asker reply (reply_path settings asker request) change ready
+
+  all-pass : {A : Type 0} (items : List A) → list_all (λ a. true) items ≡ true
+  all-pass [] = refl
+  all-pass (a ∷ items) = all-pass items
+
+  pub requested-alike : (more : ℕ) (asker : Asker) (request : MapRequest) (change : Change Journal) → Ready settings m (more + length (ranges_of request)) change.after → Hears settings m more (requested table settings m asker request (tabled change)) (requested of_journal settings m asker request change)
+  unfolding requested
+  requested-alike more asker request change ready = by (request.smr && not asker.probe)
+    where
+      by : (b : Bool) → Hears settings m more (cond b (counted table settings m (each (renewed table settings m) (ranges_of request) (tabled change))) (answered settings asker request (tabled change))) (cond b (counted of_journal settings m (each (renewed of_journal settings m) (ranges_of request) change)) (answered settings asker request change))
+      by true =
+          counted-alike more _ _
+          (goes-each (renewed table settings m) (renewed of_journal settings m) (λ range. true) (λ more range change pass ready. renewed-alike more range change ready) (ranges_of request) (all-pass (ranges_of request)) more (tabled change) change (record { same = refl; ready = ready }))
+      by false = answered-alike more asker request change (fewer-ready _ more change.after (omega arith) ready)
+
+  carried-alike : (more : ℕ) (dest : Addr) (port : ℕ) (o : Option MapRequest) (change : Change Journal) → Ready settings m (more + requests_in o) change.after → Hears settings m more (carried table settings m dest port o (tabled change)) (carried of_journal settings m dest port o change)
+  carried-alike more dest port None change ready = drops-alike more Unexpected change (fewer-ready (more + 0) more change.after (omega arith) ready)
+  carried-alike more dest port (Some request) change ready = requested-alike more _ request change ready
 
 pub messages-lift : MessagesLift
-messages-lift settings m more (message.Request request) before sound ready = drops-alike settings m more NotBuilt before (fewer-ready settings m _ more before.after (omega arith) ready)
-messages-lift settings m more (message.Reply reply) before sound ready = reply_heard-alike settings m more reply before sound (fewer-ready settings m _ _ before.after (omega arith) ready)
-messages-lift settings m more (message.Control ecm) before sound ready = carried-alike settings m more ecm.request before (fewer-ready settings m _ more before.after (omega arith) ready)
+messages-lift settings m more dest port (message.Request request) before sound ready = requested-alike settings m more _ request before ready
+messages-lift settings m more dest port (message.Reply reply) before sound ready = reply_heard-alike settings m more reply before sound (fewer-ready settings m _ _ before.after (omega arith) ready)
+messages-lift settings m more dest port (message.Control ecm) before sound ready = carried-alike settings m more dest ecm.source_port ecm.request before ready
 
 -- ### frames
 
@@ -117,11 +174,11 @@ module _ (settings : Settings) (m more most : ℕ) (change : Change Journal) (re
   refused-alike None t j hears = hears
   refused-alike (Some refused) t j hears = drops-alike settings m more (reason.Refused refused) change enough
 
-  read-alike : (o : Option Message) → ((read : Message) → o ≡ Some read → (is_sound_message read ≡ true) × (entries_in read ≤ most)) → Hears settings m more (read_heard table settings m o (tabled change)) (read_heard of_journal settings m o change)
-  read-alike None sound = drops-alike settings m more Unexpected change enough
-  read-alike (Some read) sound =
+  read-alike : (dest : Addr) (port : ℕ) (o : Option Message) → ((read : Message) → o ≡ Some read → (is_sound_message read ≡ true) × (entries_in read ≤ most)) → Hears settings m more (read_heard table settings m dest port o (tabled change)) (read_heard of_journal settings m dest port o change)
+  read-alike dest port None sound = drops-alike settings m more Unexpected change enough
+  read-alike dest port (Some read) sound =
       let few = (sound read refl).1 in
-      messages-lift settings m more read change (sound read refl).0
+      messages-lift settings m more dest port read change (sound read refl).0
       (fewer-ready settings m (more + most) (more + entries_in read) change.after (omega (arith, few)) ready)
 
   course-alike : (c : Course) → ((d : Datagram) (read : Message) → c ≡ Control d → message_in (payload_in d.packet.octets d.udp) ≡ Some read → (is_sound_message read ≡ true) × (entries_in read ≤ most)) → Hears settings m more (course_heard table settings m c (tabled change)) (course_heard of_journal settings m c change)
@@ -129,7 +186,7 @@ module _ (settings : Settings) (m more most : ℕ) (change : Change Journal) (re
   course-alike (Control d) sound =
       refused-alike (first_failing (sum_rules d.packet.base d.packet.header d.packet.octets d.udp false)) _ _
       (refused-alike (first_failing (message_rules (d.packet.base + d.udp.at + 8) (payload_in d.packet.octets d.udp))) _ _
-      (read-alike (message_in (payload_in d.packet.octets d.udp)) (λ read is. sound d read refl is)))
+      (read-alike (dest_of d.packet.header) d.udp.source (message_in (payload_in d.packet.octets d.udp)) (λ read is. sound d read refl is)))
   course-alike _ sound = drops-alike settings m more NotTunnel change enough
 
 pub frames-lift : FramesLift

@@ -1,6 +1,6 @@
 -- A table replays events as the plain router.
 use Rattle.std.proofs.Common.{◌≡◌, ℕ, zero, suc, ◌+◌, ◌*◌, ◌≤◌, Bool, true, false, cond, List, [], ◌∷◌, ◌++◌, length, map, Some, refl, sym, ap, subst, ◌∙◌, arith, ◌-◌, ◌/◌, ◌<◌, div-mul-le_self, div-add-mod', mod-lt, append_assoc}
-use Rattle.std.specs.List.{list_all, range_with_len}
+use Rattle.std.specs.List.{range_with_len}
 use Rattle.mapping_records.specs.declared.record.Record.{Record}
 use Rattle.capture_io.specs.Frame.{Frame}
 use Rattle.lisp_settings.specs.declared.settings.Settings.{Settings}
@@ -13,7 +13,7 @@ use Rattle.router_model.specs.Course.{control}
 use Rattle.router_model.specs.Decide.{decide_by}
 use Rattle.router_model.specs.Hear.{hear_by}
 use Rattle.router_model.specs.Journal.{Journal, extended, last_moment, statics}
-use Rattle.router_model.specs.Lifting.{AreInOrder, AreOctets, EventsInOrder, FramesInOrder, HasOctets, Ready, TableReplays, event_moment, outcome_tabled, router_tabled}
+use Rattle.router_model.specs.Lifting.{AreInOrder, AreOctets, EventsInOrder, FramesInOrder, HasOctets, Ready, TableReplays, event_moment, is_sound, outcome_tabled, router_tabled}
 use Rattle.router_model.specs.Note.{noted}
 use Rattle.router_model.specs.Parts.{Parts, parts_in, table}
 use Rattle.router_model.specs.Plain.{Router, after_data, after_decision, after_event, after_message, plain, started}
@@ -21,7 +21,7 @@ use Rattle.router_model.specs.Proper.{IsProper}
 use Rattle.router_model.specs.View.{view}
 use Rattle.router_model.proofs.HearLemmas.{fewer-ready, frames-lift, goes-each}
 use Rattle.router_model.proofs.NoteLemmas.{notes-lift}
-use Rattle.router_model.proofs.NoticeLemmas.{notices-few}
+use Rattle.router_model.proofs.NoticeLemmas.{notices-sound}
 use Rattle.router_model.proofs.PartsLemmas.{answers}
 use Rattle.router_model.proofs.SoundLemmas.{frame-sound}
 use Rattle.router_model.proofs.StandsLemmas.{proper-rises, statics-proper}
@@ -36,10 +36,6 @@ record Replays (settings : Settings) (m more : ℕ) (t : Outcome (Router Parts))
 abbrev router_of : Settings → Journal → Router Journal
 router_of settings journal = record { settings = settings; memory = journal }
 
-all-pass : {A : Type 0} (items : List A) → list_all (λ a. true) items ≡ true
-all-pass [] = refl
-all-pass (a ∷ items) = all-pass items
-
 module _ (settings : Settings) (more : ℕ) (journal : Journal) where
   message-replays : (frame : Frame) → AreOctets frame.octets → Ready settings frame.moment (more + 2048) journal → Replays settings frame.moment more (after_message table (router_tabled (router_of settings journal)) frame (hear_by table settings frame.moment frame (unchanged (parts_in journal)))) (after_message of_journal (router_of settings journal) frame (hear_by of_journal settings frame.moment frame (unchanged journal)))
   message-replays frame are ready =
@@ -49,9 +45,10 @@ module _ (settings : Settings) (more : ℕ) (journal : Journal) where
   decision-replays : (frame : Frame) → Ready settings frame.moment (more + 2048) journal → Replays settings frame.moment more (after_decision table (router_tabled (router_of settings journal)) frame (decide_by settings (table.see (parts_in journal) frame.moment) frame)) (after_decision of_journal (router_of settings journal) frame (decide_by settings (view journal frame.moment) frame))
   decision-replays frame ready =
       let decision : Decision = decide_by settings (view journal frame.moment) frame in
-      let few = notices-few settings (view journal frame.moment) frame in
+      let sound = notices-sound settings (view journal frame.moment) frame in
+      let few = sound.1 in
       let goes =
-      goes-each settings frame.moment (noted table settings frame.moment) (noted of_journal settings frame.moment) (λ n. true) (λ more n change pass ready. notes-lift settings frame.moment more n change ready) decision.notices (all-pass decision.notices) more (unchanged (parts_in journal)) (unchanged journal)
+      goes-each settings frame.moment (noted table settings frame.moment) (noted of_journal settings frame.moment) is_sound (λ more n change pass ready. notes-lift settings frame.moment more n change pass ready) decision.notices sound.0 more (unchanged (parts_in journal)) (unchanged journal)
       (record { same = refl; ready = fewer-ready settings frame.moment (more + 2048) (more + length decision.notices) journal (omega (arith, few)) ready }) in
       subst (λ v. Replays settings frame.moment more (after_decision table (router_tabled (router_of settings journal)) frame (decide_by settings v frame)) (after_decision of_journal (router_of settings journal) frame decision))
       (sym (answers journal frame.moment (proper-rises settings journal ready.proper)))

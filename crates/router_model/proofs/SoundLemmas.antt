@@ -1,9 +1,9 @@
--- What octets spell is sound: a Map-Reply has at most 255 records, each of whose numbers have their bits.
-use Rattle.std.proofs.Common.{◌≡◌, ℕ, zero, suc, ◌+◌, ◌/◌, ◌%◌, ◌<◌, ◌≤◌, ◌==◌, ◌||◌, ◌&&◌, nat_le, nat_lt, Bool, true, false, cond, List, ◌∷◌, length, drop, Option, Some, None, option_and_then, option_map, Result, Ok, Err, refl, sym, ap, subst, arith, mod-lt}
+-- What octets spell is sound: a message has at most 255 records, each of whose numbers have their bits.
+use Rattle.std.proofs.Common.{◌≡◌, ℕ, zero, suc, ◌+◌, ◌/◌, ◌%◌, ◌<◌, ◌≤◌, ◌==◌, ◌||◌, ◌&&◌, nat_le, nat_lt, Bool, true, false, cond, List, ◌∷◌, ◌++◌, length, map, drop, Option, Some, None, option_and_then, option_map, option_to_list, Result, Ok, Err, refl, sym, ap, subst, arith, mod-lt}
 use Rattle.std.specs.Prelude.{slice_index}
 use Rattle.std.specs.List.{list_all}
 use Rattle.std.proofs.lemmas.Bool.Decides.{nat_tests}
-use Rattle.std.proofs.lemmas.List.{get_or_past}
+use Rattle.std.proofs.lemmas.List.{get_or_past, length-map}
 use Rattle.std.proofs.lemmas.List.Elements.{All-drop, All-get_or, All-take}
 use Rattle.std.proofs.lemmas.Option.{same_Some}
 use Rattle.octets.specs.Numbers.{big}
@@ -11,6 +11,7 @@ use Rattle.octets.specs.declared.refused.Refused.{Refused}
 use Rattle.octets.specs.Rules.{first_failing}
 use Rattle.ip_headers.specs.Ip.{dest_of, packet_in, source_of}
 use Rattle.ip_headers.specs.Udp.{payload_in}
+use Rattle.ip_headers.specs.declared.addr.Addr.{Addr}
 use Rattle.ip_headers.specs.declared.header.UdpHeader.{UdpHeader}
 use Rattle.capture_io.specs.Frame.{Frame}
 use Rattle.capture_io.specs.Link.{ethernet_octets, link_octets, link_vlan, type_place}
@@ -20,7 +21,9 @@ use Rattle.mapping_records.specs.Locator.{locators_at}
 use Rattle.mapping_records.specs.Record.{locator_count, locators_place, record_size}
 use Rattle.mapping_records.specs.declared.eid.Eid.{Eid}
 use Rattle.mapping_records.specs.declared.record.Record.{Record}
+use Rattle.map_messages.specs.Control.{inner_header, inner_packet, inner_payload, udp_of}
 use Rattle.map_messages.specs.Reply.{mapping_count}
+use Rattle.map_messages.specs.Request.{addr_count, addrs_place, asked_eid_size, eid_count, eids_place, record_count, record_place, reply_addr_size, source_at}
 use Rattle.map_messages.specs.Words.{bit, is_ecm, is_request, nonce_at}
 use Rattle.map_messages.specs.declared.message.Ecm.{Ecm}
 use Rattle.map_messages.specs.declared.message.MapReply.{MapReply}
@@ -32,8 +35,9 @@ use Rattle.router_log.specs.declared.verdict.Reason.TheVariants.{NotTunnel}
 use Rattle.router_log.specs.declared.verdict.Verdict.{Verdict}
 use Rattle.router_log.specs.declared.verdict.Verdict.TheVariants.{Drop, Own}
 use Rattle.router_model.specs.Course.{Course, Control, Data, FramePacket, Settled, arriving, by_port, by_udp, course_of, datagram_cases, datagram_read, frame_packet, frame_refusal, leaving, packet_course, unless_refused, unless_settled}
-use Rattle.router_model.specs.Lifting.{AreOctets, IsSoundFrame, entries_in, is_bounded, is_sound_message}
-use Rattle.router_model.specs.Received.{ecm_in, eid_prefix_in, items_in, message_in, record_in, reply_in, request_in}
+use Rattle.router_model.specs.Hear.{Range, ranges_of}
+use Rattle.router_model.specs.Lifting.{AreOctets, IsSoundFrame, entries_in, is_bounded, is_sound_message, requests_in}
+use Rattle.router_model.specs.Received.{asked_eid_in, ecm_in, ecm_of_reply, ecm_of_request, eid_prefix_in, head_of, items_in, message_in, record_in, reply_addr_in, reply_in, request_in}
 use Rattle.router_model.specs.Site.{instance_of, is_own}
 
 octet-at : (octets : List ℕ) (i : ℕ) → AreOctets octets → slice_index octets i < 256
@@ -105,6 +109,56 @@ reply-sound octets reply are is = by (items_in record_in record_size (mapping_co
         let same = all.1 in
         subst (λ (r : MapReply). (list_all is_bounded r.mappings ≡ true) × (length r.mappings ≤ 255)) (same_Some (made mappings) reply is) (all.0, omega (arith, few, same))
 
+request-few : (octets : List ℕ) (request : MapRequest) → AreOctets octets → request_in octets ≡ Some request → length (ranges_of request) ≤ 256
+request-few octets request are is = by (items_in reply_addr_in reply_addr_size (addr_count octets) (drop (addrs_place octets) octets)) (items_in asked_eid_in asked_eid_size (eid_count octets) (drop (eids_place octets) octets)) refl (items_in record_in record_size (record_count octets) (drop (record_place octets) octets)) is
+  where
+    made : List Addr → List Eid → List Record → MapRequest
+    made replies_to eids records = record {
+      probe = bit 2 (slice_index octets 0);
+      smr = bit 1 (slice_index octets 0);
+      invoked = bit 64 (slice_index octets 1);
+      nonce = nonce_at octets;
+      source = source_at (drop 12 octets);
+      replies_to = replies_to;
+      eids = eids;
+      piggyback = head_of records;
+    }
+
+    ranges : (source : Option (ℕ × Addr)) (f : ℕ × Addr → Range) (g : Eid → Range) (eids : List Eid) → length eids ≤ 255 → length (map f (option_to_list source) ++ map g eids) ≤ 256
+    ranges None f g eids few = omega (arith, length-map eids g, few)
+    ranges (Some source) f g eids few = omega (arith, length-map eids g, few)
+
+    by : (o : Option (List Addr)) (p : Option (List Eid)) → items_in asked_eid_in asked_eid_size (eid_count octets) (drop (eids_place octets) octets) ≡ p → (q : Option (List Record)) → option_and_then (λ replies_to. option_and_then (λ eids. option_and_then (λ records. Some (made replies_to eids records)) q) p) o ≡ Some request → length (ranges_of request) ≤ 256
+    by None p found q is = cc
+    by (Some replies_to) None found q is = cc
+    by (Some replies_to) (Some eids) found None is = cc
+    by (Some replies_to) (Some eids) found (Some records) is =
+        let all = items-pass asked_eid_in asked_eid_size (λ eid. true) (λ octets eid are is. refl) (eid_count octets) (drop (eids_place octets) octets) eids (All-drop (λ octet. octet < 256) (eids_place octets) octets are) found in
+        let few = octet-at octets 3 are in
+        let same = all.1 in
+        subst (λ (r : MapRequest). length (ranges_of r) ≤ 256) (same_Some (made replies_to eids records) request is) (ranges (source_at (drop 12 octets)) _ _ eids (omega (arith, few, same)))
+
+payload-octets : (packet : List ℕ) (udp : UdpHeader) → AreOctets packet → AreOctets (payload_in packet udp)
+payload-octets packet udp are = All-take (λ octet. octet < 256) _ _ (All-drop (λ octet. octet < 256) _ packet are)
+
+ecm-few : (octets : List ℕ) (ecm : Ecm) → AreOctets octets → ecm_in octets ≡ Some ecm → requests_in ecm.request ≤ 256
+ecm-few octets ecm are is = by (is_request (inner_payload octets)) is
+  where
+    inner : AreOctets (inner_payload octets)
+    inner = payload-octets (inner_packet octets) (udp_of (inner_header octets) (inner_packet octets)) (All-take (λ octet. octet < 256) _ (drop 4 octets) (All-drop (λ octet. octet < 256) 4 octets are))
+
+    asked : (o : Option MapRequest) → request_in (inner_payload octets) ≡ o → option_map (ecm_of_request octets) o ≡ Some ecm → requests_in ecm.request ≤ 256
+    asked None found is = cc
+    asked (Some request) found is = subst (λ (e : Ecm). requests_in e.request ≤ 256) (same_Some (ecm_of_request octets request) ecm is) (request-few (inner_payload octets) request inner found)
+
+    replied : (o : Option MapReply) → option_map (ecm_of_reply octets) o ≡ Some ecm → requests_in ecm.request ≤ 256
+    replied None is = cc
+    replied (Some reply) is = subst (λ (e : Ecm). requests_in e.request ≤ 256) (same_Some (ecm_of_reply octets reply) ecm is) (let none : 0 ≤ 256 = omega arith in none)
+
+    by : (b : Bool) → cond b (option_map (ecm_of_request octets) (request_in (inner_payload octets))) (option_map (ecm_of_reply octets) (reply_in (inner_payload octets))) ≡ Some ecm → requests_in ecm.request ≤ 256
+    by true is = asked (request_in (inner_payload octets)) refl is
+    by false is = replied (reply_in (inner_payload octets)) is
+
 abbrev IsSound : Message → Type 0
 IsSound read = (is_sound_message read ≡ true) × (entries_in read ≤ 256)
 
@@ -114,11 +168,11 @@ message-sound octets read are is = by (is_ecm octets) (is_request octets) is
   where
     carried : (o : Option Ecm) → ecm_in octets ≡ o → option_map Carried o ≡ Some read → IsSound read
     carried None found is = cc
-    carried (Some ecm) found is = subst IsSound (same_Some (Carried ecm) read is) (refl, omega arith)
+    carried (Some ecm) found is = subst IsSound (same_Some (Carried ecm) read is) (refl, ecm-few octets ecm are found)
 
     asked : (o : Option MapRequest) → request_in octets ≡ o → option_map Request o ≡ Some read → IsSound read
     asked None found is = cc
-    asked (Some request) found is = subst IsSound (same_Some (Request request) read is) (refl, omega arith)
+    asked (Some request) found is = subst IsSound (same_Some (Request request) read is) (refl, request-few octets request are found)
 
     replied : (o : Option MapReply) → reply_in octets ≡ o → option_map Reply o ≡ Some read → IsSound read
     replied None found is = cc
@@ -131,9 +185,6 @@ message-sound octets read are is = by (is_ecm octets) (is_request octets) is
     by true c is = carried (ecm_in octets) refl is
     by false true is = asked (request_in octets) refl is
     by false false is = replied (reply_in octets) refl is
-
-payload-octets : (packet : List ℕ) (udp : UdpHeader) → AreOctets packet → AreOctets (payload_in packet udp)
-payload-octets packet udp are = All-take (λ octet. octet < 256) _ _ (All-drop (λ octet. octet < 256) _ packet are)
 
 -- ### the packet of a datagram is made of the frame's octets
 

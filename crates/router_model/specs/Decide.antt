@@ -1,5 +1,5 @@
 -- What the router does with a frame (RFC 9300, sections 5.3 and 10; this router's order of cases), and what it notices.
-use Rattle.std.specs.Prelude.{ℕ, ◌/◌, ◌%◌, ◌^◌, ◌==◌, ◌||◌, not, Bool, false, List, [], ◌∷◌, drop, length, Option, Some, None, is_none, is_some, option_map, option_to_list, unwrap_or, if◌then◌else◌}
+use Rattle.std.specs.Prelude.{ℕ, ◌/◌, ◌%◌, ◌^◌, ◌==◌, ◌||◌, not, Bool, false, List, [], ◌∷◌, drop, length, Option, Some, None, is_none, is_some, option_and_then, option_map, option_to_list, unwrap_or, if◌then◌else◌}
 use Rattle.octets.specs.Rules.{first_failing}
 use Rattle.ip_headers.specs.Addr.{width}
 use Rattle.ip_headers.specs.Ip.{dest_of, header_at, packet_in, source_of}
@@ -28,7 +28,8 @@ use Rattle.lisp_settings.specs.declared.settings.Database.{Database}
 use Rattle.lisp_settings.specs.declared.settings.Settings.{Settings}
 use Rattle.locator_choice.specs.Hash.{flow_hash, source_port}
 use Rattle.router_log.specs.declared.decision.Decision.{Decision}
-use Rattle.router_log.specs.declared.notice.Notice.TheVariants.{Ask}
+use Rattle.router_log.specs.declared.notice.Notice.{Notice}
+use Rattle.router_log.specs.declared.notice.Notice.TheVariants.{Ask, Bits}
 use Rattle.router_log.specs.declared.verdict.Reason.{Reason}
 use Rattle.router_log.specs.declared.verdict.Reason.TheVariants as reason
 use Rattle.router_log.specs.declared.verdict.Reason.TheVariants.{NotTunnel, Encrypted, NotOurs, CongestionMark, TtlExpired, Multicast, NotSite, Miss, NoAction, SendRequest, DropNoReason, DropPolicy, DropAuth, NoLocator, TooBig}
@@ -61,26 +62,43 @@ abbrev pub delivery_reason : Undelivered → Reason
 delivery_reason decap.CongestionMark = CongestionMark
 delivery_reason decap.TtlExpired = TtlExpired
 
--- a packet for the site, which leaves its tunnel unless a rule drops it (not built: versions, and
--- what a delivered packet tells)
-abbrev pub leaves : ℕ → IpHeader → List ℕ → Option Undelivered → Verdict
-leaves iid outer inner (Some why) = Drop (delivery_reason why)
-leaves iid outer inner None = Delivered iid (delivered inner outer)
-
--- a packet in a tunnel by the database prefix of its destination
-abbrev pub for_home : ℕ → IpHeader → List ℕ → Option Database → Verdict
-for_home iid outer inner None = Drop NotOurs
-for_home iid outer inner (Some home) =
-    leaves iid outer inner (first_failing (deliver_rules inner outer))
-
 -- the instance of a LISP header, 0 without one
 abbrev pub iid_of : LispHeader → ℕ
 iid_of lisp = unwrap_or lisp.instance 0
 
+-- how many status bits a LISP header has: beside an instance the lowest 8 (RFC 9300, section 5.1)
+abbrev pub bits_width : LispHeader → ℕ
+bits_width lisp = if is_some lisp.instance then 8 else 32
+
+-- what status bits from a locator tell of the mapping in force for the inner source
+abbrev pub bits_notice : Addr → LispHeader → ℕ → Option Held → Option Notice
+bits_notice rloc lisp bits held =
+    option_map (λ (held : Held). Bits held.eid rloc bits (bits_width lisp)) held
+
+-- what a delivered packet from a locator tells (not built: of echoes and versions)
+abbrev pub delivery_notices : Addr → LispHeader → Option Held → List Notice
+delivery_notices rloc lisp held =
+    option_to_list (option_and_then (λ bits. bits_notice rloc lisp bits held) lisp.status)
+
+-- a packet for the site, which leaves its tunnel unless a rule drops it (not built: versions)
+abbrev pub leaves : IpHeader → LispHeader → List ℕ → Option Held → Option Undelivered → Decision
+leaves outer lisp inner held (Some why) = drops (delivery_reason why)
+leaves outer lisp inner held None = record {
+  verdict = Delivered (iid_of lisp) (delivered inner outer);
+  notices = delivery_notices (source_of outer) lisp held;
+}
+
+-- a packet in a tunnel by the database prefix of its destination, and the mapping in force for its source
+abbrev pub for_home : IpHeader → LispHeader → List ℕ → Option Held → Option Database → Decision
+for_home outer lisp inner held None = drops NotOurs
+for_home outer lisp inner held (Some home) =
+    leaves outer lisp inner held (first_failing (deliver_rules inner outer))
+
 -- the packet behind a LISP header
-abbrev pub unwrapped : Settings → IpHeader → LispHeader → List ℕ → Verdict
-unwrapped settings outer lisp octets =
-    for_home (iid_of lisp) outer (packet_in octets)
+abbrev pub unwrapped : Settings → View → IpHeader → LispHeader → List ℕ → Decision
+unwrapped settings v outer lisp octets =
+    for_home outer lisp (packet_in octets)
+    (force_for v (iid_of lisp) (source_of (header_at octets)))
     (home_of settings.databases (iid_of lisp) (dest_of (header_at octets)))
 
 -- the reason of a tunnel packet that isn't opened
@@ -89,15 +107,15 @@ open_reason (open_drop.Refused refused) = reason.Refused refused
 open_reason open_drop.Encrypted = Encrypted
 
 -- a tunnel packet by its payload, where the rules of opening hold
-abbrev pub opened : Settings → IpHeader → List ℕ → Option OpenDrop → Verdict
-opened settings outer payload (Some why) = Drop (open_reason why)
-opened settings outer payload None =
-    unwrapped settings outer (lisp_header_at payload) (drop 8 payload)
+abbrev pub opened : Settings → View → IpHeader → List ℕ → Option OpenDrop → Decision
+opened settings v outer payload (Some why) = drops (open_reason why)
+opened settings v outer payload None =
+    unwrapped settings v outer (lisp_header_at payload) (drop 8 payload)
 
 -- a packet in a tunnel
-abbrev pub tunnelled : Settings → Datagram → Verdict
-tunnelled settings d =
-    opened settings d.packet.header (payload_in d.packet.octets d.udp)
+abbrev pub tunnelled : Settings → View → Datagram → Decision
+tunnelled settings v d =
+    opened settings v d.packet.header (payload_in d.packet.octets d.udp)
     (first_failing (opened_rules d.packet.base d.packet.header d.packet.octets d.udp))
 
 -- ### a packet from the site
@@ -141,9 +159,9 @@ lisp_header settings iid = record {
   key = 0;
 }
 
--- the source port of a packet's tunnel
-abbrev pub port_of : IpHeader → List ℕ → ℕ
-port_of header packet = source_port (flow_hash (five_tuple_of header packet))
+-- the hash of a packet's flow, which gives its locator and the source port of its tunnel
+abbrev pub hash_of : FramePacket → ℕ
+hash_of packet = flow_hash (five_tuple_of packet.header packet.octets)
 
 -- the reason of a packet that isn't sent
 abbrev pub unsent_reason : Unsent → Reason
@@ -154,7 +172,7 @@ unsent_reason encap.TooBig = TooBig
 abbrev pub sent : Settings → ℕ → FramePacket → Addr → Addr → Option Unsent → Verdict
 sent settings iid packet from to (Some why) = Drop (unsent_reason why)
 sent settings iid packet from to None =
-    let port = port_of packet.header packet.octets in
+    let port = source_port (hash_of packet) in
     Encapsulated from to port (wrapped packet.octets from to port (lisp_header settings iid))
 
 -- the packet, from ours of the family of a locator
@@ -188,7 +206,7 @@ abbrev pub mapped : Settings → View → ℕ → FramePacket → Option Held �
 mapped settings v iid packet None = asking iid packet.header Miss
 mapped settings v iid packet (Some held) =
     if length held.mapping.locators == 0 then by_action iid packet (action_of held.mapping.action)
-    else alone (towards settings iid packet (chosen settings v held.up held.mapping.locators))
+    else alone (towards settings iid packet (chosen settings v held.up held.mapping.locators (hash_of packet)))
 
 -- a packet of an instance
 unfoldable pub routed : Settings → View → ℕ → FramePacket → Decision
@@ -201,7 +219,7 @@ routed settings v iid packet =
 -- the decision on a frame of that course; a control message is heard, and has none
 abbrev pub decide_course : Settings → View → Course → Decision
 decide_course settings v (Settled verdict) = alone verdict
-decide_course settings v (Data datagram) = alone (tunnelled settings datagram)
+decide_course settings v (Data datagram) = tunnelled settings v datagram
 decide_course settings v (Control datagram) = drops NotTunnel
 decide_course settings v (Leaving iid packet) = routed settings v iid packet
 

@@ -1,34 +1,44 @@
 -- What a control message makes of the journal, and the answer to it (RFC 9301, sections 5 to 8).
-use Rattle.std.specs.Prelude.{ℕ, ◌+◌, ◌-◌, ◌&&◌, not, Bool, false, List, length, take, Option, Some, None, if◌then◌else◌}
+use Rattle.std.specs.Prelude.{ℕ, ◌+◌, ◌-◌, ◌==◌, ◌&&◌, not, Bool, true, false, List, [], ◌∷◌, ◌++◌, filter, filter_map, length, map, option_to_list, take, Option, Some, None, is_some, if◌then◌else◌}
 use Rattle.std.specs.List.{list_any}
 use Rattle.octets.specs.Rules.{first_failing}
 use Rattle.octets.specs.declared.refused.Refused.{Refused}
+use Rattle.ip_headers.specs.Addr.{width}
+use Rattle.ip_headers.specs.Ip.{dest_of}
 use Rattle.ip_headers.specs.Udp.{payload_in, sum_rules}
+use Rattle.ip_headers.specs.declared.addr.Addr.{Addr}
 use Rattle.capture_io.specs.Frame.{Frame}
+use Rattle.mapping_records.specs.Eids.{covers_eid, same_address, same_eid}
 use Rattle.mapping_records.specs.declared.eid.Eid.{Eid}
+use Rattle.mapping_records.specs.declared.record.Locator.{Locator}
 use Rattle.mapping_records.specs.declared.record.Record.{Record}
 use Rattle.map_messages.specs.Message.{message_rules}
 use Rattle.map_messages.specs.declared.message.MapReply.{MapReply}
 use Rattle.map_messages.specs.declared.message.MapRequest.{MapRequest}
 use Rattle.map_messages.specs.declared.message.Message.{Message}
 use Rattle.map_messages.specs.declared.message.Message.TheVariants as message
+use Rattle.lisp_settings.specs.declared.settings.Database.{Database}
+use Rattle.lisp_settings.specs.declared.settings.OwnLocator.{OwnLocator}
 use Rattle.lisp_settings.specs.declared.settings.Settings.{Settings}
+use Rattle.router_log.specs.declared.emit.Emit.TheVariants as emit
 use Rattle.router_log.specs.declared.entry.Entry.TheVariants as entry
 use Rattle.router_log.specs.declared.verdict.Done.{Done}
-use Rattle.router_log.specs.declared.verdict.Done.TheVariants.{Learned}
+use Rattle.router_log.specs.declared.verdict.Done.TheVariants.{Answered, Learned, Solicited}
 use Rattle.router_log.specs.declared.verdict.Reason.{Reason}
 use Rattle.router_log.specs.declared.verdict.Reason.TheVariants as reason
-use Rattle.router_log.specs.declared.verdict.Reason.TheVariants.{NotBuilt, NotTunnel, Unsolicited, Unfit, Unexpected}
+use Rattle.router_log.specs.declared.verdict.Reason.TheVariants.{NoReplyPath, NotOurs, NotTunnel, Unsolicited, Unfit, Unexpected}
 use Rattle.router_log.specs.declared.verdict.Verdict.{Verdict}
 use Rattle.router_log.specs.declared.verdict.Verdict.TheVariants as outcome
 use Rattle.router_log.specs.declared.verdict.Verdict.TheVariants.{Drop}
-use Rattle.request_queue.specs.declared.request.Request.{Request}
-use Rattle.router_model.specs.Changes.{Change, Ledger, each, entered, has_room, journal, seen, unchanged}
-use Rattle.router_model.specs.Course.{Course, Control, Datagram, course_of}
-use Rattle.mapping_records.specs.Eids.{covers_eid, same_eid}
-use Rattle.router_model.specs.Journal.{Journal}
-use Rattle.router_model.specs.Received.{message_in}
 use Rattle.request_queue.specs.Queue.{with_nonce}
+use Rattle.request_queue.specs.declared.request.Request.{Request}
+use Rattle.router_model.specs.Changes.{Change, Ledger, asked, each, emitted, entered, has_room, journal, may_ask, seen, unchanged}
+use Rattle.router_model.specs.Course.{Course, Control, Datagram, course_of}
+use Rattle.router_model.specs.Journal.{Journal}
+use Rattle.router_model.specs.Mappings.{Held, force}
+use Rattle.router_model.specs.Received.{message_in}
+use Rattle.router_model.specs.Site.{database_of, ours}
+use Rattle.router_model.specs.View.{View}
 
 -- a verdict, and what changed
 pub record Heard (S : Type 0) : Type 0 where
@@ -42,6 +52,117 @@ drops why change = record { verdict = Drop why; change = change }
 -- a message was taken
 abbrev pub takes : {S : Type 0} → Done → Change S → Heard S
 takes done change = record { verdict = outcome.Control done; change = change }
+
+-- ### what a Map-Request is answered with
+
+-- how a request came: to which of our addresses, from which port, and whether as a probe
+pub record Asker : Type 0 where
+  pub dest : Addr
+  pub port : ℕ
+  pub probe : Bool
+
+-- an own locator in a record; p marks the one that a probe came to
+abbrev pub own_locator : Option Addr → OwnLocator → Locator
+own_locator probed own = record {
+  addr = own.addr;
+  priority = own.priority;
+  weight = own.weight;
+  m_priority = 255;
+  m_weight = 0;
+  local = true;
+  probed = list_any (λ addr. same_address addr own.addr) (option_to_list probed);
+  reachable = own.up;
+}
+
+-- the record of a database prefix
+abbrev pub own_record : Settings → Option Addr → Database → Record
+own_record settings probed database = record {
+  ttl = settings.ttl;
+  action = 0;
+  authoritative = true;
+  version = database.version;
+  eid = database.eid;
+  locators = map (own_locator probed) settings.locators;
+}
+
+-- the database lies within the longest that covers one of the EIDs
+abbrev pub answers : List Database → List Eid → Database → Bool
+answers databases eids database =
+    list_any (λ hit. covers_eid hit.eid database.eid) (filter_map (database_of databases) eids)
+
+-- the databases that answer EIDs: the longest that covers each, and all that lie within one of these
+abbrev pub answering : List Database → List Eid → List Database
+answering databases eids = filter (answers databases eids) databases
+
+-- between which addresses a reply goes
+pub record Path : Type 0 where
+  pub from : Addr
+  pub to : Addr
+
+-- to that address, from ours
+abbrev pub path_from : Option Addr → Addr → Option Path
+path_from None to = None
+path_from (Some from) to = Some (record { from = from; to = to })
+
+-- to the first address whose family has ours
+abbrev pub first_path : List OwnLocator → List Addr → Option Path
+first_path locators [] = None
+first_path locators (to ∷ others) =
+    if is_some (ours locators to) then path_from (ours locators to) to else first_path locators others
+
+-- from one address to the first of its family
+abbrev pub path_back : Addr → List Addr → Option Path
+path_back from [] = None
+path_back from (to ∷ others) =
+    if width to == width from then Some (record { from = from; to = to }) else path_back from others
+
+-- a probe is answered from the address that it came to
+abbrev pub reply_path : Settings → Asker → MapRequest → Option Path
+reply_path settings asker request =
+    if asker.probe then path_back asker.dest request.replies_to else first_path settings.locators request.replies_to
+
+-- the reply with the records of databases
+abbrev pub reply_of : Settings → Asker → MapRequest → List Database → MapReply
+reply_of settings asker request databases = record {
+  probe = asker.probe;
+  nonce = request.nonce;
+  mappings = map (own_record settings (if asker.probe then Some asker.dest else None)) databases;
+}
+
+-- a reply goes out, where it has a path
+abbrev pub replied : {S : Type 0} → Asker → MapReply → Option Path → Change S → Heard S
+replied asker reply None change = drops NoReplyPath change
+replied asker reply (Some path) change =
+    takes (Answered (length reply.mappings)) (emitted (emit.Reply path.from path.to asker.port reply) change)
+
+-- a Map-Request that asks for mappings of the site
+abbrev pub answered : {S : Type 0} → Settings → Asker → MapRequest → Change S → Heard S
+answered settings asker request change =
+    let databases = answering settings.databases request.eids in
+    if length databases == 0 then drops NotOurs change
+    else replied asker (reply_of settings asker request databases) (reply_path settings asker request) change
+
+-- ### what a solicitation makes the router ask for
+
+-- a prefix of an instance
+pub record Range : Type 0 where
+  pub iid : ℕ
+  pub addr : Addr
+  pub len : ℕ
+
+-- the Source EID as a host, then the EIDs
+abbrev pub ranges_of : MapRequest → List Range
+ranges_of request =
+    map (λ source. record { iid = source.0; addr = source.1; len = width source.1 }) (option_to_list request.source)
+    ++ map (λ eid. record { iid = eid.iid; addr = eid.prefix.addr; len = eid.prefix.len }) request.eids
+
+-- the EID of a mapping that was learnt and may be asked for again
+abbrev pub renewable : Settings → View → Option Held → Option Eid
+renewable settings v None = None
+renewable settings v (Some held) =
+    if not held.fixed && may_ask settings v held.eid then Some held.eid else None
+
+-- ### what a Map-Reply teaches
 
 -- a record of the reply covers the EID that was asked for
 abbrev pub is_fit : Eid → List Record → Bool
@@ -61,6 +182,28 @@ abbrev pub shortened : Record → Record
 shortened mapping = record mapping { locators = take 32 mapping.locators }
 
 module _ {S : Type 0} (ledger : Ledger S) (settings : Settings) (m : ℕ) where
+  -- an EID is asked for again, if there is one
+  abbrev pub asked_again : Option Eid → Change S → Change S
+  asked_again None change = change
+  asked_again (Some eid) change = asked ledger settings m eid None true change
+
+  -- the mapping in force for a prefix is asked for again
+  abbrev pub renewed : Range → Change S → Change S
+  renewed range change =
+      asked_again
+      (renewable settings (seen ledger settings m change)
+      (force (seen ledger settings m change).mappings range.iid range.addr range.len)) change
+
+  -- how many requests came of it
+  abbrev pub counted : Change S → Heard S
+  counted change = takes (Solicited (length change.entries)) change
+
+  -- a Map-Request: a solicitation, or a question for mappings of the site
+  unfoldable pub requested : Asker → MapRequest → Change S → Heard S
+  requested asker request change =
+      if request.smr && not asker.probe then counted (each renewed (ranges_of request) change)
+      else answered settings asker request change
+
   -- a record is learnt, or passed over
   abbrev pub taught : Eid → List Record → Record → Change S → Change S
   taught asked mappings mapping change =
@@ -87,37 +230,38 @@ module _ {S : Type 0} (ledger : Ledger S) (settings : Settings) (m : ℕ) where
       if reply.probe then drops Unsolicited change
       else replied_to reply (with_nonce (seen ledger settings m change).requests reply.nonce) change
 
-  -- what is encapsulated: only a Map-Request is heard (not built: how)
-  abbrev pub carried : Option MapRequest → Change S → Heard S
-  carried None change = drops Unexpected change
-  carried (Some request) change = drops NotBuilt change
+  -- what is encapsulated: only a Map-Request is heard, with the port inside, and as no probe
+  abbrev pub carried : Addr → ℕ → Option MapRequest → Change S → Heard S
+  carried dest port None change = drops Unexpected change
+  carried dest port (Some request) change = requested (record { dest = dest; port = port; probe = false }) request change
 
-  -- a message (not built: Map-Requests)
-  abbrev pub message_heard : Message → Change S → Heard S
-  message_heard (message.Request request) change = drops NotBuilt change
-  message_heard (message.Reply reply) change = reply_heard reply change
-  message_heard (message.Control ecm) change = carried ecm.request change
+  -- a message to one of our addresses, from a port
+  abbrev pub message_heard : Addr → ℕ → Message → Change S → Heard S
+  message_heard dest port (message.Request request) change =
+      requested (record { dest = dest; port = port; probe = request.probe }) request change
+  message_heard dest port (message.Reply reply) change = reply_heard reply change
+  message_heard dest port (message.Control ecm) change = carried dest ecm.source_port ecm.request change
 
-  -- the octets of a datagram to the router; octets that keep the rules have a message
-  abbrev pub read_heard : Option Message → Change S → Heard S
-  read_heard None change = drops Unexpected change
-  read_heard (Some read) change = message_heard read change
+  -- what was read of octets, which have a message where they keep the rules
+  abbrev pub read_heard : Addr → ℕ → Option Message → Change S → Heard S
+  read_heard dest port None change = drops Unexpected change
+  read_heard dest port (Some read) change = message_heard dest port read change
 
   -- the drop of a refusal, or else what follows
   abbrev pub unless_refused : Option Refused → Change S → Heard S → Heard S
   unless_refused None change others = others
   unless_refused (Some refused) change others = drops (reason.Refused refused) change
 
-  -- octets from a place on, which keep the rules of messages
-  unfoldable pub payload_heard : ℕ → List ℕ → Change S → Heard S
-  payload_heard base payload change =
-      unless_refused (first_failing (message_rules base payload)) change (read_heard (message_in payload) change)
+  -- octets from a place on, to one of our addresses and from a port
+  unfoldable pub payload_heard : Addr → ℕ → ℕ → List ℕ → Change S → Heard S
+  payload_heard dest port base payload change =
+      unless_refused (first_failing (message_rules base payload)) change (read_heard dest port (message_in payload) change)
 
   -- a datagram, whose checksum is there and right
   unfoldable pub datagram_heard : Datagram → Change S → Heard S
   datagram_heard d change =
       unless_refused (first_failing (sum_rules d.packet.base d.packet.header d.packet.octets d.udp false)) change
-      (payload_heard (d.packet.base + d.udp.at + 8) (payload_in d.packet.octets d.udp) change)
+      (payload_heard (dest_of d.packet.header) d.udp.source (d.packet.base + d.udp.at + 8) (payload_in d.packet.octets d.udp) change)
 
   -- a control message; no other frame is heard
   abbrev pub course_heard : Course → Change S → Heard S

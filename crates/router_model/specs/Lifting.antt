@@ -1,13 +1,15 @@
 -- What is promised of parts: they stand for the journal.
-use Rattle.std.specs.Prelude.{◌≡◌, ℕ, suc, ◌+◌, ◌*◌, ◌^◌, ◌<◌, ◌≤◌, ◌&&◌, nat_le, Bool, true, List, [], ◌∷◌, ◌++◌, length, Some, None, option_map, if◌then◌else◌}
+use Rattle.std.specs.Prelude.{◌≡◌, ℕ, suc, ◌+◌, ◌*◌, ◌^◌, ◌<◌, ◌≤◌, ◌==◌, ◌||◌, ◌&&◌, nat_le, Bool, true, List, [], ◌∷◌, ◌++◌, length, Option, Some, None, option_map, if◌then◌else◌}
 use Rattle.std.specs.List.{All, list_all}
 use Rattle.ip_headers.specs.Udp.{payload_in}
+use Rattle.ip_headers.specs.declared.addr.Addr.{Addr}
 use Rattle.capture_io.specs.Frame.{Frame}
 use Rattle.capture_io.specs.Capture.{begin}
 use Rattle.capture_io.specs.Frames.{read_on}
 use Rattle.capture_io.specs.declared.format.Format.{Format}
 use Rattle.mapping_records.specs.declared.eid.Eid.{Eid}
 use Rattle.mapping_records.specs.declared.record.Record.{Record}
+use Rattle.map_messages.specs.declared.message.MapRequest.{MapRequest}
 use Rattle.map_messages.specs.declared.message.Message.{Message}
 use Rattle.map_messages.specs.declared.message.Message.TheVariants as message
 use Rattle.lisp_settings.specs.Lawful.{IsLawful}
@@ -17,11 +19,12 @@ use Rattle.playback.specs.Playing.{IsRead, outcome_of}
 use Rattle.router_log.specs.Moments.{seconds}
 use Rattle.router_log.specs.declared.entry.Entry.{Entry}
 use Rattle.router_log.specs.declared.notice.Notice.{Notice}
+use Rattle.router_log.specs.declared.notice.Notice.TheVariants as notice
 use Rattle.router_model.specs.Cache.{known_since, told_since}
 use Rattle.router_model.specs.Changes.{Change, journal as of_journal, unchanged}
 use Rattle.router_model.specs.Course.{Control, Datagram, course_of}
 use Rattle.router_model.specs.Decide.{decide, decide_by}
-use Rattle.router_model.specs.Hear.{Heard, hear, hear_by, message_heard}
+use Rattle.router_model.specs.Hear.{Heard, hear, hear_by, message_heard, ranges_of}
 use Rattle.router_model.specs.Journal.{Journal, IsRising, last_moment, moment_of, statics}
 use Rattle.router_model.specs.Mappings.{bit, bit_told, exact, held, live, live_mappings}
 use Rattle.router_model.specs.Note.{note, noted}
@@ -89,9 +92,14 @@ pub record Goes (settings : Settings) (m more : ℕ) (by_table : Change Parts) (
   pub same : by_table ≡ tabled by_journal
   pub ready : Ready settings m more by_journal.after
 
+-- a notice as decisions give it: there are 8 or 32 status bits
+abbrev pub is_sound : Notice → Bool
+is_sound (notice.Bits eid rloc bits width) = (width == 8) || (width == 32)
+is_sound _ = true
+
 -- a notice is noted by a table as by the journal: the same entries, which fit, and the same emits
 abbrev pub NotesLift : Type 0
-NotesLift = (settings : Settings) (m more : ℕ) (notice : Notice) (before : Change Journal) → Ready settings m (suc more) before.after → Goes settings m more (noted table settings m notice (tabled before)) (noted of_journal settings m notice before)
+NotesLift = (settings : Settings) (m more : ℕ) (notice : Notice) (before : Change Journal) → is_sound notice ≡ true → Ready settings m (suc more) before.after → Goes settings m more (noted table settings m notice (tabled before)) (noted of_journal settings m notice before)
 
 -- a table answered a message as the journal
 pub record Hears (settings : Settings) (m more : ℕ) (by_table : Heard Parts) (by_journal : Heard Journal) : Type 0 where
@@ -107,14 +115,20 @@ abbrev pub is_sound_message : Message → Bool
 is_sound_message (message.Reply reply) = list_all is_bounded reply.mappings
 is_sound_message _ = true
 
+-- the entries that a request may make, if there is one
+abbrev pub requests_in : Option MapRequest → ℕ
+requests_in None = 0
+requests_in (Some request) = length (ranges_of request)
+
 -- the entries that a message may make
 abbrev pub entries_in : Message → ℕ
+entries_in (message.Request request) = requests_in (Some request)
 entries_in (message.Reply reply) = suc (length reply.mappings)
-entries_in _ = 0
+entries_in (message.Control ecm) = requests_in ecm.request
 
 -- a message is heard by a table as by the journal: the same verdict, the same entries, which fit, and the same emits
 abbrev pub MessagesLift : Type 0
-MessagesLift = (settings : Settings) (m more : ℕ) (read : Message) (before : Change Journal) → is_sound_message read ≡ true → Ready settings m (more + entries_in read) before.after → Hears settings m more (message_heard table settings m read (tabled before)) (message_heard of_journal settings m read before)
+MessagesLift = (settings : Settings) (m more : ℕ) (dest : Addr) (port : ℕ) (read : Message) (before : Change Journal) → is_sound_message read ≡ true → Ready settings m (more + entries_in read) before.after → Hears settings m more (message_heard table settings m dest port read (tabled before)) (message_heard of_journal settings m dest port read before)
 
 -- octets
 abbrev pub AreOctets : List ℕ → Type 0
@@ -144,14 +158,14 @@ abbrev pub TableDecides : Type 0
 TableDecides = (settings : Settings) (parts : Parts) (journal : Journal) (m : ℕ) (frame : Frame) → Stands settings parts journal → decide_by settings (view_in parts m) frame ≡ decide settings journal m frame
 
 abbrev pub TableNotes : Type 0
-TableNotes = (settings : Settings) (parts : Parts) (journal : Journal) (m : ℕ) (notice : Notice) → Stands settings parts journal → MayGo journal m → Follows settings (noted table settings m notice (unchanged parts)) (note settings journal m notice)
+TableNotes = (settings : Settings) (parts : Parts) (journal : Journal) (m : ℕ) (notice : Notice) → Stands settings parts journal → MayGo journal m → is_sound notice ≡ true → Follows settings (noted table settings m notice (unchanged parts)) (note settings journal m notice)
 
 abbrev pub TableHears : Type 0
 TableHears = (settings : Settings) (parts : Parts) (journal : Journal) (m : ℕ) (frame : Frame) → Stands settings parts journal → MayGo journal m → AreOctets frame.octets → let by_table = hear_by table settings m frame (unchanged parts) in let by_journal = hear settings journal m frame in (by_table.verdict ≡ by_journal.verdict) × Follows settings by_table.change by_journal.change
 
--- a decision gives at most one notice
-abbrev pub NoticesFew : Type 0
-NoticesFew = (settings : Settings) (v : View) (frame : Frame) → length (decide_by settings v frame).notices ≤ 1
+-- a decision gives at most one notice, and sound ones alone
+abbrev pub NoticesSound : Type 0
+NoticesSound = (settings : Settings) (v : View) (frame : Frame) → let notices = (decide_by settings v frame).notices in (list_all is_sound notices ≡ true) × (length notices ≤ 1)
 
 -- ### whole replays
 

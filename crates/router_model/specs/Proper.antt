@@ -1,12 +1,13 @@
 -- Journals that a router can have.
-use Rattle.std.specs.Prelude.{◌≡◌, ℕ, ◌%◌, ◌^◌, ◌==◌, ◌&&◌, nat_le, nat_lt, not, Bool, false, true, IsTrue, List, [], ◌∷◌, ◌++◌, length, is_some}
+use Rattle.std.specs.Prelude.{◌≡◌, ℕ, ◌%◌, ◌^◌, ◌==◌, ◌||◌, ◌&&◌, nat_le, nat_lt, not, Bool, false, true, IsTrue, List, [], ◌∷◌, ◌++◌, length, is_some}
 use Rattle.mapping_records.specs.declared.record.Record.{Record}
 use Rattle.lisp_settings.specs.Nonces.{nonce_of}
 use Rattle.lisp_settings.specs.declared.settings.Settings.{Settings}
 use Rattle.router_log.specs.declared.entry.Entry.{Entry}
-use Rattle.router_log.specs.declared.entry.Entry.TheVariants.{Learned, Asked, Answered, Probed, EchoStarted, Solicited}
+use Rattle.router_log.specs.declared.entry.Entry.TheVariants.{Learned, Asked, Answered, Bits, Probed, EchoStarted, Solicited}
 use Rattle.router_model.specs.Changes.{has_room}
 use Rattle.router_model.specs.Journal.{Journal, drawn, last_moment, moment_of, statics}
+use Rattle.router_model.specs.Mappings.{exact}
 use Rattle.request_queue.specs.Queue.{with_nonce}
 use Rattle.router_model.specs.View.{View, view}
 
@@ -19,6 +20,7 @@ abbrev pub suits : View → Entry → Bool
 suits v (Learned moment mapping fixed) = not fixed && (is_in_range mapping && has_room v mapping)
 suits v (Asked moment eid source invoked nonce) = nat_lt (length v.requests) 1024
 suits v (Answered moment nonce) = is_some (with_nonce v.requests nonce)
+suits v (Bits moment eid bits width) = is_some (exact v.mappings eid) && ((width == 8) || (width == 32))
 suits v _ = false
 
 -- the entry may follow so many entries, of which the last has that moment, seen so at its own; its nonce apart

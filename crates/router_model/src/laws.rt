@@ -13,7 +13,7 @@ ghost use Rattle.router_model.specs.Changes.{journal as of_journal, unchanged};
 ghost use Rattle.router_model.specs.Decide.{decide_by};
 ghost use Rattle.router_model.specs.Hear.{drops, hear, reply_heard};
 ghost use Rattle.router_model.specs.Journal.{Journal, statics};
-ghost use Rattle.router_model.specs.Lifting.{AllAbsorbed, BitsKept, EntryAbsorbed, EventsInOrder, LiveIsExact, NoticesFew, PartsAnswer, ProperRises, ReadFits, ReadInOrder, RunReplays, StandingAbsorbs, StandingAdmits, StandingSees, StaticsStand, TableDecides, TableHears, TableNotes, TableReplays};
+ghost use Rattle.router_model.specs.Lifting.{AllAbsorbed, BitsKept, EntryAbsorbed, EventsInOrder, LiveIsExact, NoticesSound, PartsAnswer, ProperRises, ReadFits, ReadInOrder, RunReplays, StandingAbsorbs, StandingAdmits, StandingSees, StaticsStand, TableDecides, TableHears, TableNotes, TableReplays};
 ghost use Rattle.router_model.specs.Received.{message_in};
 ghost use Rattle.router_model.specs.View.{Agrees, View, view};
 
@@ -84,9 +84,9 @@ pub fn tables_go_as_journals()
     ensures hears { TableHears }
 {}
 
-/// A decision gives at most one notice.
-pub fn decisions_give_few_notices()
-    ensures { NoticesFew }
+/// A decision gives at most one notice, and sound ones alone.
+pub fn decisions_give_sound_notices()
+    ensures { NoticesSound }
 {}
 
 /// From the static mappings on, a table replays events in order as the plain router does; the
