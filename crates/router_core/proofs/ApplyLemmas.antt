@@ -1,5 +1,6 @@
 -- What is known of an entry that may follow.
-use Rattle.std.proofs.Common.{◌≡◌, ◌∙◌, ◌≤◌, ◌<◌, ◌^◌, ◌&&◌, ℕ, Bool, true, false, nat_lt, nat_le, ◌∷◌, length, Option, IsTrue, sym, ap, subst, refl, arith}
+use Rattle.std.proofs.Common.{◌≡◌, ◌∙◌, ◌≤◌, ◌<◌, ◌^◌, ◌==◌, ◌||◌, ◌&&◌, ℕ, Bool, true, false, nat_lt, nat_le, ◌∷◌, length, Option, is_some, IsTrue, sym, ap, subst, refl, arith}
+use Rattle.std.proofs.lemmas.Bool.{eqb-true}
 use Rattle.std.proofs.lemmas.Bool.Decides.{nat_tests}
 use Rattle.ip_headers.specs.declared.addr.Addr.{Addr}
 use Rattle.lisp_settings.specs.declared.settings.Settings.{Settings}
@@ -9,8 +10,9 @@ use Rattle.mapping_records.specs.declared.eid.Eid.{Eid}
 use Rattle.mapping_records.specs.declared.record.Record.{Record}
 use Rattle.request_queue.specs.Queue.{waiting}
 use Rattle.router_log.specs.declared.entry.Entry.{Entry}
-use Rattle.router_log.specs.declared.entry.Entry.TheVariants.{Learned, Asked}
+use Rattle.router_log.specs.declared.entry.Entry.TheVariants.{Learned, Asked, Bits}
 use Rattle.router_model.specs.Journal.{Journal, moment_of}
+use Rattle.router_model.specs.Mappings.{exact}
 use Rattle.router_model.specs.Parts.{Parts, Stands, absorbed, admits, view_in, with_entry}
 use Rattle.router_model.specs.Proper.{fits, suits}
 use Rattle.router_model.proofs.StandsLemmas.{standing-absorbs}
@@ -74,6 +76,17 @@ pub may-ask : (p : Parts) (m : ℕ) (eid : Eid) (source : Option Addr) (invoked 
 may-ask p m eid source invoked nonce is =
     let known = may p (Asked m eid source invoked nonce) is in
     may_ask-place p m known.later known.suit
+
+-- status bits that may be told are 32 at most
+pub may-tell : (p : Parts) (m : ℕ) (eid : Eid) (bits width : ℕ) → admits p (Bits m eid bits width) ≡ true → width ≤ 32
+may-tell p m eid bits width is = few width (both (is_some (exact (view_in p m).mappings eid)) _ (may p (Bits m eid bits width) is).suit).1
+  where
+    few : (n : ℕ) → ((n == 8) || (n == 32)) ≡ true → n ≤ 32
+    few n is = by (n == 8) refl is
+      where
+        by : (b : Bool) → (n == 8) ≡ b → (b || (n == 32)) ≡ true → n ≤ 32
+        by true eight is = let same = eqb-true n 8 eight in omega (arith, same)
+        by false eight is = let same = eqb-true n 32 is in omega (arith, same)
 
 -- the entry of such a mapping is absorbed
 pub absorbed-learned : (p : Parts) (m : ℕ) (mapping : Record) (fixed : Bool) (e : Entry) → e ≡ Learned m mapping fixed → admits p e ≡ true → with_entry (Learned m mapping false) p ≡ absorbed p e

@@ -1,5 +1,5 @@
 -- What a table's steps are in terms of the model's.
-use Rattle.std.proofs.Common.{◌≡◌, ℕ, ◌+◌, ◌-◌, ◌^◌, ◌<◌, ◌≤◌, ◌&&◌, max, not, nat_le, nat_lt, Bool, true, false, cond, IsTrue, List, [], ◌∷◌, ◌++◌, length, Option, Some, None, is_some, refl, sym, ap, subst, ◌∙◌, arith}
+use Rattle.std.proofs.Common.{◌≡◌, ℕ, ◌+◌, ◌-◌, ◌^◌, ◌<◌, ◌≤◌, ◌==◌, ◌||◌, ◌&&◌, max, not, nat_le, nat_lt, Bool, true, false, cond, IsTrue, List, [], ◌∷◌, ◌++◌, length, Option, Some, None, is_some, refl, sym, ap, subst, ◌∙◌, arith}
 use Rattle.std.proofs.lemmas.Bool.Decides.{nat_tests}
 use Rattle.ip_headers.specs.declared.addr.Addr.{Addr}
 use Rattle.mapping_records.specs.declared.eid.Eid.{Eid}
@@ -9,9 +9,11 @@ use Rattle.map_cache.specs.Cache.{lasting}
 use Rattle.request_queue.specs.Queue.{waiting, with_nonce}
 use Rattle.lisp_settings.specs.Nonces.{nonce_of}
 use Rattle.lisp_settings.specs.declared.settings.Settings.{Settings}
+use Rattle.router_log.specs.declared.emit.Emit.{Emit}
 use Rattle.router_log.specs.declared.emit.Emit.TheVariants.{Request as AskFor}
 use Rattle.router_log.specs.declared.entry.Entry.{Entry}
-use Rattle.router_log.specs.declared.entry.Entry.TheVariants.{Answered, Asked, Learned}
+use Rattle.router_log.specs.declared.entry.Entry.TheVariants.{Answered, Asked, Bits, Learned}
+use Rattle.router_log.specs.declared.notice.Notice.TheVariants as notice
 use Rattle.router_model.specs.Changes.{Change, asked, each, entered, has_room, unchanged}
 use Rattle.octets.specs.Rules.{first_failing}
 use Rattle.map_messages.specs.Message.{message_rules}
@@ -23,8 +25,11 @@ use Rattle.router_log.specs.declared.verdict.Done.TheVariants.{Learned as Taught
 use Rattle.router_model.specs.Hear.{drops, is_asked_for, is_fit, is_static, message_heard, payload_heard, read_heard, replied_to, reply_heard, shortened, takes, tallied, taught, unless_refused}
 use Rattle.router_model.specs.Received.{message_in}
 use Rattle.router_model.specs.Journal.{moment_of}
+use Rattle.router_model.specs.Mappings.{exact}
+use Rattle.router_model.specs.Note.{is_news, noted}
 use Rattle.router_model.specs.Parts.{Parts, absorbed, admits, table, view_in, with_entry}
 use Rattle.router_model.specs.Proper.{suits}
+use Rattle.router_model.proofs.NoteLemmas.{news-some}
 use Rattle.router_core.specs.Table.{change_of}
 use Rattle.router_core.proofs.HeldLemmas.{drawn-seen, requests-seen, room-seen}
 
@@ -88,10 +93,10 @@ taught-so settings m asked mappings mapping p entries after few action version l
 
 -- ### requests
 
-pub asked-change : (settings : Settings) (m : ℕ) (eid : Eid) (source : Option Addr) (invoked : Bool) (p : Parts) → p.now ≤ m → p.count < 2 ^ 62 → length (waiting m p.requests) < 1024 → let nonce = nonce_of settings.seed settings.nonces p.drawn in change_of (with_entry (Asked m eid source invoked nonce) p) (Asked m eid source invoked nonce ∷ []) (AskFor eid source invoked nonce ∷ []) ≡ asked table settings m eid source invoked (unchanged p)
-asked-change settings m eid source invoked p after few place =
-    ap (λ (q : Parts). change_of q (entry ∷ []) (AskFor eid source invoked nonce ∷ [])) (sym (taken p m entry refl after few suit))
-    ∙ ap (λ (n : ℕ). change_of (absorbed p (Asked m eid source invoked n)) (Asked m eid source invoked n ∷ []) (AskFor eid source invoked n ∷ [])) (ap (nonce_of settings.seed settings.nonces) (sym (drawn-seen p m)))
+pub asked-change : (settings : Settings) (m : ℕ) (eid : Eid) (source : Option Addr) (invoked : Bool) (p : Parts) (entries : List Entry) (emits : List Emit) → p.now ≤ m → p.count < 2 ^ 62 → length (waiting m p.requests) < 1024 → let nonce = nonce_of settings.seed settings.nonces p.drawn in change_of (with_entry (Asked m eid source invoked nonce) p) (entries ++ Asked m eid source invoked nonce ∷ []) (emits ++ AskFor eid source invoked nonce ∷ []) ≡ asked table settings m eid source invoked (change_of p entries emits)
+asked-change settings m eid source invoked p entries emits after few place =
+    ap (λ (q : Parts). change_of q (entries ++ entry ∷ []) (emits ++ AskFor eid source invoked nonce ∷ [])) (sym (taken p m entry refl after few suit))
+    ∙ ap (λ (n : ℕ). change_of (absorbed p (Asked m eid source invoked n)) (entries ++ Asked m eid source invoked n ∷ []) (emits ++ AskFor eid source invoked n ∷ [])) (ap (nonce_of settings.seed settings.nonces) (sym (drawn-seen p m)))
   where
     nonce : ℕ
     nonce = nonce_of settings.seed settings.nonces p.drawn
@@ -108,6 +113,22 @@ asked-change settings m eid source invoked p after few place =
 pub answered-change : (settings : Settings) (m nonce : ℕ) (p : Parts) → p.now ≤ m → p.count < 2 ^ 62 → is_some (with_nonce (waiting m p.requests) nonce) ≡ true → change_of (with_entry (Answered m nonce) p) (Answered m nonce ∷ []) [] ≡ entered table settings m (Answered m nonce) (unchanged p)
 answered-change settings m nonce p after few open_now =
     ap (λ (q : Parts). change_of q (Answered m nonce ∷ []) []) (sym (taken p m (Answered m nonce) refl after few (ap (λ l. is_some (with_nonce l nonce)) (requests-now p m after) ∙ open_now)))
+
+-- status bits that tell something new
+pub told-change : (settings : Settings) (m : ℕ) (eid : Eid) (rloc : Addr) (bits width : ℕ) (p : Parts) → p.now ≤ m → p.count < 2 ^ 62 → is_news rloc bits width (exact (view_in p m).mappings eid) ≡ true → ((width == 8) || (width == 32)) ≡ true → change_of (with_entry (Bits m eid bits width) p) (Bits m eid bits width ∷ []) [] ≡ noted table settings m (notice.Bits eid rloc bits width) (unchanged p)
+unfolding noted
+told-change settings m eid rloc bits width p after few news sound =
+    ap (λ (q : Parts). change_of q (Bits m eid bits width ∷ []) []) (sym (taken p m (Bits m eid bits width) refl after few (two _ _ (news-some rloc bits width _ news) sound)))
+    ∙ sym (ap (λ b. cond b (entered table settings m (Bits m eid bits width) (unchanged p)) (unchanged p)) news)
+  where
+    two : (a b : Bool) → a ≡ true → b ≡ true → (a && b) ≡ true
+    two a b q r = rw (q, r) refl
+
+-- and others
+pub told-not : (settings : Settings) (m : ℕ) (eid : Eid) (rloc : Addr) (bits width : ℕ) (p : Parts) → is_news rloc bits width (exact (view_in p m).mappings eid) ≡ false → unchanged p ≡ noted table settings m (notice.Bits eid rloc bits width) (unchanged p)
+unfolding noted
+told-not settings m eid rloc bits width p isn't =
+    sym (ap (λ b. cond b (entered table settings m (Bits m eid bits width) (unchanged p)) (unchanged p)) isn't)
 
 -- that may be made
 pub may_ask-place : (p : Parts) (m : ℕ) → p.now ≤ m → nat_lt (length (view_in p m).requests) 1024 ≡ true → length (waiting m p.requests) < 1024
@@ -130,12 +151,12 @@ reply-by settings m reply p o plain found =
     )
 
 -- octets that keep the rules of messages, by their message
-pub payload-read : (settings : Settings) (m base : ℕ) (payload : List ℕ) (read : Message) (p : Parts) → first_failing (message_rules base payload) ≡ None → message_in payload ≡ Some read → message_heard table settings m read (unchanged p) ≡ payload_heard table settings m base payload (unchanged p)
+pub payload-read : (settings : Settings) (m : ℕ) (dest : Addr) (port base : ℕ) (payload : List ℕ) (read : Message) (p : Parts) → first_failing (message_rules base payload) ≡ None → message_in payload ≡ Some read → message_heard table settings m dest port read (unchanged p) ≡ payload_heard table settings m dest port base payload (unchanged p)
 unfolding payload_heard
-payload-read settings m base payload read p rules is =
+payload-read settings m dest port base payload read p rules is =
     sym (
-    ap (λ o. unless_refused table settings m o (unchanged p) (read_heard table settings m (message_in payload) (unchanged p))) rules
-    ∙ ap (λ o. read_heard table settings m o (unchanged p)) is
+    ap (λ o. unless_refused table settings m o (unchanged p) (read_heard table settings m dest port (message_in payload) (unchanged p))) rules
+    ∙ ap (λ o. read_heard table settings m dest port o (unchanged p)) is
     )
 
 -- a reply that taught, by what stands after it

@@ -1,5 +1,5 @@
 -- What an entry makes of the lists of a table.
-use Rattle.std.proofs.Common.{◌≡◌, ℕ, suc, ◌+◌, ◌-◌, ◌*◌, ◌<◌, ◌≤◌, ◌==◌, ◌||◌, not, nat_lt, Bool, true, false, cond, IsTrue, IsFalse, List, [], ◌∷◌, ◌++◌, filter, filter_map, Option, Some, None, Result, Ok, Err, OnOk, ◌↔◌, refl, sym, ap, ap₂, ◌∙◌, arith}
+use Rattle.std.proofs.Common.{◌≡◌, ℕ, suc, ◌+◌, ◌-◌, ◌*◌, ◌<◌, ◌≤◌, ◌==◌, ◌||◌, not, nat_lt, Bool, true, false, cond, IsTrue, IsFalse, List, [], ◌∷◌, ◌++◌, filter, filter_map, map, Option, Some, None, Result, Ok, Err, OnOk, ◌↔◌, refl, sym, ap, ap₂, ◌∙◌, arith}
 use Rattle.std.specs.List.{cons_option}
 use Rattle.std.proofs.lemmas.Bool.Decides.{nat_tests}
 use Rattle.ip_headers.specs.declared.addr.Addr.{Addr}
@@ -7,7 +7,7 @@ use Rattle.mapping_records.specs.Eids.{same_eid}
 use Rattle.mapping_records.specs.Orders.{eid_order, put_in_order}
 use Rattle.mapping_records.specs.declared.eid.Eid.{Eid}
 use Rattle.mapping_records.specs.declared.record.Record.{Record}
-use Rattle.map_cache.specs.Cache.{fresh, lasting, lasts, learned, lifetime, without_eid}
+use Rattle.map_cache.specs.Cache.{bits_told, fresh, lasting, lasts, learned, lifetime, told_mapping, without_eid}
 use Rattle.map_cache.specs.declared.fault.LearnFault.{LearnFault}
 use Rattle.map_cache.specs.declared.fault.LearnFault.TheVariants as learning
 use Rattle.map_cache.specs.declared.mapping.Mapping.{Mapping}
@@ -15,7 +15,7 @@ use Rattle.request_queue.specs.Queue.{asked, is_waiting, waiting, without_nonce}
 use Rattle.request_queue.specs.declared.fault.AskFault.{AskFault}
 use Rattle.request_queue.specs.declared.fault.AskFault.TheVariants as asking
 use Rattle.request_queue.specs.declared.request.Request.{Request}
-use Rattle.router_log.specs.declared.entry.Entry.TheVariants.{Answered, Asked, Learned}
+use Rattle.router_log.specs.declared.entry.Entry.TheVariants.{Answered, Asked, Bits, Learned}
 use Rattle.router_model.specs.Cache.{mapping_kind, mapping_step}
 use Rattle.router_model.specs.Kept.{absorb}
 use Rattle.router_model.specs.Parts.{Parts, with_entry}
@@ -40,6 +40,11 @@ filter_map-drops {A} test (a ∷ items) = by (test a) (filter_map-drops test ite
     by : (b : Bool) → filter_map (λ a. cond (test a) None (Some a)) items ≡ filter (λ a. not (test a)) items → cons_option (cond b None (Some a)) (filter_map (λ a. cond (test a) None (Some a)) items) ≡ cond (not b) (a ∷ filter (λ a. not (test a)) items) (filter (λ a. not (test a)) items)
     by true h = h
     by false h = ap (λ (l : List A). a ∷ l) h
+
+-- items that all change
+filter_map-map : {A : Type 0} (f : A → A) (items : List A) → filter_map (λ a. Some (f a)) items ≡ map f items
+filter_map-map f [] = refl
+filter_map-map f (a ∷ items) = ap (λ (l : List _). f a ∷ l) (filter_map-map f items)
 
 one_more : (n : ℕ) → n + 1 ≡ suc n
 one_more n = omega arith
@@ -139,3 +144,14 @@ answered-parts count drawn now ms rs m nonce =
   where
     others : filter_map (request_step (Answered m nonce)) (waiting m rs) ≡ without_nonce nonce (waiting m rs)
     others = filter_map-drops (λ (old : Request). old.nonce == nonce) (waiting m rs)
+
+-- ### status bits that were told
+
+-- a mapping by its step
+step-told : (m : ℕ) (eid : Eid) (bits width : ℕ) (mapping : Mapping) → mapping_step (Bits m eid bits width) mapping ≡ Some (told_mapping eid bits width mapping)
+step-told m eid bits width mapping = refl
+
+pub told-parts : (count drawn now : ℕ) (ms : List Mapping) (rs : List Request) (m : ℕ) (eid : Eid) (bits width : ℕ) → parts_with (count + 1) drawn m (bits_told eid bits width (lasting m ms)) (waiting m rs) ≡ with_entry (Bits m eid bits width) (parts_with count drawn now ms rs)
+told-parts count drawn now ms rs m eid bits width =
+    ap₂ (λ (l : List Mapping) (r : List Request). parts_with (count + 1) drawn m l r) (sym (filter_map-map (told_mapping eid bits width) (lasting m ms))) (sym (filter_map-all (waiting m rs)))
+    ∙ ap₂ (λ (n d : ℕ). parts_with n d m (absorb mapping_kind (lasts m) (Bits m eid bits width) ms) (absorb request_kind (is_waiting m) (Bits m eid bits width) rs)) (one_more count) (no_more drawn)

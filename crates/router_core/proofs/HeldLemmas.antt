@@ -49,7 +49,12 @@ pub force-seen : (p : Parts) (m : ℕ) (eid : Eid) → option_map held_of (cache
 unfolding view_in
 force-seen p m eid = sym (fold-map held_of (λ (held : Held). held.eid) (λ key. covers_prefix key eid.iid eid.prefix.addr eid.prefix.len) None (lasting (max m p.now) p.mappings))
 
-some-map : {A B : Type 0} (f : A → B) (o : Option A) → is_some (option_map f o) ≡ is_some o
+-- that of an EID
+pub exact-seen : (p : Parts) (m : ℕ) (eid : Eid) → option_map held_of (cache.exact (lasting (max m p.now) p.mappings) eid) ≡ exact (view_in p m).mappings eid
+unfolding view_in
+exact-seen p m eid = sym (find-map held_of (λ (held : Held). held.eid) (λ key. same_eid key eid) (lasting (max m p.now) p.mappings))
+
+pub some-map : {A B : Type 0} (f : A → B) (o : Option A) → is_some (option_map f o) ≡ is_some o
 some-map f None = refl
 some-map f (Some a) = refl
 

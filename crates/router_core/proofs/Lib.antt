@@ -1,3 +1,4 @@
+pub mod AnsweringLemmas
 pub mod ApplyLemmas
 pub mod ChangeLemmas
 pub mod CopyLemmas
@@ -5,6 +6,7 @@ pub mod Drops
 pub mod EntryLemmas
 pub mod HeldLemmas
 pub mod HostLemmas
+pub mod RenewingLemmas
 pub mod SiteLemmas
 pub mod StaticLemmas
 pub mod WritableLemmas

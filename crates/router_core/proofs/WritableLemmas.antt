@@ -105,7 +105,7 @@ addr-short (V4 n) = omega arith
 addr-short (V6 n) = omega arith
 
 -- an EID
-eid-short : (iid : ℕ) (addr : Addr) → length (canonical_eid iid (Some addr)) ≤ 30
+pub eid-short : (iid : ℕ) (addr : Addr) → length (canonical_eid iid (Some addr)) ≤ 30
 eid-short iid addr =
     elim (cases_Bool (eqb iid 0)) [
       | inl none ↦ rw none (omega (arith, addr-short addr))

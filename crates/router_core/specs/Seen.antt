@@ -3,6 +3,9 @@ use Rattle.std.specs.Prelude.{ℕ}
 use Rattle.ip_headers.specs.declared.packet.IpPacket.{IpPacket}
 use Rattle.router_log.specs.declared.verdict.Verdict.{Verdict}
 use Rattle.router_model.specs.Course as model
+use Rattle.router_model.specs.Hear as hearing
+use Rattle.router_core.specs.declared.answering.Asker.{Asker}
+use Rattle.router_core.specs.declared.answering.Path.{Path}
 use Rattle.router_core.specs.declared.courses.Course.{Course}
 use Rattle.router_core.specs.declared.courses.Course.TheVariants.{Settled, Data, Control, Leaving}
 use Rattle.router_core.specs.declared.datagram.Datagram.{Datagram}
@@ -32,3 +35,11 @@ IfLeaving _ P = Unit {0}
 abbrev pub IfSettled : Course → (Verdict → Type 0) → Type 0
 IfSettled (Settled verdict) P = P verdict
 IfSettled _ P = Unit {0}
+
+-- how a request came
+abbrev pub asker_seen : Asker → hearing.Asker
+asker_seen asker = record { dest = asker.dest; port = asker.port; probe = asker.probe }
+
+-- between which addresses a reply goes
+abbrev pub path_seen : Path → hearing.Path
+path_seen path = record { from = path.from; to = path.to }

@@ -1,13 +1,25 @@
 -- Emits whose packets can be made.
-use Rattle.std.specs.Prelude.{IsTrue, is_some}
+use Rattle.std.specs.Prelude.{◌≡◌, ◌≤◌, IsTrue, is_some, length}
+use Rattle.ip_headers.specs.Addr.{width}
+use Rattle.ip_headers.specs.declared.addr.Addr.{Addr}
+use Rattle.map_messages.specs.Range.{InRangeReply}
+use Rattle.map_messages.specs.Reply.{canonical_reply}
+use Rattle.map_messages.specs.declared.message.MapReply.{MapReply}
+use Rattle.map_messages.specs.declared.message.TheConstants.{MOST_MESSAGE_OCTETS}
 use Rattle.lisp_settings.specs.declared.settings.Settings.{Settings}
 use Rattle.router_log.specs.declared.emit.Emit.{Emit}
 use Rattle.router_log.specs.declared.emit.Emit.TheVariants.{Request, Probe, Solicit, Reply}
 use Rattle.router_model.specs.Site.{ours}
 
--- there is a resolver, or an own locator of the receiver's family is up (not built: replies)
+-- a reply that can be written, between addresses of one family
+pub record IsSendableReply (from to : Addr) (reply : MapReply) : Type 0 where
+  pub family : width from ≡ width to
+  pub range : InRangeReply reply
+  pub short : length (canonical_reply reply) ≤ MOST_MESSAGE_OCTETS
+
+-- there is a resolver, or an own locator of the receiver's family is up; a reply can be written
 abbrev pub IsSendable : Settings → Emit → Type 0
 IsSendable settings (Request eid source invoked nonce) = IsTrue (is_some settings.resolver)
 IsSendable settings (Probe to eid nonce) = IsTrue (is_some (ours settings.locators to))
 IsSendable settings (Solicit to eid nonce) = IsTrue (is_some (ours settings.locators to))
-IsSendable settings (Reply from to port reply) = ⊥
+IsSendable settings (Reply from to port reply) = IsSendableReply from to reply

@@ -44,11 +44,19 @@ impl Table {
                 self.answer(*moment, *nonce);
                 Ok(())
             }
+            Entry::Bits {
+                moment,
+                eid,
+                bits,
+                width,
+            } => {
+                self.tell(*moment, eid, *bits, *width);
+                Ok(())
+            }
             // Not built yet: none of these may follow.
             Entry::Retried { .. }
             | Entry::Probed { .. }
             | Entry::ProbeAnswered { .. }
-            | Entry::Bits { .. }
             | Entry::EchoStarted { .. }
             | Entry::EchoHeard { .. }
             | Entry::DataFrom { .. }

@@ -1,36 +1,80 @@
 // The choice among the locators of a mapping.
-ghost use Rattle.std.specs.Prelude.{◌≡◌, ◌<◌, ◌+◌, ◌^◌, ◌&&◌, length};
+ghost use Rattle.std.specs.Prelude.{◌≡◌, ◌≤◌, ◌<◌, ◌+◌, ◌^◌, ◌++◌, length, take};
+ghost use Rattle.locator_choice.specs.declared.choice.TheConstants.{MOST_CANDIDATES};
+ghost use Rattle.map_cache.specs.Lists.{IsFew};
 ghost use Rattle.router_model.specs.Cache.{known_up};
-ghost use Rattle.router_model.specs.Choice.{chosen, is_usable};
-ghost use Rattle.router_model.specs.Mappings.{bit, status_of};
+ghost use Rattle.router_model.specs.Choice.{candidate_of, candidates, chosen, is_usable};
+ghost use Rattle.router_model.specs.Mappings.{status_of};
 ghost use Rattle.router_model.specs.Parts.{view_in};
 
 use crate::Table;
 use crate::site::{is_own, ours};
+use crate::status::is_up;
 use ip_headers::Addr;
 use lisp_settings::{Locator, Settings};
+use locator_choice::{Candidate, MOST_CANDIDATES, choose};
 use map_cache::Mapping;
 
-/// The first locator that a tunnel may go to, of those of a mapping from number `index` on.
+// What stands in a place that no locator has.
+const NOBODY: Candidate = Candidate {
+    usable: false,
+    priority: 255,
+    weight: 0,
+};
+
+/// The locator of a mapping that a flow with that hash goes to.
 pub(crate) fn chosen(
+    table: &Table,
+    settings: &Settings,
+    m: u64,
+    mapping: &Mapping,
+    hash: u32,
+) -> Option<Addr>
+    requires few { IsFew mapping.now }
+    ensures { result ≡ chosen settings.now (view_in table.now.parts m)
+        (status_of (known_up mapping.now) 0 mapping.now.details.locators)
+        mapping.now.details.locators hash }
+{
+    let locators = mapping.details.locators.as_slice();
+    let mut places = [NOBODY; MOST_CANDIDATES];
+    fill(table, settings, m, mapping, 0, locators, &mut places);
+    let index = choose(&places[..locators.len()], hash)?;
+    Some(locators[index].addr)
+}
+
+// Writes the candidates that the locators of a mapping from number `index` on are to their places.
+fn fill(
     table: &Table,
     settings: &Settings,
     m: u64,
     mapping: &Mapping,
     index: usize,
     locators: &[Locator],
-) -> Option<Addr>
-    requires { index + length locators.now < 2 ^ 64 }
-    ensures { result ≡ chosen settings.now (view_in table.now.parts m)
+    places: &mut [Candidate],
+)
+    requires { index + length locators.now ≤ length places.old }
+    ensures length { length places.new ≡ length places.old }
+    ensures places { take (index + length locators.now) places.new
+        ≡ take index places.old ++ candidates settings.now (view_in table.now.parts m)
         (status_of (known_up mapping.now) index locators.now) locators.now }
 {
     let [locator, others @ ..] = locators else {
-        return None;
+        return;
     };
-    if is_usable(table, settings, m, is_up(mapping, index, locator), locator) {
-        return Some(locator.addr);
+    places[index] = candidate(table, settings, m, is_up(mapping, index, locator), locator);
+    fill(table, settings, m, mapping, index + 1, others, places);
+}
+
+// A locator, as a candidate, where `up` is its status.
+fn candidate(table: &Table, settings: &Settings, m: u64, up: bool, locator: &Locator) -> Candidate
+    ensures { result
+        ≡ candidate_of settings.now (view_in table.now.parts m) up locator.now }
+{
+    Candidate {
+        usable: is_usable(table, settings, m, up, locator),
+        priority: locator.priority,
+        weight: locator.weight,
     }
-    chosen(table, settings, m, mapping, index + 1, others)
 }
 
 // It may be taken, where `up` is its status.
@@ -41,21 +85,4 @@ fn is_usable(table: &Table, settings: &Settings, m: u64, up: bool, locator: &Loc
     let own = settings.locators.as_slice();
     (locator.priority != 255 && !is_own(own, locator.addr))
         && (ours(own, locator.addr).is_some() && (up && table.is_up(m, &locator.addr)))
-}
-
-// By the status bit that is known, or as its record says.
-fn is_up(mapping: &Mapping, index: usize, locator: &Locator) -> bool
-    ensures { result ≡ known_up mapping.now index locator.now }
-{
-    if bit(index, mapping.known) {
-        bit(index, mapping.bits)
-    } else {
-        locator.reachable
-    }
-}
-
-fn bit(index: usize, bits: u32) -> bool
-    ensures { result ≡ bit index bits }
-{
-    index < 32 && bits >> index & 1 == 1
 }

@@ -4,11 +4,15 @@ ghost use Rattle.ip_headers.specs.Addr.{width};
 ghost use Rattle.capture_io.specs.declared.frame.TheConstants.{MOST_FRAME_OCTETS};
 ghost use Rattle.map_messages.specs.Message.{canonical_message};
 ghost use Rattle.map_messages.specs.Range.{InRange};
+ghost use Rattle.map_messages.specs.Reply.{canonical_reply};
 ghost use Rattle.map_messages.specs.declared.message.TheConstants.{MOST_MESSAGE_OCTETS};
 ghost use Rattle.router_model.specs.Emits.{message_packet};
+ghost use Rattle.router_core.specs.Sendable.{IsSendableReply};
 
 use ip_headers::{Addr, write_udp};
-use map_messages::{LISP_CONTROL_PORT, Message, write_control_header, write_message};
+use map_messages::{
+    LISP_CONTROL_PORT, MapReply, Message, write_control_header, write_message, write_reply,
+};
 use octets::{NoMemory, Octets};
 use std::alloc::Global;
 
@@ -29,6 +33,24 @@ pub(crate) fn message_packet(
 {
     let mut payload = Octets::new(alloc);
     write_message(alloc, message, &mut payload)?;
+    datagram_packet(alloc, from, to, port, payload.as_slice())
+}
+
+/// A Map-Reply in its packet, from one address to another and a port.
+pub(crate) fn reply_packet(
+    alloc: Global,
+    from: Addr,
+    to: Addr,
+    port: u16,
+    reply: &MapReply,
+) -> Result<Octets, NoMemory>
+    requires { IsSendableReply from to reply.now }
+    ensures octets { IfOk result (λ packet. packet
+        ≡ message_packet from to port (canonical_reply reply.now)) }
+    ensures size { IfOk result (λ packet. length packet ≤ MOST_FRAME_OCTETS) }
+{
+    let mut payload = Octets::new(alloc);
+    write_reply(alloc, reply, &mut payload)?;
     datagram_packet(alloc, from, to, port, payload.as_slice())
 }
 

@@ -1,11 +1,12 @@
 // The router's decision on a frame that is no control message.
-ghost use Rattle.std.specs.Prelude.{◌≡◌, ◌<◌, ◌^◌, [], None, IfOk, max, option_map};
+ghost use Rattle.std.specs.Prelude.{◌≡◌, ◌<◌, ◌^◌, [], None, IfOk, IfSome, max, option_map};
 ghost use Rattle.std.specs.Option.{option_copied};
 ghost use Rattle.lisp_settings.specs.Lawful.{IsLawful};
+ghost use Rattle.map_cache.specs.Lists.{IsFew};
 ghost use Rattle.router_model.specs.Cache.{held_of};
 ghost use Rattle.router_model.specs.Decide.{decide, decide_by, decide_course};
 ghost use Rattle.router_model.specs.Journal.{Journal};
-ghost use Rattle.router_model.specs.Mappings.{force};
+ghost use Rattle.router_model.specs.Mappings.{exact, force};
 ghost use Rattle.router_model.specs.Parts.{Stands, view_in};
 ghost use Rattle.router_model.specs.Plain.{FitsRecord, packet_of};
 ghost use Rattle.router_core.specs.Seen.{course_seen, IfLeaving, IfSettled};
@@ -55,10 +56,7 @@ impl Table {
     {
         match course {
             Course::Settled(verdict) => Ok(self.alone(verdict)),
-            Course::Data(datagram) => {
-                let verdict = tunnelled(self.alloc, settings, &datagram)?;
-                Ok(self.alone(verdict))
-            }
+            Course::Data(datagram) => tunnelled(self, settings, m, &datagram),
             Course::Control(_) => Ok(self.alone(Verdict::Drop(Reason::NotTunnel))),
             Course::Leaving { iid, packet } => routed(self, settings, m, iid, &packet),
         }
@@ -92,11 +90,20 @@ impl Table {
 
     /// The mapping in force for an EID.
     pub(crate) fn in_force(&self, m: u64, eid: &Eid) -> Option<&Mapping>
-        ensures { option_map held_of (option_copied result)
+        ensures found { option_map held_of (option_copied result)
             ≡ force (view_in self.now.parts m).mappings eid.now.iid eid.now.prefix.addr
             eid.now.prefix.len }
+        ensures few { IfSome (option_copied result) IsFew }
     {
         self.cache
             .in_force(self.moment_at(m), eid, &mut Reads::new())
+    }
+
+    /// The live mapping of just that EID.
+    pub(crate) fn exact(&self, m: u64, eid: &Eid) -> Option<&Mapping>
+        ensures { option_map held_of (option_copied result)
+            ≡ exact (view_in self.now.parts m).mappings eid.now }
+    {
+        self.cache.exact(self.moment_at(m), eid, &mut Reads::new())
     }
 }

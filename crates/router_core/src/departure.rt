@@ -6,8 +6,10 @@ ghost use Rattle.ip_headers.specs.Ip.{dest_of};
 ghost use Rattle.lisp_header.specs.Header.{InRange};
 ghost use Rattle.encap.specs.Rules.{encap_rules, forward_rules};
 ghost use Rattle.lisp_settings.specs.Lawful.{IsLawful};
+ghost use Rattle.locator_choice.specs.Hash.{source_port};
+ghost use Rattle.map_cache.specs.Lists.{IsFew};
 ghost use Rattle.router_model.specs.Cache.{held_of};
-ghost use Rattle.router_model.specs.Decide.{asking, by_action, is_multicast, lisp_header, mapped, natively, routed, sent, site_cases, towards};
+ghost use Rattle.router_model.specs.Decide.{asking, by_action, hash_of, is_multicast, lisp_header, mapped, natively, routed, sent, site_cases, towards};
 ghost use Rattle.router_model.specs.Hosts.{host_eid};
 ghost use Rattle.router_model.specs.Parts.{view_in};
 ghost use Rattle.router_model.specs.Plain.{packet_of, FitsRecord};
@@ -53,8 +55,8 @@ pub(crate) fn routed(
     }
 }
 
-// The EID of one address.
-fn host_eid(iid: u32, addr: Addr) -> Eid
+/// The EID of one address.
+pub(crate) fn host_eid(iid: u32, addr: Addr) -> Eid
     requires { iid < 2 ^ 24 }
     ensures host { host_eid iid addr ≡ Some result }
     ensures iid { result.iid ≡ iid }
@@ -123,6 +125,7 @@ fn mapped(
 ) -> Result<Decision, NoMemory>
     requires lawful { IsLawful settings.now }
     requires instance { iid < 2 ^ 24 }
+    requires few { IsFew mapping.now }
     ensures decision { IfOk result (λ decision. decision
         ≡ mapped settings.now (view_in table.now.parts m) iid (packet_seen packet.now)
         (Some (held_of mapping.now))) }
@@ -131,10 +134,11 @@ fn mapped(
     if mapping.details.locators.len() == 0 {
         return by_action(table, iid, packet, Action::of(mapping.details.action));
     }
-    let locators = mapping.details.locators.as_slice();
-    match chosen(table, settings, m, mapping, 0, locators) {
+    let hash = flow_hash(&five_tuple(packet));
+    match chosen(table, settings, m, mapping, hash) {
         Some(to) => {
-            let verdict = towards(table.alloc, settings, iid, packet, to)?;
+            let port = source_port(hash);
+            let verdict = towards(table.alloc, settings, iid, packet, to, port)?;
             Ok(table.alone(verdict))
         }
         None => Ok(table.alone(Verdict::Drop(Reason::NoLocator))),
@@ -191,15 +195,17 @@ fn towards(
     iid: u32,
     packet: &IpPacket,
     to: Addr,
+    port: u16,
 ) -> Result<Verdict, NoMemory>
     requires lawful { IsLawful settings.now }
     requires instance { iid < 2 ^ 24 }
+    requires port { port ≡ source_port (hash_of (packet_seen packet.now)) }
     ensures verdict { IfOk result (λ verdict. verdict
         ≡ towards settings.now iid (packet_seen packet.now) (Some to)) }
     ensures size { IfOk result FitsRecord }
 {
     match ours(settings.locators.as_slice(), to) {
-        Some(from) => sent(alloc, settings, iid, packet, from, to),
+        Some(from) => sent(alloc, settings, iid, packet, from, to, port),
         None => Ok(Verdict::Drop(Reason::NoLocator)),
     }
 }
@@ -212,16 +218,17 @@ fn sent(
     packet: &IpPacket,
     from: Addr,
     to: Addr,
+    port: u16,
 ) -> Result<Verdict, NoMemory>
     requires lawful { IsLawful settings.now }
     requires instance { iid < 2 ^ 24 }
+    requires port { port ≡ source_port (hash_of (packet_seen packet.now)) }
     requires family { width from ≡ width to }
     ensures verdict { IfOk result (λ verdict. verdict
         ≡ sent settings.now iid (packet_seen packet.now) from to
         (first_failing (encap_rules packet.now.octets.now from))) }
     ensures size { IfOk result FitsRecord }
 {
-    let port = source_port(flow_hash(&five_tuple(packet)));
     let header = lisp_header(settings, iid);
     match encapsulate(alloc, packet, from, to, port, &header) {
         Ok(packet) => Ok(Verdict::Encapsulated {

@@ -5,24 +5,25 @@ ghost use Rattle.map_messages.specs.Message.{canonical_message};
 ghost use Rattle.map_messages.specs.Range.{InRange};
 ghost use Rattle.map_messages.specs.declared.message.TheConstants.{MOST_MESSAGE_OCTETS};
 ghost use Rattle.lisp_settings.specs.Lawful.{IsLawful};
+ghost use Rattle.lisp_settings.specs.declared.settings.Settings.{Settings as SettingsValue};
 ghost use Rattle.router_log.specs.declared.emit.Emit.TheVariants as emits;
 ghost use Rattle.router_model.specs.Emits.{emit_packet, packet_to};
 ghost use Rattle.router_model.specs.Site.{ours};
-ghost use Rattle.router_core.specs.Sendable.{IsSendable};
+ghost use Rattle.router_core.specs.Sendable.{IsSendable, IsSendableReply};
 
-use crate::control_writing::message_packet;
+use crate::control_writing::{message_packet, reply_packet};
 use crate::own_requests::{probe_message, request_message, solicit_message};
 use crate::site::ours;
 use ip_headers::Addr;
 use lisp_settings::Settings;
-use map_messages::{Eid, LISP_CONTROL_PORT, Message};
+use map_messages::{Eid, LISP_CONTROL_PORT, MapReply, Message};
 use octets::{NoMemory, Octets};
 use router_log::Emit;
 use std::alloc::Global;
 
 /// The packet that an emit stands for, with its IP and UDP headers (RFC 9301, section 5). A
-/// Map-Request goes to the resolver, encapsulated; one that probes or solicits goes to its locator.
-/// Replies aren't built yet.
+/// Map-Request goes to the resolver, encapsulated; one that probes or solicits goes to its locator;
+/// a Map-Reply goes to whom asked.
 pub fn emit_octets(alloc: Global, settings: &Settings, emit: &Emit) -> Result<Octets, NoMemory>
     requires lawful { IsLawful settings.now }
     requires sendable { IsSendable settings.now emit.now }
@@ -38,7 +39,12 @@ pub fn emit_octets(alloc: Global, settings: &Settings, emit: &Emit) -> Result<Oc
         } => request_octets(alloc, settings, *eid, *source, *invoked, *nonce),
         Emit::Probe { to, eid, nonce } => probe_octets(alloc, settings, *to, *eid, *nonce),
         Emit::Solicit { to, eid, nonce } => solicit_octets(alloc, settings, *to, *eid, *nonce),
-        Emit::Reply { .. } => unreachable!(),
+        Emit::Reply {
+            from,
+            to,
+            port,
+            reply,
+        } => reply_octets(alloc, *from, *to, *port, reply),
     }
 }
 
@@ -101,6 +107,23 @@ fn solicit_octets(
 {
     let message = solicit_message(alloc, settings, eid, nonce)?;
     packet_to(alloc, settings, to, &message)
+}
+
+// A Map-Reply.
+#[tactic(auto, unfolding(router_model::specs::Emits::emit_packet))]
+fn reply_octets(
+    alloc: Global,
+    from: Addr,
+    to: Addr,
+    port: u16,
+    reply: &MapReply,
+) -> Result<Octets, NoMemory>
+    requires { IsSendableReply from to reply.now }
+    ensures octets { IfOk result (λ packet. (settings : SettingsValue)
+        → packet ≡ emit_packet settings (emits.Reply from to port reply.now)) }
+    ensures size { IfOk result (λ packet. length packet ≤ MOST_FRAME_OCTETS) }
+{
+    reply_packet(alloc, from, to, port, reply)
 }
 
 // A message to an address, from the own one of its family.

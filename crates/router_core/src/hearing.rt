@@ -1,23 +1,25 @@
 // A control message, heard.
-ghost use Rattle.std.specs.Prelude.{◌≡◌, ◌<◌, ◌≤◌, ◌+◌, ◌^◌, [], length, IfOk, OnErr};
+ghost use Rattle.std.specs.Prelude.{◌≡◌, ◌<◌, ◌≤◌, ◌+◌, ◌^◌, [], length, All, IfOk, OnErr};
 ghost use Rattle.lisp_settings.specs.Lawful.{IsLawful};
-ghost use Rattle.map_messages.specs.Range.{InRange, InRangeReply};
+ghost use Rattle.map_messages.specs.Range.{InRange, InRangeEcm, InRangeReply, InRangeRequest};
 ghost use Rattle.router_log.specs.declared.verdict.Reason.{Reason as ReasonValue};
 ghost use Rattle.router_log.specs.declared.verdict.Verdict.TheVariants.{Drop};
 ghost use Rattle.router_model.specs.Changes.{unchanged};
-ghost use Rattle.router_model.specs.Hear.{course_heard, datagram_heard, drops, hear, hear_by, message_heard, payload_heard, reply_heard};
+ghost use Rattle.router_model.specs.Hear.{carried, course_heard, datagram_heard, drops, hear, hear_by, message_heard, payload_heard, reply_heard, requested};
 ghost use Rattle.router_model.specs.Journal.{Journal};
 ghost use Rattle.router_model.specs.Lifting.{AreOctets, Follows, MayGo};
 ghost use Rattle.router_model.specs.Parts.{Stands, table};
-ghost use Rattle.router_core.specs.Seen.{course_seen, datagram_seen};
+ghost use Rattle.router_core.specs.Seen.{asker_seen, course_seen, datagram_seen};
+ghost use Rattle.router_core.specs.Sendable.{IsSendable};
 ghost use Rattle.router_core.specs.Table.{change_of, heard_seen};
 
+use crate::answering::Asker;
 use crate::courses::{Course, course_of};
 use crate::{Datagram, Heard, Table};
 use capture_io::Frame;
-use ip_headers::{check_udp, udp_payload};
+use ip_headers::{Addr, check_udp, udp_payload};
 use lisp_settings::Settings;
-use map_messages::{MapReply, Message, MessageFault, read_message};
+use map_messages::{Ecm, MapReply, MapRequest, Message, MessageFault, read_message};
 use octets::{Items, NoMemory};
 use router_log::{Reason, Verdict};
 
@@ -39,7 +41,8 @@ impl Table {
             (hear settings.now journal m frame.now).change) }
         ensures drop { IfOk result (λ heard. (why : ReasonValue) → heard.verdict ≡ Drop why
             → heard_seen self.new.parts heard ≡ drops why (unchanged self.old.parts)) }
-        ensures emits { IfOk result (λ heard. heard.emits ≡ []) }
+        ensures sendable { IfOk result (λ heard. All (IsSendable settings.now) heard.emits) }
+        ensures few { IfOk result (λ heard. length heard.emits ≤ 256) }
         ensures count { IfOk result (λ heard.
             self.new.parts.count ≤ self.old.parts.count + 256) }
         ensures now { IfOk result (λ heard. self.new.parts.now ≤ m) }
@@ -56,12 +59,14 @@ impl Table {
         m: u64,
         course: Course,
     ) -> Result<Heard, NoMemory>
+        requires lawful { IsLawful settings.now }
         requires later { self.old.parts.now ≤ m }
         requires count { self.old.parts.count < 2 ^ 61 }
         ensures parts { IfOk result (λ heard. heard_seen self.new.parts heard
             ≡ course_heard table settings.now m (course_seen course.entry)
             (unchanged self.old.parts)) }
-        ensures emits { IfOk result (λ heard. heard.emits ≡ []) }
+        ensures sendable { IfOk result (λ heard. All (IsSendable settings.now) heard.emits) }
+        ensures few { IfOk result (λ heard. length heard.emits ≤ 256) }
         ensures count { IfOk result (λ heard.
             self.new.parts.count ≤ self.old.parts.count + 256) }
         ensures now { IfOk result (λ heard. self.new.parts.now ≤ m) }
@@ -81,12 +86,14 @@ impl Table {
         m: u64,
         datagram: &Datagram,
     ) -> Result<Heard, NoMemory>
+        requires lawful { IsLawful settings.now }
         requires later { self.old.parts.now ≤ m }
         requires count { self.old.parts.count < 2 ^ 61 }
         ensures parts { IfOk result (λ heard. heard_seen self.new.parts heard
             ≡ datagram_heard table settings.now m (datagram_seen datagram.now)
             (unchanged self.old.parts)) }
-        ensures emits { IfOk result (λ heard. heard.emits ≡ []) }
+        ensures sendable { IfOk result (λ heard. All (IsSendable settings.now) heard.emits) }
+        ensures few { IfOk result (λ heard. length heard.emits ≤ 256) }
         ensures count { IfOk result (λ heard.
             self.new.parts.count ≤ self.old.parts.count + 256) }
         ensures now { IfOk result (λ heard. self.new.parts.now ≤ m) }
@@ -95,8 +102,16 @@ impl Table {
         let (packet, udp) = (&datagram.packet, &datagram.udp);
         match check_udp(packet, udp, false) {
             Ok(()) => {
+                let place = packet.base + udp.at + 8;
                 let payload = udp_payload(packet, udp);
-                self.hear_payload(settings, m, packet.base + udp.at + 8, payload)
+                self.hear_payload(
+                    settings,
+                    m,
+                    packet.header.dest(),
+                    udp.source,
+                    place,
+                    payload,
+                )
             }
             Err(refused) => Ok(self.dropped(Reason::Refused(refused))),
         }
@@ -108,40 +123,50 @@ impl Table {
         &mut self,
         settings: &Settings,
         m: u64,
+        dest: Addr,
+        port: u16,
         base: u32,
         payload: &[u8],
     ) -> Result<Heard, NoMemory>
+        requires lawful { IsLawful settings.now }
         requires later { self.old.parts.now ≤ m }
         requires count { self.old.parts.count < 2 ^ 61 }
         requires place { base + length payload.now < 2 ^ 32 }
         ensures parts { IfOk result (λ heard. heard_seen self.new.parts heard
-            ≡ payload_heard table settings.now m base payload.now (unchanged self.old.parts)) }
-        ensures emits { IfOk result (λ heard. heard.emits ≡ []) }
+            ≡ payload_heard table settings.now m dest port base payload.now
+            (unchanged self.old.parts)) }
+        ensures sendable { IfOk result (λ heard. All (IsSendable settings.now) heard.emits) }
+        ensures few { IfOk result (λ heard. length heard.emits ≤ 256) }
         ensures count { IfOk result (λ heard.
             self.new.parts.count ≤ self.old.parts.count + 256) }
         ensures now { IfOk result (λ heard. self.new.parts.now ≤ m) }
         ensures err { OnErr result (self.new.parts ≡ self.old.parts) }
     {
         match read_message(self.alloc, payload, base) {
-            Ok((message, _)) => self.hear_message(settings, m, &message),
+            Ok((message, _)) => self.hear_message(settings, m, dest, port, &message),
             Err(MessageFault::Refused(refused)) => Ok(self.dropped(Reason::Refused(refused))),
             Err(MessageFault::Memory) => Err(NoMemory),
         }
     }
 
-    // Hears a message.
+    // Hears a message to an own address, from a port.
     fn hear_message(
         &mut self,
         settings: &Settings,
         m: u64,
+        dest: Addr,
+        port: u16,
         message: &Message,
     ) -> Result<Heard, NoMemory>
+        requires lawful { IsLawful settings.now }
         requires later { self.old.parts.now ≤ m }
         requires count { self.old.parts.count < 2 ^ 61 }
         requires range { InRange message.now }
         ensures parts { IfOk result (λ heard. heard_seen self.new.parts heard
-            ≡ message_heard table settings.now m message.now (unchanged self.old.parts)) }
-        ensures emits { IfOk result (λ heard. heard.emits ≡ []) }
+            ≡ message_heard table settings.now m dest port message.now
+            (unchanged self.old.parts)) }
+        ensures sendable { IfOk result (λ heard. All (IsSendable settings.now) heard.emits) }
+        ensures few { IfOk result (λ heard. length heard.emits ≤ 256) }
         ensures count { IfOk result (λ heard.
             self.new.parts.count ≤ self.old.parts.count + 256) }
         ensures now { IfOk result (λ heard. self.new.parts.now ≤ m) }
@@ -149,10 +174,71 @@ impl Table {
     {
         match message {
             Message::Reply(reply) => self.hear_reply(settings, m, reply),
-            Message::Control(ecm) if ecm.request.is_none() => Ok(self.dropped(Reason::Unexpected)),
-            // Not built yet.
-            _ => Ok(self.dropped(Reason::NotBuilt)),
+            Message::Request(request) => {
+                let probe = request.probe;
+                self.hear_request(settings, m, Asker { dest, port, probe }, request)
+            }
+            Message::Control(ecm) => self.hear_carried(settings, m, dest, ecm),
         }
+    }
+
+    // Hears what is encapsulated: only a Map-Request is, with the port inside, and as no probe.
+    fn hear_carried(
+        &mut self,
+        settings: &Settings,
+        m: u64,
+        dest: Addr,
+        ecm: &Ecm,
+    ) -> Result<Heard, NoMemory>
+        requires lawful { IsLawful settings.now }
+        requires later { self.old.parts.now ≤ m }
+        requires count { self.old.parts.count < 2 ^ 61 }
+        requires range { InRangeEcm ecm.now }
+        ensures parts { IfOk result (λ heard. heard_seen self.new.parts heard
+            ≡ carried table settings.now m dest ecm.now.source_port ecm.now.request
+            (unchanged self.old.parts)) }
+        ensures sendable { IfOk result (λ heard. All (IsSendable settings.now) heard.emits) }
+        ensures few { IfOk result (λ heard. length heard.emits ≤ 256) }
+        ensures count { IfOk result (λ heard.
+            self.new.parts.count ≤ self.old.parts.count + 256) }
+        ensures now { IfOk result (λ heard. self.new.parts.now ≤ m) }
+        ensures err { OnErr result (self.new.parts ≡ self.old.parts) }
+    {
+        let Some(request) = &ecm.request else {
+            return Ok(self.dropped(Reason::Unexpected));
+        };
+        let port = ecm.source_port;
+        let probe = false;
+        self.hear_request(settings, m, Asker { dest, port, probe }, request)
+    }
+
+    // Hears a Map-Request: a solicitation, or a question for mappings of the site.
+    #[tactic(auto, unfolding(router_model::specs::Hear::requested))]
+    fn hear_request(
+        &mut self,
+        settings: &Settings,
+        m: u64,
+        asker: Asker,
+        request: &MapRequest,
+    ) -> Result<Heard, NoMemory>
+        requires lawful { IsLawful settings.now }
+        requires later { self.old.parts.now ≤ m }
+        requires count { self.old.parts.count < 2 ^ 61 }
+        requires range { InRangeRequest request.now }
+        ensures parts { IfOk result (λ heard. heard_seen self.new.parts heard
+            ≡ requested table settings.now m (asker_seen asker) request.now
+            (unchanged self.old.parts)) }
+        ensures sendable { IfOk result (λ heard. All (IsSendable settings.now) heard.emits) }
+        ensures few { IfOk result (λ heard. length heard.emits ≤ 256) }
+        ensures count { IfOk result (λ heard.
+            self.new.parts.count ≤ self.old.parts.count + 256) }
+        ensures now { IfOk result (λ heard. self.new.parts.now ≤ m) }
+        ensures err { OnErr result (self.new.parts ≡ self.old.parts) }
+    {
+        if request.smr && !asker.probe {
+            return self.renew(settings, m, request);
+        }
+        self.answer_request(settings, asker, request)
     }
 
     // Hears a Map-Reply.

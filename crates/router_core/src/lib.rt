@@ -2,6 +2,7 @@
 //! that memory makes of a message or a notice.
 #![tactic(auto)]
 
+mod answering;
 mod applying;
 mod arrival;
 mod changed;
@@ -17,7 +18,9 @@ mod hearing;
 mod learning;
 mod noting;
 mod own_requests;
+mod renewing;
 mod site;
+mod status;
 mod table;
 
 pub use changed::{Changed, Heard};

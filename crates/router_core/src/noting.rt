@@ -1,16 +1,18 @@
 // What is noticed, noted.
-ghost use Rattle.std.specs.Prelude.{◌≡◌, ◌<◌, ◌≤◌, ◌^◌, ◌∷◌, ◌+◌, [], length, is_some, All, IsTrue, IfOk, OnErr};
+ghost use Rattle.std.specs.Prelude.{◌≡◌, ◌<◌, ◌≤◌, ◌^◌, ◌∷◌, ◌+◌, ◌==◌, ◌||◌, [], true, length, is_some, All, IsTrue, IfOk, OnErr};
 ghost use Rattle.request_queue.specs.Queue.{waiting};
-ghost use Rattle.router_log.specs.declared.notice.Notice.TheVariants.{Ask};
+ghost use Rattle.lisp_settings.specs.declared.settings.Settings.{Settings as SettingsValue};
+ghost use Rattle.router_log.specs.declared.notice.Notice.TheVariants.{Ask, Bits};
 ghost use Rattle.router_model.specs.Changes.{asked, may_ask, unchanged};
 ghost use Rattle.router_model.specs.Journal.{Journal};
-ghost use Rattle.router_model.specs.Lifting.{Follows, MayGo};
-ghost use Rattle.router_model.specs.Note.{is_missing, is_wanting, note, noted};
-ghost use Rattle.router_model.specs.Mappings.{force};
+ghost use Rattle.router_model.specs.Lifting.{Follows, MayGo, is_sound};
+ghost use Rattle.router_model.specs.Note.{is_missing, is_news, is_wanting, note, noted};
+ghost use Rattle.router_model.specs.Mappings.{exact, force};
 ghost use Rattle.router_model.specs.Parts.{Stands, table, view_in};
 ghost use Rattle.router_core.specs.Sendable.{IsSendable};
 ghost use Rattle.router_core.specs.Table.{changed_seen};
 
+use crate::status::{differs, is_named};
 use crate::{Changed, Table};
 use ip_headers::Addr;
 use lisp_settings::{Settings, nonce_at};
@@ -23,7 +25,7 @@ use std::alloc::Global;
 
 impl Table {
     /// Notes what was noticed at a moment: it takes the entries that come of it. Where memory is
-    /// refused, the table is as it was.
+    /// refused, the table is as it was. There are 8 status bits in a notice, or 32.
     #[tactic(auto, unfolding(router_model::specs::Note::noted))]
     pub fn note(
         &mut self,
@@ -33,6 +35,7 @@ impl Table {
     ) -> Result<Changed, NoMemory>
         requires later { self.old.parts.now ≤ m }
         requires count { self.old.parts.count < 2 ^ 61 }
+        requires sound { is_sound notice.now ≡ true }
         ensures parts { IfOk result (λ changed. changed_seen self.new.parts changed
             ≡ noted table settings.now m notice.now (unchanged self.old.parts)) }
         ensures journal { IfOk result (λ changed. (journal : Journal)
@@ -48,14 +51,74 @@ impl Table {
     {
         match notice {
             Notice::Ask { eid, source } => self.note_missing(settings, m, eid, *source),
+            Notice::Bits {
+                eid,
+                rloc,
+                bits,
+                width,
+            } => self.note_bits(m, eid, rloc, *bits, *width),
             // Not built yet.
             Notice::Refresh { .. }
-            | Notice::Bits { .. }
             | Notice::EchoWanted { .. }
             | Notice::EchoHeard { .. }
             | Notice::DataFrom { .. }
             | Notice::Solicit { .. }
             | Notice::EchoDue { .. } => Ok(self.nothing()),
+        }
+    }
+
+    // Notes status bits that tell something new of the locators of a live mapping, from one of them.
+    #[tactic(auto, unfolding(router_model::specs::Note::noted))]
+    fn note_bits(
+        &mut self,
+        m: u64,
+        eid: &Eid,
+        rloc: &Addr,
+        bits: u32,
+        width: u8,
+    ) -> Result<Changed, NoMemory>
+        requires later { self.old.parts.now ≤ m }
+        requires count { self.old.parts.count < 2 ^ 61 }
+        requires width { ((width == 8) || (width == 32)) ≡ true }
+        ensures parts { IfOk result (λ changed. (settings : SettingsValue)
+            → changed_seen self.new.parts changed
+            ≡ noted table settings m (Bits eid.now rloc.now bits width) (unchanged self.old.parts)) }
+        ensures quiet { IfOk result (λ changed. changed.emits ≡ []) }
+        ensures count { IfOk result (λ changed.
+            self.new.parts.count ≤ self.old.parts.count + 1) }
+        ensures now { IfOk result (λ changed. self.new.parts.now ≤ m) }
+        ensures err { OnErr result (self.new.parts ≡ self.old.parts) }
+    {
+        if !self.is_news(m, eid, rloc, bits, width) {
+            return Ok(self.nothing());
+        }
+        let entries = only(
+            self.alloc,
+            Entry::Bits {
+                moment: m,
+                eid: *eid,
+                bits,
+                width,
+            },
+        )?;
+        self.tell(m, eid, bits, width);
+        Ok(Changed {
+            entries,
+            emits: Items::new(self.alloc),
+        })
+    }
+
+    // The mapping of the EID is live, names that locator, and one of its locators has another status.
+    fn is_news(&self, m: u64, eid: &Eid, rloc: &Addr, bits: u32, width: u8) -> bool
+        ensures { result ≡ is_news rloc.now bits width
+            (exact (view_in self.now.parts m).mappings eid.now) }
+    {
+        match self.exact(m, eid) {
+            None => false,
+            Some(mapping) => {
+                let locators = mapping.details.locators.as_slice();
+                is_named(locators, rloc) && differs(mapping, bits, width, 0, locators)
+            }
         }
     }
 
@@ -103,9 +166,9 @@ impl Table {
         }
     }
 
-    // There is a resolver, no open request covers the EID, and there is room for one more.
+    /// There is a resolver, no open request covers the EID, and there is room for one more.
     #[tactic(auto, unfolding(router_model::specs::Parts::view_in))]
-    fn may_ask(&self, settings: &Settings, m: u64, eid: &Eid) -> bool
+    pub(crate) fn may_ask(&self, settings: &Settings, m: u64, eid: &Eid) -> bool
         ensures { result ≡ may_ask settings.now (view_in self.now.parts m) eid.now }
     {
         let now = self.moment_at(m);

@@ -17,7 +17,8 @@ pub(crate) fn is_own(locators: &[OwnLocator], address: Addr) -> bool
     same_address(own.addr, address) || is_own(others, address)
 }
 
-fn same_address(a: Addr, b: Addr) -> bool
+/// The two are of one family and have the same bits.
+pub(crate) fn same_address(a: Addr, b: Addr) -> bool
     ensures { result ≡ same_address a b }
 {
     match (a, b) {

@@ -3,7 +3,7 @@ ghost use Rattle.std.specs.Prelude.{◌≡◌, ◌<◌, ◌≤◌, ◌+◌, ◌^
 ghost use Rattle.map_cache.specs.Cache.{has_room, lasting};
 ghost use Rattle.request_queue.specs.Queue.{waiting};
 ghost use Rattle.lisp_settings.specs.Lawful.{IsLawful};
-ghost use Rattle.router_log.specs.declared.entry.Entry.TheVariants.{Answered, Asked, Learned};
+ghost use Rattle.router_log.specs.declared.entry.Entry.TheVariants.{Answered, Asked, Bits, Learned};
 ghost use Rattle.router_model.specs.Journal.{statics};
 ghost use Rattle.router_model.specs.Parts.{Stands, parts_in, with_entry};
 
@@ -125,6 +125,7 @@ impl Table {
         requires count { self.old.parts.count < 2 ^ 63 }
         ensures parts { self.new.parts
             ≡ with_entry (Asked m eid source invoked nonce) self.old.parts }
+        ensures request_room { self.old.request_room ≤ self.new.request_room + 1 }
     {
         self.cache.purge(m);
         let _ = self.queue.ask(m, eid, source, invoked, nonce);
@@ -143,6 +144,19 @@ impl Table {
         self.cache.purge(m);
         self.queue.purge(m);
         self.queue.answer(nonce);
+        self.count += 1;
+    }
+
+    /// Takes the entry of status bits that were told.
+    pub(crate) fn tell(&mut self, m: u64, eid: &Eid, bits: u32, width: u8)
+        requires later { self.old.parts.now ≤ m }
+        requires width { width ≤ 32 }
+        requires count { self.old.parts.count < 2 ^ 63 }
+        ensures parts { self.new.parts ≡ with_entry (Bits m eid.now bits width) self.old.parts }
+    {
+        self.cache.purge(m);
+        self.queue.purge(m);
+        self.cache.set_bits(eid, bits, width);
         self.count += 1;
     }
 }

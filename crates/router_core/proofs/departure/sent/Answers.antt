@@ -4,9 +4,9 @@ use Rattle.encap.specs.Rules.{encap_rules}
 use Rattle.encap.specs.Rules as unsent
 use Rattle.encap.specs.Wrapped.{wrapped}
 use Rattle.lisp_header.specs.declared.header.LispHeader.{LispHeader}
-use Rattle.locator_choice.specs.Hash.{flow_hash, source_port}
+use Rattle.locator_choice.specs.Hash.{source_port}
 use Rattle.router_log.specs.declared.verdict.Verdict.TheVariants.{Encapsulated}
-use Rattle.router_model.specs.Decide.{lisp_header, port_of, sent}
+use Rattle.router_model.specs.Decide.{hash_of, lisp_header, sent}
 use Rattle.router_core.specs.Seen.{packet_seen}
 use Rattle.router_core.proofs.Drops.{sent_big, sent_expired, sent_none}
 use Rattle.router_core.proofs.departure.sent.Goals as goal
@@ -14,17 +14,17 @@ use Rattle.router_core.proofs.departure.sent.Goals as goal
 pub returns-in-Ok-clause-verdict : goal.returns-in-Ok-clause-verdict
 returns-in-Ok-clause-verdict c =
     let settings = c.args.settings.now in
-    let header = c.args.packet.now.header in
     let octets = c.args.packet.now.octets.now in
     let from = c.args.from in
     let iid = c.args.iid in
     let none : first_failing (encap_rules octets from) ≡ None = sent_none (first_failing (encap_rules octets from)) c.in-Ok.packet c.in-Ok.ensures.refused in
-    let port : c.source_port-port.result ≡ port_of header octets = c.source_port-port.ensures ∙ ap source_port (c.flow_hash.ensures ∙ ap flow_hash c.five_tuple.ensures) in
+    let right = source_port (hash_of (packet_seen c.args.packet.now)) in
+    let port : c.args.port ≡ right = c.requires.port in
     let wrap : ℕ → LispHeader → List ℕ = λ p lisp. wrapped octets from c.args.to p lisp in
-    let packet : c.in-Ok.packet ≡ wrap (port_of header octets) (lisp_header settings iid) =
-    c.in-Ok.ensures.ok ∙ ap (wrap c.source_port-port.result) c.lisp_header-header.ensures.header ∙ ap (λ (p : ℕ). wrap p (lisp_header settings iid)) port in
+    let packet : c.in-Ok.packet ≡ wrap right (lisp_header settings iid) =
+    c.in-Ok.ensures.ok ∙ ap (wrap c.args.port) c.lisp_header-header.ensures.header ∙ ap (λ (p : ℕ). wrap p (lisp_header settings iid)) port in
     ap (λ (p : ℕ). Encapsulated from c.args.to p c.in-Ok.packet) port
-    ∙ ap (Encapsulated from c.args.to (port_of header octets)) packet
+    ∙ ap (Encapsulated from c.args.to right) packet
     ∙ sym (ap (sent settings iid (packet_seen c.args.packet.now) from c.args.to) none)
 
 pub returns-in-Err-TtlExpired-clause-verdict : goal.returns-in-Err-TtlExpired-clause-verdict

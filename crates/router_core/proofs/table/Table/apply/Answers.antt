@@ -1,6 +1,6 @@
 use Rattle.std.proofs.Common.{◌∙◌}
 use Rattle.std.proofs.lemmas.Result.{on_ok_weaker}
-use Rattle.router_core.proofs.ApplyLemmas.{absorbed-as, absorbed-learned, may-ask, may-learn, stands-with}
+use Rattle.router_core.proofs.ApplyLemmas.{absorbed-as, absorbed-learned, may-ask, may-learn, may-tell, stands-with}
 use Rattle.router_core.proofs.table.Table.apply.Goals as goal
 
 pub apply_learned-requires-clause-place : goal.apply_learned-requires-clause-place
@@ -35,3 +35,13 @@ returns-in-Answered-clause-parts c = c.answer.ensures.parts ∙ absorbed-as c.ar
 
 pub returns-in-Answered-clause-journal : goal.returns-in-Answered-clause-journal
 returns-in-Answered-clause-journal c settings journal = stands-with settings c.args.self.now.parts c.answer.new.self.parts journal c.args.entry.now (returns-in-Answered-clause-parts c)
+
+pub tell-requires-clause-width : goal.tell-requires-clause-width
+tell-requires-clause-width c =
+    may-tell c.args.self.now.parts c.in-Bits.moment c.in-Bits.eid c.in-Bits.bits c.in-Bits.width (rw c.in-Bits.is at c.requires)
+
+pub returns-in-Bits-clause-parts : goal.returns-in-Bits-clause-parts
+returns-in-Bits-clause-parts c = c.tell.ensures.parts ∙ absorbed-as c.args.self.now.parts c.args.entry.now _ c.in-Bits.is c.requires
+
+pub returns-in-Bits-clause-journal : goal.returns-in-Bits-clause-journal
+returns-in-Bits-clause-journal c settings journal = stands-with settings c.args.self.now.parts c.tell.new.self.parts journal c.args.entry.now (returns-in-Bits-clause-parts c)

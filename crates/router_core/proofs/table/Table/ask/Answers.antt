@@ -9,8 +9,8 @@ use Rattle.router_core.specs.Table.{Memory}
 use Rattle.router_core.proofs.EntryLemmas.{asked-parts, parts_with, was_asked}
 use Rattle.router_core.proofs.table.Table.ask.Goals as goal
 
-pub returns : goal.returns
-returns c =
+pub returns-clause-parts : goal.returns-clause-parts
+returns-clause-parts c =
     let m = c.args.m in
     let inside = c.self.inside in
     let after : List Request = asked m c.args.eid c.args.source c.args.invoked c.args.nonce inside.queue.requests in
@@ -18,10 +18,7 @@ returns c =
     let room = subst (λ (t : Memory). 0 < t.request_room) (sym c.self.view_is) c.requires.room in
     let rs : c.ask.new.self.requests ≡ after =
     was_asked c.ask.result inside.queue.spare (length (waiting m inside.queue.requests)) c.ask.ensures.ok c.ask.ensures.memory room c.ask.ensures.full place in
-    record {
-      parts =
-          ap₂ (λ (now : ℕ) (l : List Mapping). parts_with (inside.count + 1) (inside.drawn + 1) now l c.ask.new.self.requests) c.purge.ensures.now c.purge.ensures.mappings
-          ∙ ap (λ (l : List Request). parts_with (inside.count + 1) (inside.drawn + 1) m (lasting m inside.cache.mappings) l) rs
-          ∙ asked-parts inside.count inside.drawn inside.cache.now inside.cache.mappings inside.queue.requests m c.args.eid c.args.source c.args.invoked c.args.nonce
-          ∙ ap (λ (t : Memory). with_entry (Asked m c.args.eid c.args.source c.args.invoked c.args.nonce) t.parts) c.self.view_is;
-    }
+    ap₂ (λ (now : ℕ) (l : List Mapping). parts_with (inside.count + 1) (inside.drawn + 1) now l c.ask.new.self.requests) c.purge.ensures.now c.purge.ensures.mappings
+    ∙ ap (λ (l : List Request). parts_with (inside.count + 1) (inside.drawn + 1) m (lasting m inside.cache.mappings) l) rs
+    ∙ asked-parts inside.count inside.drawn inside.cache.now inside.cache.mappings inside.queue.requests m c.args.eid c.args.source c.args.invoked c.args.nonce
+    ∙ ap (λ (t : Memory). with_entry (Asked m c.args.eid c.args.source c.args.invoked c.args.nonce) t.parts) c.self.view_is

@@ -7,8 +7,8 @@ use Rattle.router_core.specs.Table.{Memory}
 use Rattle.router_core.proofs.HeldLemmas.{force-seen}
 use Rattle.router_core.proofs.table.Table.in_force.Goals as goal
 
-pub returns : goal.returns
-returns c =
+pub returns-clause-found : goal.returns-clause-found
+returns-clause-found c =
     let among : List Mapping → _ = λ ms. option_map held_of (cache.in_force ms c.args.eid.now) in
     ap (option_map held_of) c.in_force.ensures.found
     ∙ ap (λ (n : ℕ). among (lasting n c.self.inside.cache.mappings)) c.moment_at.ensures

@@ -21,4 +21,4 @@ returns-clause-parts c =
     ap (λ (q : Parts). change_of q c.in_ok-entries.entries c.in_ok-emits.emits) (c.ask.ensures.parts ∙ ap (with_entry (entry c.nonce_at-nonce.result)) c.in_ok-reserve.ensures.parts)
     ∙ ap₂ (λ (e : List Entry) (f : List Emit). change_of (with_entry (entry c.nonce_at-nonce.result) p) e f) c.in_ok-entries.ensures c.in_ok-emits.ensures
     ∙ ap (λ (n : ℕ). change_of (with_entry (entry n) p) (entry n ∷ []) (emit n ∷ [])) drawn
-    ∙ asked-change settings c.args.m c.args.eid c.args.source c.args.invoked p c.requires.later (omega (arith, few)) c.requires.place
+    ∙ asked-change settings c.args.m c.args.eid c.args.source c.args.invoked p [] [] c.requires.later (omega (arith, few)) c.requires.place

@@ -17,4 +17,23 @@ returns-in-Ask-clause-journal c =
     IfOk-weaker c.note_missing.result _ _ (λ changed is journal stands may.
     subst (λ (t : Change Parts). Follows settings t (note settings journal m notice))
     (sym (is ∙ ap (λ (n : Notice). noted table settings m n (unchanged p)) (sym c.in-Ask.is)))
-    (table-notes settings p journal m notice stands may)) c.note_missing.ensures.parts
+    (table-notes settings p journal m notice stands may c.requires.sound)) c.note_missing.ensures.parts
+
+pub note_bits-requires-clause-width : goal.note_bits-requires-clause-width
+note_bits-requires-clause-width c = rw c.in-Bits.is at c.requires.sound
+
+pub returns-in-Bits-clause-journal : goal.returns-in-Bits-clause-journal
+returns-in-Bits-clause-journal c =
+    let settings = c.args.settings.now in
+    let m = c.args.m in
+    let p = c.args.self.now.parts in
+    let notice = c.args.notice.now in
+    IfOk-weaker c.note_bits.result _ _ (λ changed is journal stands may.
+    subst (λ (t : Change Parts). Follows settings t (note settings journal m notice))
+    (sym (is settings ∙ ap (λ (n : Notice). noted table settings m n (unchanged p)) (sym c.in-Bits.is)))
+    (table-notes settings p journal m notice stands may c.requires.sound)) c.note_bits.ensures.parts
+
+pub returns-in-Bits-clause-parts : goal.returns-in-Bits-clause-parts
+returns-in-Bits-clause-parts c =
+    IfOk-weaker c.note_bits.result _ _ (λ changed is.
+    is c.args.settings.now ∙ ap (λ (n : Notice). noted table c.args.settings.now c.args.m n (unchanged c.args.self.now.parts)) (sym c.in-Bits.is)) c.note_bits.ensures.parts

@@ -3,7 +3,7 @@ use Rattle.std.proofs.Math.Nat.{div-eq_of_lt}
 use Rattle.std.proofs.Math.Pow.{pow_mono}
 use Rattle.std.proofs.lemmas.Bool.Decides.{nat_tests}
 use Rattle.router_model.specs.Mappings.{bit}
-use Rattle.router_core.proofs.choice.bit.Goals as goal
+use Rattle.router_core.proofs.status.bit.Goals as goal
 
 past_all : (i n : ℕ) → n < 2 ^ 32 → 32 ≤ i → nat_lt i 32 ≡ bit i n
 past_all i n few past = here i past ∙ sym (ap (λ (q : ℕ). q % 2 == 1) none)

@@ -1,0 +1,36 @@
+use Rattle.std.proofs.Common.{◌∙◌, ◌≤◌, ◌++◌, List, length, map, filter, filter_map, sym, ap, subst}
+use Rattle.map_messages.specs.Range.{InRangeReply}
+use Rattle.map_messages.specs.Reply.{canonical_reply}
+use Rattle.map_messages.specs.declared.message.MapReply.{MapReply}
+use Rattle.mapping_records.specs.declared.eid.Eid.{Eid}
+use Rattle.mapping_records.specs.declared.record.Record.{Record}
+use Rattle.lisp_settings.specs.declared.settings.Database.{Database}
+use Rattle.router_model.specs.Hear.{own_record}
+use Rattle.router_model.specs.Site.{database_of}
+use Rattle.router_core.specs.Answering.{is_hit}
+use Rattle.router_core.specs.Seen.{asker_seen}
+use Rattle.router_core.proofs.AnsweringLemmas.{reply-made, reply-range, reply-short}
+use Rattle.router_core.proofs.answering.reply_of.Goals as goal
+
+pub returns-clause-reply : goal.returns-clause-reply
+returns-clause-reply c =
+    let settings = c.args.settings.now in
+    let request = c.args.request.now in
+    let found : List Database → List Eid → List Eid = λ databases eids. map (λ (database : Database). database.eid) (filter_map (database_of databases) eids) in
+    let hits = c.deref.ensures.value
+    ∙ c.in_ok-add_hits.ensures
+    ∙ ap (λ (l : List Eid). l ++ found c.as_slice-databases.result.now c.as_slice.result.now) c.new-hits.ensures.items
+    ∙ ap (λ (l : List Database). found l c.as_slice.result.now) c.as_slice-databases.ensures
+    ∙ ap (found settings.databases) c.as_slice.ensures in
+    let records = c.in_ok-add_records.ensures
+    ∙ ap (λ (l : List Record). l ++ map (own_record settings c.probed.result) (filter (is_hit c.deref.result.now) c.as_slice-databases.result.now)) c.new-mappings.ensures
+    ∙ ap (λ (l : List Database). map (own_record settings c.probed.result) (filter (is_hit c.deref.result.now) l)) c.as_slice-databases.ensures in
+    reply-made settings (asker_seen c.args.asker) request c.probed.result c.deref.result.now c.add_records.new.records records c.probed.ensures hits
+
+pub returns-clause-range : goal.returns-clause-range
+returns-clause-range c =
+    subst InRangeReply (sym (returns-clause-reply c)) (reply-range c.args.settings.now c.requires.lawful (asker_seen c.args.asker) c.args.request.now)
+
+pub returns-clause-short : goal.returns-clause-short
+returns-clause-short c =
+    subst (λ (reply : MapReply). length (canonical_reply reply) ≤ 65000) (sym (returns-clause-reply c)) (reply-short c.args.settings.now c.requires.lawful (asker_seen c.args.asker) c.args.request.now)

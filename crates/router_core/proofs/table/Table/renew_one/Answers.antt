@@ -1,0 +1,33 @@
+use Rattle.std.proofs.Common.{◌≡◌, ◌∙◌, ℕ, true, None, List, [], ◌∷◌, ◌++◌, sym, ap, ap₂}
+use Rattle.lisp_settings.specs.Nonces.{nonce_of}
+use Rattle.router_log.specs.declared.emit.Emit.{Emit}
+use Rattle.router_log.specs.declared.emit.Emit.TheVariants.{Request}
+use Rattle.router_log.specs.declared.entry.Entry.{Entry}
+use Rattle.router_log.specs.declared.entry.Entry.TheVariants.{Asked}
+use Rattle.router_model.specs.Parts.{Parts, with_entry}
+use Rattle.router_core.specs.Renewing.{range_of}
+use Rattle.router_core.specs.Table.{Memory, change_of}
+use Rattle.router_core.proofs.RenewingLemmas.{renewable-place, renewed-so}
+use Rattle.router_core.proofs.table.Table.renew_one.Goals as goal
+
+pub ask-requires-clause-place : goal.ask-requires-clause-place
+ask-requires-clause-place c =
+    renewable-place c.args.settings.now c.args.m c.args.self.now.parts _ c.in-Some.eid c.requires.later (sym c.renewable.ensures ∙ c.in-Some.is)
+
+pub returns-clause-change : goal.returns-clause-change
+returns-clause-change c =
+    let settings = c.args.settings.now in
+    let m = c.args.m in
+    let p = c.args.self.now.parts in
+    let eid = c.in-Some.eid in
+    let entries = c.args.entries.now.items in
+    let emits = c.args.emits.now.items in
+    let entry : ℕ → Entry = λ n. Asked m eid None true n in
+    let emit : ℕ → Emit = λ n. Request eid None true n in
+    let n = c.nonce_at-nonce.result in
+    let drawn : n ≡ nonce_of settings.seed settings.nonces p.drawn =
+    c.nonce_at-nonce.ensures ∙ ap (λ (t : Memory). nonce_of settings.seed settings.nonces t.parts.drawn) c.self.view_is in
+    ap (λ (q : Parts). change_of q c.push_reserved.new.self.items c.push_reserved-2.new.self.items) c.ask.ensures.parts
+    ∙ ap₂ (λ (e : List Entry) (f : List Emit). change_of (with_entry (entry n) p) e f) c.push_reserved.ensures.items c.push_reserved-2.ensures.items
+    ∙ ap (λ (n : ℕ). change_of (with_entry (entry n) p) (entries ++ entry n ∷ []) (emits ++ emit n ∷ [])) drawn
+    ∙ renewed-so settings m p (range_of c.args.eid.now) eid entries emits c.requires.later c.requires.count (sym c.renewable.ensures ∙ c.in-Some.is)

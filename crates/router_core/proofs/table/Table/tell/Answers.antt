@@ -1,0 +1,23 @@
+use Rattle.std.proofs.Common.{◌∙◌, ◌+◌, ℕ, List, ap, ap₂}
+use Rattle.map_cache.specs.Cache.{bits_told, lasting}
+use Rattle.map_cache.specs.declared.mapping.Mapping.{Mapping}
+use Rattle.request_queue.specs.declared.request.Request.{Request}
+use Rattle.router_log.specs.declared.entry.Entry.TheVariants.{Bits}
+use Rattle.router_model.specs.Parts.{with_entry}
+use Rattle.router_core.specs.Table.{Memory}
+use Rattle.router_core.proofs.EntryLemmas.{parts_with, told-parts}
+use Rattle.router_core.proofs.table.Table.tell.Goals as goal
+
+pub returns : goal.returns
+returns c =
+    let m = c.args.m in
+    let eid = c.args.eid.now in
+    let told : List Mapping → List Mapping = bits_told eid c.args.bits c.args.width in
+    let inside = c.self.inside in
+    record {
+      parts =
+          ap₂ (λ (now : ℕ) (l : List Mapping). parts_with (inside.count + 1) inside.drawn now l c.purge-2.new.self.requests) (c.set_bits.ensures.now ∙ c.purge.ensures.now) (c.set_bits.ensures.mappings ∙ ap told c.purge.ensures.mappings)
+          ∙ ap (λ (l : List Request). parts_with (inside.count + 1) inside.drawn m (told (lasting m inside.cache.mappings)) l) c.purge-2.ensures.requests
+          ∙ told-parts inside.count inside.drawn inside.cache.now inside.cache.mappings inside.queue.requests m eid c.args.bits c.args.width
+          ∙ ap (λ (t : Memory). with_entry (Bits m eid c.args.bits c.args.width) t.parts) c.self.view_is;
+    }

@@ -1,0 +1,181 @@
+// What a solicitation makes the router ask for again (RFC 9301, section 6.1).
+ghost use Rattle.std.specs.Prelude.{◌≡◌, ◌<◌, ◌≤◌, ◌+◌, ◌^◌, length, map, option_to_list, All, IfOk, IfSome, OnErr, vec_capacity, vec_len};
+ghost use Rattle.map_messages.specs.Range.{InRangeRequest};
+ghost use Rattle.router_model.specs.Changes.{each, unchanged};
+ghost use Rattle.router_model.specs.Hear.{counted, ranges_of, renewable, renewed};
+ghost use Rattle.router_model.specs.Mappings.{force};
+ghost use Rattle.router_model.specs.Parts.{table, view_in};
+ghost use Rattle.router_core.specs.Renewing.{range_of, source_range};
+ghost use Rattle.router_core.specs.Sendable.{IsSendable};
+ghost use Rattle.router_core.specs.Table.{change_of, heard_seen};
+
+use crate::departure::host_eid;
+use crate::{Heard, Table};
+use ip_headers::Addr;
+use lisp_settings::{Settings, nonce_at};
+use map_messages::MapRequest;
+use mapping_records::Eid;
+use octets::{Items, NoMemory};
+use router_log::{Done, Emit, Entry, Verdict};
+
+impl Table {
+    /// Takes a solicitation: what its Source EID and its EIDs go by is asked for again.
+    pub(crate) fn renew(
+        &mut self,
+        settings: &Settings,
+        m: u64,
+        request: &MapRequest,
+    ) -> Result<Heard, NoMemory>
+        requires later { self.old.parts.now ≤ m }
+        requires count { self.old.parts.count < 2 ^ 61 }
+        requires range { InRangeRequest request.now }
+        ensures parts { IfOk result (λ heard. heard_seen self.new.parts heard
+            ≡ counted table settings.now m (each (renewed table settings.now m)
+            (ranges_of request.now) (unchanged self.old.parts))) }
+        ensures sendable { IfOk result (λ heard. All (IsSendable settings.now) heard.emits) }
+        ensures few { IfOk result (λ heard. length heard.emits ≤ 256) }
+        ensures count { IfOk result (λ heard.
+            self.new.parts.count ≤ self.old.parts.count + 256) }
+        ensures now { IfOk result (λ heard. self.new.parts.now ≤ m) }
+        ensures err { OnErr result (self.new.parts ≡ self.old.parts) }
+    {
+        let eids = request.eids.as_slice();
+        let mut entries = Vec::new(self.alloc);
+        entries.reserve(1 + eids.len())?;
+        let mut emits = Vec::new(self.alloc);
+        emits.reserve(1 + eids.len())?;
+        self.reserve(0, 1 + eids.len() as u32)?;
+        self.renew_source(settings, m, request.source, &mut entries, &mut emits);
+        self.renew_each(settings, m, eids, &mut entries, &mut emits);
+        Ok(Heard {
+            verdict: Verdict::Control(Done::Solicited(entries.len() as u32)),
+            entries: Items::from_vec(entries),
+            emits: Items::from_vec(emits),
+        })
+    }
+
+    // Asks again for the mapping of a Source EID, if there is one.
+    fn renew_source(
+        &mut self,
+        settings: &Settings,
+        m: u64,
+        source: Option<(u32, Addr)>,
+        entries: &mut Vec<Entry>,
+        emits: &mut Vec<Emit>,
+    )
+        requires later { self.old.parts.now ≤ m }
+        requires count { self.old.parts.count < 2 ^ 62 }
+        requires instance { IfSome source (λ source. source.0 < 2 ^ 24) }
+        requires request_room { 0 < self.old.request_room }
+        requires entries { vec_len entries.old < vec_capacity entries.old }
+        requires emits { vec_len emits.old < vec_capacity emits.old }
+        requires sendable { All (IsSendable settings.now) emits.old.items }
+        ensures change { change_of self.new.parts entries.new.items emits.new.items
+            ≡ each (renewed table settings.now m) (map source_range (option_to_list source))
+            (change_of self.old.parts entries.old.items emits.old.items) }
+        ensures sendable { All (IsSendable settings.now) emits.new.items }
+        ensures now { self.new.parts.now ≤ m }
+        ensures count { self.new.parts.count ≤ self.old.parts.count + 1 }
+        ensures request_room { self.old.request_room ≤ self.new.request_room + 1 }
+        ensures entries { vec_len entries.new ≤ vec_len entries.old + 1 }
+        ensures entry_room { vec_capacity entries.new ≡ vec_capacity entries.old }
+        ensures emits { vec_len emits.new ≤ vec_len emits.old + 1 }
+        ensures emit_room { vec_capacity emits.new ≡ vec_capacity emits.old }
+    {
+        let Some((iid, addr)) = source else {
+            return;
+        };
+        self.renew_one(settings, m, &host_eid(iid, addr), entries, emits);
+    }
+
+    // Asks again for the mapping of each of these EIDs.
+    fn renew_each(
+        &mut self,
+        settings: &Settings,
+        m: u64,
+        eids: &[Eid],
+        entries: &mut Vec<Entry>,
+        emits: &mut Vec<Emit>,
+    )
+        requires later { self.old.parts.now ≤ m }
+        requires count { self.old.parts.count + length eids.now < 2 ^ 62 }
+        requires request_room { length eids.now ≤ self.old.request_room }
+        requires entries { vec_len entries.old + length eids.now ≤ vec_capacity entries.old }
+        requires emits { vec_len emits.old + length eids.now ≤ vec_capacity emits.old }
+        requires sendable { All (IsSendable settings.now) emits.old.items }
+        ensures change { change_of self.new.parts entries.new.items emits.new.items
+            ≡ each (renewed table settings.now m) (map range_of eids.now)
+            (change_of self.old.parts entries.old.items emits.old.items) }
+        ensures sendable { All (IsSendable settings.now) emits.new.items }
+        ensures now { self.new.parts.now ≤ m }
+        ensures count { self.new.parts.count ≤ self.old.parts.count + length eids.now }
+        ensures entries { vec_len entries.new ≤ vec_len entries.old + length eids.now }
+        ensures emits { vec_len emits.new ≤ vec_len emits.old + length eids.now }
+    {
+        let [eid, others @ ..] = eids else {
+            return;
+        };
+        self.renew_one(settings, m, eid, entries, emits);
+        self.renew_each(settings, m, others, entries, emits);
+    }
+
+    // Asks again for the mapping of an EID, if it was learned and may be asked for.
+    fn renew_one(
+        &mut self,
+        settings: &Settings,
+        m: u64,
+        eid: &Eid,
+        entries: &mut Vec<Entry>,
+        emits: &mut Vec<Emit>,
+    )
+        requires later { self.old.parts.now ≤ m }
+        requires count { self.old.parts.count < 2 ^ 62 }
+        requires request_room { 0 < self.old.request_room }
+        requires entries { vec_len entries.old < vec_capacity entries.old }
+        requires emits { vec_len emits.old < vec_capacity emits.old }
+        requires sendable { All (IsSendable settings.now) emits.old.items }
+        ensures change { change_of self.new.parts entries.new.items emits.new.items
+            ≡ renewed table settings.now m (range_of eid.now)
+            (change_of self.old.parts entries.old.items emits.old.items) }
+        ensures sendable { All (IsSendable settings.now) emits.new.items }
+        ensures now { self.new.parts.now ≤ m }
+        ensures count { self.new.parts.count ≤ self.old.parts.count + 1 }
+        ensures request_room { self.old.request_room ≤ self.new.request_room + 1 }
+        ensures entries { vec_len entries.new ≤ vec_len entries.old + 1 }
+        ensures entry_room { vec_capacity entries.new ≡ vec_capacity entries.old }
+        ensures emits { vec_len emits.new ≤ vec_len emits.old + 1 }
+        ensures emit_room { vec_capacity emits.new ≡ vec_capacity emits.old }
+    {
+        let Some(eid) = self.renewable(settings, m, eid) else {
+            return;
+        };
+        let nonce = nonce_at(settings, self.drawn);
+        self.ask(m, eid, None, true, nonce);
+        entries.push_reserved(Entry::Asked {
+            moment: m,
+            eid,
+            source: None,
+            invoked: true,
+            nonce,
+        });
+        emits.push_reserved(Emit::Request {
+            eid,
+            source: None,
+            invoked: true,
+            nonce,
+        });
+    }
+
+    // The EID of the mapping in force, if that was learned and may be asked for again.
+    fn renewable(&self, settings: &Settings, m: u64, eid: &Eid) -> Option<Eid>
+        ensures { result ≡ renewable settings.now (view_in self.now.parts m)
+            (force (view_in self.now.parts m).mappings eid.now.iid eid.now.prefix.addr
+            eid.now.prefix.len) }
+    {
+        let mapping = self.in_force(m, eid)?;
+        if mapping.fixed || !self.may_ask(settings, m, &mapping.eid) {
+            return None;
+        }
+        Some(mapping.eid)
+    }
+}
