@@ -1,8 +1,8 @@
 -- What a frame adds to a replay.
-use Rattle.std.proofs.Common.{get_or, ◌≡◌, ◌+◌, ◌*◌, ◌-◌, ◌≤◌, ◌∙◌, ℕ, List, [], ◌∷◌, ◌++◌, length, Option, Some, None, Result, Ok, Err, false, append_assoc, arith, ap, refl, sym}
+use Rattle.std.proofs.Common.{get_or, drop, take, ◌≡◌, ◌+◌, ◌*◌, ◌-◌, ◌≤◌, ◌∙◌, ℕ, List, [], ◌∷◌, ◌++◌, length, Option, Some, None, Result, Ok, Err, false, append_assoc, arith, ap, ap₂, refl, sym}
 use Rattle.std.specs.Result.{OnOk}
 use Rattle.std.proofs.lemmas.Grind.{flat_map-append}
-use Rattle.std.proofs.lemmas.List.{append-nil, length-append, length-map}
+use Rattle.std.proofs.lemmas.List.{append-nil, length-append, length-map, take_all}
 use Rattle.capture_io.specs.Frame.{Frame}
 use Rattle.capture_io.specs.Output.{packet_record}
 use Rattle.lisp_settings.specs.Lawful.{IsLawful}
@@ -12,17 +12,16 @@ use Rattle.playback.specs.Playing.{Gathers}
 use Rattle.playback.specs.declared.output.Output.{Output}
 use Rattle.playback.proofs.EventLemmas.{played-quiet}
 use Rattle.router_log.specs.Lines.{frame_line}
-use Rattle.router_log.specs.declared.emit.Emit.{Emit}
 use Rattle.router_log.specs.declared.verdict.Verdict.{Verdict}
 use Rattle.router_model.specs.Changes.{Change}
-use Rattle.router_model.specs.Emits.{emit_packet}
+use Rattle.router_model.specs.Hear.{Heard}
 use Rattle.router_model.specs.Journal.{statics}
 use Rattle.router_model.specs.Parts.{Parts, parts_in, table, view_in}
 use Rattle.router_model.proofs.ReplayLemmas.{statics-first}
 use Rattle.router_model.proofs.StaticsLemmas.{length-statics}
 use Rattle.router_model.specs.Course.{Course, control, course_of}
 use Rattle.router_model.specs.Decide.{decide_by, decide_course}
-use Rattle.router_model.specs.Plain.{Router, after_data, after_decision, after_event, emit_packets, packet_of, packets_of}
+use Rattle.router_model.specs.Plain.{Router, after_data, after_decision, after_event, after_message, emit_packets, packet_of, packets_of}
 use Rattle.replay.specs.Taking.{router_of, Sends}
 
 -- a verdict sends at most one packet
@@ -48,10 +47,34 @@ sends-one moment octets old new lines records written = record {
   written = written;
 }
 
--- the packets of one emit alone
-pub emits-one : (settings : Settings) (moment : ℕ) (emit : Emit) (emits : List Emit) → emits ≡ emit ∷ []
-    → record { moment = moment; octets = emit_packet settings emit } ∷ [] ≡ emit_packets settings moment emits
-emits-one settings moment emit emits is = rw is refl
+-- a packet, then others
+pub sends-more : (packet : Packet) (packets : List Packet) (old mid new : Output) → Sends (packet ∷ []) old mid → Sends packets mid new → Sends (packet ∷ packets) old new
+sends-more packet packets old mid new first others =
+    let a = first.written in
+    let b = others.written in
+    record {
+      lines = others.lines ∙ first.lines;
+      records = others.records ∙ ap (λ (r : List ℕ). r ++ records_of packets) first.records
+          ∙ append_assoc old.records (records_of (packet ∷ [])) (records_of packets)
+          ∙ ap (λ (r : List ℕ). old.records ++ r) (sym (flat_map-append (λ (p : Packet). packet_record p.moment p.octets) (packet ∷ []) packets));
+      written = omega (arith, a, b);
+    }
+
+-- a line and the packets of emits are what a message gives
+pub message-gathers : (router : Router Parts) (frame : Frame) (heard : Heard Parts) (old first new : Output)
+    → first.lines ≡ old.lines ++ frame_line frame.number frame.moment router.memory.count heard.verdict → first.records ≡ old.records → first.written ≡ old.written
+    → Sends (emit_packets router.settings frame.moment heard.change.emits) first new → length heard.change.emits ≤ 256
+    → Gathers (after_message table router frame heard) old new
+message-gathers router frame heard old first new lines records written sent few =
+    let packets = emit_packets router.settings frame.moment heard.change.emits in
+    let count : length packets ≡ length heard.change.emits = length-map heard.change.emits _ in
+    let a = sent.written in
+    record {
+      lines = sent.lines ∙ lines;
+      records = sent.records ∙ ap (λ (r : List ℕ). r ++ records_of packets) records;
+      written = omega (arith, a, written);
+      few = omega (arith, count, few);
+    }
 
 -- a line, the packet of a verdict and those of emits are what a frame gives
 pub data-gathers : (router : Router Parts) (frame : Frame) (verdict : Verdict) (change : Change Parts) (old first mid new : Output)
@@ -99,8 +122,7 @@ ready-first settings parts lawful is =
     let first = statics-first settings in
     (lawful, (rw is first, rw is (let few_entries : length (statics settings) ≤ 65536 + 256 * 0 = omega (arith, count, few) in few_entries)))
 
--- a list of one item
-pub single : {A : Type 0} (items : List A) (item : A) → 1 ≤ length items → length items ≤ 1 → item ≡ get_or items 0 item → items ≡ item ∷ []
-single [] item some few is = absurd (omega (arith, some))
-single (first ∷ []) item some few is = ap (λ (x : _). x ∷ []) (sym is)
-single (first ∷ (second ∷ rest)) item some few is = absurd (omega (arith, few))
+-- a list is its first item and those left
+pub first-left : {A : Type 0} (items : List A) (item : A) → 1 ≤ length items → item ≡ get_or items 0 item → items ≡ item ∷ take (length items - 1) (drop 1 items)
+first-left [] item some is = absurd (omega (arith, some))
+first-left (first ∷ others) item some is = ap₂ (λ (x : _) (l : List _). x ∷ l) (sym is) (sym (take_all (length (first ∷ others) - 1) others (omega arith)))

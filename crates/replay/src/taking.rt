@@ -1,5 +1,6 @@
 // A frame of a capture, taken by a router.
-ghost use Rattle.std.specs.Prelude.{◌≡◌, ◌<◌, ◌≤◌, ◌+◌, ◌*◌, ◌^◌, length, All, None, OnOk};
+ghost use Rattle.std.specs.Prelude.{◌≡◌, ◌<◌, ◌≤◌, ◌+◌, ◌*◌, ◌^◌, ◌∷◌, [], true, length, All, None, OnOk};
+ghost use Rattle.std.specs.List.{list_all};
 ghost use Rattle.lisp_settings.specs.Lawful.{IsLawful};
 ghost use Rattle.playback.specs.Events.{Arrival};
 ghost use Rattle.playback.specs.Playing.{Gathers};
@@ -8,6 +9,7 @@ ghost use Rattle.router_core.specs.Sendable.{IsSendable};
 ghost use Rattle.router_model.specs.Changes.{each, unchanged};
 ghost use Rattle.router_model.specs.Decide.{decide_course};
 ghost use Rattle.router_model.specs.Hear.{course_heard};
+ghost use Rattle.router_model.specs.Lifting.{is_sound};
 ghost use Rattle.router_model.specs.Note.{noted};
 ghost use Rattle.router_model.specs.Parts.{table, view_in};
 ghost use Rattle.router_model.specs.Plain.{after_decision, after_event, after_message, emit_packets, packet_of, packets_of, FitsRecord};
@@ -18,7 +20,7 @@ use lisp_settings::Settings;
 use octets::{NoMemory, Octets};
 use playback::Output;
 use router_core::{Course, Decision, Table, course_of, emit_octets};
-use router_log::{Emits, Notices, Verdict, push_frame_line};
+use router_log::{Emit, Notices, Verdict, push_frame_line};
 use std::alloc::Global;
 
 /// Hears a frame or decides it, and gathers its line and the packets that are sent for it.
@@ -44,22 +46,26 @@ pub(crate) fn take_frame(
 {
     let course = course_of(settings, frame);
     if course.is_message() {
-        hear(settings, memory, frame, course, output)
+        hear(alloc, settings, memory, frame, course, output)
     } else {
         decide(alloc, settings, memory, frame, course, output)
     }
 }
 
-// Hears a control message, and gathers its line. No packet is sent for one yet.
+// Hears a control message, and gathers its line and the packets that are sent for it.
 fn hear(
+    alloc: Global,
     settings: &Settings,
     memory: &mut Table,
     frame: &Frame,
     course: Course,
     output: &mut Output,
 ) -> Result<(), NoMemory>
+    requires lawful { IsLawful settings.now }
     requires later { memory.old.parts.now ≤ frame.now.moment }
     requires count { memory.old.parts.count < 2 ^ 61 }
+    requires moment { frame.now.moment < 2 ^ 32 * 1000000000 }
+    requires room { output.old.written < 2 ^ 48 }
     ensures gathers { OnOk result (Gathers
         (after_message table (router_of settings.now memory.old.parts) frame.now
         (course_heard table settings.now frame.now.moment (course_seen course.entry)
@@ -78,6 +84,13 @@ fn hear(
         entries,
         &heard.verdict,
         &mut output.lines,
+    )?;
+    push_emits(
+        alloc,
+        settings,
+        frame.moment,
+        heard.emits.as_slice(),
+        output,
     )
 }
 
@@ -158,6 +171,7 @@ fn note_all(
 ) -> Result<(), NoMemory>
     requires lawful { IsLawful settings.now }
     requires few { length notices.now ≤ 1 }
+    requires sound { list_all is_sound notices.now ≡ true }
     requires later { memory.old.parts.now ≤ moment }
     requires count { memory.old.parts.count < 2 ^ 61 }
     requires moment { moment < 2 ^ 32 * 1000000000 }
@@ -176,27 +190,45 @@ fn note_all(
         return Ok(());
     };
     let changed = memory.note(settings, moment, notice)?;
-    push_emits(alloc, settings, moment, &changed.emits, output)
+    push_emits(alloc, settings, moment, changed.emits.as_slice(), output)
 }
 
-// Gathers the packet of an emit, if there is one.
+// Gathers the packets of emits.
 fn push_emits(
     alloc: Global,
     settings: &Settings,
     moment: u64,
-    emits: &Emits,
+    emits: &[Emit],
     output: &mut Output,
 ) -> Result<(), NoMemory>
     requires lawful { IsLawful settings.now }
     requires sendable { All (IsSendable settings.now) emits.now }
-    requires few { length emits.now ≤ 1 }
     requires moment { moment < 2 ^ 32 * 1000000000 }
-    requires room { output.old.written < 2 ^ 49 }
+    requires room { output.old.written + length emits.now < 2 ^ 50 }
     ensures { OnOk result (Sends (emit_packets settings.now moment emits.now) output.old output.new) }
 {
-    let [emit, ..] = emits.as_slice() else {
+    let [emit, others @ ..] = emits else {
         return Ok(());
     };
+    push_emit(alloc, settings, moment, emit, output)?;
+    push_emits(alloc, settings, moment, others, output)
+}
+
+// Gathers the packet of an emit.
+fn push_emit(
+    alloc: Global,
+    settings: &Settings,
+    moment: u64,
+    emit: &Emit,
+    output: &mut Output,
+) -> Result<(), NoMemory>
+    requires lawful { IsLawful settings.now }
+    requires sendable { IsSendable settings.now emit.now }
+    requires moment { moment < 2 ^ 32 * 1000000000 }
+    requires room { output.old.written < 2 ^ 50 }
+    ensures { OnOk result (Sends (emit_packets settings.now moment (emit.now ∷ []))
+        output.old output.new) }
+{
     let packet = emit_octets(alloc, settings, emit)?;
     output.push_packet(moment, packet.as_slice())
 }
