@@ -1,0 +1,121 @@
+-- The packets of the examples, and frames of them.
+use Rattle.std.specs.Prelude.{ℕ, ◌+◌, ◌*◌, List, [], ◌++◌, codes, replicate, unwrap_or}
+use Rattle.capture_io.specs.Frame.{Frame}
+use Rattle.capture_io.specs.declared.link.Link.TheVariants.{Ethernet, Raw}
+use Rattle.lisp_settings.specs.Hex.{octets_in}
+
+-- so many tenths of a second, and seconds, after the begin
+abbrev pub tenths : ℕ → ℕ
+tenths n = 1700000000000000000 + n * 100000000
+
+abbrev pub seconds : ℕ → ℕ
+seconds n = 1700000000000000000 + n * 1000000000
+
+-- octets of hexadecimal digits
+abbrev pub hex : List ℕ → List ℕ
+hex text = unwrap_or (octets_in text) []
+
+-- a frame of raw IP
+abbrev pub raw : ℕ → ℕ → List ℕ → Frame
+raw number moment octets = record { number = number; moment = moment; link = Raw; octets = octets }
+
+-- a frame of Ethernet, so many tenths of a second after the begin
+abbrev pub wired : ℕ → List ℕ → Frame
+wired number octets = record { number = number; moment = tenths number; link = Ethernet; octets = octets }
+
+-- an Ethernet header for IPv4, and what follows
+abbrev pub framed : List ℕ → List ℕ
+framed octets = hex (codes "0200000000010200000000ff0800") ++ octets
+
+-- the same of 28 octets, with 18 octets of padding
+abbrev pub padded : List ℕ → List ℕ
+padded octets = framed (octets ++ replicate 18 0)
+
+-- ### from the site
+
+-- 10.1.0.5 to 10.2.0.9, UDP 1000 to 2000
+abbrev pub packet : List ℕ
+packet = hex (codes "4500001c00000000401166c10a0100050a02000903e807d000080000")
+
+-- the packet with a TTL of 1, and of 2
+abbrev pub one_hop : List ℕ
+one_hop = hex (codes "4500001c000000000111a5c10a0100050a02000903e807d000080000")
+
+abbrev pub two_hops : List ℕ
+two_hops = hex (codes "4500001c000000000211a4c10a0100050a02000903e807d000080000")
+
+-- the packet, one hop further
+abbrev pub forwarded : List ℕ
+forwarded = hex (codes "4500001c000000003f1167c10a0100050a02000903e807d000080000")
+
+-- packets of 1,444, 1,445, 1,464 and 1,465 octets
+abbrev pub octets_1444 : List ℕ
+octets_1444 = hex (codes "450005a400000000400161490a0100050a020009") ++ replicate 1424 0
+
+abbrev pub octets_1445 : List ℕ
+octets_1445 = hex (codes "450005a500000000400161480a0100050a020009") ++ replicate 1425 0
+
+abbrev pub octets_1464 : List ℕ
+octets_1464 = hex (codes "450005b800000000400161350a0100050a020009") ++ replicate 1444 0
+
+abbrev pub octets_1465 : List ℕ
+octets_1465 = hex (codes "450005b900000000400161340a0100050a020009") ++ replicate 1445 0
+
+-- ### in a tunnel from the site
+
+-- the packet, without an instance and in instance 100
+abbrev pub encapsulated : List ℕ
+encapsulated = hex (codes "45000040000040003f114f71c0000201c6336407fc0710f5002c000040000000000000014500001c000000003f1167c10a0100050a02000903e807d000080000")
+
+abbrev pub encapsulated_in_100 : List ℕ
+encapsulated_in_100 = hex (codes "45000040000040003f114f71c0000201c6336407fc0710f5002c000048000000000064014500001c000000003f1167c10a0100050a02000903e807d000080000")
+
+-- the packet with a TTL of 2
+abbrev pub encapsulated_last : List ℕ
+encapsulated_last = hex (codes "450000400000400001118d71c0000201c6336407fc0710f5002c000040000000000000014500001c000000000111a5c10a0100050a02000903e807d000080000")
+
+-- ### in a tunnel to the site
+
+-- 10.2.0.9 to 10.1.0.5, outer TTL 10 and DSCP 46 with ECT(1), inner TTL 64 and ECT(0); and how it leaves the tunnel
+abbrev pub marked : List ℕ
+marked = hex (codes "45b90040000000000a11c3b8c6336407c0000201c35010f5002c000000000000000000004502001c00000000401166bf0a0200090a01000503e807d000080000")
+
+abbrev pub delivered : List ℕ
+delivered = hex (codes "45b9001c0000000009119d080a0200090a01000503e807d000080000")
+
+-- the same with the bits of a nonce and of versions
+abbrev pub marked_with_nonce : List ℕ
+marked_with_nonce = hex (codes "45b90040000000000a11c3b8c6336407c0000201c35010f5002c00009000002a000000004502001c00000000401166bf0a0200090a01000503e807d000080000")
+
+-- with the key bits 01
+abbrev pub encrypted : List ℕ
+encrypted = hex (codes "450000400000000040118e71c6336407c0000201c35010f5002c000001000000000000004500001c00000000401166c10a0200090a01000503e807d000080000")
+
+-- for 10.9.0.1
+abbrev pub for_another : List ℕ
+for_another = hex (codes "450000400000000040118e71c6336407c0000201c35010f5002c000000000000000000004500001c00000000401166bd0a0200090a09000103e807d000080000")
+
+-- outer CE, inner Not-ECT
+abbrev pub congested : List ℕ
+congested = hex (codes "450300400000000040118e6ec6336407c0000201c35010f5002c000000000000000000004500001c00000000401166c10a0200090a01000503e807d000080000")
+
+-- outer TTL 1, inner TTL 2
+abbrev pub at_its_end : List ℕ
+at_its_end = hex (codes "45000040000000000111cd71c6336407c0000201c35010f5002c000000000000000000004500001c000000000211a4c10a0200090a01000503e807d000080000")
+
+-- in instance 100 with the status bits 01111111
+abbrev pub told : List ℕ
+told = hex (codes "450000400000000040118e71c6336407c0000201c35010f5002c0000480000000000647f4500001c00000000401166c10a0200090a01000503e807d000080000")
+
+-- ### at the link of the router
+
+-- ARP
+abbrev pub arp : List ℕ
+arp = hex (codes "ffffffffffff0200000000ff080600010800060400010200000000ff0a0100050000000000000a010001")
+
+-- 10.2.0.9 to 10.1.0.5, in a tunnel of instance 100, and as it leaves that
+abbrev pub inbound : List ℕ
+inbound = hex (codes "450000400000000040118e71c6336407c0000201c35010f5002c000048000000000064014500001c00000000401166c10a0200090a01000503e807d000080000")
+
+abbrev pub inbound_delivered : List ℕ
+inbound_delivered = hex (codes "4500001c000000003f1167c10a0200090a01000503e807d000080000")

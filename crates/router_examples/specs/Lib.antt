@@ -1,0 +1,4 @@
+pub mod Sites
+pub mod Frames
+pub mod Messages
+pub mod Replays

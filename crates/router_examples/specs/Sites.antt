@@ -1,0 +1,120 @@
+-- The sites of the examples: EIDs, mappings, settings.
+use Rattle.std.specs.Prelude.{ℕ, ◌+◌, ◌^◌, nat_lt, true, false, IsTrue, List, [], ◌∷◌, map, replicate, Some, None, refl}
+use Rattle.std.proofs.lemmas.Bool.{ltb-true}
+use Rattle.ip_headers.specs.Addr.{is_prefix}
+use Rattle.ip_headers.specs.declared.addr.Addr.{Addr}
+use Rattle.ip_headers.specs.declared.addr.Addr.TheVariants.{V4, V6}
+use Rattle.mapping_records.specs.declared.eid.Eid.{Eid}
+use Rattle.mapping_records.specs.declared.record.Locator.{Locator}
+use Rattle.mapping_records.specs.declared.record.Record.{Record}
+use Rattle.lisp_settings.specs.declared.settings.Database.{Database}
+use Rattle.lisp_settings.specs.declared.settings.OwnLocator.{OwnLocator}
+use Rattle.lisp_settings.specs.declared.settings.Settings.{Settings}
+
+-- an EID of numbers
+abbrev pub eid : (iid : ℕ) (addr : Addr) (len : ℕ) → IsTrue (nat_lt iid (2 ^ 24)) → IsTrue (is_prefix addr len) → Eid
+eid iid addr len below lawful =
+    record { iid = iid; prefix = record { addr = addr; len = len; lawful = lawful }; in_range = ltb-true iid (2 ^ 24) below }
+
+-- 10.2.0.0/16 of instance 0; of instance 100 the same, 10.2.0.0/24 and the host 10.2.0.9
+abbrev pub wide_of_0 : Eid
+wide_of_0 = eid 0 (V4 0x0a020000) 16 refl refl
+
+abbrev pub wide : Eid
+wide = eid 100 (V4 0x0a020000) 16 refl refl
+
+abbrev pub narrow : Eid
+narrow = eid 100 (V4 0x0a020000) 24 refl refl
+
+abbrev pub host : Eid
+host = eid 100 (V4 0x0a020009) 32 refl refl
+
+-- the site's own locator 192.0.2.1, and 198.51.100.7 of another site
+abbrev pub near : Addr
+near = V4 0xc0000201
+
+abbrev pub far : Addr
+far = V4 0xc6336407
+
+-- an own locator that is up
+abbrev pub own : Addr → OwnLocator
+own addr = record { addr = addr; priority = 1; weight = 1; up = true }
+
+-- a locator of priority 1 and weight 100 that is up
+abbrev pub locator : Addr → Locator
+locator addr =
+    record { addr = addr; priority = 1; weight = 100; m_priority = 255; m_weight = 0; local = false; probed = false; reachable = true }
+
+-- a mapping of an EID to locators
+abbrev pub mapping : ℕ → Eid → List Locator → Record
+mapping ttl eid locators =
+    record { ttl = ttl; action = 0; authoritative = true; version = 0; eid = eid; locators = locators }
+
+-- a prefix of the site
+abbrev pub database : Eid → Database
+database eid = record { eid = eid; version = 0 }
+
+-- a site with the EIDs 10.1.0.0/16 and a static mapping of 10.2.0.0/16 to 198.51.100.7
+abbrev pub static_site : Settings
+static_site = record {
+  seed = replicate 32 0;
+  nonces = [];
+  resolver = None;
+  ttl = 1440;
+  probe = false;
+  echo = false;
+  locators = own near ∷ [];
+  attachments = record { vlan = 0; iid = 0 } ∷ [];
+  databases = database (eid 0 (V4 0x0a010000) 16 refl refl) ∷ [];
+  mappings = mapping 1440 wide_of_0 (locator far ∷ []) ∷ [];
+}
+
+-- that site, its EIDs with version 5
+abbrev pub site_of_version_5 : Settings
+site_of_version_5 = record static_site { databases = record { eid = eid 0 (V4 0x0a010000) 16 refl refl; version = 5 } ∷ [] }
+
+-- that site, its mapping to other locators
+abbrev pub site_with : List Locator → Settings
+site_with locators = record static_site { mappings = mapping 1440 wide_of_0 locators ∷ [] }
+
+-- the locators 198.51.100.7 and 198.51.100.8 of priority 1, with the weights 0 and 1, and 198.51.100.9 of priority 0, which is down
+abbrev pub uneven : List Locator
+uneven =
+    record (locator far) { weight = 0 } ∷ record (locator (V4 0xc6336408)) { weight = 1 }
+    ∷ record (locator (V4 0xc6336409)) { priority = 0; reachable = false } ∷ []
+
+-- that site, its mapping without locators and with an action
+abbrev pub site_acting : ℕ → Settings
+site_acting action = record static_site { mappings = record (mapping 1440 wide_of_0 []) { action = action } ∷ [] }
+
+-- that site, its locator and that of the mapping in IPv6
+abbrev pub site_over_ipv6 : Settings
+site_over_ipv6 = record static_site {
+  locators = own (V6 0x20010db8000000000000000000000001) ∷ [];
+  mappings = mapping 1440 wide_of_0 (locator (V6 0x20010db8000000000000000000000002) ∷ []) ∷ [];
+}
+
+-- a site with the EIDs 10.1.0.0/16 of instance 100, which asks the resolver 203.0.113.9
+abbrev pub asking_site : Settings
+asking_site = record static_site {
+  nonces = 0x0102030405060708 ∷ 0x1112131415161718 ∷ [];
+  resolver = Some (V4 0xcb007109);
+  attachments = record { vlan = 0; iid = 100 } ∷ [];
+  databases = database (eid 100 (V4 0x0a010000) 16 refl refl) ∷ [];
+  mappings = [];
+}
+
+-- that site, with a static mapping to the nine locators 198.51.100.1 to 198.51.100.9
+abbrev pub nine_locators : Settings
+nine_locators = record asking_site {
+  mappings = mapping 1440 wide (map (λ n. locator (V4 (0xc6336400 + n))) (1 ∷ 2 ∷ 3 ∷ 4 ∷ 5 ∷ 6 ∷ 7 ∷ 8 ∷ 9 ∷ [])) ∷ [];
+}
+
+-- a site with the EIDs 10.0.0.0/8, and within these 10.1.0.0/16, 10.1.1.0/24 and 10.1.2.0/24
+abbrev pub nested_site : Settings
+nested_site = record static_site {
+  databases = map database
+      (eid 0 (V4 0x0a000000) 8 refl refl ∷ eid 0 (V4 0x0a010000) 16 refl refl
+      ∷ eid 0 (V4 0x0a010100) 24 refl refl ∷ eid 0 (V4 0x0a010200) 24 refl refl ∷ []);
+  mappings = [];
+}

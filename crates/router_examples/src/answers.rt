@@ -1,0 +1,64 @@
+// Map-Requests to the site, and solicitations.
+#![tactic(auto, unfolding(crate::proofs::OnLiterals::router_on_literals))]
+
+ghost use Rattle.std.specs.Prelude.{◌≡◌, [], ◌∷◌, ◌++◌, codes, drop, None, true};
+ghost use Rattle.router_log.specs.declared.entry.Entry.TheVariants.{Asked};
+ghost use Rattle.router_examples.specs.Frames.{tenths};
+ghost use Rattle.router_examples.specs.Messages as message;
+ghost use Rattle.router_examples.specs.Replays.{exchange, frames, kept, packet_at, report, said, sent};
+ghost use Rattle.router_examples.specs.Sites.{asking_site, nested_site, static_site, wide};
+
+/// A request is answered with the longest prefix of the site that covers what is asked for, and all
+/// that lie within it.
+pub fn a_request_is_answered_with_all_within()
+    ensures three { said nested_site (frames (message.ask_10_1_5_5 ∷ [])) ≡ report (
+        codes "1 1700000000.000000000 n=0 control request answered=3" ∷ []) }
+    ensures packet { sent nested_site (frames (message.ask_10_1_5_5 ∷ []))
+        ≡ packet_at (tenths 0) message.answer_of_three ∷ [] }
+    ensures one { said nested_site (frames (message.ask_10_1_1_1 ∷ [])) ≡ report (
+        codes "1 1700000000.000000000 n=0 control request answered=1" ∷ []) }
+{}
+
+/// A request for another site's EID isn't answered.
+pub fn a_request_for_another_site_is_dropped()
+    ensures line { said nested_site (frames (message.ask_11_0_0_1 ∷ [])) ≡ report (
+        codes "1 1700000000.000000000 n=0 drop 5 not-ours" ∷ []) }
+    ensures packets { sent nested_site (frames (message.ask_11_0_0_1 ∷ [])) ≡ [] }
+{}
+
+/// A probe is answered as one: with P, and its locator has L, p and R.
+pub fn a_probe_is_answered()
+    ensures line { said static_site (frames (message.probe ∷ [])) ≡ report (
+        codes "1 1700000000.000000000 n=1 control request answered=1" ∷ []) }
+    ensures packet { sent static_site (frames (message.probe ∷ []))
+        ≡ packet_at (tenths 0) message.answer_to_probe ∷ [] }
+{}
+
+/// A request from a family that the site has no locator of isn't answered.
+pub fn a_reply_has_a_path()
+    ensures line { said static_site (frames (message.ask_from_ipv6 ∷ [])) ≡ report (
+        codes "1 1700000000.000000000 n=1 drop 24 no-reply-path" ∷ []) }
+    ensures packets { sent static_site (frames (message.ask_from_ipv6 ∷ [])) ≡ [] }
+{}
+
+/// Of what is encapsulated a request is answered, though as no probe, and a reply isn't heard.
+pub fn what_is_encapsulated_is_no_probe()
+    ensures lines { said static_site (frames (message.carried_probe ∷ message.carried_reply ∷ []))
+        ≡ report (
+        codes "1 1700000000.000000000 n=1 control request answered=1"
+        ∷ codes "2 1700000000.100000000 n=1 drop 25 unexpected"
+        ∷ []) }
+    ensures packet { sent static_site (frames (message.carried_probe ∷ message.carried_reply ∷ []))
+        ≡ packet_at (tenths 0) message.answer_to_carried ∷ [] }
+{}
+
+/// A solicitation for a mapping that was learnt makes the router ask for it again.
+pub fn a_solicitation_asks_again()
+    ensures line { said asking_site (frames (exchange ++ message.solicitation ∷ []))
+        ≡ said asking_site (frames exchange)
+        ++ codes "4 1700000000.300000000 n=3 control solicit asked=1\n" }
+    ensures packet { drop 2 (sent asking_site (frames (exchange ++ message.solicitation ∷ [])))
+        ≡ packet_at (tenths 3) message.asked_again ∷ [] }
+    ensures journal { kept asking_site (frames (exchange ++ message.solicitation ∷ []))
+        ≡ Asked (tenths 3) wide None true 0x1112131415161718 ∷ kept asking_site (frames exchange) }
+{}

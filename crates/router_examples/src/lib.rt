@@ -1,0 +1,29 @@
+//! Worked examples of the router, which its definitions compute.
+#![tactic(auto)]
+
+mod answers;
+mod cases;
+mod locators;
+mod requests;
+mod tunnels;
+
+pub use answers::{
+    a_probe_is_answered, a_reply_has_a_path, a_request_for_another_site_is_dropped,
+    a_request_is_answered_with_all_within, a_solicitation_asks_again,
+    what_is_encapsulated_is_no_probe,
+};
+pub use cases::{an_action_settles_a_packet, own_packets_are_passed_over};
+pub use locators::{
+    eight_bits_are_told_of_nine_locators, hashes_fall_to_shares, priorities_come_before_weights,
+};
+pub use requests::{
+    a_mapping_is_asked_for_once, a_mapping_lasts_to_the_nanosecond, a_message_has_a_checksum,
+    a_message_is_refused_at_its_first_fault, a_missing_mapping_is_asked_for,
+    a_record_beside_is_passed_over, a_reply_comes_within_seven_seconds, a_reply_counts_once,
+    a_reply_covers_what_was_asked, a_shorter_prefix_follows_a_longer_one,
+};
+pub use tunnels::{
+    a_hop_is_taken_into_a_tunnel, a_nonce_comes_before_versions, a_packet_goes_into_its_tunnel,
+    a_packet_leaves_its_tunnel, a_packet_may_stay_in_its_tunnel, a_tunnel_has_1500_octets,
+    padding_stays_out_of_the_tunnel,
+};
