@@ -1,11 +1,12 @@
 // A control message to an own locator, alone.
 use crate::control_packets::ENCAPSULATED_REPLY;
 use crate::packets::{RAW, RELAYED, REPLY, REQUEST, Row, TUNNEL};
+use crate::request_packets::QUESTION;
 use crate::runs::{SITE, assert_kept};
 use std::test::Fail;
 
 // By the checksum, by the message's form, and by what it is.
-const ROWS: [Row<'static>; 12] = [
+const ROWS: [Row<'static>; 14] = [
     (
         &TUNNEL,
         64,
@@ -54,10 +55,22 @@ const ROWS: [Row<'static>; 12] = [
         &[(27, 0x62), (59, 0x49)],
         "drop 1 refused udp 58 udp-checksum",
     ),
+    (
+        &QUESTION,
+        56,
+        &[(27, 0x82), (49, 0x21)],
+        "drop 1 refused message 49 mask-length",
+    ),
+    (
+        &QUESTION,
+        56,
+        &[(26, 0x11), (28, 0x14)],
+        "drop 1 refused message 56 short",
+    ),
     (&REPLY, 80, &[], "drop 21 unsolicited"),
     (&ENCAPSULATED_REPLY, 112, &[], "drop 25 unexpected"),
-    (&REQUEST, 88, &[], "drop 0 not-built"),
-    (&RELAYED, 116, &[], "drop 0 not-built"),
+    (&REQUEST, 88, &[], "drop 5 not-ours"),
+    (&RELAYED, 116, &[], "drop 5 not-ours"),
 ];
 
 #[test]

@@ -10,6 +10,8 @@ mod cache;
 #[cfg(test)]
 mod cases;
 #[cfg(test)]
+mod choice;
+#[cfg(test)]
 mod control;
 #[cfg(test)]
 mod control_packets;
@@ -20,19 +22,33 @@ mod failures;
 #[cfg(test)]
 mod families;
 #[cfg(test)]
+mod instance_bits;
+#[cfg(test)]
 mod limits;
 #[cfg(test)]
+mod map_requests;
+#[cfg(test)]
 mod messages;
+#[cfg(test)]
+mod nested_solicits;
 #[cfg(test)]
 mod packets;
 #[cfg(test)]
 mod replies;
+#[cfg(test)]
+mod reply_paths;
+#[cfg(test)]
+mod request_packets;
 #[cfg(test)]
 mod resolvers;
 #[cfg(test)]
 mod runs;
 #[cfg(test)]
 mod site;
+#[cfg(test)]
+mod solicits;
+#[cfg(test)]
+mod status_bits;
 #[cfg(test)]
 mod tunnels;
 #[cfg(test)]

@@ -137,6 +137,22 @@ pub fn changed(
     Ok(changed)
 }
 
+/// The first octets, then others so many times, then the last ones.
+pub fn repeated(
+    alloc: Global,
+    first: &[u8],
+    others: &[u8],
+    times: u32,
+    last: &[u8],
+) -> Result<Vec<u8>, Fail> {
+    let mut octets = first.to_vec(alloc)?;
+    for _ in 0..times {
+        octets.extend_from_slice(others)?;
+    }
+    octets.extend_from_slice(last)?;
+    Ok(octets)
+}
+
 /// Appends a record, little-endian.
 pub fn push_record(
     second: u32,

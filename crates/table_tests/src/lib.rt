@@ -1,7 +1,9 @@
-//! Tests of the node store, the prefix table, the map-cache and the queue of requests: times, limits,
-//! replacement, the longest match.
+//! Tests of the node store, the prefix table, the map-cache, the queue of requests and the choice
+//! among locators: times, limits, replacement, the longest match, shares.
 #![tactic(auto)]
 
+#[cfg(test)]
+mod choices;
 #[cfg(test)]
 mod mappings;
 #[cfg(test)]
