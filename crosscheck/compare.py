@@ -2,9 +2,10 @@
 """Compares the built program with the plain router on captures made from a number.
 
 usage: compare.py PROGRAM [ROUNDS [SEED]]
-Each round makes settings and a capture of 2,000 frames: packets of the site, packets in tunnels, replies to what
-the router asked and other control messages, in both families, many of them spoiled or late; and then 40 settings
-files with spoiled values. It ends with status 1 at the first difference.
+Each round makes settings and a capture of 2,000 frames: packets of the site, packets in tunnels that tell status
+bits, replies to what the router asked, Map-Requests of all kinds and other control messages, in both families and
+mostly in several instances, many of them spoiled or late; and then 40 settings files with spoiled values. It ends
+with status 1 at the first difference.
 """
 import os
 import random
@@ -16,7 +17,7 @@ import tomllib
 
 import settings as rules
 from makers import framed, packet, settings, spoiled_settings
-from plain import Site
+from sites import Site
 from talk import Talk
 
 HERE = os.path.dirname(os.path.abspath(__file__))
@@ -41,7 +42,7 @@ def frames(r, text, link, unit):
 
 
 def capture(r, text, path):
-    link, order, unit = r.choice([1, 101]), r.choice("<>"), r.choice([1, 1, 1000])
+    link, order, unit = r.choice([1, 1, 101]), r.choice("<>"), r.choice([1, 1, 1000])
     with open(path, "wb") as file:
         magic = 0xA1B23C4D if unit == 1 else 0xA1B2C3D4
         file.write(struct.pack(order + "IHHIIII", magic, 2, 4, 0, 0, 0, link))

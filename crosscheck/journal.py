@@ -18,12 +18,20 @@ class Asked(NamedTuple):
     moment: int
     eid: Eid
     source: Optional[bytes]
+    invoked: bool
     nonce: int
 
 
 class Answered(NamedTuple):
     moment: int
     nonce: int
+
+
+class Bits(NamedTuple):
+    moment: int
+    eid: Eid
+    bits: int
+    width: int
 
 
 def ends(entry):
@@ -45,13 +53,24 @@ class Journal(list):
         return {eid: entry for eid, entry in last.items() if entry.fixed or now < ends(entry)}
 
     def in_force(self, moment, eid):
-        """The longest live mapping that covers the EID, or None."""
+        """What was learned last of the longest live mapping that covers the EID, or None."""
         now, last = self.now(moment), {}
         for entry in self:
             if type(entry) is Learned and entry.mapping.eid.covers(eid):
                 last[entry.mapping.eid] = entry
-        live = [entry.mapping for entry in last.values() if entry.fixed or now < ends(entry)]
-        return max(live, key=lambda mapping: mapping.eid.length, default=None)
+        live = [entry for entry in last.values() if entry.fixed or now < ends(entry)]
+        return max(live, key=lambda entry: entry.mapping.eid.length, default=None)
+
+    def status(self, eid):
+        """Whether each locator of a live mapping is up: by its last status bit since it was learned, or its record."""
+        up = []
+        for entry in self:
+            if type(entry) is Learned and entry.mapping.eid == eid:
+                up = [locator.reachable for locator in entry.mapping.locators]
+            elif type(entry) is Bits and entry.eid == eid:
+                told = min(entry.width, len(up))
+                up[:told] = [entry.bits >> i & 1 == 1 for i in range(told)]
+        return up
 
     def open_requests(self, moment):
         """For each nonce its last request, where no answer follows and it is younger than 7 s."""

@@ -2,14 +2,14 @@
 import ipaddress
 import struct
 
-from messages import located
+from sending import located
 from wire import ones_sum
 
 MAC = bytes.fromhex("0200000000010200000000ff")
-OWN = ["192.0.2.1", "192.0.2.2", "2001:db8:f::1"]
-OTHERS = ["198.51.100.7", "198.51.100.8", "2001:db8:e::7"]
+OWN = ["192.0.2.1", "192.0.2.2", "2001:db8:f::1", "2001:db8:f::2"]
+OTHERS = ["198.51.100.7", "198.51.100.8", "198.51.100.9", "2001:db8:e::7", "2001:db8:e::8"]
 RESOLVERS = ["203.0.113.9", "2001:db8:9::9"]
-HOMES = ["10.1.0.0/16", "10.1.2.0/24", "2001:db8:1::/48"]
+HOMES = ["10.1.0.0/16", "10.1.2.0/24", "10.1.2.8/29", "10.1.9.0/24", "2001:db8:1::/48", "2001:db8:1:7::/64"]
 AWAY = ["10.2.0.0/16", "10.2.9.0/24", "10.2.9.8/29", "10.0.0.0/8", "2001:db8:2::/48", "2001:db8::/32"]
 
 
@@ -26,6 +26,8 @@ def first_keys(r, up):
         lines.append(f'resolver = "{r.choice(resolvers)}"')
     if r.random() < 0.5:
         lines.append(f'seed = "{r.randbytes(32).hex()}"')
+    if r.random() < 0.3:
+        lines.append(f"ttl = {r.choice([1, 60, r.randrange(1, 1 << 32), 2**32 - 2])}")
     if r.random() < 0.8:
         pool = [r.randbytes(8).hex() for _ in range(r.choice([2, 2000, 2000, 2000]))]
         nonces = [f'"{r.choice(pool)}"' for _ in range(r.choice([0, 1, 5, 100, 3000]))]
@@ -33,25 +35,44 @@ def first_keys(r, up):
     return lines
 
 
+def shares(r, count):
+    """Priorities and weights, mostly of few kinds, so that several locators share what is sent."""
+    priorities = r.choice([[1], [1], [0, 1], [0, 1, 2, 255], [0, 254, 255]])
+    weights = r.choice([[0], [1], [100], [0, 1], [30, 20, 10], range(256)])
+    return [(r.choice(priorities), r.choice(weights)) for _ in range(count)]
+
+
+def attachments(r, iids):
+    vlans = ([0] if r.random() < 0.9 else []) + r.sample([5, 6, 4095], r.choice([1, 2, 3]))
+    for i, vlan in enumerate(vlans):
+        iid = iids[i % len(iids)] if r.random() < 0.9 else r.choice([0, 7, 300])
+        yield from ["[[attachment]]", f"vlan = {vlan}", f"iid = {iid}"]
+
+
+def mapping(r, iid, prefix):
+    yield from ["[[mapping]]", f"iid = {iid}", f'prefix = "{prefix}"', f"action = {r.choice([2, *range(8)])}"]
+    addresses = r.sample(OTHERS + OWN[:1], r.choice([0, 0, 1, 2, 3, 4, 6]))
+    for address, (priority, weight) in zip(addresses, shares(r, len(addresses))):
+        yield from ["[[mapping.locator]]", f'address = "{address}"', f"priority = {priority}", f"weight = {weight}",
+                    f"up = {r.choice(['true', 'true', 'false'])}"]
+
+
 def settings(r):
+    """Settings of one to three instances, in half of them of two."""
     lines, up = [], []
-    for address in r.sample(OWN, r.randint(1, 3)):
+    for address in r.sample(OWN, r.randint(1, 4)):
         word = r.choice(["true", "true", "true", "false"])
         up += [address] if word == "true" else []
         lines += ["[[locator]]", f'address = "{address}"', f"up = {word}"]
+        lines += r.choice([[], [f"priority = {r.randrange(256)}", f"weight = {r.randrange(256)}"]])
     lines = first_keys(r, up) + lines
-    vlans = [0] if r.random() < 0.9 else []
-    for vlan in vlans + r.sample([5, 6, 4095], r.choice([1, 2, 3])):
-        lines += ["[[attachment]]", f"vlan = {vlan}", f"iid = {r.choice([0, 0, 7, 300])}"]
-    most = r.choice([0, 1, 6])
-    for iid in (0, 7, 300):
-        for prefix in r.sample(HOMES, r.choice([0, 2, 3, 3, 3, 3])):
+    iids, most = r.sample([0, 7, 300], r.choice([1, 2, 2, 3])), r.choice([0, 1, 6])
+    lines += attachments(r, iids)
+    for iid in iids:
+        for prefix in r.sample(HOMES, r.choice([0, 3, 4, 4, 5, 5, 6, 6, 6, 6])):
             lines += ["[[database]]", f"iid = {iid}", f'prefix = "{prefix}"']
         for prefix in r.sample(AWAY, r.randint(0, most)):
-            lines += ["[[mapping]]", f"iid = {iid}", f'prefix = "{prefix}"', f"action = {r.choice([2, *range(8)])}"]
-            for address in r.sample(OTHERS + OWN[:1], r.choice([0, 0, 1, 1, 2, 3])):
-                lines += ["[[mapping.locator]]", f'address = "{address}"',
-                          f"priority = {r.choice([0, 1, 255])}", f"up = {r.choice(['true', 'true', 'false'])}"]
+            lines += mapping(r, iid, prefix)
     return "\n".join(lines) + "\n"
 
 

@@ -1,8 +1,8 @@
-"""Control messages (RFC 9301) and the EIDs in them (RFC 8060): read by rules in order, and written."""
+"""Control messages (RFC 9301) and the EIDs in them (RFC 8060), read by rules in order."""
 import struct
-from typing import NamedTuple
+from typing import NamedTuple, Optional
 
-from wire import Packet, control_packet, need, number, text_of
+from wire import Packet, need, number, text_of
 
 # What messages hold.
 
@@ -39,6 +39,7 @@ class Eid(NamedTuple):
 class Locator(NamedTuple):
     address: bytes
     priority: int
+    weight: int
     reachable: bool
 
 
@@ -54,6 +55,8 @@ class Request(NamedTuple):
     nonce: int
     probe: bool
     solicit: bool
+    source: Optional[Eid]
+    replies_to: tuple
     eids: tuple
 
 
@@ -112,9 +115,9 @@ class Reading:
 
     def locator(self):
         self.need(8)
-        priority, flags, afi = self.octets[self.at], self.octets[self.at + 5], number(self.octets, self.at + 6, 2)
+        priority, weight, _, _, flags, afi = struct.unpack(">BBBBHH", self.octets[self.at:self.at + 8])
         need(afi in (1, 2), "message", self.place(self.at + 6), "afi")
-        return Locator(self.address(afi, self.at + 8), priority, flags & 1 == 1)
+        return Locator(self.address(afi, self.at + 8), priority, weight, flags & 1 == 1)
 
     def record(self):
         start = self.at
@@ -129,7 +132,7 @@ class Reading:
         self.need(2)
         afi = number(self.octets, self.at, 2)
         need(afi in (1, 2), "message", self.place(self.at), "afi")
-        self.address(afi, self.at + 2)
+        return self.address(afi, self.at + 2)
 
     def asked(self):
         self.need(2)
@@ -151,55 +154,27 @@ def plain_message(octets, base):
     if kind == 2:
         records = tuple(reading.record() for _ in range(octets[3]))
         return Reply(nonce, flags & 8 == 8, records), reading.at
-    reading.eid()
-    for _ in range((octets[2] & 31) + 1):
-        reading.reply_address()
+    source = reading.eid()
+    replies_to = tuple(reading.reply_address() for _ in range((octets[2] & 31) + 1))
     eids = tuple(reading.asked() for _ in range(octets[3]))
     if flags & 4:
         reading.record()
-    return Request(nonce, flags & 2 == 2, flags & 1 == 1, eids), reading.at
+    source = Eid.host(*source) if source else None
+    return Request(nonce, flags & 2 == 2, flags & 1 == 1, source, replies_to, eids), reading.at
 
 
 def message_of(octets, base):
-    """Whether the message is encapsulated, the message, and the number of octets left over."""
+    """The inner source port of a message that is encapsulated, or None; the message; the number of octets left."""
     if not octets[:1] or octets[0] >> 4 != 8:
         message, size = plain_message(octets, base)
-        return False, message, len(octets) - size
+        return None, message, len(octets) - size
     need(len(octets) >= 4, "message", base, "short")
     need(not octets[0] & 8, "message", base, "authenticated")
     packet = Packet(octets[4:], base + 4)
     need(packet.protocol == 17 and not packet.fragment, "message", base + 4, "inner-protocol")
-    _, dest, checksum, datagram = packet.udp()
+    port, dest, checksum, datagram = packet.udp()
     need(dest == 4342, "message", base + 4 + packet.at + 2, "inner-port")
     packet.check(checksum, datagram, True)
     front = 4 + packet.at + 8
     message, size = plain_message(datagram[8:], base + front)
-    return True, message, len(octets) - front - size
-
-
-# Messages that the router sends.
-
-
-def located(address):
-    return struct.pack(">H", 1 if len(address) == 4 else 2) + address
-
-
-def eid_octets(iid, address):
-    """An EID from its AFI on; behind a list of type 2 (RFC 8060) where the instance isn't 0."""
-    if iid == 0:
-        return located(address)
-    size = 4 + 2 + len(address)
-    return struct.pack(">HBBBBHI", 16387, 0, 0, 2, 0, size, iid) + located(address)
-
-
-def map_request(eid, source, nonce, replies_to):
-    """A Map-Request for one EID; the source is an address of its instance, or None."""
-    front = bytes([0x10, 0, len(replies_to) - 1, 1]) + struct.pack(">Q", nonce)
-    own = bytes(2) if source is None else eid_octets(eid.iid, source)
-    record = bytes([0, eid.length]) + eid_octets(eid.iid, eid.octets())
-    return front + own + b"".join(map(located, replies_to)) + record
-
-
-def encapsulated_request(outer, inner, request):
-    """A Map-Request in an Encapsulated Control Message; outer and inner are addresses from and to."""
-    return control_packet(*outer, bytes([0x80, 0, 0, 0]) + control_packet(*inner, request))
+    return port, message, len(octets) - front - size

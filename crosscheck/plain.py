@@ -5,104 +5,19 @@ usage: plain.py replay SETTINGS CAPTURE OUTPUT | plain.py show CAPTURE
 It prints the report, and for a replay with lawful settings writes the output. Settings must be TOML, and
 captures whole.
 """
-import ipaddress
-import struct
 import sys
-import tomllib
 
 import settings as rules
-from journal import Answered, Asked, Journal, Learned
-from messages import Eid, Locator, Record, Request, encapsulated_request, map_request, message_of
+from choice import chosen, flow_hash
+from journal import Answered, Asked, Bits, Journal, Learned
+from messages import Eid, Request, message_of
 from nonces import nonce_at
-from wire import (Packet, Refused, frames_of, ip_header, link_payload, need, number, output_header, output_record,
-                  text_of)
+from sending import reply_packet, request_packet, wrapped
+from sites import Site
+from wire import Packet, Refused, frames_of, link_payload, need, number, output_header, output_record, text_of
 
 
-def raw(text):
-    return ipaddress.ip_address(text).packed
-
-
-# The site.
-
-
-class Site:
-    def __init__(self, octets):
-        top = tomllib.loads(octets.decode())
-        rules.check(top)
-        self.locators = sorted(
-            (len(a := raw(table["address"])), a, table.get("up", True)) for table in top["locator"])
-        self.attachments = {table["vlan"]: table["iid"] for table in top.get("attachment", [])}
-        self.databases = sorted(self.eid(table) for table in top.get("database", []))
-        self.mappings = sorted(map(self.mapping, top.get("mapping", [])), key=lambda mapping: mapping.eid)
-        self.static = {mapping.eid for mapping in self.mappings}
-        self.resolver = raw(top["resolver"]) if "resolver" in top else None
-        self.nonces = [int(text, 16) for text in top.get("nonces", [])]
-        self.seed = bytes.fromhex(top.get("seed", 64 * "0"))
-
-    @staticmethod
-    def eid(table):
-        address, length = rules.prefix(table["prefix"])
-        return Eid.of(table["iid"], address, length)
-
-    @staticmethod
-    def mapping(table):
-        locators = tuple(
-            Locator(raw(item["address"]), item.get("priority", 1), item.get("up", True))
-            for item in table.get("locator", []))
-        return Record(Site.eid(table), 1440, table.get("action", 0), 0, locators)
-
-    def is_own(self, address):
-        return any(own == address for _, own, _ in self.locators)
-
-    def ours(self, family):
-        return next((own for size, own, up in self.locators if up and size == family), None)
-
-    def has_home(self, iid, address):
-        return any(own.covers(Eid.host(iid, address)) for own in self.databases)
-
-
-# What is sent.
-
-
-def flow_hash(packet):
-    ports = bytes(4)
-    if packet.protocol in (6, 17) and not packet.fragment and len(packet.octets) >= packet.at + 4:
-        ports = packet.octets[packet.at:packet.at + 4]
-    value = 0x811C9DC5
-    for octet in packet.source + packet.dest + bytes([packet.protocol]) + ports:
-        value = (value ^ octet) * 0x01000193 % 2**32
-    return value
-
-
-def tunnelled(site, iid, packet, ours, to):
-    if packet.ttl <= 1:
-        return "drop 9 ttl-expired", None
-    outer_size = 20 if len(to) == 4 else 40
-    if outer_size + 16 + len(packet.octets) > 1500:
-        return "drop 20 too-big", None
-    port = 0xC000 + flow_hash(packet) % 0x4000
-    bits = sum(1 << i for i, (_, _, up) in enumerate(site.locators) if up)
-    if iid:
-        lisp = struct.pack(">II", 0x48 << 24, iid << 8 | bits & 0xFF)
-    else:
-        lisp = struct.pack(">II", 0x40 << 24, bits)
-    inner = packet.marked(packet.tos, packet.ttl - 1)
-    udp = struct.pack(">HHHH", port, 4341, 16 + len(inner), 0) + lisp + inner
-    front = ip_header(ours, to, len(udp), packet.ttl - 1, packet.tos)
-    return f"encapsulated {text_of(ours)} {text_of(to)} {port}", front + udp
-
-
-def request_packet(site, asked):
-    """The packet that asks for an EID."""
-    eid, size = asked.eid, asked.eid.width // 8
-    prefixes = [own.octets() for own in site.databases if (own.iid, own.width) == (eid.iid, eid.width)]
-    inner = site.ours(size) or next(iter(prefixes), bytes(size))
-    request = map_request(eid, asked.source, asked.nonce, [own for _, own, up in site.locators if up])
-    outer = site.ours(len(site.resolver)), site.resolver
-    return encapsulated_request(outer, (inner, eid.octets()), request)
-
-
-# Decisions: a verdict, the packet that is sent, and what is to be asked for.
+# Decisions: a verdict, and the packets that are sent.
 
 ACTIONS = {0: "14 no-action", 2: "15 send-request", 4: "17 drop-policy", 5: "18 drop-auth"}
 ECN = {(0, 0): 0, (0, 2): 0, (0, 1): 0, (2, 0): 2, (2, 2): 2, (2, 1): 1, (2, 3): 3,
@@ -130,40 +45,58 @@ class Router:
             if self.site.is_own(packet.source):
                 return "own", []
             if self.site.is_own(packet.dest):
-                verdict, sent = self.arrived(moment, packet)
-                return verdict, [sent] if sent else []
+                return self.arrived(moment, packet)
             if vlan not in self.site.attachments:
                 return "drop 10 no-attachment", []
             return self.departed(moment, self.site.attachments[vlan], packet)
         except Refused as refused:
             return f"drop 1 refused {refused}", []
 
+    # Packets out of tunnels.
+
     def arrived(self, moment, packet):
         if packet.fragment:
-            return "drop 3 fragment", None
+            return "drop 3 fragment", []
         if packet.protocol != 17:
-            return "drop 2 not-tunnel", None
+            return "drop 2 not-tunnel", []
         source, dest, checksum, datagram = packet.udp()
-        if dest != 4341:
-            if 4342 not in (source, dest):
-                return "drop 2 not-tunnel", None
-            return self.heard(moment, packet, checksum, datagram), None
-        packet.check(checksum, datagram, True)
-        payload, place = datagram[8:], packet.base + packet.at + 8
+        if dest == 4341:
+            packet.check(checksum, datagram, True)
+            return self.opened(moment, packet, datagram[8:], packet.base + packet.at + 8)
+        if 4342 not in (source, dest):
+            return "drop 2 not-tunnel", []
+        packet.check(checksum, datagram, False)
+        return self.heard(moment, packet.dest, source, message_of(datagram[8:], packet.base + packet.at + 8))
+
+    def opened(self, moment, packet, payload, place):
         need(len(payload) >= 8, "lisp", place, "short")
         if payload[0] & 3:
-            return "drop 4 encrypted", None
+            return "drop 4 encrypted", []
         inner = Packet(payload[8:], place + 8)
         iid = number(payload, 4, 3) if payload[0] & 8 else 0
         if not self.site.has_home(iid, inner.dest):
-            return "drop 5 not-ours", None
+            return "drop 5 not-ours", []
         ecn = ECN.get((inner.tos & 3, packet.tos & 3))
         if ecn is None:
-            return "drop 8 congestion-mark", None
+            return "drop 8 congestion-mark", []
         ttl = min(inner.ttl, packet.ttl)
         if ttl <= 1:
-            return "drop 9 ttl-expired", None
-        return f"delivered {iid}", inner.marked(packet.tos & 0xFC | ecn, ttl - 1)
+            return "drop 9 ttl-expired", []
+        if payload[0] & 0x40:
+            bits, width = (payload[7], 8) if payload[0] & 8 else (number(payload, 4, 4), 32)
+            self.told(moment, Eid.host(iid, inner.source), packet.source, bits, width)
+        return f"delivered {iid}", [inner.marked(packet.tos & 0xFC | ecn, ttl - 1)]
+
+    def told(self, moment, source, teller, bits, width):
+        """Keeps status bits that one of a mapping's locators tells, where they say anything new."""
+        entry = self.journal.in_force(moment, source)
+        if entry is None or all(locator.address != teller for locator in entry.mapping.locators):
+            return
+        up = self.journal.status(entry.mapping.eid)[:width]
+        if any(is_up != (bits >> i & 1 == 1) for i, is_up in enumerate(up)):
+            self.journal.append(Bits(moment, entry.mapping.eid, bits, width))
+
+    # Packets of the site.
 
     def departed(self, moment, iid, packet):
         if is_group(packet.dest):
@@ -173,16 +106,16 @@ class Router:
         if not self.site.has_home(iid, packet.source):
             return "drop 12 not-site", []
         eid = Eid.host(iid, packet.dest)
-        mapping = self.journal.in_force(moment, eid)
-        if mapping is None:
+        entry = self.journal.in_force(moment, eid)
+        if entry is None:
             return "drop 13 miss", self.asked(moment, eid, packet.source)
-        if not mapping.locators:
-            return self.acted(moment, mapping.action, eid, packet)
-        for to, priority, reachable in mapping.locators:
-            if priority != 255 and reachable and not self.site.is_own(to) and self.site.ours(len(to)):
-                verdict, sent = tunnelled(self.site, iid, packet, self.site.ours(len(to)), to)
-                return verdict, [sent] if sent else []
-        return "drop 19 no-locator", []
+        if not entry.mapping.locators:
+            return self.acted(moment, entry.mapping.action, eid, packet)
+        value = flow_hash(packet)
+        locator = chosen(self.usable(entry.mapping), value)
+        if locator is None:
+            return "drop 19 no-locator", []
+        return self.tunnelled(iid, packet, 0xC000 + value % 0x4000, locator.address)
 
     def acted(self, moment, action, eid, packet):
         if action == 1 and packet.ttl <= 1:
@@ -192,29 +125,80 @@ class Router:
         sent = self.asked(moment, eid, packet.source) if action == 2 else []
         return "drop " + ACTIONS.get(action, "16 drop-no-reason"), sent
 
-    def asked(self, moment, eid, source):
-        """Asks for an EID that has no mapping, or one that says to ask."""
+    def usable(self, mapping):
+        """The locators of a live mapping that packets can be sent to."""
+        return [
+            locator for locator, up in zip(mapping.locators, self.journal.status(mapping.eid))
+            if up and locator.priority != 255 and not self.site.is_own(locator.address)
+            and self.site.ours(len(locator.address))]
+
+    def tunnelled(self, iid, packet, port, to):
+        if packet.ttl <= 1:
+            return "drop 9 ttl-expired", []
+        if (20 if len(to) == 4 else 40) + 16 + len(packet.octets) > 1500:
+            return "drop 20 too-big", []
+        ours = self.site.ours(len(to))
+        sent = wrapped(self.site, iid, packet, port, ours, to)
+        return f"encapsulated {text_of(ours)} {text_of(to)} {port}", [sent]
+
+    # Requests of the router's own.
+
+    def asked(self, moment, eid, source, invoked=False):
+        """Asks for an EID, where no open request covers it."""
         if self.site.resolver is None or not self.journal.may_ask(moment, eid):
             return []
         nonce = nonce_at(self.site.nonces, self.site.seed, self.journal.drawn())
-        self.journal.append(Asked(moment, eid, source, nonce))
+        self.journal.append(Asked(moment, eid, source, invoked, nonce))
         return [request_packet(self.site, self.journal[-1])]
 
-    def heard(self, moment, packet, checksum, datagram):
-        packet.check(checksum, datagram, False)
-        encapsulated, message, _ = message_of(datagram[8:], packet.base + packet.at + 8)
-        if isinstance(message, Request):
-            return "drop 0 not-built"
-        if encapsulated:
-            return "drop 25 unexpected"
-        request = self.journal.open_requests(moment).get(message.nonce)
-        if message.probe or request is None:
+    # Control messages.
+
+    def heard(self, moment, dest, port, found):
+        inner_port, message, _ = found
+        if not isinstance(message, Request):
+            return ("drop 25 unexpected" if inner_port is not None else self.replied(moment, message)), []
+        if inner_port is not None:
+            port, message = inner_port, message._replace(probe=False)
+        if message.solicit and not message.probe:
+            return self.solicited(moment, message)
+        return self.answered(message, dest, port)
+
+    def solicited(self, moment, request):
+        """Asks again for what was learned of the EIDs of a solicitation, that of its source first."""
+        sent = []
+        for eid in [*filter(None, [request.source]), *request.eids]:
+            entry = self.journal.in_force(moment, eid)
+            if entry and not entry.fixed:
+                sent += self.asked(moment, entry.mapping.eid, None, True)
+        return f"control solicit asked={len(sent)}", sent
+
+    def answered(self, request, dest, port):
+        homes = set(map(self.site.home, request.eids)) - {None}
+        eids = [own for own in self.site.databases if any(home.covers(own) for home in homes)]
+        if not eids:
+            return "drop 5 not-ours", []
+        path = self.reply_path(request, dest)
+        if path is None:
+            return "drop 24 no-reply-path", []
+        return f"control request answered={len(eids)}", [reply_packet(self.site, request, eids, path, port)]
+
+    def reply_path(self, request, dest):
+        """Where a reply comes from and goes to: for a probe from where the probe went; or None."""
+        for to in request.replies_to:
+            ours = dest if request.probe else self.site.ours(len(to))
+            if ours and len(ours) == len(to):
+                return ours, to
+        return None
+
+    def replied(self, moment, reply):
+        request = self.journal.open_requests(moment).get(reply.nonce)
+        if reply.probe or request is None:
             return "drop 21 unsolicited"
-        covering = [record.eid for record in message.records if record.eid.covers(request.eid)]
+        covering = [record.eid for record in reply.records if record.eid.covers(request.eid)]
         if not covering:
             return "drop 22 unfit"
-        self.journal.append(Answered(moment, message.nonce))
-        return self.learned(moment, covering, message.records)
+        self.journal.append(Answered(moment, reply.nonce))
+        return self.learned(moment, covering, reply.records)
 
     def learned(self, moment, covering, records):
         taken = 0
@@ -253,8 +237,8 @@ def replay(settings, capture, output):
 
 
 def message_lines(octets, base):
-    encapsulated, message, left = message_of(octets, base)
-    word = "ecm " if encapsulated else ""
+    inner_port, message, left = message_of(octets, base)
+    word = "" if inner_port is None else "ecm "
     if isinstance(message, Request):
         word += f"request nonce={message.nonce:016x} p={message.probe:d} s={message.solicit:d}"
         lines = [f" eid {eid}\n" for eid in message.eids]

@@ -1,59 +1,14 @@
-"""A capture made from a number beside a plain router, so that its replies fit what the router asked."""
+"""A capture made from a number beside a plain router, so that its frames fit what the router asked and learned."""
 import struct
 
-from journal import OPEN, Asked, Learned, ends
-from makers import AWAY, HOMES, OTHERS, OWN, between, framed, host, inside, ip, packet, raw, spoiled, udp
-from messages import Eid, eid_octets, located
+from arrivals import Arrivals
+from fitting import away, longer, plain_ip, randomly, record, shorter, summed
+from journal import MOST_REQUESTS, OPEN, Asked, Bits, Learned, ends
+from makers import AWAY, HOMES, OTHERS, between, framed, host, inside, packet, raw, spoiled, udp
+from messages import Eid
 from plain import Router
-from wire import ones_sum
 
 MILLI, SECOND, DAY = 10**6, 10**9, 86_400 * 10**9
-
-
-def randomly(r, eid):
-    """An address within an EID."""
-    free = eid.width - eid.length
-    return (eid.address | (r.getrandbits(free) if free else 0)).to_bytes(eid.width // 8, "big")
-
-
-def locators(r):
-    """A count, and the octets of so many locators; of more than 32 the first ones are mostly down."""
-    count = r.choice([0, 0, 1, 1, 1, 2, 3, 32, 33, 40, 255])
-    octets = b""
-    for i in range(count):
-        usable = r.random() < (0.8 if count <= 3 else 0.1 if i < 32 else 0.9)
-        priority = r.choice([0, 1, 254]) if usable else r.choice([1, 255])
-        flags = r.randrange(1 << 15) << 1 | (usable or priority == 255)
-        octets += bytes([priority]) + r.randbytes(3) + struct.pack(">H", flags)
-        octets += located(raw(r.choice(OTHERS + OTHERS + OWN)))
-    return count, octets
-
-
-def record(r, eid):
-    ttl = r.choice([0, 0, 1, 1, 1, 1, 1, 1, 1, 1, 2, 60, 1440, 1441, 0xFFFFFFFE, 0xFFFFFFFF])
-    if eid.width - eid.length > 16:
-        ttl = r.choice([0, 0, 1])
-    count, octets = locators(r)
-    front = struct.pack(">IBBH", ttl, count, eid.length, r.randrange(1 << 16)) + r.randbytes(2)
-    name = eid_octets(eid.iid, randomly(r, eid))
-    if eid.iid == 0 and r.random() < 0.1:
-        name = struct.pack(">HBBBBHI", 16387, r.randrange(256), 9, 2, 200, 4 + len(name), 0) + name
-    return front + name + octets
-
-
-def shorter(r, eid):
-    """An EID that covers it."""
-    less = r.choice([0, 0, 0, 1, 2, 4, 8, 8, 8, 16, r.choice([24, eid.width - 16, eid.length])])
-    return Eid.of(eid.iid, eid.octets(), max(0, eid.length - less))
-
-
-def longer(r, eid):
-    address = randomly(r, eid)
-    return Eid.of(eid.iid, address, min(eid.width, eid.length + r.choice([0, 1, 8, 8, 16])))
-
-
-def away(r, iid):
-    return Eid.host(iid, host(r, AWAY + HOMES))
 
 
 class Talk:
@@ -62,8 +17,9 @@ class Talk:
     def __init__(self, r, site, link, unit, hurried):
         self.r, self.site, self.link, self.unit, self.hurried = r, site, link, unit, hurried
         self.router = Router(site)
+        self.arrivals = Arrivals(r, site, self.router.journal)
         self.now = 1_700_000_000 * SECOND
-        self.replies, self.iid = [], None
+        self.replies, self.iid, self.filled = [], None, False
 
     def rounded(self, moment):
         return moment - moment % self.unit
@@ -119,33 +75,16 @@ class Talk:
         front = bytes([first]) + r.randbytes(2) + bytes([count]) + struct.pack(">Q", nonce)
         return spoiled(r, front + b"".join(records), 0.06)
 
-    def summed(self, source, dest, message):
-        """A datagram, now and then without a checksum or with a wrong one."""
-        r = self.r
-        ports = r.choice([(4342, 4342)] * 8 + [(4342, 5000), (5000, 4342), (4342, 4341)])
-        datagram = udp(r, source, dest, message, ports, 1.0 if r.random() < 0.97 else 0.0)
-        if r.random() < 0.03:
-            datagram = datagram[:6] + r.randbytes(2) + datagram[8:]
-        return datagram
-
-    def plain_ip(self, source, dest, datagram):
-        """A packet that is no fragment, where it isn't spoiled."""
-        if self.r.random() < 0.05:
-            return ip(self.r, source, dest, datagram)
-        if len(source) == 16:
-            return struct.pack(">IHBB", 6 << 28, len(datagram), 17, 64) + source + dest + datagram
-        front = struct.pack(">BBHHHBBH", 0x45, 0, 20 + len(datagram), 0, 0, 64, 17, 0) + source + dest
-        return front[:10] + struct.pack(">H", 0xFFFF - ones_sum(front)) + front[12:] + datagram
-
     def reply(self, asked):
         r = self.r
-        own = [address for _, address, _ in self.site.locators]
+        own = [own.address for own in self.site.locators]
         source, dest = between(r, lambda: raw(r.choice(OTHERS)), lambda: r.choice(own))
         message = self.message(asked)
         if r.random() < 0.04:
-            inner = self.plain_ip(source, source, udp(r, source, source, message, (4342, 4342)))
+            inner = plain_ip(r, source, source, udp(r, source, source, message, (4342, 4342)))
             message = bytes([0x80]) + r.randbytes(3) + inner
-        octets = self.plain_ip(source, dest, self.summed(source, dest, message))
+        ports = r.choice([(4342, 4342)] * 8 + [(4342, 5000), (5000, 4342), (4342, 4341)])
+        octets = plain_ip(r, source, dest, summed(r, source, dest, message, ports))
         self.replies.append(spoiled(r, octets, 0.03))
         return self.replies[-1]
 
@@ -160,7 +99,7 @@ class Talk:
             return inside(r, False)
         ports = r.randrange(65536), r.randrange(65536)
         datagram = udp(r, source, dest, bytes(r.choice([0, 4, 40])), ports)
-        return self.plain_ip(source, dest, datagram)
+        return plain_ip(r, source, dest, datagram)
 
     def homes(self):
         """The site's EIDs in the instances from which frames can come."""
@@ -171,8 +110,8 @@ class Talk:
     def destination(self):
         """Something that was asked for or learned, or something new."""
         r = self.r
-        known = [e.eid if type(e) is Asked else e.mapping.eid for e in self.router.journal[-60:]
-                 if type(e) in (Asked, Learned)]
+        known = [entry.mapping.eid if type(entry) is Learned else entry.eid for entry in self.router.journal[-60:]
+                 if type(entry) in (Asked, Learned, Bits)]
         if known and r.random() < (0.1 if self.hurried else 0.4):
             return r.choice(known)
         home = r.choice(self.homes())
@@ -187,6 +126,11 @@ class Talk:
         live = [entry for entry in self.router.journal.live(self.now).values() if not entry.fixed]
         return [entry for entry in live if ends(entry) - self.now < longest]
 
+    def regarding(self, mapping):
+        """A packet to a mapping's EID, one from it, or a solicitation for it."""
+        make = self.r.choice([self.leaving, self.leaving, self.arrivals.solicitation, None])
+        return make(mapping.eid) if make else self.arrivals.arriving(mapping)
+
     def aimed(self):
         """A frame at the end of a request or of a mapping, or one unit before."""
         r, early = self.r, self.r.choice([0, self.unit])
@@ -195,7 +139,7 @@ class Talk:
         ending = [entry for entry in self.ending() if ends(entry) - early >= self.now]
         if ending and (not waiting or r.random() < 0.6):
             entry = r.choice(ending)
-            return ends(entry) - early, self.leaving(entry.mapping.eid)
+            return ends(entry) - early, self.regarding(entry.mapping)
         if waiting:
             entry = r.choice(waiting)
             octets = self.reply(entry) if r.random() < 0.7 else self.leaving(entry.eid)
@@ -203,23 +147,33 @@ class Talk:
         return self.later(), self.leaving(self.destination())
 
     def shares(self):
-        """How often a frame is at an end, and how often before or else it is a reply."""
+        """How often a frame is at an end; else a reply; else comes from outside in another way; else is any."""
         if not self.hurried:
-            return 0.15, 0.45
-        return (0, 0.005) if len(self.router.journal) < 1040 else (0.003, 0.15)
+            return 0.1, 0.3, 0.3, 0.1
+        self.filled = self.filled or len(self.router.journal.open_requests(self.now)) >= MOST_REQUESTS
+        return (0.001, 0.15, 0.4, 0.1) if self.filled else (0, 0.005, 0.01, 0.01)
+
+    def arrived(self):
+        """A Map-Request, or a packet in a tunnel."""
+        mapped = [entry.mapping for entry in self.arrivals.mapped(self.now) if entry.mapping.locators]
+        if not mapped or self.r.random() < 0.5:
+            return self.arrivals.inquiry(self.now)
+        return self.arrivals.arriving(self.r.choice(mapped))
 
     def one(self):
-        r, chance = self.r, self.r.random()
-        at_end, reply = self.shares()
-        if chance < at_end:
+        r = self.r
+        at_end, reply, outside, other = self.shares()
+        if r.random() < at_end:
             return self.aimed()
-        if chance < reply and (asked := self.request()):
+        if r.random() < reply and (asked := self.request()):
             return self.later(), self.reply(asked)
-        if chance < 0.5 and self.replies and r.random() < 0.2:
+        if self.replies and r.random() < other / 3:
             return self.later(), r.choice(self.replies[-20:])
-        if chance < 0.9:
-            return self.later(), self.leaving(self.destination())
-        return self.later(), packet(r)
+        if r.random() < outside:
+            return self.later(), self.arrived()
+        if r.random() < other:
+            return self.later(), packet(r)
+        return self.later(), self.leaving(self.destination())
 
     def tagged(self, octets):
         """A frame in the VLAN of the instance that was chosen last, mostly."""

@@ -132,10 +132,10 @@ def ip_header(source, dest, size, ttl, tos=0):
     return front[:10] + struct.pack(">H", 0xFFFF - ones_sum(front)) + front[12:]
 
 
-def control_packet(source, dest, payload):
-    """A control message in UDP with its checksum, from port 4342 to port 4342."""
+def control_packet(source, dest, payload, port=4342):
+    """A control message in UDP with its checksum, from port 4342 to a port."""
     size = 8 + len(payload)
     pseudo = source + dest + struct.pack(">IHH", size, 0, 17)
-    front = struct.pack(">HHH", 4342, 4342, size)
+    front = struct.pack(">HHH", 4342, port, size)
     checksum = 0xFFFF - ones_sum(pseudo + front + bytes(2) + payload)
     return ip_header(source, dest, size, 64) + front + struct.pack(">H", checksum or 0xFFFF) + payload

@@ -1,0 +1,65 @@
+"""The packets that the router makes: into tunnels, and with control messages (RFC 9300, RFC 9301)."""
+import struct
+
+from wire import control_packet, ip_header
+
+A_BIT, L_BIT, P_BIT, R_BIT = 0x1000, 4, 2, 1
+
+
+def wrapped(site, iid, packet, port, ours, to):
+    """The packet in its tunnel."""
+    bits = sum(1 << i for i, own in enumerate(site.locators) if own.reachable)
+    if iid:
+        lisp = struct.pack(">II", 0x48 << 24, iid << 8 | bits & 0xFF)
+    else:
+        lisp = struct.pack(">II", 0x40 << 24, bits)
+    inner = packet.marked(packet.tos, packet.ttl - 1)
+    udp = struct.pack(">HHHH", port, 4341, 16 + len(inner), 0) + lisp + inner
+    return ip_header(ours, to, len(udp), packet.ttl - 1, packet.tos) + udp
+
+
+def located(address):
+    return struct.pack(">H", 1 if len(address) == 4 else 2) + address
+
+
+def eid_octets(iid, address):
+    """An EID from its AFI on; behind a list of type 2 (RFC 8060) where the instance isn't 0."""
+    if iid == 0:
+        return located(address)
+    size = 4 + 2 + len(address)
+    return struct.pack(">HBBBBHI", 16387, 0, 0, 2, 0, size, iid) + located(address)
+
+
+def map_request(asked, replies_to):
+    """A Map-Request for one EID; its source, where there is one, is an address of the EID's instance."""
+    eid = asked.eid
+    front = bytes([0x10, 0x40 if asked.invoked else 0, len(replies_to) - 1, 1]) + struct.pack(">Q", asked.nonce)
+    own = bytes(2) if asked.source is None else eid_octets(eid.iid, asked.source)
+    record = bytes([0, eid.length]) + eid_octets(eid.iid, eid.octets())
+    return front + own + b"".join(map(located, replies_to)) + record
+
+
+def request_packet(site, asked):
+    """The packet that asks the resolver for an EID, encapsulated."""
+    eid, size = asked.eid, asked.eid.width // 8
+    prefixes = [own.octets() for own in site.databases if (own.iid, own.width) == (eid.iid, eid.width)]
+    inner = site.ours(size) or next(iter(prefixes), bytes(size))
+    request = control_packet(inner, eid.octets(), map_request(asked, site.up()))
+    return control_packet(site.ours(len(site.resolver)), site.resolver, bytes([0x80, 0, 0, 0]) + request)
+
+
+def own_record(site, eid, probed):
+    """What the site says of one of its EIDs, with the locator that was probed, or None."""
+    octets = struct.pack(">IBBHH", site.ttl, len(site.locators), eid.length, A_BIT, 0)
+    octets += eid_octets(eid.iid, eid.octets())
+    for own in site.locators:
+        flags = L_BIT | P_BIT * (own.address == probed) | R_BIT * own.reachable
+        octets += struct.pack(">BBBBH", own.priority, own.weight, 255, 0, flags) + located(own.address)
+    return octets
+
+
+def reply_packet(site, request, eids, path, port):
+    """The packet that answers a request with some of the site's EIDs; its path is addresses from and to."""
+    front = struct.pack(">BHBQ", 0x28 if request.probe else 0x20, 0, len(eids), request.nonce)
+    probed = path[0] if request.probe else None
+    return control_packet(*path, front + b"".join(own_record(site, eid, probed) for eid in eids), port)

@@ -1,0 +1,58 @@
+"""The site of a settings file: its own locators, EIDs, instances and static mappings."""
+import ipaddress
+import tomllib
+
+import settings as rules
+from messages import Eid, Locator, Record
+
+
+def raw(text):
+    return ipaddress.ip_address(text).packed
+
+
+def eid_of(table):
+    address, length = rules.prefix(table["prefix"])
+    return Eid.of(table["iid"], address, length)
+
+
+def locators_of(table):
+    return tuple(
+        Locator(raw(item["address"]), item.get("priority", 1), item.get("weight", 1), item.get("up", True))
+        for item in table.get("locator", []))
+
+
+def mapping_of(table):
+    return Record(eid_of(table), 1440, table.get("action", 0), 0, locators_of(table))
+
+
+class Site:
+    def __init__(self, octets):
+        top = tomllib.loads(octets.decode())
+        rules.check(top)
+        self.locators = sorted(locators_of(top), key=lambda own: (len(own.address), own.address))
+        self.attachments = {table["vlan"]: table["iid"] for table in top.get("attachment", [])}
+        self.databases = sorted(map(eid_of, top.get("database", [])))
+        self.mappings = sorted(map(mapping_of, top.get("mapping", [])), key=lambda mapping: mapping.eid)
+        self.static = {mapping.eid for mapping in self.mappings}
+        self.resolver = raw(top["resolver"]) if "resolver" in top else None
+        self.ttl = top.get("ttl", 1440)
+        self.nonces = [int(text, 16) for text in top.get("nonces", [])]
+        self.seed = bytes.fromhex(top.get("seed", 64 * "0"))
+
+    def is_own(self, address):
+        return any(own.address == address for own in self.locators)
+
+    def up(self):
+        return [own.address for own in self.locators if own.reachable]
+
+    def ours(self, family):
+        """The address that packets of a family, told by the size of its addresses, come from, or None."""
+        return next((address for address in self.up() if len(address) == family), None)
+
+    def home(self, eid):
+        """The site's longest EID that covers an EID, or None."""
+        covering = [own for own in self.databases if own.covers(eid)]
+        return max(covering, key=lambda own: own.length, default=None)
+
+    def has_home(self, iid, address):
+        return self.home(Eid.host(iid, address)) is not None
