@@ -2,10 +2,12 @@
 """Writes settings and captures of frames to destinations that the router must ask for.
 
 usage: cache.py FOLDER FRAMES SEED [WRITTEN]
-Without WRITTEN it makes, from a number: asking.toml (a resolver, no mappings), static.toml (the mappings), frames.pcap
+Without WRITTEN it makes, from a number: asking.toml (a resolver, no mappings), static.toml (the mappings, of eight
+locators each), single.toml (the same with the first locator alone), frames.pcap
 (packets of 80 to 1,400 octets to 1,000 destinations, 10,000 a second) and first.pcap (its frames up to the first one
 to the last destination). WRITTEN is what a replay of first.pcap by asking.toml wrote: its requests tell the
-nonces. It then makes answered.pcap, the frames with the reply to each request right after the frame that caused it.
+nonces. It then makes answered.pcap, the frames with the reply to each request right after the frame that caused it;
+each has eight locators, of two priorities and several weights.
 """
 import random
 import struct
@@ -15,6 +17,8 @@ from packets import ones_sum
 
 DESTINATIONS = 1_000
 OWN, OTHER = bytes([192, 0, 2, 1]), bytes([198, 51, 100, 7])
+# The last octet of each locator of a mapping, its priority and its weight.
+LOCATORS = [(7 + i, 1 + i // 4, 10 * (1 + i % 4)) for i in range(8)]
 HEADER = struct.pack("<IHHIIII", 0xA1B2C3D4, 2, 4, 0, 0, 262144, 101)
 SITE = ('[[locator]]\naddress = "192.0.2.1"\n[[attachment]]\nvlan = 0\niid = 0\n'
         '[[database]]\niid = 0\nprefix = "10.1.0.0/16"\n')
@@ -24,9 +28,10 @@ def address(i):
     return bytes([10, 2]) + struct.pack(">H", i)
 
 
-def mapping(i):
-    return (f'[[mapping]]\niid = 0\nprefix = "10.2.{i // 256}.{i % 256}/32"\n'
-            '[[mapping.locator]]\naddress = "198.51.100.7"\n')
+def mapping(i, locators):
+    return f'[[mapping]]\niid = 0\nprefix = "10.2.{i // 256}.{i % 256}/32"\n' + "".join(
+        f'[[mapping.locator]]\naddress = "198.51.100.{last}"\npriority = {priority}\nweight = {weight}\n'
+        for last, priority, weight in locators)
 
 
 def packet(source, dest, ports, payload, summed):
@@ -57,9 +62,11 @@ def frames(count, seed):
 
 def reply(dest, nonce):
     front = struct.pack(">IQ", 0x20000001, nonce)
-    eid = struct.pack(">IBBHHH", 1440, 1, 32, 0x1000, 0, 1) + dest
-    locator = struct.pack(">BBBBHH", 1, 100, 255, 0, 1, 1) + OTHER
-    return packet(OTHER, OWN, (4342, 4342), front + eid + locator, True)
+    eid = struct.pack(">IBBHHH", 1440, len(LOCATORS), 32, 0x1000, 0, 1) + dest
+    locators = b"".join(
+        struct.pack(">BBBBHH", priority, weight, 255, 0, 1, 1) + OTHER[:3] + bytes([last])
+        for last, priority, weight in LOCATORS)
+    return packet(OTHER, OWN, (4342, 4342), front + eid + locators, True)
 
 
 def nonces(path):
@@ -78,8 +85,9 @@ def nonces(path):
 def write_frames(folder, count, seed):
     with open(f"{folder}/asking.toml", "w") as file:
         file.write('resolver = "203.0.113.9"\n' + SITE)
-    with open(f"{folder}/static.toml", "w") as file:
-        file.write(SITE + "".join(map(mapping, range(DESTINATIONS))))
+    for name, locators in ("static", LOCATORS), ("single", LOCATORS[:1]):
+        with open(f"{folder}/{name}.toml", "w") as file:
+            file.write(SITE + "".join(mapping(i, locators) for i in range(DESTINATIONS)))
     seen = set()
     with open(f"{folder}/frames.pcap", "wb") as file, open(f"{folder}/first.pcap", "wb") as first:
         file.write(HEADER)

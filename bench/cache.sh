@@ -1,7 +1,7 @@
 #!/usr/bin/env bash
-# Replays frames to 1,000 destinations that the router must ask for, with the replies to its requests, and
-# prints frames a second, user and system time and the greatest memory; beside it the same frames
-# with the mappings in the settings, and `cat` of the file to a new one.
+# Replays frames to 1,000 destinations that the router must ask for, with the replies to its requests, each of eight
+# locators, and prints frames a second, user and system time and the greatest memory; beside it the same frames
+# with the mappings in the settings, then with the first locator of each alone, and `cat` of the file to a new one.
 # usage: bench/cache.sh [FRAMES [SEED]]
 set -eu
 frames=${1:-1000000}
@@ -25,7 +25,9 @@ echo "  $(grep -c ' drop 13 miss$' "$folder/report") misses," \
     "$(grep -c ' control reply learned=1 ' "$folder/report") replies learned," \
     "$(grep -c ' encapsulated ' "$folder/report") encapsulated"
 tail -n 1 "$folder/report" | sed 's/^/  /'
-words static.toml frames.pcap
-measured "  static " "$frames" "$folder/report" "$program" "${words[@]}"
-tail -n 1 "$folder/report" | sed 's/^/  /'
+for kind in static single; do
+    words $kind.toml frames.pcap
+    measured "  $kind " "$frames" "$folder/report" "$program" "${words[@]}"
+    tail -n 1 "$folder/report" | sed 's/^/  /'
+done
 measured "  cat    " "$frames" "$folder/copy" cat "$folder/answered.pcap"
