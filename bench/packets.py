@@ -1,11 +1,7 @@
-"""What the makers of captures share."""
-import struct
+"""What the makers of captures share: the plain router's sum."""
+import os
+import sys
 
+sys.path.append(os.path.join(os.path.dirname(os.path.dirname(os.path.abspath(__file__))), "crosscheck"))
 
-def ones_sum(octets):
-    """The ones' complement sum of RFC 1071."""
-    octets += bytes(len(octets) % 2)
-    total = sum(struct.unpack(f">{len(octets) // 2}H", octets))
-    while total >> 16:
-        total = (total & 0xFFFF) + (total >> 16)
-    return total
+from wire import ones_sum  # noqa: E402, F401

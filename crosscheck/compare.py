@@ -19,6 +19,7 @@ import settings as rules
 from makers import framed, packet, settings, spoiled_settings
 from sites import Site
 from talk import Talk
+from wire import contents
 
 HERE = os.path.dirname(os.path.abspath(__file__))
 
@@ -53,13 +54,6 @@ def capture(r, text, path):
 
 def run(*command):
     return subprocess.run(command, capture_output=True).stdout
-
-
-def contents(path):
-    if not os.path.exists(path):
-        return b""
-    with open(path, "rb") as file:
-        return file.read()
 
 
 def write(path, text):

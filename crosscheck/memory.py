@@ -10,15 +10,10 @@ import subprocess
 import sys
 import tempfile
 
+from wire import contents
+
 HERE = os.path.dirname(os.path.abspath(__file__))
 EXAMPLES = os.path.join(os.path.dirname(HERE), "examples")
-
-
-def contents(path):
-    if not os.path.exists(path):
-        return b""
-    with open(path, "rb") as file:
-        return file.read()
 
 
 class Trial:

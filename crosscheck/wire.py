@@ -1,4 +1,5 @@
 """Octets in and out, written from the standards: captures, and headers of packets."""
+import os
 import struct
 
 
@@ -17,6 +18,14 @@ def ones_sum(octets):
     while total >> 16:
         total = (total & 0xFFFF) + (total >> 16)
     return total
+
+
+def contents(path):
+    """The octets of a file, none where it isn't there."""
+    if not os.path.exists(path):
+        return b""
+    with open(path, "rb") as file:
+        return file.read()
 
 
 def number(octets, at, size):
