@@ -1,6 +1,7 @@
 -- Map-Requests that wait for an answer (RFC 9301, section 5.3).
-use Rattle.std.specs.Prelude.{ℕ, suc, ◌==◌, ◌||◌, ◌&&◌, not, Bool, List, [], ◌∷◌, ◌++◌, filter, find, Option}
+use Rattle.std.specs.Prelude.{ℕ, suc, ◌==◌, ◌||◌, ◌&&◌, nat_lt, not, false, Bool, List, [], ◌∷◌, ◌++◌, filter, find, map, Option, None, Some, if◌then◌else◌}
 use Rattle.std.specs.List.{list_any}
+use Rattle.std.specs.Option.{option_map_or}
 use Rattle.ip_headers.specs.declared.addr.Addr.{Addr}
 use Rattle.mapping_records.specs.Eids.{covers_eid}
 use Rattle.mapping_records.specs.declared.eid.Eid.{Eid}
@@ -42,6 +43,28 @@ covered requests eid = list_any (λ request. covers_eid request.eid eid) request
 abbrev pub asked : ℕ → Eid → Option Addr → Bool → ℕ → List Request → List Request
 asked m eid source invoked nonce requests =
     without_nonce nonce (waiting m requests) ++ record { eid = eid; source = source; invoked = invoked; nonce = nonce; start = m; sent_again = 0 } ∷ []
+
+-- those that wait and are to be sent again
+abbrev pub all_due : ℕ → List Request → List Request
+all_due m requests = filter (due m) (waiting m requests)
+
+-- those behind the first request with that nonce, none where there is none
+abbrev pub behind : ℕ → List Request → List Request
+behind nonce [] = []
+behind nonce (request ∷ others) = if request.nonce == nonce then others else behind nonce others
+
+-- those that were asked after the one with a nonce; without a nonce, all
+abbrev pub asked_after : Option ℕ → List Request → List Request
+asked_after None requests = requests
+asked_after (Some nonce) requests = behind nonce requests
+
+-- there is one with that nonce, and it was sent again less than twice
+abbrev pub may_send_again : ℕ → List Request → Bool
+may_send_again nonce requests = option_map_or (λ request. nat_lt request.sent_again 2) (with_nonce requests nonce) false
+
+-- those of which the one with that nonce was sent again once more
+abbrev pub sent_again : ℕ → List Request → List Request
+sent_again nonce requests = map (λ request. if request.nonce == nonce then once_more request else request) requests
 
 -- a queue as callers see it: its requests in asking order, and how many more it has room for
 pub record Queue : Type 0 where

@@ -1,6 +1,7 @@
 //! Map-Requests that were sent and wait for an answer (RFC 9301, section 5.3), in asking order.
 #![tactic(auto)]
 
+mod again;
 mod fault;
 mod queue;
 mod request;

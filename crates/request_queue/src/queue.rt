@@ -1,11 +1,14 @@
 // A queue of requests over a vector.
-ghost use Rattle.std.specs.Prelude.{◌≡◌, ◌≤◌, ◌<◌, ◌+◌, ◌^◌, ◌↔◌, [], length, Err, OnOk, OnErr, vec_len, vec_capacity};
+ghost use Rattle.std.specs.Prelude.{◌≡◌, ◌≤◌, ◌<◌, ◌+◌, ◌^◌, ◌↔◌, [], ◌∷◌, true, length, slice_get, Err, Some, IfSome, IsTrue, OnOk, OnErr, vec_len, vec_capacity};
 ghost use Rattle.std.specs.Option.{option_copied};
-ghost use Rattle.request_queue.specs.Queue.{asked, covered, waiting, with_nonce, without_nonce};
+ghost use Rattle.request_queue.specs.Queue.{all_due, asked, asked_after, behind, covered, may_send_again, sent_again, waiting, with_nonce, without_nonce};
+ghost use Rattle.request_queue.specs.Lists.{are_distinct};
 ghost use Rattle.request_queue.specs.declared.fault.AskFault.TheVariants.{Memory, QueueFull};
 ghost use Rattle.request_queue.specs.declared.fault.TheConstants.{MOST_REQUESTS};
 
-use crate::searching::{is_asked, is_covering, is_waiting};
+use crate::again::{least_wake, send_each_again};
+use crate::request::FIRST_RETRY;
+use crate::searching::{asked_after, first_due, is_asked, is_covering, is_waiting};
 use crate::{AskFault, MOST_REQUESTS, NoMemory, Reads, Request};
 use ip_headers::Addr;
 use mapping_records::Eid;
@@ -18,10 +21,13 @@ use std::marker::Model;
 #[derive(Debug, Drop)]
 pub struct RequestQueue {
     requests: Vec<Request>,
+    // Before that moment none is to be sent again.
+    wake: u64,
 }
 
 impl Model for RequestQueue {
-    ghost use Rattle.std.specs.Prelude.{◌≤◌, ◌-◌, vec_len, vec_capacity};
+    ghost use Rattle.std.specs.Prelude.{◌≡◌, ◌≤◌, ◌-◌, true, vec_len, vec_capacity};
+    ghost use Rattle.request_queue.specs.Lists.{all_rest, are_distinct};
     ghost use Rattle.request_queue.specs.Queue.{Queue};
     ghost use Rattle.request_queue.specs.declared.fault.TheConstants.{MOST_REQUESTS};
 
@@ -32,7 +38,9 @@ impl Model for RequestQueue {
       spare = vec_capacity queue.requests - vec_len queue.requests;
     } };
 
-    ghost invariant = { λ queue. vec_len queue.requests ≤ MOST_REQUESTS };
+    ghost invariant = { λ queue. (vec_len queue.requests ≤ MOST_REQUESTS)
+        × ((all_rest queue.wake queue.requests.items ≡ true)
+        × (are_distinct queue.requests.items ≡ true)) };
 }
 
 impl RequestQueue {
@@ -42,6 +50,7 @@ impl RequestQueue {
     {
         RequestQueue {
             requests: Vec::new(alloc),
+            wake: u64::MAX,
         }
     }
 
@@ -55,6 +64,15 @@ impl RequestQueue {
     {
         self.requests.reserve(n as usize)?;
         Ok(())
+    }
+
+    /// How many requests are kept. No two have one nonce.
+    pub fn len(&self) -> usize
+        ensures len { result ≡ length self.now.requests }
+        ensures most { result ≤ MOST_REQUESTS }
+        ensures distinct { are_distinct self.now.requests ≡ true }
+    {
+        self.requests.len()
     }
 
     /// Takes away what waits no longer at a moment.
@@ -97,6 +115,7 @@ impl RequestQueue {
             start: m,
             sent_again: 0,
         });
+        self.wake = self.wake.min(m.saturating_add(FIRST_RETRY));
         Ok(())
     }
 
@@ -133,6 +152,43 @@ impl RequestQueue {
             }
         }
         false
+    }
+
+    /// The first request that waits, is to be sent again, and was asked after the one with the nonce
+    /// `after`; without a nonce, the first of all. Nothing is searched before the moment that
+    /// `look_ahead` found. The request may be handed to `retry`.
+    pub fn next_due(&self, m: u64, after: Option<u64>) -> Option<&Request>
+        ensures first { option_copied result
+            ≡ slice_get (all_due m (asked_after after self.now.requests)) 0 }
+        ensures rest { IfSome (option_copied result) (λ request.
+            all_due m (asked_after after self.now.requests)
+            ≡ request ∷ all_due m (asked_after (Some request.nonce) self.now.requests)) }
+        ensures may { IfSome (option_copied result) (λ request.
+            IsTrue (may_send_again request.nonce self.now.requests)) }
+    {
+        if m < self.wake {
+            return None;
+        }
+        first_due(m, asked_after(after, &self.requests))
+    }
+
+    /// The request with that nonce was sent again once more.
+    pub fn retry(&mut self, nonce: u64)
+        requires { IsTrue (may_send_again nonce self.old.requests) }
+        ensures requests { self.new.requests ≡ sent_again nonce self.old.requests }
+        ensures behind { behind nonce self.new.requests ≡ behind nonce self.old.requests }
+        ensures spare { self.old.spare ≤ self.new.spare }
+    {
+        send_each_again(nonce, &mut self.requests);
+    }
+
+    /// Looks for the next moment at which a request is to be sent again, so that `next_due` searches
+    /// nothing before it. Changes nothing that is seen.
+    pub fn look_ahead(&mut self)
+        ensures requests { self.new.requests ≡ self.old.requests }
+        ensures spare { self.new.spare ≡ self.old.spare }
+    {
+        self.wake = least_wake(&self.requests);
     }
 
     /// How many requests wait at a moment.

@@ -1,0 +1,26 @@
+-- What a queue keeps true of its list.
+use Rattle.std.specs.Prelude.{ℕ, ◌-◌, ◌==◌, ◌&&◌, ◌||◌, nat_lt, true, not, Bool, List, [], ◌∷◌}
+use Rattle.std.specs.List.{list_all, list_any}
+use Rattle.request_queue.specs.Queue.{due}
+use Rattle.request_queue.specs.declared.request.Request.{Request}
+
+-- before a moment it isn't to be sent again
+abbrev pub rests : ℕ → Request → Bool
+rests wake request = not (due (wake - 1) request)
+
+-- none of them is
+abbrev pub all_rest : ℕ → List Request → Bool
+all_rest wake requests = list_all (rests wake) requests
+
+-- one of them has that nonce
+abbrev pub has_nonce : ℕ → List Request → Bool
+has_nonce nonce requests = list_any (λ request. request.nonce == nonce) requests
+
+-- no two have one nonce
+abbrev pub are_distinct : List Request → Bool
+are_distinct [] = true
+are_distinct (request ∷ others) = not (has_nonce request.nonce others) && are_distinct others
+
+-- what has that nonce was sent again less than twice
+abbrev pub all_may_again : ℕ → List Request → Bool
+all_may_again nonce requests = list_all (λ request. not (request.nonce == nonce) || nat_lt request.sent_again 2) requests
