@@ -3,4 +3,5 @@ pub mod BitLemmas
 pub mod EidLemmas
 pub mod FewLemmas
 pub mod LastingLemmas
+pub mod NamedLemmas
 pub mod PlaceLemmas

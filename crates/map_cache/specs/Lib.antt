@@ -1,2 +1,3 @@
 pub mod Cache
 pub mod Lists
+pub mod Named

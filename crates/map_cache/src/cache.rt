@@ -3,13 +3,16 @@ ghost use Rattle.std.specs.Prelude.{◌≡◌, ◌≤◌, ◌<◌, ◌+◌, ◌*
 ghost use Rattle.std.specs.Option.{option_copied};
 ghost use Rattle.map_cache.specs.Cache.{bits_told, exact, has_room, in_force, lasting, learned};
 ghost use Rattle.map_cache.specs.Lists.{IsFew};
+ghost use Rattle.map_cache.specs.Named.{least_named, named_above};
 ghost use Rattle.map_cache.specs.declared.fault.LearnFault.TheVariants.{CacheFull, Memory};
 ghost use Rattle.map_cache.specs.declared.fault.TheConstants.{MOST_LOCATORS, MOST_MAPPINGS};
 
 use crate::bits::tell;
 use crate::learning::{drop_eid, drop_ended, fresh, has_room, put};
+use crate::naming::least_named;
 use crate::searching::{is_exact, lasts, longest_covering};
 use crate::{LearnFault, Mapping, NoMemory, Reads};
+use ip_headers::Addr;
 use mapping_records::{Eid, Record};
 use std::alloc::Global;
 use std::marker::Model;
@@ -58,6 +61,13 @@ impl MapCache {
         ensures { result ≡ self.entry.now.now }
     {
         self.now
+    }
+
+    /// What is kept, in order of EID.
+    pub fn mappings(&self) -> &[Mapping]
+        ensures { result.now ≡ self.entry.now.mappings }
+    {
+        &self.mappings
     }
 
     /// Makes room for `n` further mappings with so many locators in all. Records bring their
@@ -154,6 +164,17 @@ impl MapCache {
             }
         }
         None
+    }
+
+    /// The least address above `after` that a mapping names which hasn't ended, by a locator with a
+    /// priority other than 255, and the least EID of those that name it. Without `after`, the least
+    /// of all; None where there is none. IPv4 addresses are below IPv6 addresses.
+    pub fn next_locator(&self, m: u64, after: Option<&Addr>) -> Option<(Addr, Eid)>
+        requires { self.now.now ≤ m }
+        ensures { result ≡ least_named
+            (named_above (option_copied after.entry) (lasting m self.entry.now.mappings)) }
+    {
+        least_named(m, after, &self.mappings)
     }
 
     /// How many mappings haven't ended at a moment.

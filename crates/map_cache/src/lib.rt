@@ -4,13 +4,18 @@
 mod bits;
 mod cache;
 mod fault;
+mod laws;
 mod learning;
 mod mapping;
+mod naming;
 mod searching;
 
 pub use cache::MapCache;
 pub use fault::{LearnFault, MOST_LOCATORS, MOST_MAPPINGS};
+pub use ip_headers::Addr;
+pub use laws::{no_lesser_address_is_named, no_lesser_eid_names_it};
 pub use mapping::Mapping;
 pub use mapping_records::{Eid, Record};
 pub use node_store::Reads;
 pub use octets::NoMemory;
+pub use searching::lasts;

@@ -13,7 +13,8 @@ pub(crate) fn same_eid(a: &Eid, b: &Eid) -> bool
     a == b
 }
 
-pub(crate) fn lasts(now: u64, mapping: &Mapping) -> bool
+/// The mapping hasn't ended at a moment.
+pub fn lasts(now: u64, mapping: &Mapping) -> bool
     ensures { result ≡ lasts now mapping.now }
 {
     mapping.fixed || u128::from(now) < mapping.end
