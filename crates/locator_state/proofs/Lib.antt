@@ -1,0 +1,2 @@
+mod LastLemmas
+mod PlaceLemmas

@@ -1,0 +1,83 @@
+-- Probes of locators (RFC 9301, section 7.1).
+use Rattle.std.specs.Prelude.{ℕ, ◌==◌, ◌||◌, ◌&&◌, not, Bool, true, false, List, [], ◌∷◌, ◌++◌, count_by, filter, map, Option, Some, None, option_map, if◌then◌else◌}
+use Rattle.ip_headers.specs.declared.addr.Addr.{Addr}
+use Rattle.mapping_records.specs.Eids.{same_address}
+use Rattle.router_log.specs.Moments.{younger}
+use Rattle.router_log.specs.declared.kept.Probe.{Probe}
+use Rattle.router_log.specs.declared.kept.ProbeState.{ProbeState}
+use Rattle.router_log.specs.declared.kept.ProbeState.TheVariants.{Open, Answered, Lost}
+use Rattle.locator_state.specs.Lists.{last_where, only_if}
+
+-- a probe counts for 600 seconds
+abbrev pub probe_counts : ℕ → Probe → Bool
+probe_counts now probe = younger now 600 probe.moment
+
+-- a probe that is answered
+abbrev pub is_answered : Probe → Bool
+is_answered probe = elim probe.state [ Open ↦ false | Answered ↦ true | Lost ↦ false ]
+
+-- a probe that is answered, or that has waited for 3 seconds (this router's choice)
+abbrev pub is_judged : ℕ → Probe → Bool
+is_judged now probe = is_answered probe || not (younger now 3 probe.moment)
+
+-- without such a probe the locator is up, and by one that is answered or 600 seconds old
+abbrev pub up_by : ℕ → Option Probe → Bool
+up_by now None = true
+up_by now (Some probe) = is_answered probe || not (younger now 600 probe.moment)
+
+-- what becomes of an open probe
+abbrev pub settled : ProbeState → ProbeState → ProbeState
+settled state Open = state
+settled state Answered = Answered
+settled state Lost = Lost
+
+abbrev pub settle : ProbeState → Probe → Probe
+settle state probe = record probe { state = settled state probe.state }
+
+-- that becomes of it where it has the nonce
+abbrev pub settle_with : ProbeState → ℕ → Probe → Probe
+settle_with state nonce probe = if probe.nonce == nonce then settle state probe else probe
+
+-- ### lists of probes, the oldest first
+
+-- no probe speaks against the locator: the last one that is judged
+abbrev pub probe_up : ℕ → List Probe → Addr → Bool
+probe_up now probes rloc = up_by now (last_where (λ probe. same_address probe.rloc rloc && is_judged now probe) probes)
+
+-- the locator of the open probe with that nonce: the last one, if it isn't judged
+abbrev pub probe_open : ℕ → List Probe → ℕ → Option Addr
+probe_open now probes nonce =
+    option_map (λ probe. probe.rloc)
+    (only_if (λ probe. not (is_judged now probe)) (last_where (λ probe. probe.nonce == nonce) probes))
+
+-- the moment of the locator's last probe, if that is younger than 600 seconds
+abbrev pub last_probe : ℕ → List Probe → Addr → Option ℕ
+last_probe now probes rloc =
+    option_map (λ probe. probe.moment)
+    (only_if (λ probe. younger now 600 probe.moment) (last_where (λ probe. same_address probe.rloc rloc) probes))
+
+-- how many probes are younger than 600 seconds
+abbrev pub probe_count : ℕ → List Probe → ℕ
+probe_count now probes = count_by (λ probe. younger now 600 probe.moment) probes
+
+-- those that still count
+abbrev pub counting_probes : ℕ → List Probe → List Probe
+counting_probes now probes = filter (probe_counts now) probes
+
+-- the same of a list: what becomes of the open ones with that nonce
+abbrev pub settle_nonce : ProbeState → ℕ → List Probe → List Probe
+settle_nonce state nonce probes = map (settle_with state nonce) probes
+
+-- those that count, once a probe was made: the open ones with its nonce are lost
+abbrev pub probed : ℕ → Addr → ℕ → List Probe → List Probe
+probed m rloc nonce probes =
+    settle_nonce Lost nonce (counting_probes m probes) ++ record { moment = m; rloc = rloc; nonce = nonce; state = Open } ∷ []
+
+-- those that count, once an answer came: the open ones with its nonce are answered
+abbrev pub probe_answered : ℕ → ℕ → List Probe → List Probe
+probe_answered m nonce probes = settle_nonce Answered nonce (counting_probes m probes)
+
+-- what is known of locators as callers see it: the probes, and how many more there is room for
+pub record Located : Type 0 where
+  pub probes : List Probe
+  pub spare : ℕ

@@ -1,0 +1,110 @@
+// Which probes count, which of them is meant, and what becomes of them.
+ghost use Rattle.std.specs.Prelude.{◌≡◌, ◌≤◌, ◌&&◌, ◌==◌, vec_len, vec_capacity};
+ghost use Rattle.std.specs.Option.{option_copied};
+ghost use Rattle.mapping_records.specs.Eids.{same_address};
+ghost use Rattle.locator_state.specs.Lists.{last_where};
+ghost use Rattle.locator_state.specs.Probes.{counting_probes, is_answered, is_judged, probe_counts, settle_nonce, settle_with, settled, up_by};
+
+use ip_headers::Addr;
+use router_log::{Probe, ProbeState};
+
+pub(crate) fn same_address(a: &Addr, b: &Addr) -> bool
+    ensures { result ≡ same_address a.now b.now }
+{
+    a == b
+}
+
+pub(crate) fn probe_counts(now: u64, probe: &Probe) -> bool
+    ensures { result ≡ probe_counts now probe.now }
+{
+    now.saturating_sub(probe.moment) < 600_000_000_000
+}
+
+fn is_answered(probe: &Probe) -> bool
+    ensures { result ≡ is_answered probe.now }
+{
+    match probe.state {
+        ProbeState::Answered => true,
+        ProbeState::Open | ProbeState::Lost => false,
+    }
+}
+
+pub(crate) fn is_judged(now: u64, probe: &Probe) -> bool
+    ensures { result ≡ is_judged now probe.now }
+{
+    is_answered(probe) || now.saturating_sub(probe.moment) >= 3_000_000_000
+}
+
+pub(crate) fn up_by(now: u64, last: Option<&Probe>) -> bool
+    ensures { result ≡ up_by now (option_copied last.entry) }
+{
+    match last {
+        None => true,
+        Some(probe) => is_answered(probe) || !probe_counts(now, probe),
+    }
+}
+
+/// The last probe with that nonce.
+pub(crate) fn last_with(nonce: u64, probes: &[Probe]) -> Option<&Probe>
+    ensures { option_copied result ≡ last_where (λ probe. probe.nonce == nonce) probes.now }
+{
+    probes.iter().rev().find(|probe| probe.nonce == nonce)
+}
+
+/// The last probe of a locator.
+pub(crate) fn last_of<'a>(rloc: &Addr, probes: &'a [Probe]) -> Option<&'a Probe>
+    ensures { option_copied result
+        ≡ last_where (λ probe. same_address probe.rloc rloc.now) probes.now }
+{
+    probes
+        .iter()
+        .rev()
+        .find(|probe| same_address(&probe.rloc, rloc))
+}
+
+/// The last probe of a locator that is answered or has waited for 3 seconds.
+pub(crate) fn last_judged<'a>(now: u64, rloc: &Addr, probes: &'a [Probe]) -> Option<&'a Probe>
+    ensures { option_copied result
+        ≡ last_where (λ probe. same_address probe.rloc rloc.now && is_judged now probe)
+        probes.now }
+{
+    probes.iter().rev().find(|probe| same_address(&probe.rloc, rloc) && is_judged(now, probe))
+}
+
+fn settled(state: ProbeState, old: ProbeState) -> ProbeState
+    ensures { result ≡ settled state old }
+{
+    match old {
+        ProbeState::Open => state,
+        ProbeState::Answered => ProbeState::Answered,
+        ProbeState::Lost => ProbeState::Lost,
+    }
+}
+
+fn settle_with(state: ProbeState, nonce: u64, probe: &mut Probe)
+    ensures { probe.new ≡ settle_with state nonce probe.old }
+{
+    if probe.nonce == nonce {
+        probe.state = settled(state, probe.state);
+    }
+}
+
+/// Settles the open probes with that nonce.
+pub(crate) fn settle_nonce(state: ProbeState, nonce: u64, probes: &mut Vec<Probe>)
+    ensures items { probes.new.items ≡ settle_nonce state nonce probes.old.items }
+    ensures len { vec_len probes.new ≡ vec_len probes.old }
+    ensures capacity { vec_capacity probes.new ≡ vec_capacity probes.old }
+{
+    for probe in probes.iter_mut() {
+        settle_with(state, nonce, probe);
+    }
+}
+
+/// Takes away what counts no longer at a moment.
+pub(crate) fn drop_old(now: u64, probes: &mut Vec<Probe>)
+    ensures items { probes.new.items ≡ counting_probes now probes.old.items }
+    ensures len { vec_len probes.new ≤ vec_len probes.old }
+    ensures capacity { vec_capacity probes.new ≡ vec_capacity probes.old }
+{
+    probes.retain(|probe| probe_counts(now, probe));
+}
