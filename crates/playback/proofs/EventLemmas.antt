@@ -1,20 +1,17 @@
 -- Events in order, and what is done for them.
-use Rattle.std.proofs.Common.{◌≡◌, ℕ, suc, ◌-◌, List, [], ◌∷◌, ◌++◌, Option, Some, None, append_assoc, refl, sym, ap, ap₂, ◌∙◌, map}
+use Rattle.std.proofs.Common.{◌≡◌, ℕ, suc, ◌+◌, ◌-◌, List, [], ◌∷◌, ◌++◌, Option, Some, None, append_assoc, refl, sym, ap, ap₂, ◌∙◌, map}
 use Rattle.std.specs.List.{range_with_len}
 use Rattle.std.proofs.lemmas.List.{append-nil}
+use Rattle.std.proofs.lemmas.List.FromFn.{map-range_with_len_more}
 use Rattle.capture_io.specs.Frame.{Frame}
-use Rattle.playback.specs.Events.{Event, Outcome, Packet, Tick, Arrival, arrivals, events_after, events_of, followed, idle, played, second_of}
+use Rattle.playback.specs.Events.{Event, Outcome, Packet, Tick, Arrival, arrivals, events_after, events_of, followed, idle, played, second_of, ticks}
 
 -- the outcome of these parts
 abbrev outcome_with : {S : Type 0} → S → List ℕ → List Packet → Outcome S
 outcome_with after lines packets = record { lines = lines; packets = packets; after = after }
 
--- nothing, and then an outcome
-pub followed-idle : {S : Type 0} (state : S) (o : Outcome S) → followed (idle state) o ≡ o
-followed-idle state o = refl
-
 -- three outcomes in a row
-pub followed-assoc : {S : Type 0} (a b c : Outcome S) → followed (followed a b) c ≡ followed a (followed b c)
+followed-assoc : {S : Type 0} (a b c : Outcome S) → followed (followed a b) c ≡ followed a (followed b c)
 followed-assoc a b c = ap₂ (outcome_with c.after) (append_assoc a.lines b.lines c.lines) (append_assoc a.packets b.packets c.packets)
 
 -- some events, and then others
@@ -35,20 +32,28 @@ played-frame step state previous frame frames = played-append step state (events
 followed-still : {S : Type 0} (o : Outcome S) → followed o (idle o.after) ≡ o
 followed-still o = ap₂ (outcome_with o.after) (append-nil o.lines) (append-nil o.packets)
 
--- seconds at which nothing is done
-played-ticks : {S : Type 0} (step : S → Event → Outcome S) (state : S) (seconds : List ℕ) (others : List Event) → ((second : ℕ) (s : S) → step s (Tick second) ≡ idle s)
-    → played step state (map Tick seconds ++ others) ≡ played step state others
-played-ticks step state [] others quiet = refl
-played-ticks step state (second ∷ seconds) others quiet =
-    let then : Outcome _ → Outcome _ = λ o. followed o (played step o.after (map Tick seconds ++ others)) in
-    ap then (quiet second state) ∙ played-ticks step state seconds others quiet
+-- an event alone
+played-one : {S : Type 0} (step : S → Event → Outcome S) (state : S) (event : Event) → played step state (event ∷ []) ≡ step state event
+played-one step state event = followed-still (step state event)
 
--- where nothing is done at seconds, a frame counts alone
-pub played-quiet : {S : Type 0} (step : S → Event → Outcome S) (state : S) (previous : Option ℕ) (frame : Frame) → ((second : ℕ) (s : S) → step s (Tick second) ≡ idle s)
-    → played step state (events_of previous frame) ≡ step state (Arrival frame)
-played-quiet step state None frame quiet = followed-still (step state (Arrival frame))
-played-quiet step state (Some from) frame quiet =
-    played-ticks step state (range_with_len (suc (second_of from)) (second_of frame.moment - second_of from)) (Arrival frame ∷ []) quiet ∙ followed-still (step state (Arrival frame))
+-- seconds in a row, and the one after them
+pub played-second : {S : Type 0} (step : S → Event → Outcome S) (state : S) (first n second : ℕ) → first + n ≡ second
+    → played step state (map Tick (range_with_len first (n + 1)))
+    ≡ followed (played step state (map Tick (range_with_len first n))) (step (played step state (map Tick (range_with_len first n))).after (Tick second))
+played-second step state first n second is =
+    let seconds : List Event = map Tick (range_with_len first n) in
+    ap (played step state) (map-range_with_len_more Tick first n second is)
+    ∙ played-append step state seconds (Tick second ∷ [])
+    ∙ ap (followed (played step state seconds)) (played-one step (played step state seconds).after (Tick second))
+
+-- seconds, and then a frame
+pub played-events : {S : Type 0} (step : S → Event → Outcome S) (state : S) (previous : Option ℕ) (frame : Frame)
+    → played step state (events_of previous frame)
+    ≡ followed (played step state (ticks previous frame.moment)) (step (played step state (ticks previous frame.moment)).after (Arrival frame))
+played-events step state previous frame =
+    let seconds : List Event = ticks previous frame.moment in
+    played-append step state seconds (Arrival frame ∷ [])
+    ∙ ap (followed (played step state seconds)) (played-one step (played step state seconds).after (Arrival frame))
 
 -- the frames among events in a row
 arrivals-append : (first others : List Event) → arrivals (first ++ others) ≡ arrivals first ++ arrivals others

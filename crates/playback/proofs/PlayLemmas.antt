@@ -1,5 +1,5 @@
 -- The frames of a capture one after another: what is still to come, and what is shown.
-use Rattle.std.proofs.Common.{◌≡◌, ℕ, ◌+◌, List, [], ◌∷◌, ◌++◌, length, drop, Option, Some, None, Ok, Err, append_assoc, refl, sym, ap, ap₂, ◌∙◌, arith, subst}
+use Rattle.std.proofs.Common.{◌≡◌, ◌≤◌, ◌<◌, ℕ, ◌+◌, ◌*◌, ◌/◌, List, [], ◌∷◌, ◌++◌, length, drop, Option, Some, None, Ok, Err, append_assoc, refl, sym, ap, ap₂, ◌∙◌, arith, subst}
 use Rattle.std.specs.Option.{option_map, IfSome, IsSomeAnd}
 use Rattle.std.proofs.lemmas.List.{append-nil, length-append}
 use Rattle.std.specs.List.{All}
@@ -19,7 +19,7 @@ use Rattle.capture_io.specs.declared.format.Format.{Format}
 use Rattle.capture_io.specs.declared.position.Position.{Position}
 use Rattle.capture_io.specs.declared.fault.CaptureFault.{CaptureFault}
 use Rattle.playback.specs.Events.{Event, Outcome, Packet, events_after, events_of, followed, idle, played, records_of}
-use Rattle.playback.specs.Playing.{after_output, handed_on, outcome_of, with_outcome, with_output, written, Ends, Gathers, IsRead}
+use Rattle.playback.specs.Playing.{after_output, handed_on, outcome_of, with_outcome, with_output, written, Ends, Gathers, IsRead, Plays}
 use Rattle.playback.specs.declared.output.Output.{Output}
 use Rattle.playback.proofs.EventLemmas.{played-frame}
 
@@ -71,6 +71,50 @@ with_outcome-followed file a b s =
     with_output-twice file a.lines b.lines (records_of a.packets) (records_of b.packets) s
     ∙ ap (λ (o : List ℕ). with_output file (a.lines ++ b.lines) o s) (sym (records_of-append a.packets b.packets))
 
+-- an outcome was gathered, and nothing is handed on
+handed_on-gathered : {S : Type 0} (file : Option ℕ) (outcome : Outcome S) (old new : Output) (told : Option World) → Gathers outcome old new
+    → handed_on file new told ≡ option_map (after_output file outcome.lines (records_of outcome.packets)) (handed_on file old told)
+handed_on-gathered file outcome old new None gathers = refl
+handed_on-gathered file outcome old new (Some w) gathers =
+    ap Some (ap₂ (λ (l o : List ℕ). after_output file l o w) gathers.lines gathers.records ∙ sym (after_output-twice file old.lines outcome.lines old.records (records_of outcome.packets) w))
+
+-- an outcome was gathered, and perhaps handed on
+pub plays-gathered : {S : Type 0} (file : Option ℕ) (outcome : Outcome S) (old mid new : Output) (told now : Option World) → Gathers outcome old mid
+    → handed_on file new now ≡ handed_on file mid told → new.written ≡ mid.written → Plays file outcome old told new now
+plays-gathered file outcome old mid new told now gathers handed same = record {
+  handed = handed ∙ handed_on-gathered file outcome old mid told gathers;
+  written = same ∙ gathers.written;
+}
+
+-- nothing was done
+pub plays-idle : {S : Type 0} (file : Option ℕ) (state : S) (output : Output) (told : Option World) → Plays file (idle state) output told output told
+plays-idle file state output told = record { handed = handed_idle file output told; written = omega arith }
+  where
+    handed_idle : (file : Option ℕ) (output : Output) (told : Option World) → handed_on file output told ≡ option_map (after_output file [] []) (handed_on file output told)
+    handed_idle file output None = refl
+    handed_idle file output (Some w) = ap Some (sym (after_output-none file (after_output file output.lines output.records w)))
+
+-- outcome after outcome, in the world that there will be
+after_outputs : {S : Type 0} (file : Option ℕ) (a b : Outcome S) (told : Option World)
+    → option_map (after_output file b.lines (records_of b.packets)) (option_map (after_output file a.lines (records_of a.packets)) told)
+    ≡ option_map (after_output file (a.lines ++ b.lines) (records_of (a.packets ++ b.packets))) told
+after_outputs file a b None = refl
+after_outputs file a b (Some w) =
+    ap Some (after_output-twice file a.lines b.lines (records_of a.packets) (records_of b.packets) w
+    ∙ ap (λ (o : List ℕ). after_output file (a.lines ++ b.lines) o w) (sym (records_of-append a.packets b.packets)))
+
+-- one outcome, and then another
+pub plays-followed : {S : Type 0} (file : Option ℕ) (a b : Outcome S) (old mid new : Output) (told then now : Option World)
+    → Plays file a old told mid then → Plays file b mid then new now → Plays file (followed a b) old told new now
+plays-followed file a b old mid new told then now first next =
+    let both : length (a.packets ++ b.packets) ≡ length a.packets + length b.packets = length-append a.packets b.packets in
+    let one = first.written in
+    let two = next.written in
+    record {
+      handed = next.handed ∙ ap (option_map (after_output file b.lines (records_of b.packets))) first.handed ∙ after_outputs file a b (handed_on file old told);
+      written = omega (arith, both, one, two);
+    }
+
 -- a piece that is handed on leaves the world that there will be as it is
 pub handed_on-none : (file : Option ℕ) (output : Output) (told : Option World) → output.lines ≡ [] → output.records ≡ [] → handed_on file output told ≡ told
 handed_on-none file output None lines records = refl
@@ -88,6 +132,18 @@ pub says_alone : (file : Option ℕ) (lines records : List ℕ) (old new : Optio
     → new ≡ option_map (after_say lines) old → new ≡ option_map (after_output file lines records) old
 says_alone file lines records None new is said = said
 says_alone file lines records (Some w) new is said = said ∙ ap (λ (f : Option ℕ). Some (after_output f lines records w)) (sym is)
+
+-- a moment before a second lies in an earlier one
+second-later : (moment second : ℕ) → moment < second * 1000000000 → moment / 1000000000 < second
+second-later moment second later = grind (arith, later)
+
+-- so that second has room for its packets
+pub second-room : (frames moment second written more : ℕ) → moment < second * 1000000000 → written ≤ 2048 * (frames + moment / 1000000000) → more ≤ written + 2048
+    → more ≤ 2048 * (frames + second * 1000000000 / 1000000000)
+second-room frames moment second written more later room few =
+    let past = second-later moment second later in
+    let same : second * 1000000000 / 1000000000 ≡ second = grind arith in
+    rw same (omega (arith, past, room, few))
 
 module _ {S : Type 0} (step : S → Event → Outcome S) (id : ℕ) (file : Option ℕ) (format : Format) where
   -- the frames that are left at a position
@@ -158,33 +214,19 @@ module _ {S : Type 0} (step : S → Event → Outcome S) (id : ℕ) (file : Opti
         read = λ all. going.read (subst (λ (r : Run). All IsRead r.frames) (sym old) (All-cons IsRead f more.frames read (subst (λ (r : Run). All IsRead r.frames) new all)));
       }
 
-  -- a frame was read, its outcome was gathered, and nothing was handed on
-  gathered_step : (at : Position) (state : S) (run : Run) (whole : Outcome S) (aim : Shown) (w : World) (before after : Output) (f : Frame)
-      → Going at state before.written run whole aim (after_output file before.lines before.records w) → Ok (Some f) ≡ outcome format at (left_of id w) → f.number ≡ at.count + 1 → IsRead f
-      → Gathers (played step state (events_of at.greatest f)) before after
-      → Going (passed at f) (played step state (events_of at.greatest f)).after after.written run whole aim (after_output file after.lines after.records (after_read id (16 + length f.octets) w))
-  gathered_step at state run whole aim w before after f going is next was_read gathers =
-      let done = played step state (events_of at.greatest f) in
-      let read = after_read id (16 + length f.octets) w in
-      let stepped = frame_step at state before.written run whole aim (after_output file before.lines before.records w) f going is next was_read in
-      let world : after_output file done.lines (records_of done.packets) (after_output file before.lines before.records read) ≡ after_output file after.lines after.records read =
-      after_output-twice file before.lines done.lines before.records (records_of done.packets) read
-      ∙ sym (ap₂ (λ (l o : List ℕ). after_output file l o read) gathers.lines gathers.records) in
-      let counted = subst (λ (n : ℕ). Going (passed at f) done.after n run whole aim (after_output file done.lines (records_of done.packets) (after_output file before.lines before.records read))) (sym gathers.written) stepped in
-      subst (λ (v : World). Going (passed at f) done.after after.written run whole aim v) world counted
-
-  -- the same, over what the desk tells
-  pub goes_on : (first : S) (at : Position) (state : S) (old mid read now : Option World) (before after out : Output) (f : Frame)
+  -- a frame was read and played, over what the desk tells
+  pub goes_on : (first : S) (at : Position) (state : S) (old mid read now : Option World) (before after : Output) (f : Frame)
       → Ongoing first at state before.written old (handed_on file before mid) → IfSome mid (λ w. Ok (Some f) ≡ outcome format at (left_of id w)) → f.number ≡ at.count + 1 → IsRead f
-      → read ≡ option_map (after_read id (16 + length f.octets)) mid → Gathers (played step state (events_of at.greatest f)) before after
-      → handed_on file out now ≡ handed_on file after read → out.written ≡ after.written
-      → Ongoing first (passed at f) (played step state (events_of at.greatest f)).after out.written old (handed_on file out now)
-  goes_on first at state None mid read now before after out f going is next was_read reads gathers handed same = tt
-  goes_on first at state (Some w) None read now before after out f going is next was_read reads gathers handed same = absurd going
-  goes_on first at state (Some w) (Some v) read now before after out f going is next was_read reads gathers handed same =
-      let stepped = gathered_step at state (run_of w) (outcome_of step first (run_of w)) (with_outcome file (outcome_of step first (run_of w)) (shown_of w)) v before after f going is next was_read gathers in
-      let world : handed_on file out now ≡ Some (after_output file after.lines after.records (after_read id (16 + length f.octets) v)) = handed ∙ ap (handed_on file after) reads in
-      rw (world, same) stepped
+      → read ≡ option_map (after_read id (16 + length f.octets)) mid → Plays file (played step state (events_of at.greatest f)) before read after now
+      → Ongoing first (passed at f) (played step state (events_of at.greatest f)).after after.written old (handed_on file after now)
+  goes_on first at state None mid read now before after f going is next was_read reads plays = tt
+  goes_on first at state (Some w) None read now before after f going is next was_read reads plays = absurd going
+  goes_on first at state (Some w) (Some v) read now before after f going is next was_read reads plays =
+      let done = played step state (events_of at.greatest f) in
+      let stepped = frame_step at state before.written (run_of w) (outcome_of step first (run_of w)) (with_outcome file (outcome_of step first (run_of w)) (shown_of w)) (after_output file before.lines before.records v) f going is next was_read in
+      let world : handed_on file after now ≡ Some (after_output file done.lines (records_of done.packets) (after_output file before.lines before.records (after_read id (16 + length f.octets) v))) =
+      plays.handed ∙ ap (λ (t : Option World). option_map (after_output file done.lines (records_of done.packets)) (handed_on file before t)) reads in
+      rw (world, plays.written) stepped
 
   -- what others see of a world in which all is handed on
   shown-handed_on : (output : Output) (a b : Option World) → shown a ≡ shown b → shown (handed_on file output a) ≡ shown (handed_on file output b)

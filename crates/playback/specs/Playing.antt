@@ -1,12 +1,13 @@
 -- What a play of a capture leaves at its desk.
-use Rattle.std.specs.Prelude.{◌≡◌, ℕ, ◌+◌, ◌*◌, ◌^◌, ◌≤◌, ◌<◌, List, ◌++◌, length, Option, Some, None, option_map, Result, Ok, Err}
+use Rattle.std.specs.Prelude.{◌≡◌, ℕ, ◌+◌, ◌*◌, ◌^◌, ◌≤◌, ◌<◌, List, ◌++◌, length, Option, Some, None, option_map, unwrap_or, Result, Ok, Err}
 use Rattle.std.specs.List.{All}
 use Rattle.desk.specs.declared.file.NamedFile.{NamedFile}
 use Rattle.desk.specs.World.{World, Shown, changed_at, extended}
 use Rattle.capture_io.specs.Frame.{Frame}
 use Rattle.capture_io.specs.Frames.{Run}
 use Rattle.capture_io.specs.declared.fault.CaptureFault.{CaptureFault}
-use Rattle.playback.specs.Events.{Event, Outcome, events, played, records_of}
+use Rattle.playback.specs.Events.{Event, Outcome, events, played, records_of, second_of}
+use Rattle.playback.specs.declared.machine.Progress.{Progress}
 use Rattle.playback.specs.declared.output.Output.{Output}
 use Rattle.playback.specs.declared.playing.Ending.{Ending}
 use Rattle.playback.specs.declared.reading.Next.{Next}
@@ -40,7 +41,19 @@ pub record Gathers {S : Type 0} (outcome : Outcome S) (old new : Output) : Type 
   pub lines : new.lines ≡ old.lines ++ outcome.lines
   pub records : new.records ≡ old.records ++ records_of outcome.packets
   pub written : new.written ≡ old.written + length outcome.packets
-  pub few : length outcome.packets ≤ 65536
+  pub few : length outcome.packets ≤ 2048
+
+-- an outcome was gathered, and perhaps handed on: once all is, it is said and written
+pub record Plays {S : Type 0} (file : Option ℕ) (outcome : Outcome S)
+    (old : Output) (told : Option World) (new : Output) (now : Option World) : Type 0 where
+  pub handed : handed_on file new now
+      ≡ option_map (after_output file outcome.lines (records_of outcome.packets))
+      (handed_on file old told)
+  pub written : new.written ≡ old.written + length outcome.packets
+
+-- the most packets of so many frames and of the seconds so far
+abbrev pub most_packets : Progress → ℕ
+most_packets progress = 2048 * (progress.frames + second_of (unwrap_or progress.moment 0))
 
 -- the outcome of all frames of a run
 abbrev pub outcome_of : {S : Type 0} → (S → Event → Outcome S) → S → Run → Outcome S

@@ -7,11 +7,12 @@ mod machine;
 mod output;
 mod playing;
 mod reading;
+mod seconds;
 
 pub use capture_io::{
     CaptureFault, CaptureReader, Desk, DeskFault, FileId, Frame, NoMemory, Octets,
 };
 pub use laws::events_keep_the_frames;
-pub use machine::Machine;
+pub use machine::{Machine, Progress};
 pub use output::Output;
 pub use playing::{Ending, play};

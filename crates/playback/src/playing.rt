@@ -1,17 +1,19 @@
 // The frames of a capture, one after another, through a machine.
-ghost use Rattle.std.specs.Prelude.{◌≡◌, None, Some, IfOk, IfSome, OnOk, option_map};
+ghost use Rattle.std.specs.Prelude.{◌≡◌, ◌<◌, ◌≤◌, ◌+◌, ◌*◌, ◌^◌, None, Some, IfOk, IfSome, OnOk, length, option_map, unwrap_or};
 ghost use Rattle.std.specs.List.{All};
 ghost use Rattle.desk.specs.Causes.{HasCause};
 ghost use Rattle.desk.specs.World.{left_of, shown, shown_of};
 ghost use Rattle.capture_io.specs.Capture.{begin};
 ghost use Rattle.capture_io.specs.Frames.{read_on};
 ghost use Rattle.capture_io.specs.Reading.{beginning};
-ghost use Rattle.playback.specs.Playing.{outcome_of, with_outcome, Ends, IsRead};
+ghost use Rattle.playback.specs.Events.{events_of, played};
+ghost use Rattle.playback.specs.Playing.{most_packets, outcome_of, with_outcome, Ends, IsRead, Plays};
 
-use crate::machine::Machine;
+use crate::machine::{Machine, Progress};
 use crate::output::{Output, hand_on, hand_on_full};
 use crate::reading::{Next, next_frame};
-use capture_io::{CaptureFault, CaptureReader};
+use crate::seconds::play_seconds;
+use capture_io::{CaptureFault, CaptureReader, Frame, MOST_FRAME_OCTETS};
 use desk::{Desk, DeskFault, FileId};
 use std::alloc::Global;
 
@@ -33,7 +35,7 @@ pub fn play<D: Desk, M: Machine>(
     file: Option<FileId>,
 ) -> Result<Ending, DeskFault>
     requires begins { reader ≡ beginning reader.id reader.format }
-    requires ready { M.IsReady 0 None machine.old }
+    requires ready { M.IsReady (record { frames = 0; moment = None }) machine.old }
     ensures ends { IfOk result (λ ending. IfSome (D.told desk.old) (λ w.
         let run = read_on reader.format begin (left_of reader.id w) in
         Ends (outcome_of M.step (M.state machine.old) run) run ending)) }
@@ -51,21 +53,24 @@ pub fn play<D: Desk, M: Machine>(
 {
     let mut output = Output::new(alloc);
     let mut reader = reader;
-    let mut previous = None;
-    let mut frames = 0u32;
+    let mut progress = Progress {
+        frames: 0,
+        moment: None,
+    };
     loop {
         match next_frame(alloc, desk, &mut reader)? {
             Next::Frame(frame) => {
-                machine.take(alloc, previous, &frame, &mut output)?;
-                previous = Some(frame.moment);
-                frames = frame.number;
-                hand_on_full(alloc, desk, file, &mut output)?;
+                play_frame(alloc, desk, machine, file, progress, &frame, &mut output)?;
+                progress = Progress {
+                    frames: frame.number,
+                    moment: Some(frame.moment),
+                };
             }
             Next::End => {
                 hand_on(alloc, desk, file, &mut output)?;
                 return Ok(Ending {
                     fault: None,
-                    frames,
+                    frames: progress.frames,
                     written: output.written,
                 });
             }
@@ -73,10 +78,43 @@ pub fn play<D: Desk, M: Machine>(
                 hand_on(alloc, desk, file, &mut output)?;
                 return Ok(Ending {
                     fault: Some(fault),
-                    frames,
+                    frames: progress.frames,
                     written: output.written,
                 });
             }
         }
     }
+}
+
+// Plays a frame behind the seconds before it.
+fn play_frame<D: Desk, M: Machine>(
+    alloc: Global,
+    desk: &mut D,
+    machine: &mut M,
+    file: Option<FileId>,
+    progress: Progress,
+    frame: &Frame,
+    output: &mut Output,
+) -> Result<(), DeskFault>
+    requires ready { M.IsReady progress machine.old }
+    requires next { frame.now.number ≡ progress.frames + 1 }
+    requires later { unwrap_or progress.moment 0 ≤ frame.now.moment }
+    requires most { frame.now.number ≤ 1000000000 }
+    requires moment { frame.now.moment < 2 ^ 32 * 1000000000 }
+    requires size { length frame.now.octets ≤ MOST_FRAME_OCTETS }
+    requires room { output.old.written ≤ most_packets progress }
+    ensures ready { OnOk result (M.IsReady
+        (record { frames = frame.now.number; moment = Some frame.now.moment }) machine.new) }
+    ensures plays { OnOk result (Plays (option_map (λ id. id.number) file)
+        (played M.step (M.state machine.old) (events_of progress.moment frame.now))
+        output.old (D.told desk.old) output.new (D.told desk.new)) }
+    ensures state { OnOk result (M.state machine.new
+        ≡ (played M.step (M.state machine.old) (events_of progress.moment frame.now)).after) }
+    ensures room { OnOk result (output.new.written ≤ most_packets
+        (record { frames = frame.now.number; moment = Some frame.now.moment })) }
+    ensures cause { HasCause (D.faults desk.old) (D.faults desk.new) result }
+{
+    let reached = play_seconds(alloc, desk, machine, file, progress, frame.moment, output)?;
+    machine.take(alloc, reached, frame, output)?;
+    hand_on_full(alloc, desk, file, output)
 }

@@ -17,9 +17,9 @@ loop-output-init g c =
       fault = ap (λ (r : Reading). r.fault) reader;
       id = ap (λ (r : Reading). r.id) reader;
       format = ap (λ (r : Reading). r.format) reader;
-      previous = ap (λ (p : Position). p.greatest) (sym position);
+      moment = ap (λ (p : Position). p.greatest) (sym position);
       frames = ap (λ (p : Position). p.count) (sym position);
-      few = omega (arith, new.written);
+      few = rw new.written (omega arith);
       ready = c.requires.ready;
       going = rw new.written (begins g.M.Machine.step c.args.reader.id (option_map (λ id. id.number) c.args.file) c.args.reader.format (g.M.Machine.state c.args.machine.now) c.args.reader.position c.new-output.result (g.D.Desk.told c.args.desk.now) position new.lines new.records);
       faults = omega arith;
@@ -35,23 +35,22 @@ loop-output-preserved g c =
     let number : c.frame.inside.number ≡ f.number = ap (λ (x : Frame). x.number) c.frame.view_is in
     let moment : c.frame.inside.moment ≡ f.moment = ap (λ (x : Frame). x.moment) c.frame.view_is in
     let position : c.next_frame.new.reader.position ≡ passed c.loop-output.reader.position f = ap (λ (r : Reading). r.position) step.0 in
-    let taken = c.in_ok-take-in-Frame.ensures in
-    let gathers = rw inv.previous at taken.gathers in
-    let state = rw inv.previous at taken.state in
-    let handed = c.in_ok-hand_on_full-in-Frame.ensures in
+    let done = c.in_ok-play_frame-in-Frame.ensures in
+    let plays = rw inv.moment at done.plays in
+    let state = rw inv.moment at done.state in
     let count = step.1.number in
     let going = goes_on g.M.Machine.step c.args.reader.id (option_map (λ id. id.number) c.args.file) c.args.reader.format (g.M.Machine.state c.args.machine.now) c.loop-output.reader.position (g.M.Machine.state c.loop-output.machine)
-    (g.D.Desk.told c.args.desk.now) (g.D.Desk.told c.loop-output.desk) (g.D.Desk.told c.next_frame.new.desk) (g.D.Desk.told c.hand_on_full.new.desk) c.loop-output.output c.take.new.output c.hand_on_full.new.output f inv.going next count (record { moment = step.1.moment; octets = step.1.octets }) told gathers handed.told handed.written in
+    (g.D.Desk.told c.args.desk.now) (g.D.Desk.told c.loop-output.desk) (g.D.Desk.told c.next_frame.new.desk) (g.D.Desk.told c.play_frame.new.desk) c.loop-output.output c.play_frame.new.output f inv.going next count (record { moment = step.1.moment; octets = step.1.octets }) told plays in
     record {
       fault = ap (λ (r : Reading). r.fault) step.0 ∙ inv.fault;
       id = ap (λ (r : Reading). r.id) step.0 ∙ inv.id;
       format = ap (λ (r : Reading). r.format) step.0 ∙ inv.format;
-      previous = ap Some moment ∙ ap (λ (p : Position). p.greatest) (sym position);
+      moment = ap Some moment ∙ ap (λ (p : Position). p.greatest) (sym position);
       frames = number ∙ ap (λ (p : Position). p.count) (sym position);
-      few = omega (arith, inv.few, inv.frames, gathers.written, gathers.few, handed.written, number, count);
-      ready = rw (number, moment) taken.ready;
+      few = rw (number, moment) done.room;
+      ready = rw (number, moment) done.ready;
       going = rw (position, state) going;
-      faults = omega (arith, inv.faults, c.in_ok-frame.ensures.cause.later, handed.cause.later);
+      faults = omega (arith, inv.faults, c.in_ok-frame.ensures.cause.later, done.cause.later);
     }
 
 pub returns-in-End-clause-ends : goal.returns-in-End-clause-ends

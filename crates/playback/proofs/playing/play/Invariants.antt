@@ -1,6 +1,6 @@
-use Rattle.std.proofs.Common.{◌≡◌, ◌≤◌, ◌-◌, ◌*◌, None}
+use Rattle.std.proofs.Common.{◌≡◌, ◌≤◌, ◌-◌, None}
 use Rattle.std.specs.Option.{option_map}
-use Rattle.playback.specs.Playing.{handed_on}
+use Rattle.playback.specs.Playing.{handed_on, most_packets}
 use Rattle.playback.proofs.PlayLemmas.{Ongoing}
 use Rattle.playback.proofs.playing.play.Given as goal
 
@@ -9,10 +9,10 @@ invariant-loop-output g l = record {
   fault : l.reader.fault ≡ None;
   id : l.reader.id ≡ l.fn.reader.id;
   format : l.reader.format ≡ l.fn.reader.format;
-  previous : l.previous ≡ l.reader.position.greatest;
-  frames : l.frames ≡ l.reader.position.count;
-  few : l.output.written ≤ l.frames * 65536;
-  ready : g.M.Machine.IsReady l.frames l.previous l.machine;
+  moment : l.progress.moment ≡ l.reader.position.greatest;
+  frames : l.progress.frames ≡ l.reader.position.count;
+  few : l.output.written ≤ most_packets l.progress;
+  ready : g.M.Machine.IsReady l.progress l.machine;
   going : Ongoing g.M.Machine.step l.fn.reader.id (option_map (λ id. id.number) l.file) l.fn.reader.format (g.M.Machine.state l.fn.machine) l.reader.position (g.M.Machine.state l.machine) l.output.written (g.D.Desk.told l.fn.desk) (handed_on (option_map (λ id. id.number) l.file) l.output (g.D.Desk.told l.desk));
   faults : g.D.Desk.faults l.fn.desk ≤ g.D.Desk.faults l.desk;
 }

@@ -1,0 +1,85 @@
+// The seconds between the frames of a capture, one after another, through a machine.
+ghost use Rattle.std.specs.Prelude.{◌≡◌, ◌<◌, ◌≤◌, ◌+◌, ◌*◌, ◌^◌, Some, IfOk, OnOk, option_map, unwrap_or};
+ghost use Rattle.desk.specs.Causes.{HasCause};
+ghost use Rattle.playback.specs.Events.{played, second_of, ticks, Tick};
+ghost use Rattle.playback.specs.Playing.{most_packets, Plays};
+
+use crate::machine::{Machine, Progress};
+use crate::output::{Output, hand_on_full};
+use desk::{Desk, DeskFault, FileId};
+use std::alloc::Global;
+
+/// Plays the seconds that begin after the last event, up to that of a moment (in nanoseconds) and
+/// with it; none before the first frame. Answers how far the play has come.
+pub(crate) fn play_seconds<D: Desk, M: Machine>(
+    alloc: Global,
+    desk: &mut D,
+    machine: &mut M,
+    file: Option<FileId>,
+    progress: Progress,
+    moment: u64,
+    output: &mut Output,
+) -> Result<Progress, DeskFault>
+    requires ready { M.IsReady progress machine.old }
+    requires later { unwrap_or progress.moment 0 ≤ moment }
+    requires most { progress.frames ≤ 1000000000 }
+    requires moment { moment < 2 ^ 32 * 1000000000 }
+    requires room { output.old.written ≤ most_packets progress }
+    ensures ready { IfOk result (λ reached. M.IsReady reached machine.new) }
+    ensures frames { IfOk result (λ reached. reached.frames ≡ progress.frames) }
+    ensures later { IfOk result (λ reached. unwrap_or reached.moment 0 ≤ moment) }
+    ensures plays { OnOk result (Plays (option_map (λ id. id.number) file)
+        (played M.step (M.state machine.old) (ticks progress.moment moment))
+        output.old (D.told desk.old) output.new (D.told desk.new)) }
+    ensures state { OnOk result (M.state machine.new
+        ≡ (played M.step (M.state machine.old) (ticks progress.moment moment)).after) }
+    ensures room { IfOk result (λ reached. output.new.written ≤ most_packets reached) }
+    ensures cause { HasCause (D.faults desk.old) (D.faults desk.new) result }
+{
+    let Some(from) = progress.moment else {
+        return Ok(progress);
+    };
+    let mut reached = progress;
+    let first = second_of(from) + 1;
+    let end = second_of(moment) + 1;
+    for second in first..end {
+        play_second(alloc, desk, machine, file, reached, second as u32, output)?;
+        reached.moment = Some(second * 1_000_000_000);
+    }
+    Ok(reached)
+}
+
+// Plays a second.
+fn play_second<D: Desk, M: Machine>(
+    alloc: Global,
+    desk: &mut D,
+    machine: &mut M,
+    file: Option<FileId>,
+    progress: Progress,
+    second: u32,
+    output: &mut Output,
+) -> Result<(), DeskFault>
+    requires ready { M.IsReady progress machine.old }
+    requires later { unwrap_or progress.moment 0 < second * 1000000000 }
+    requires most { progress.frames ≤ 1000000000 }
+    requires room { output.old.written < 2 ^ 48 }
+    ensures ready { OnOk result (M.IsReady
+        (record { frames = progress.frames; moment = Some (second * 1000000000) }) machine.new) }
+    ensures plays { OnOk result (Plays (option_map (λ id. id.number) file)
+        (M.step (M.state machine.old) (Tick second))
+        output.old (D.told desk.old) output.new (D.told desk.new)) }
+    ensures state { OnOk result (M.state machine.new
+        ≡ (M.step (M.state machine.old) (Tick second)).after) }
+    ensures few { OnOk result (output.new.written ≤ output.old.written + 2048) }
+    ensures cause { HasCause (D.faults desk.old) (D.faults desk.new) result }
+{
+    machine.tick(alloc, progress, second, output)?;
+    hand_on_full(alloc, desk, file, output)
+}
+
+// The second in which a moment lies.
+fn second_of(moment: u64) -> u64
+    ensures { result ≡ second_of moment }
+{
+    moment / 1_000_000_000
+}
