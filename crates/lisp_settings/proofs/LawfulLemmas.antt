@@ -5,7 +5,7 @@ use Rattle.std.proofs.lemmas.Cmp.{nat_cmp_total}
 use Rattle.std.proofs.lemmas.Result.{IfOk-weaker}
 use Rattle.std.specs.Cmp.{IsTotalOrder}
 use Rattle.std.specs.List.Sorted.{IsStrictlySortedBy}
-use Rattle.toml.specs.Data.{Data, Members, as_integer}
+use Rattle.toml.specs.Data.{Data, Members, as_bool, as_integer}
 use Rattle.ip_headers.specs.declared.addr.Addr.{Addr}
 use Rattle.lisp_settings.specs.Lawful.{IsLawful, IsLawfulAttachment, IsLawfulDatabase, IsLawfulLocator, IsLawfulMapping}
 use Rattle.lisp_settings.specs.Lists.{any_ascending, ascending, nonces_at, one_or_more}
@@ -127,7 +127,7 @@ settings_in-lawful top =
     pass IsLawful (nonces_at (codes "nonces") 4096 top) _ (λ nonces.
     pass IsLawful (resolver_in top) _ (λ resolver.
     step (IsWithin 1 4294967294) IsLawful (optional (codes "ttl") (number 1 4294967294) 1440 top) _ (optional-holds (IsWithin 1 4294967294) (codes "ttl") (number 1 4294967294) 1440 top (omega arith, omega arith) (number-within 1 4294967294)) (λ ttl within.
-    pass IsLawful (optional (codes "probe") off false top) _ (λ probe.
+    pass IsLawful (optional (codes "probe") as_bool false top) _ (λ probe.
     pass IsLawful (optional (codes "echo") off false top) _ (λ echo.
     step AreOwn IsLawful (own_locators top) _ (own_locators-lawful top) (λ locators own.
     step (AreKept (λ attachment. attachment.vlan) nat_cmp IsLawfulAttachment 4096) IsLawful (attachments top) _ (attachments-lawful top) (λ attachments attached.

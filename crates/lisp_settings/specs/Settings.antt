@@ -141,7 +141,7 @@ settings_in top = do
   nonces ← nonces_at (codes "nonces") 4096 top
   resolver ← resolver_in top
   ttl ← optional (codes "ttl") (number 1 4294967294) 1440 top
-  probe ← optional (codes "probe") off false top
+  probe ← optional (codes "probe") as_bool false top
   echo ← optional (codes "echo") off false top
   locators ← own_locators top
   attachments ← attachments top

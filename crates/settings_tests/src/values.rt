@@ -67,7 +67,7 @@ fn each_key_has_its_value(rt: HostRuntime) -> Result<(), Fail> {
         rt.alloc(),
         r#"
 ttl = 4294967294
-probe = false
+probe = true
 echo = false
 locator = [{address = "::1", priority = 255, weight = 0, up = false}]
 attachment = [{vlan = 4095, iid = 16777215}]
@@ -76,6 +76,7 @@ mapping = [{iid = 7, prefix = "10.2.3.4/16", version = 0, action = 7}]
 "#,
     )?;
     assert_eq!(rt; settings.ttl, 4_294_967_294);
+    assert_eq!(rt; (settings.probe, settings.echo), (true, false));
     let own = OwnLocator {
         addr: Addr::V6(1),
         priority: 255,
