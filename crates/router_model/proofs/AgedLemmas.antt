@@ -8,7 +8,7 @@ use Rattle.router_log.specs.declared.entry.Entry.{Entry}
 use Rattle.router_model.specs.Journal.{Journal, IsRising, last_moment, moment_of}
 use Rattle.router_log.specs.Moments.{younger}
 use Rattle.router_model.specs.Kept.{Kind, placed, counting, scanned, last_put, any}
-use Rattle.router_model.specs.Lists.{last_where, later, only_if}
+use Rattle.locator_state.specs.Lists.{last_where, later, only_if}
 use Rattle.router_model.proofs.KeyLemmas.{only_if-narrow}
 use Rattle.router_model.proofs.KeptLemmas.{Keeps, filter-last_put, purge-counting, scanned-counting}
 

@@ -4,6 +4,7 @@ use Rattle.octets.specs.Rules.{first_failing}
 use Rattle.octets.specs.declared.refused.Refused.{Refused}
 use Rattle.ip_headers.specs.Udp.{sum_rules}
 use Rattle.ip_headers.specs.declared.addr.Addr.{Addr}
+use Rattle.mapping_records.specs.Eids.{same_address}
 use Rattle.lisp_settings.specs.declared.settings.Settings.{Settings}
 use Rattle.map_messages.specs.Message.{message_rules}
 use Rattle.map_messages.specs.declared.message.MapReply.{MapReply}
@@ -14,12 +15,12 @@ use Rattle.request_queue.specs.Queue.{with_nonce}
 use Rattle.request_queue.specs.declared.request.Request.{Request}
 use Rattle.router_log.specs.declared.verdict.Done.{Done}
 use Rattle.router_log.specs.declared.verdict.Reason.{Reason}
-use Rattle.router_log.specs.declared.verdict.Reason.TheVariants.{NoReplyPath, NotOurs, NotTunnel, Unexpected, Unfit, Unsolicited}
+use Rattle.router_log.specs.declared.verdict.Reason.TheVariants.{Foreign, NoReplyPath, NotOurs, NotTunnel, Unexpected, Unfit, Unsolicited}
 use Rattle.router_log.specs.declared.verdict.Reason.TheVariants as reason
 use Rattle.router_log.specs.declared.verdict.Verdict.TheVariants.{Drop}
 use Rattle.router_model.specs.Changes.{Change, Ledger, each, seen}
 use Rattle.router_model.specs.Course.{Course, Settled, Data, Control, Leaving, Datagram}
-use Rattle.router_model.specs.Hear.{Asker, Heard, Path, answered, answering, carried, counted, course_heard, datagram_heard, drops, is_fit, message_heard, payload_heard, ranges_of, read_heard, renewed, replied, replied_to, reply_heard, reply_of, reply_path, requested, takes, unless_refused}
+use Rattle.router_model.specs.Hear.{Asker, Heard, Path, Route, answered, answering, carried, counted, course_heard, datagram_heard, drops, is_fit, message_heard, payload_heard, probe_replied, ranges_of, read_heard, renewed, replied, replied_to, reply_heard, reply_of, reply_path, requested, takes, unless_refused}
 use Rattle.router_model.specs.Received.{message_in}
 
 -- where the verdict is a drop, nothing else came
@@ -60,12 +61,16 @@ module _ {S : Type 0} (ledger : Ledger S) (settings : Settings) (m : ℕ) where
   replied_to-still reply None change = dropped Unsolicited change
   replied_to-still reply (Some request) change = chosen (is_fit request.eid reply.mappings) _ _ Unfit change
 
-  reply-still : (reply : MapReply) (change : Change S) → Still (reply_heard ledger settings m reply change) change
+  probe_replied-still : (from : Addr) (reply : MapReply) (o : Option Addr) (change : Change S) → Still (probe_replied ledger settings m from reply o change) change
+  probe_replied-still from reply None change = dropped Unsolicited change
+  probe_replied-still from reply (Some rloc) change = chosen (same_address rloc from) _ _ Foreign change
+
+  reply-still : (from : Addr) (reply : MapReply) (change : Change S) → Still (reply_heard ledger settings m from reply change) change
   unfolding reply_heard
-  reply-still reply change = by reply.probe
+  reply-still from reply change = by reply.probe
     where
-      by : (b : Bool) → Still (cond b (drops Unsolicited change) (replied_to ledger settings m reply (with_nonce (seen ledger settings m change).requests reply.nonce) change)) change
-      by true = dropped Unsolicited change
+      by : (b : Bool) → Still (cond b (probe_replied ledger settings m from reply ((seen ledger settings m change).probe_open reply.nonce) change) (replied_to ledger settings m reply (with_nonce (seen ledger settings m change).requests reply.nonce) change)) change
+      by true = probe_replied-still from reply ((seen ledger settings m change).probe_open reply.nonce) change
       by false = replied_to-still reply (with_nonce (seen ledger settings m change).requests reply.nonce) change
 
   requested-still : (asker : Asker) (request : MapRequest) (change : Change S) → Still (requested ledger settings m asker request change) change
@@ -80,24 +85,24 @@ module _ {S : Type 0} (ledger : Ledger S) (settings : Settings) (m : ℕ) where
   carried-still dest port None change = dropped Unexpected change
   carried-still dest port (Some request) change = requested-still _ request change
 
-  message-still : (dest : Addr) (port : ℕ) (read : Message) (change : Change S) → Still (message_heard ledger settings m dest port read change) change
-  message-still dest port (message.Request request) change = requested-still _ request change
-  message-still dest port (message.Reply reply) change = reply-still reply change
-  message-still dest port (message.Control ecm) change = carried-still dest ecm.source_port ecm.request change
+  message-still : (route : Route) (read : Message) (change : Change S) → Still (message_heard ledger settings m route read change) change
+  message-still route (message.Request request) change = requested-still _ request change
+  message-still route (message.Reply reply) change = reply-still route.from reply change
+  message-still route (message.Control ecm) change = carried-still route.dest ecm.source_port ecm.request change
 
-  read-still : (dest : Addr) (port : ℕ) (read : Option Message) (change : Change S) → Still (read_heard ledger settings m dest port read change) change
-  read-still dest port None change = dropped Unexpected change
-  read-still dest port (Some read) change = message-still dest port read change
+  read-still : (route : Route) (read : Option Message) (change : Change S) → Still (read_heard ledger settings m route read change) change
+  read-still route None change = dropped Unexpected change
+  read-still route (Some read) change = message-still route read change
 
-  payload-still : (dest : Addr) (port base : ℕ) (payload : List ℕ) (change : Change S) → Still (payload_heard ledger settings m dest port base payload change) change
+  payload-still : (route : Route) (base : ℕ) (payload : List ℕ) (change : Change S) → Still (payload_heard ledger settings m route base payload change) change
   unfolding payload_heard
-  payload-still dest port base payload change =
-      refused-still (first_failing (message_rules base payload)) change _ (read-still dest port (message_in payload) change)
+  payload-still route base payload change =
+      refused-still (first_failing (message_rules base payload)) change _ (read-still route (message_in payload) change)
 
   datagram-still : (d : Datagram) (change : Change S) → Still (datagram_heard ledger settings m d change) change
   unfolding datagram_heard
   datagram-still d change =
-      refused-still (first_failing (sum_rules d.packet.base d.packet.header d.packet.octets d.udp false)) change _ (payload-still _ _ _ _ change)
+      refused-still (first_failing (sum_rules d.packet.base d.packet.header d.packet.octets d.udp false)) change _ (payload-still _ _ _ change)
 
   pub course-still : (course : Course) (change : Change S) → Still (course_heard ledger settings m course change) change
   course-still (Settled verdict) change = dropped NotTunnel change

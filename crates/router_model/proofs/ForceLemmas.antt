@@ -8,7 +8,7 @@ use Rattle.router_log.specs.declared.entry.Entry.{Entry}
 use Rattle.router_log.specs.declared.entry.Entry.TheVariants.{Learned}
 use Rattle.mapping_records.specs.Eids.{same_eid}
 use Rattle.router_model.specs.Journal.{Journal}
-use Rattle.router_model.specs.Lists.{only_if}
+use Rattle.locator_state.specs.Lists.{only_if}
 use Rattle.router_model.specs.Lifting.{LiveIsExact}
 use Rattle.router_model.specs.Mappings.{Held, Learning, eids, held, is_live, last_learned, live}
 use Rattle.router_model.proofs.EidLemmas.{same_eid-is}

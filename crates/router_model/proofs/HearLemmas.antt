@@ -5,9 +5,9 @@ use Rattle.std.proofs.lemmas.Bool.Decides.{nat_tests}
 use Rattle.std.proofs.lemmas.List.{length-take}
 use Rattle.octets.specs.Rules.{first_failing}
 use Rattle.octets.specs.declared.refused.Refused.{Refused}
-use Rattle.ip_headers.specs.Ip.{dest_of}
 use Rattle.ip_headers.specs.Udp.{payload_in, sum_rules}
 use Rattle.ip_headers.specs.declared.addr.Addr.{Addr}
+use Rattle.mapping_records.specs.Eids.{same_address}
 use Rattle.mapping_records.specs.declared.eid.Eid.{Eid}
 use Rattle.mapping_records.specs.declared.record.Record.{Record}
 use Rattle.map_messages.specs.Message.{message_rules}
@@ -19,12 +19,13 @@ use Rattle.lisp_settings.specs.declared.settings.Settings.{Settings}
 use Rattle.request_queue.specs.Queue.{with_nonce}
 use Rattle.request_queue.specs.declared.request.Request.{Request}
 use Rattle.router_log.specs.declared.entry.Entry.TheVariants as entry
+use Rattle.router_log.specs.declared.verdict.Done.TheVariants.{ProbeReply}
 use Rattle.router_log.specs.declared.verdict.Reason.{Reason}
 use Rattle.router_log.specs.declared.verdict.Reason.TheVariants as reason
-use Rattle.router_log.specs.declared.verdict.Reason.TheVariants.{NotOurs, NotTunnel, Unexpected, Unfit, Unsolicited}
+use Rattle.router_log.specs.declared.verdict.Reason.TheVariants.{Foreign, NotOurs, NotTunnel, Unexpected, Unfit, Unsolicited}
 use Rattle.router_model.specs.Changes.{Change, each, entered, has_room, journal as of_journal, may_ask, seen}
 use Rattle.router_model.specs.Course.{Course, Control, Datagram, course_of}
-use Rattle.router_model.specs.Hear.{Asker, Heard, Path, Range, answered, answering, asked_again, carried, counted, course_heard, datagram_heard, drops, is_asked_for, is_fit, is_static, payload_heard, ranges_of, read_heard, renewable, renewed, replied, replied_to, reply_heard, reply_of, reply_path, requested, shortened, tallied, taught, unless_refused}
+use Rattle.router_model.specs.Hear.{Asker, Heard, Path, Range, Route, answered, answering, asked_again, carried, counted, course_heard, datagram_heard, drops, is_asked_for, is_fit, is_static, payload_heard, probe_replied, ranges_of, read_heard, renewable, renewed, replied, replied_to, reply_heard, reply_of, reply_path, requested, route_of, shortened, takes, tallied, taught, unless_refused}
 use Rattle.router_model.specs.Journal.{Journal}
 use Rattle.router_model.specs.Lifting.{FramesLift, Goes, Hears, MessagesLift, Ready, entries_in, is_bounded, is_sound_message, requests_in, tabled}
 use Rattle.router_model.specs.Mappings.{Held, force}
@@ -88,17 +89,28 @@ module _ (settings : Settings) (m : ℕ) where
           (goes-each (taught table settings m request.eid reply.mappings) (taught of_journal settings m request.eid reply.mappings) is_bounded (taught-alike request.eid reply.mappings) reply.mappings bounded more t j first)
       by false = drops-alike more Unfit change (fewer-ready _ more change.after (omega arith) ready)
 
-  pub reply_heard-alike : (more : ℕ) (reply : MapReply) (change : Change Journal) → list_all is_bounded reply.mappings ≡ true → Ready settings m (suc (more + length reply.mappings)) change.after → Hears settings m more (reply_heard table settings m reply (tabled change)) (reply_heard of_journal settings m reply change)
+  probe_replied-alike : (more : ℕ) (from : Addr) (reply : MapReply) (o : Option Addr) (change : Change Journal) → Ready settings m (suc more) change.after → (seen of_journal settings m change).probe_open reply.nonce ≡ o → Hears settings m more (probe_replied table settings m from reply o (tabled change)) (probe_replied of_journal settings m from reply o change)
+  probe_replied-alike more from reply None change ready found = drops-alike more Unsolicited change (fewer-ready (suc more) more change.after (omega arith) ready)
+  probe_replied-alike more from reply (Some rloc) change ready found = by (same_address rloc from)
+    where
+      taken : {t : Change Parts} {j : Change Journal} → Goes settings m more t j → Hears settings m more (takes ProbeReply t) (takes ProbeReply j)
+      taken goes = record { same = ap (takes ProbeReply) goes.same; ready = goes.ready }
+
+      by : (b : Bool) → Hears settings m more (cond b (takes ProbeReply (entered table settings m (entry.ProbeAnswered m reply.nonce) (tabled change))) (drops Foreign (tabled change))) (cond b (takes ProbeReply (entered of_journal settings m (entry.ProbeAnswered m reply.nonce) change)) (drops Foreign change))
+      by true = taken (goes-entered settings m more change (entry.ProbeAnswered m reply.nonce) ready refl (ap is_some found) refl)
+      by false = drops-alike more Foreign change (fewer-ready (suc more) more change.after (omega arith) ready)
+
+  pub reply_heard-alike : (more : ℕ) (from : Addr) (reply : MapReply) (change : Change Journal) → list_all is_bounded reply.mappings ≡ true → Ready settings m (suc (more + length reply.mappings)) change.after → Hears settings m more (reply_heard table settings m from reply (tabled change)) (reply_heard of_journal settings m from reply change)
   unfolding reply_heard
-  reply_heard-alike more reply change bounded ready =
-      subst (λ v. Hears settings m more (cond reply.probe (drops Unsolicited (tabled change)) (replied_to table settings m reply (with_nonce v.requests reply.nonce) (tabled change))) (reply_heard of_journal settings m reply change))
+  reply_heard-alike more from reply change bounded ready =
+      subst (λ v. Hears settings m more (cond reply.probe (probe_replied table settings m from reply (v.probe_open reply.nonce) (tabled change)) (replied_to table settings m reply (with_nonce v.requests reply.nonce) (tabled change))) (reply_heard of_journal settings m from reply change))
       (sym (seen-same settings m _ change ready)) (by reply.probe)
     where
       v : View
       v = seen of_journal settings m change
 
-      by : (b : Bool) → Hears settings m more (cond b (drops Unsolicited (tabled change)) (replied_to table settings m reply (with_nonce v.requests reply.nonce) (tabled change))) (cond b (drops Unsolicited change) (replied_to of_journal settings m reply (with_nonce v.requests reply.nonce) change))
-      by true = drops-alike more Unsolicited change (fewer-ready _ more change.after (omega arith) ready)
+      by : (b : Bool) → Hears settings m more (cond b (probe_replied table settings m from reply (v.probe_open reply.nonce) (tabled change)) (replied_to table settings m reply (with_nonce v.requests reply.nonce) (tabled change))) (cond b (probe_replied of_journal settings m from reply (v.probe_open reply.nonce) change) (replied_to of_journal settings m reply (with_nonce v.requests reply.nonce) change))
+      by true = probe_replied-alike more from reply (v.probe_open reply.nonce) change (fewer-ready _ (suc more) change.after (omega arith) ready) refl
       by false = replied_to-alike more reply (with_nonce v.requests reply.nonce) change bounded ready refl
 
   -- ### Map-Requests
@@ -160,9 +172,9 @@ module _ (settings : Settings) (m : ℕ) where
   carried-alike more dest port (Some request) change ready = requested-alike more _ request change ready
 
 pub messages-lift : MessagesLift
-messages-lift settings m more dest port (message.Request request) before sound ready = requested-alike settings m more _ request before ready
-messages-lift settings m more dest port (message.Reply reply) before sound ready = reply_heard-alike settings m more reply before sound (fewer-ready settings m _ _ before.after (omega arith) ready)
-messages-lift settings m more dest port (message.Control ecm) before sound ready = carried-alike settings m more dest ecm.source_port ecm.request before ready
+messages-lift settings m more route (message.Request request) before sound ready = requested-alike settings m more _ request before ready
+messages-lift settings m more route (message.Reply reply) before sound ready = reply_heard-alike settings m more route.from reply before sound (fewer-ready settings m _ _ before.after (omega arith) ready)
+messages-lift settings m more route (message.Control ecm) before sound ready = carried-alike settings m more route.dest ecm.source_port ecm.request before ready
 
 -- ### frames
 
@@ -174,11 +186,11 @@ module _ (settings : Settings) (m more most : ℕ) (change : Change Journal) (re
   refused-alike None t j hears = hears
   refused-alike (Some refused) t j hears = drops-alike settings m more (reason.Refused refused) change enough
 
-  read-alike : (dest : Addr) (port : ℕ) (o : Option Message) → ((read : Message) → o ≡ Some read → (is_sound_message read ≡ true) × (entries_in read ≤ most)) → Hears settings m more (read_heard table settings m dest port o (tabled change)) (read_heard of_journal settings m dest port o change)
-  read-alike dest port None sound = drops-alike settings m more Unexpected change enough
-  read-alike dest port (Some read) sound =
+  read-alike : (route : Route) (o : Option Message) → ((read : Message) → o ≡ Some read → (is_sound_message read ≡ true) × (entries_in read ≤ most)) → Hears settings m more (read_heard table settings m route o (tabled change)) (read_heard of_journal settings m route o change)
+  read-alike route None sound = drops-alike settings m more Unexpected change enough
+  read-alike route (Some read) sound =
       let few = (sound read refl).1 in
-      messages-lift settings m more dest port read change (sound read refl).0
+      messages-lift settings m more route read change (sound read refl).0
       (fewer-ready settings m (more + most) (more + entries_in read) change.after (omega (arith, few)) ready)
 
   course-alike : (c : Course) → ((d : Datagram) (read : Message) → c ≡ Control d → message_in (payload_in d.packet.octets d.udp) ≡ Some read → (is_sound_message read ≡ true) × (entries_in read ≤ most)) → Hears settings m more (course_heard table settings m c (tabled change)) (course_heard of_journal settings m c change)
@@ -186,7 +198,7 @@ module _ (settings : Settings) (m more most : ℕ) (change : Change Journal) (re
   course-alike (Control d) sound =
       refused-alike (first_failing (sum_rules d.packet.base d.packet.header d.packet.octets d.udp false)) _ _
       (refused-alike (first_failing (message_rules (d.packet.base + d.udp.at + 8) (payload_in d.packet.octets d.udp))) _ _
-      (read-alike (dest_of d.packet.header) d.udp.source (message_in (payload_in d.packet.octets d.udp)) (λ read is. sound d read refl is)))
+      (read-alike (route_of d) (message_in (payload_in d.packet.octets d.udp)) (λ read is. sound d read refl is)))
   course-alike _ sound = drops-alike settings m more NotTunnel change enough
 
 pub frames-lift : FramesLift

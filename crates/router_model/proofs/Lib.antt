@@ -23,4 +23,5 @@ pub mod SortedLemmas
 pub mod SoundLemmas
 pub mod StandsLemmas
 pub mod StaticsLemmas
+pub mod TickLemmas
 pub mod ViewLemmas

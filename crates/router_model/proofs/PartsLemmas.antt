@@ -16,9 +16,10 @@ use Rattle.mapping_records.specs.Eids.{same_address, same_eid}
 use Rattle.router_model.specs.Journal.{Journal, IsRising, at, drawn, last_moment, moment_of, uses_nonce}
 use Rattle.router_log.specs.Moments.{younger}
 use Rattle.router_model.specs.Kept.{absorb}
-use Rattle.router_model.specs.Lists.{last_where, only_if}
+use Rattle.locator_state.specs.Lists.{last_where, only_if}
 use Rattle.router_model.specs.Mappings.{live_mappings}
-use Rattle.router_model.specs.Observed.{Observed, answer_or, ask_or_plain, echo_on, echo_up, echo_wanted, is_deaf, is_judged, is_on, is_other, may_solicit, may_start, may_want, observed, observing, probe_counts, probe_kind, probe_up, recent, solicit_counts, solicit_kind, start_counts, start_kind, up_by, wish_counts, wish_kind}
+use Rattle.locator_state.specs.Probes.{is_judged, probe_counts, probe_up, up_by}
+use Rattle.router_model.specs.Observed.{Observed, answer_or, ask_or_plain, echo_on, echo_up, echo_wanted, is_deaf, is_on, is_other, may_solicit, may_start, may_want, observed, observing, probe_kind, recent, solicit_counts, solicit_kind, start_counts, start_kind, wish_counts, wish_kind}
 use Rattle.router_model.specs.Parts.{absorbed, admits, parts_in, view_at, view_in, with_entry}
 use Rattle.router_model.specs.Proper.{fits, is_admitted, suits}
 use Rattle.router_model.specs.Requests.{open_requests, request_kind}

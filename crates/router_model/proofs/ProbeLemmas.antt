@@ -12,8 +12,9 @@ use Rattle.router_log.specs.declared.kept.ProbeState.TheVariants.{Open, Answered
 use Rattle.router_model.specs.Journal.{Journal, IsRising, moment_of}
 use Rattle.router_log.specs.Moments.{younger}
 use Rattle.router_model.specs.Kept.{counting, carried, scanned, any}
-use Rattle.router_model.specs.Lists.{only_if}
-use Rattle.router_model.specs.Observed.{begun_probe, is_answered, is_judged, probe_counts, probe_kind, probe_step, probes, settle, settled, state_after, up_by}
+use Rattle.locator_state.specs.Lists.{only_if}
+use Rattle.locator_state.specs.Probes.{is_answered, is_judged, probe_counts, settle, settled, up_by}
+use Rattle.router_model.specs.Observed.{begun_probe, probe_kind, probe_step, probes, state_after}
 use Rattle.router_model.proofs.AgedLemmas.{Rises, aged-keeps, scanned-rises, young-scanned, younger-wide}
 use Rattle.router_model.proofs.KeptLemmas.{Keeps}
 use Rattle.router_model.proofs.KeyLemmas.{changed-keeps}

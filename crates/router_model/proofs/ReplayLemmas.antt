@@ -16,15 +16,17 @@ use Rattle.router_model.specs.Journal.{Journal, extended, last_moment, statics}
 use Rattle.router_model.specs.Lifting.{AreInOrder, AreOctets, EventsInOrder, FramesInOrder, HasOctets, Ready, TableReplays, event_moment, is_sound, outcome_tabled, router_tabled}
 use Rattle.router_model.specs.Note.{noted}
 use Rattle.router_model.specs.Parts.{Parts, parts_in, table}
-use Rattle.router_model.specs.Plain.{Router, after_data, after_decision, after_event, after_message, plain, started}
+use Rattle.router_model.specs.Plain.{Router, after_data, after_decision, after_event, after_message, after_tick, plain, started}
 use Rattle.router_model.specs.Proper.{IsProper}
 use Rattle.router_model.specs.View.{view}
+use Rattle.router_model.proofs.FollowLemmas.{requests-few}
 use Rattle.router_model.proofs.HearLemmas.{fewer-ready, frames-lift, goes-each}
 use Rattle.router_model.proofs.NoteLemmas.{notes-lift}
 use Rattle.router_model.proofs.NoticeLemmas.{notices-sound}
 use Rattle.router_model.proofs.PartsLemmas.{answers}
 use Rattle.router_model.proofs.SoundLemmas.{frame-sound}
 use Rattle.router_model.proofs.StandsLemmas.{proper-rises, statics-proper}
+use Rattle.router_model.proofs.TickLemmas.{ticks-lift}
 
 -- a table replayed as the journal
 record Replays (settings : Settings) (m more : ℕ) (t : Outcome (Router Parts)) (j : Outcome (Router Journal)) : Type 0 where
@@ -37,6 +39,12 @@ abbrev router_of : Settings → Journal → Router Journal
 router_of settings journal = record { settings = settings; memory = journal }
 
 module _ (settings : Settings) (more : ℕ) (journal : Journal) where
+  tick-replays : (s : ℕ) → Ready settings (seconds s) (more + 2048) journal → Replays settings (seconds s) more (after_event table (router_tabled (router_of settings journal)) (Tick s)) (plain (router_of settings journal) (Tick s))
+  tick-replays s ready =
+      let few = requests-few settings journal (seconds s) ready.proper ready.last in
+      let goes = ticks-lift settings (seconds s) more (unchanged journal) (fewer-ready settings (seconds s) (more + 2048) _ journal (omega (arith, few)) ready) in
+      record { same = ap (after_tick table (router_tabled (router_of settings journal)) (seconds s)) goes.same; settings_stay = refl; ready = goes.ready }
+
   message-replays : (frame : Frame) → AreOctets frame.octets → Ready settings frame.moment (more + 2048) journal → Replays settings frame.moment more (after_message table (router_tabled (router_of settings journal)) frame (hear_by table settings frame.moment frame (unchanged (parts_in journal)))) (after_message of_journal (router_of settings journal) frame (hear_by of_journal settings frame.moment frame (unchanged journal)))
   message-replays frame are ready =
       let hears = frames-lift settings frame.moment more 256 frame (unchanged journal) (frame-sound settings frame are) (fewer-ready settings frame.moment (more + 2048) (more + 256) journal (omega arith) ready) in
@@ -62,7 +70,7 @@ module _ (settings : Settings) (more : ℕ) (journal : Journal) where
       by false = decision-replays frame ready
 
   event-replays : (event : Event) → HasOctets event → Ready settings (event_moment event) (more + 2048) journal → Replays settings (event_moment event) more (after_event table (router_tabled (router_of settings journal)) event) (plain (router_of settings journal) event)
-  event-replays (Tick s) are ready = record { same = refl; settings_stay = refl; ready = fewer-ready settings (seconds s) (more + 2048) more journal (omega arith) ready }
+  event-replays (Tick s) are ready = tick-replays s ready
   event-replays (Arrival frame) are ready = frame-replays frame are ready
 
 -- what is promised of events in order

@@ -10,7 +10,7 @@ use Rattle.request_queue.specs.declared.request.Request.{Request}
 use Rattle.router_model.specs.Journal.{Journal}
 use Rattle.router_log.specs.Moments.{younger}
 use Rattle.router_model.specs.Kept.{placed, counting, last_put}
-use Rattle.router_model.specs.Lists.{only_if}
+use Rattle.locator_state.specs.Lists.{only_if}
 use Rattle.router_model.specs.Requests.{asked_nonces, open_asked, open_requests, request_kind, request_step, unanswered}
 use Rattle.request_queue.specs.Queue.{is_waiting, once_more, with_nonce}
 use Rattle.router_model.proofs.FindLemmas.{IsClass, IsClass-same, find-changed, find-dropped, find-replaced}

@@ -1,10 +1,12 @@
 -- Views that answer alike are equal, so what is decided by one is decided by the other.
-use Rattle.std.specs.Prelude.{◌≡◌, ℕ, false, None, refl}
+use Rattle.std.specs.Prelude.{◌≡◌, ℕ, false, true, None, Some, refl}
 use Rattle.std.proofs.Common.{ap}
+use Rattle.ip_headers.specs.declared.addr.Addr.{Addr}
 use Rattle.capture_io.specs.Frame.{Frame}
+use Rattle.mapping_records.specs.Eids.{same_address}
 use Rattle.lisp_settings.specs.declared.settings.Settings.{Settings}
 use Rattle.map_messages.specs.declared.message.MapReply.{MapReply}
-use Rattle.router_log.specs.declared.verdict.Reason.TheVariants.{Unsolicited}
+use Rattle.router_log.specs.declared.verdict.Reason.TheVariants.{Foreign, Unsolicited}
 use Rattle.router_model.specs.Changes.{Change, Ledger, seen}
 use Rattle.router_model.specs.Decide.{decide_by}
 use Rattle.router_model.specs.Hear.{drops, reply_heard}
@@ -34,6 +36,16 @@ pub decide_by-agrees : (settings : Settings) (v w : View) (frame : Frame) → Ag
 decide_by-agrees settings v w frame a = ap (λ v. decide_by settings v frame) (agrees-equal a)
 
 -- a reply to no open request is dropped, and nothing changes
-pub reply_heard-unsolicited : {S : Type 0} (ledger : Ledger S) (settings : Settings) (m : ℕ) (reply : MapReply) (change : Change S) → reply.probe ≡ false → with_nonce (seen ledger settings m change).requests reply.nonce ≡ None → reply_heard ledger settings m reply change ≡ drops Unsolicited change
+pub reply_heard-unsolicited : {S : Type 0} (ledger : Ledger S) (settings : Settings) (m : ℕ) (from : Addr) (reply : MapReply) (change : Change S) → reply.probe ≡ false → with_nonce (seen ledger settings m change).requests reply.nonce ≡ None → reply_heard ledger settings m from reply change ≡ drops Unsolicited change
 unfolding reply_heard
-reply_heard-unsolicited ledger settings m reply change plain closed = rw (plain, closed) refl
+reply_heard-unsolicited ledger settings m from reply change plain closed = rw (plain, closed) refl
+
+-- so is an answer to no open probe
+pub probe_heard-unsolicited : {S : Type 0} (ledger : Ledger S) (settings : Settings) (m : ℕ) (from : Addr) (reply : MapReply) (change : Change S) → reply.probe ≡ true → (seen ledger settings m change).probe_open reply.nonce ≡ None → reply_heard ledger settings m from reply change ≡ drops Unsolicited change
+unfolding reply_heard
+probe_heard-unsolicited ledger settings m from reply change probe closed = rw (probe, closed) refl
+
+-- and one from another address
+pub probe_heard-foreign : {S : Type 0} (ledger : Ledger S) (settings : Settings) (m : ℕ) (from rloc : Addr) (reply : MapReply) (change : Change S) → reply.probe ≡ true → (seen ledger settings m change).probe_open reply.nonce ≡ Some rloc → same_address rloc from ≡ false → reply_heard ledger settings m from reply change ≡ drops Foreign change
+unfolding reply_heard
+probe_heard-foreign ledger settings m from rloc reply change probe found other = rw (probe, found, other) refl

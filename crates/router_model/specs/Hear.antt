@@ -4,7 +4,7 @@ use Rattle.std.specs.List.{list_any}
 use Rattle.octets.specs.Rules.{first_failing}
 use Rattle.octets.specs.declared.refused.Refused.{Refused}
 use Rattle.ip_headers.specs.Addr.{width}
-use Rattle.ip_headers.specs.Ip.{dest_of}
+use Rattle.ip_headers.specs.Ip.{dest_of, source_of}
 use Rattle.ip_headers.specs.Udp.{payload_in, sum_rules}
 use Rattle.ip_headers.specs.declared.addr.Addr.{Addr}
 use Rattle.capture_io.specs.Frame.{Frame}
@@ -23,10 +23,10 @@ use Rattle.lisp_settings.specs.declared.settings.Settings.{Settings}
 use Rattle.router_log.specs.declared.emit.Emit.TheVariants as emit
 use Rattle.router_log.specs.declared.entry.Entry.TheVariants as entry
 use Rattle.router_log.specs.declared.verdict.Done.{Done}
-use Rattle.router_log.specs.declared.verdict.Done.TheVariants.{Answered, Learned, Solicited}
+use Rattle.router_log.specs.declared.verdict.Done.TheVariants.{Answered, Learned, ProbeReply, Solicited}
 use Rattle.router_log.specs.declared.verdict.Reason.{Reason}
 use Rattle.router_log.specs.declared.verdict.Reason.TheVariants as reason
-use Rattle.router_log.specs.declared.verdict.Reason.TheVariants.{NoReplyPath, NotOurs, NotTunnel, Unsolicited, Unfit, Unexpected}
+use Rattle.router_log.specs.declared.verdict.Reason.TheVariants.{Foreign, NoReplyPath, NotOurs, NotTunnel, Unsolicited, Unfit, Unexpected}
 use Rattle.router_log.specs.declared.verdict.Verdict.{Verdict}
 use Rattle.router_log.specs.declared.verdict.Verdict.TheVariants as outcome
 use Rattle.router_log.specs.declared.verdict.Verdict.TheVariants.{Drop}
@@ -39,6 +39,16 @@ use Rattle.router_model.specs.Mappings.{Held, force}
 use Rattle.router_model.specs.Received.{message_in}
 use Rattle.router_model.specs.Site.{database_of, ours}
 use Rattle.router_model.specs.View.{View}
+
+-- how a message came: from an address and a port, to one of our addresses
+pub record Route : Type 0 where
+  pub from : Addr
+  pub dest : Addr
+  pub port : ℕ
+
+-- how the message of a datagram came
+abbrev pub route_of : Datagram → Route
+route_of d = record { from = source_of d.packet.header; dest = dest_of d.packet.header; port = d.udp.source }
 
 -- a verdict, and what changed
 pub record Heard (S : Type 0) : Type 0 where
@@ -224,10 +234,17 @@ module _ {S : Type 0} (ledger : Ledger S) (settings : Settings) (m : ℕ) where
       (each (taught request.eid reply.mappings) reply.mappings (entered ledger settings m (entry.Answered m reply.nonce) change))
       else drops Unfit change
 
-  -- a Map-Reply (not built: answers to probes)
-  unfoldable pub reply_heard : MapReply → Change S → Heard S
-  reply_heard reply change =
-      if reply.probe then drops Unsolicited change
+  -- the answer to the probe that is open, if one is, from an address: it counts from the locator that was probed
+  abbrev pub probe_replied : Addr → MapReply → Option Addr → Change S → Heard S
+  probe_replied from reply None change = drops Unsolicited change
+  probe_replied from reply (Some rloc) change =
+      if same_address rloc from then takes ProbeReply (entered ledger settings m (entry.ProbeAnswered m reply.nonce) change)
+      else drops Foreign change
+
+  -- a Map-Reply from an address
+  unfoldable pub reply_heard : Addr → MapReply → Change S → Heard S
+  reply_heard from reply change =
+      if reply.probe then probe_replied from reply ((seen ledger settings m change).probe_open reply.nonce) change
       else replied_to reply (with_nonce (seen ledger settings m change).requests reply.nonce) change
 
   -- what is encapsulated: only a Map-Request is heard, with the port inside, and as no probe
@@ -235,33 +252,33 @@ module _ {S : Type 0} (ledger : Ledger S) (settings : Settings) (m : ℕ) where
   carried dest port None change = drops Unexpected change
   carried dest port (Some request) change = requested (record { dest = dest; port = port; probe = false }) request change
 
-  -- a message to one of our addresses, from a port
-  abbrev pub message_heard : Addr → ℕ → Message → Change S → Heard S
-  message_heard dest port (message.Request request) change =
-      requested (record { dest = dest; port = port; probe = request.probe }) request change
-  message_heard dest port (message.Reply reply) change = reply_heard reply change
-  message_heard dest port (message.Control ecm) change = carried dest ecm.source_port ecm.request change
+  -- a message from an address and a port to one of our addresses
+  abbrev pub message_heard : Route → Message → Change S → Heard S
+  message_heard route (message.Request request) change =
+      requested (record { dest = route.dest; port = route.port; probe = request.probe }) request change
+  message_heard route (message.Reply reply) change = reply_heard route.from reply change
+  message_heard route (message.Control ecm) change = carried route.dest ecm.source_port ecm.request change
 
   -- what was read of octets, which have a message where they keep the rules
-  abbrev pub read_heard : Addr → ℕ → Option Message → Change S → Heard S
-  read_heard dest port None change = drops Unexpected change
-  read_heard dest port (Some read) change = message_heard dest port read change
+  abbrev pub read_heard : Route → Option Message → Change S → Heard S
+  read_heard route None change = drops Unexpected change
+  read_heard route (Some read) change = message_heard route read change
 
   -- the drop of a refusal, or else what follows
   abbrev pub unless_refused : Option Refused → Change S → Heard S → Heard S
   unless_refused None change others = others
   unless_refused (Some refused) change others = drops (reason.Refused refused) change
 
-  -- octets from a place on, to one of our addresses and from a port
-  unfoldable pub payload_heard : Addr → ℕ → ℕ → List ℕ → Change S → Heard S
-  payload_heard dest port base payload change =
-      unless_refused (first_failing (message_rules base payload)) change (read_heard dest port (message_in payload) change)
+  -- octets from a place on
+  unfoldable pub payload_heard : Route → ℕ → List ℕ → Change S → Heard S
+  payload_heard route base payload change =
+      unless_refused (first_failing (message_rules base payload)) change (read_heard route (message_in payload) change)
 
   -- a datagram, whose checksum is there and right
   unfoldable pub datagram_heard : Datagram → Change S → Heard S
   datagram_heard d change =
       unless_refused (first_failing (sum_rules d.packet.base d.packet.header d.packet.octets d.udp false)) change
-      (payload_heard (dest_of d.packet.header) d.udp.source (d.packet.base + d.udp.at + 8) (payload_in d.packet.octets d.udp) change)
+      (payload_heard (route_of d) (d.packet.base + d.udp.at + 8) (payload_in d.packet.octets d.udp) change)
 
   -- a control message; no other frame is heard
   abbrev pub course_heard : Course → Change S → Heard S

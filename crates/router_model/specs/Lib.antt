@@ -9,7 +9,6 @@ pub mod Hosts
 pub mod Journal
 pub mod Kept
 pub mod Lifting
-pub mod Lists
 pub mod Mappings
 pub mod Note
 pub mod Observed
@@ -19,4 +18,5 @@ pub mod Proper
 pub mod Received
 pub mod Requests
 pub mod Site
+pub mod Tick
 pub mod View

@@ -2,7 +2,6 @@
 use Rattle.std.specs.Prelude.{◌≡◌, ℕ, suc, ◌+◌, ◌*◌, ◌^◌, ◌<◌, ◌≤◌, ◌==◌, ◌||◌, ◌&&◌, nat_le, Bool, true, List, [], ◌∷◌, ◌++◌, length, Option, Some, None, option_map, if◌then◌else◌}
 use Rattle.std.specs.List.{All, list_all}
 use Rattle.ip_headers.specs.Udp.{payload_in}
-use Rattle.ip_headers.specs.declared.addr.Addr.{Addr}
 use Rattle.capture_io.specs.Frame.{Frame}
 use Rattle.capture_io.specs.Capture.{begin}
 use Rattle.capture_io.specs.Frames.{read_on}
@@ -24,7 +23,7 @@ use Rattle.router_model.specs.Cache.{known_since, told_since}
 use Rattle.router_model.specs.Changes.{Change, journal as of_journal, unchanged}
 use Rattle.router_model.specs.Course.{Control, Datagram, course_of}
 use Rattle.router_model.specs.Decide.{decide, decide_by}
-use Rattle.router_model.specs.Hear.{Heard, hear, hear_by, message_heard, ranges_of}
+use Rattle.router_model.specs.Hear.{Heard, Route, hear, hear_by, message_heard, ranges_of}
 use Rattle.router_model.specs.Journal.{Journal, IsRising, last_moment, moment_of, statics}
 use Rattle.router_model.specs.Mappings.{bit, bit_told, exact, held, live, live_mappings}
 use Rattle.router_model.specs.Note.{note, noted}
@@ -32,6 +31,7 @@ use Rattle.router_model.specs.Parts.{Parts, Stands, absorbed, admits, parts_in, 
 use Rattle.router_model.specs.Plain.{Router, after_event, plain, started}
 use Rattle.router_model.specs.Proper.{EachFits, IsProper, fits, is_admitted}
 use Rattle.router_model.specs.Received.{message_in}
+use Rattle.router_model.specs.Tick.{tick, ticked}
 use Rattle.router_model.specs.View.{View, view}
 
 -- at each moment the parts of a journal are seen as the journal, where its moments don't fall
@@ -101,6 +101,11 @@ is_sound _ = true
 abbrev pub NotesLift : Type 0
 NotesLift = (settings : Settings) (m more : ℕ) (notice : Notice) (before : Change Journal) → is_sound notice ≡ true → Ready settings m (suc more) before.after → Goes settings m more (noted table settings m notice (tabled before)) (noted of_journal settings m notice before)
 
+-- a second is for a table what it is for the journal: the same entries, which fit, and the same emits; at most as many
+-- as requests are open, and 16
+abbrev pub TicksLift : Type 0
+TicksLift = (settings : Settings) (m more : ℕ) (before : Change Journal) → Ready settings m (more + 16 + length (view before.after m).requests) before.after → Goes settings m more (ticked table settings m (tabled before)) (ticked of_journal settings m before)
+
 -- a table answered a message as the journal
 pub record Hears (settings : Settings) (m more : ℕ) (by_table : Heard Parts) (by_journal : Heard Journal) : Type 0 where
   pub same : by_table ≡ heard_tabled by_journal
@@ -128,7 +133,7 @@ entries_in (message.Control ecm) = requests_in ecm.request
 
 -- a message is heard by a table as by the journal: the same verdict, the same entries, which fit, and the same emits
 abbrev pub MessagesLift : Type 0
-MessagesLift = (settings : Settings) (m more : ℕ) (dest : Addr) (port : ℕ) (read : Message) (before : Change Journal) → is_sound_message read ≡ true → Ready settings m (more + entries_in read) before.after → Hears settings m more (message_heard table settings m dest port read (tabled before)) (message_heard of_journal settings m dest port read before)
+MessagesLift = (settings : Settings) (m more : ℕ) (route : Route) (read : Message) (before : Change Journal) → is_sound_message read ≡ true → Ready settings m (more + entries_in read) before.after → Hears settings m more (message_heard table settings m route read (tabled before)) (message_heard of_journal settings m route read before)
 
 -- octets
 abbrev pub AreOctets : List ℕ → Type 0
@@ -159,6 +164,9 @@ TableDecides = (settings : Settings) (parts : Parts) (journal : Journal) (m : �
 
 abbrev pub TableNotes : Type 0
 TableNotes = (settings : Settings) (parts : Parts) (journal : Journal) (m : ℕ) (notice : Notice) → Stands settings parts journal → MayGo journal m → is_sound notice ≡ true → Follows settings (noted table settings m notice (unchanged parts)) (note settings journal m notice)
+
+abbrev pub TableTicks : Type 0
+TableTicks = (settings : Settings) (parts : Parts) (journal : Journal) (second : ℕ) → Stands settings parts journal → MayGo journal (seconds second) → Follows settings (ticked table settings (seconds second) (unchanged parts)) (tick settings journal second)
 
 abbrev pub TableHears : Type 0
 TableHears = (settings : Settings) (parts : Parts) (journal : Journal) (m : ℕ) (frame : Frame) → Stands settings parts journal → MayGo journal m → AreOctets frame.octets → let by_table = hear_by table settings m frame (unchanged parts) in let by_journal = hear settings journal m frame in (by_table.verdict ≡ by_journal.verdict) × Follows settings by_table.change by_journal.change

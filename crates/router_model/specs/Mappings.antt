@@ -9,7 +9,7 @@ use Rattle.router_log.specs.declared.entry.Entry.TheVariants.{Learned, Bits}
 use Rattle.mapping_records.specs.Eids.{exactly, longest, same_eid}
 use Rattle.router_model.specs.Journal.{Journal}
 use Rattle.map_cache.specs.Cache.{lifetime}
-use Rattle.router_model.specs.Lists.{only_if}
+use Rattle.locator_state.specs.Lists.{only_if}
 
 -- what was learnt, and when; `fixed` for a static mapping
 pub record Learning : Type 0 where

@@ -1,5 +1,5 @@
--- What the journal says of locators: probes, echoed nonces (RFC 9300, section 10.1) and solicitations.
-use Rattle.std.specs.Prelude.{ℕ, ◌==◌, ◌||◌, ◌&&◌, nat_lt, not, Bool, true, false, List, [], ◌∷◌, ◌++◌, count_by, filter, Option, Some, None, is_none, is_some, option_map, if◌then◌else◌}
+-- What the journal says of locators: probes (RFC 9301, section 7.1), echoed nonces (RFC 9300, section 10.1), solicitations.
+use Rattle.std.specs.Prelude.{ℕ, ◌==◌, ◌&&◌, nat_lt, not, Bool, true, false, List, [], ◌∷◌, ◌++◌, count_by, filter, Option, Some, None, is_none, is_some, option_map, if◌then◌else◌}
 use Rattle.std.specs.List.{list_any}
 use Rattle.ip_headers.specs.declared.addr.Addr.{Addr}
 use Rattle.mapping_records.specs.declared.eid.Eid.{Eid}
@@ -14,10 +14,11 @@ use Rattle.router_log.specs.declared.kept.ProbeState.{ProbeState}
 use Rattle.router_log.specs.declared.kept.ProbeState.TheVariants.{Open, Answered, Lost}
 use Rattle.router_log.specs.declared.kept.Solicitation.{Solicitation}
 use Rattle.mapping_records.specs.Eids.{same_address, same_eid}
+use Rattle.locator_state.specs.Lists.{last_where, only_if}
+use Rattle.locator_state.specs.Probes.{probe_counts, settle}
 use Rattle.router_model.specs.Journal.{Journal}
 use Rattle.router_log.specs.Moments.{younger}
 use Rattle.router_model.specs.Kept.{Kind, absorb, last_put}
-use Rattle.router_model.specs.Lists.{last_where, only_if}
 
 -- the four lists, in each the oldest first
 pub record Observed : Type 0 where
@@ -80,10 +81,6 @@ observed journal = record {
   solicits = solicits journal;
 }
 
--- a probe counts for 600 seconds
-abbrev pub probe_counts : ℕ → Probe → Bool
-probe_counts now probe = younger now 600 probe.moment
-
 -- an echo that is asked for, for 60
 abbrev pub start_counts : ℕ → EchoStart → Bool
 start_counts now start = younger now 60 start.moment
@@ -104,41 +101,6 @@ recent now o = record {
   wishes = filter (wish_counts now) o.wishes;
   solicits = filter (solicit_counts now) o.solicits;
 }
-
--- ### probes
-
--- a probe that is answered
-abbrev pub is_answered : Probe → Bool
-is_answered probe = elim probe.state [ Open ↦ false | Answered ↦ true | Lost ↦ false ]
-
--- a probe that is answered, or that has waited for 3 seconds (this router's choice)
-abbrev pub is_judged : ℕ → Probe → Bool
-is_judged now probe = is_answered probe || not (younger now 3 probe.moment)
-
--- without such a probe the locator is up, and by one that is answered or 600 seconds old
-abbrev pub up_by : ℕ → Option Probe → Bool
-up_by now None = true
-up_by now (Some probe) = is_answered probe || not (younger now 600 probe.moment)
-
--- no probe speaks against the locator: the last one that is judged
-abbrev pub probe_up : ℕ → List Probe → Addr → Bool
-probe_up now probes rloc = up_by now (last_where (λ probe. same_address probe.rloc rloc && is_judged now probe) probes)
-
--- the locator of the open probe with that nonce: the last one, if it isn't judged
-abbrev pub probe_open : ℕ → List Probe → ℕ → Option Addr
-probe_open now probes nonce =
-    option_map (λ probe. probe.rloc)
-    (only_if (λ probe. not (is_judged now probe)) (last_where (λ probe. probe.nonce == nonce) probes))
-
--- the moment of the locator's last probe, if that is younger than 600 seconds
-abbrev pub last_probe : ℕ → List Probe → Addr → Option ℕ
-last_probe now probes rloc =
-    option_map (λ probe. probe.moment)
-    (only_if (λ probe. younger now 600 probe.moment) (last_where (λ probe. same_address probe.rloc rloc) probes))
-
--- how many probes are younger than 600 seconds
-abbrev pub probe_count : ℕ → List Probe → ℕ
-probe_count now probes = count_by (λ probe. younger now 600 probe.moment) probes
 
 -- ### echoed nonces
 
@@ -213,15 +175,6 @@ echo_out now o rloc = answer_or (ask_or_plain (echo_on now o.starts rloc)) (echo
 abbrev pub begun_probe : Entry → Option Probe
 begun_probe (Probed moment rloc nonce) = Some (record { moment = moment; rloc = rloc; nonce = nonce; state = Open })
 begun_probe _ = None
-
--- what becomes of an open probe
-abbrev pub settled : ProbeState → ProbeState → ProbeState
-settled state Open = state
-settled state Answered = Answered
-settled state Lost = Lost
-
-abbrev pub settle : ProbeState → Probe → Probe
-settle state probe = record probe { state = settled state probe.state }
 
 -- what becomes of a probe when an entry comes
 abbrev pub probe_step : Entry → Probe → Option Probe

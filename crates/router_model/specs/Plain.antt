@@ -3,8 +3,9 @@ use Rattle.std.specs.Prelude.{ℕ, ◌≤◌, List, [], ◌∷◌, ◌++◌, len
 use Rattle.capture_io.specs.Frame.{Frame}
 use Rattle.capture_io.specs.declared.frame.TheConstants.{MOST_FRAME_OCTETS}
 use Rattle.lisp_settings.specs.declared.settings.Settings.{Settings}
-use Rattle.playback.specs.Events.{Event, Outcome, Packet, Tick, Arrival, idle}
+use Rattle.playback.specs.Events.{Event, Outcome, Packet, Tick, Arrival}
 use Rattle.router_log.specs.Lines.{frame_line}
+use Rattle.router_log.specs.Moments.{seconds}
 use Rattle.router_log.specs.declared.decision.Decision.{Decision}
 use Rattle.router_log.specs.declared.emit.Emit.{Emit}
 use Rattle.router_log.specs.declared.verdict.Verdict.{Verdict}
@@ -17,6 +18,7 @@ use Rattle.router_model.specs.Emits.{emit_packet}
 use Rattle.router_model.specs.Hear.{Heard, hear_by}
 use Rattle.router_model.specs.Journal.{Journal, statics}
 use Rattle.router_model.specs.Note.{noted}
+use Rattle.router_model.specs.Tick.{ticked}
 
 -- a router between two events: its settings, and what it remembers
 pub record Router (S : Type 0) : Type 0 where
@@ -68,9 +70,18 @@ module _ {S : Type 0} (ledger : Ledger S) where
       after_data router frame decision.verdict
       (each (noted ledger router.settings frame.moment) decision.notices (unchanged router.memory))
 
-  -- what a router does at an event (not built: requests sent again, probes)
+  -- a second has no line; its packets have its moment
+  abbrev pub after_tick : Router S → ℕ → Change S → Outcome (Router S)
+  after_tick router moment change = record {
+    lines = [];
+    packets = emit_packets router.settings moment change.emits;
+    after = record router { memory = change.after };
+  }
+
+  -- what a router does at an event
   abbrev pub after_event : Router S → Event → Outcome (Router S)
-  after_event router (Tick second) = idle router
+  after_event router (Tick second) =
+      after_tick router (seconds second) (ticked ledger router.settings (seconds second) (unchanged router.memory))
   after_event router (Arrival frame) =
       if control router.settings frame
       then after_message router frame (hear_by ledger router.settings frame.moment frame (unchanged router.memory))

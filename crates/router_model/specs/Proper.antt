@@ -1,26 +1,35 @@
 -- Journals that a router can have.
-use Rattle.std.specs.Prelude.{◌≡◌, ℕ, ◌%◌, ◌^◌, ◌==◌, ◌||◌, ◌&&◌, nat_le, nat_lt, not, Bool, false, true, IsTrue, List, [], ◌∷◌, ◌++◌, length, is_some}
+use Rattle.std.specs.Prelude.{◌≡◌, ℕ, ◌%◌, ◌^◌, ◌==◌, ◌||◌, ◌&&◌, nat_le, nat_lt, not, Bool, false, true, IsTrue, List, [], ◌∷◌, ◌++◌, length, Option, Some, None, is_some}
 use Rattle.mapping_records.specs.declared.record.Record.{Record}
 use Rattle.lisp_settings.specs.Nonces.{nonce_of}
 use Rattle.lisp_settings.specs.declared.settings.Settings.{Settings}
 use Rattle.router_log.specs.declared.entry.Entry.{Entry}
-use Rattle.router_log.specs.declared.entry.Entry.TheVariants.{Learned, Asked, Answered, Bits, Probed, EchoStarted, Solicited}
+use Rattle.router_log.specs.declared.entry.Entry.TheVariants.{Learned, Asked, Retried, Answered, Bits, Probed, ProbeAnswered, EchoStarted, Solicited}
 use Rattle.router_model.specs.Changes.{has_room}
 use Rattle.router_model.specs.Journal.{Journal, drawn, last_moment, moment_of, statics}
 use Rattle.router_model.specs.Mappings.{exact}
 use Rattle.request_queue.specs.Queue.{with_nonce}
+use Rattle.request_queue.specs.declared.request.Request.{Request}
 use Rattle.router_model.specs.View.{View, view}
 
 -- action and version of a record have their bits, and its locators are at most 32
 abbrev pub is_in_range : Record → Bool
 is_in_range mapping = nat_le mapping.action 7 && (nat_le mapping.version 4095 && nat_le (length mapping.locators) 32)
 
+-- an open request was sent again less than twice
+abbrev pub may_retry : Option Request → Bool
+may_retry None = false
+may_retry (Some request) = nat_lt request.sent_again 2
+
 -- the entry may follow what is seen at its moment (not built: other kinds)
 abbrev pub suits : View → Entry → Bool
 suits v (Learned moment mapping fixed) = not fixed && (is_in_range mapping && has_room v mapping)
 suits v (Asked moment eid source invoked nonce) = nat_lt (length v.requests) 1024
+suits v (Retried moment nonce) = may_retry (with_nonce v.requests nonce)
 suits v (Answered moment nonce) = is_some (with_nonce v.requests nonce)
 suits v (Bits moment eid bits width) = is_some (exact v.mappings eid) && ((width == 8) || (width == 32))
+suits v (Probed moment rloc nonce) = nat_lt v.probe_count 9600
+suits v (ProbeAnswered moment nonce) = is_some (v.probe_open nonce)
 suits v _ = false
 
 -- the entry may follow so many entries, of which the last has that moment, seen so at its own; its nonce apart

@@ -6,7 +6,7 @@ use Rattle.request_queue.specs.declared.request.Request.{Request}
 use Rattle.router_model.specs.Journal.{Journal}
 use Rattle.request_queue.specs.Queue.{is_waiting, once_more}
 use Rattle.router_model.specs.Kept.{Kind, last_put}
-use Rattle.router_model.specs.Lists.{only_if}
+use Rattle.locator_state.specs.Lists.{only_if}
 
 -- the last request with that nonce, if no answer follows, with how often it was sent again
 abbrev pub unanswered : ℕ → Journal → Option Request

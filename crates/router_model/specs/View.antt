@@ -6,7 +6,8 @@ use Rattle.router_log.specs.declared.kept.EchoOut.{EchoOut}
 use Rattle.request_queue.specs.declared.request.Request.{Request}
 use Rattle.router_model.specs.Journal.{Journal, at, drawn}
 use Rattle.router_model.specs.Mappings.{Held, live_mappings}
-use Rattle.router_model.specs.Observed.{Observed, data_due, echo_on, echo_out, echo_up, last_probe, may_solicit, may_start, may_want, observed, probe_count, probe_open, probe_up}
+use Rattle.locator_state.specs.Probes.{last_probe, probe_count, probe_open, probe_up}
+use Rattle.router_model.specs.Observed.{Observed, data_due, echo_on, echo_out, echo_up, may_solicit, may_start, may_want, observed}
 use Rattle.router_model.specs.Requests.{open_requests}
 
 -- all that decisions and entries are judged by

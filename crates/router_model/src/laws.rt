@@ -1,19 +1,21 @@
 // Laws of the definitions. Each function only states its law.
-ghost use Rattle.std.specs.Prelude.{◌≡◌, ℕ, List, false, length, None, Some};
+ghost use Rattle.std.specs.Prelude.{◌≡◌, ℕ, List, false, true, length, None, Some};
+ghost use Rattle.ip_headers.specs.declared.addr.Addr.{Addr};
 ghost use Rattle.capture_io.specs.Frame.{Frame};
+ghost use Rattle.mapping_records.specs.Eids.{same_address};
 ghost use Rattle.lisp_settings.specs.declared.settings.Settings.{Settings};
 ghost use Rattle.map_messages.specs.Message.{IsMessageAt};
 ghost use Rattle.map_messages.specs.declared.message.MapReply.{MapReply};
 ghost use Rattle.map_messages.specs.declared.message.Message.{Message};
 ghost use Rattle.request_queue.specs.Queue.{with_nonce};
 ghost use Rattle.router_log.specs.declared.verdict.Reason.{Reason};
-ghost use Rattle.router_log.specs.declared.verdict.Reason.TheVariants.{Unsolicited};
+ghost use Rattle.router_log.specs.declared.verdict.Reason.TheVariants.{Foreign, Unsolicited};
 ghost use Rattle.router_log.specs.declared.verdict.Verdict.TheVariants.{Drop};
 ghost use Rattle.router_model.specs.Changes.{journal as of_journal, unchanged};
 ghost use Rattle.router_model.specs.Decide.{decide_by};
 ghost use Rattle.router_model.specs.Hear.{drops, hear, reply_heard};
 ghost use Rattle.router_model.specs.Journal.{Journal, statics};
-ghost use Rattle.router_model.specs.Lifting.{AllAbsorbed, BitsKept, EntryAbsorbed, EventsInOrder, LiveIsExact, NoticesSound, PartsAnswer, ProperRises, ReadFits, ReadInOrder, RunReplays, StandingAbsorbs, StandingAdmits, StandingSees, StaticsStand, TableDecides, TableHears, TableNotes, TableReplays};
+ghost use Rattle.router_model.specs.Lifting.{AllAbsorbed, BitsKept, EntryAbsorbed, EventsInOrder, LiveIsExact, NoticesSound, PartsAnswer, ProperRises, ReadFits, ReadInOrder, RunReplays, StandingAbsorbs, StandingAdmits, StandingSees, StaticsStand, TableDecides, TableHears, TableNotes, TableReplays, TableTicks};
 ghost use Rattle.router_model.specs.Received.{message_in};
 ghost use Rattle.router_model.specs.View.{Agrees, View, view};
 
@@ -31,10 +33,24 @@ pub fn views_that_agree_decide_alike()
 
 /// A Map-Reply to no open request is dropped, and changes nothing.
 pub fn closed_requests_hear_nothing()
-    ensures { (settings : Settings) (before : Journal) (m : ℕ) (reply : MapReply)
+    ensures { (settings : Settings) (before : Journal) (m : ℕ) (from : Addr) (reply : MapReply)
         → reply.probe ≡ false → with_nonce (view before m).requests reply.nonce ≡ None
-        → reply_heard of_journal settings m reply (unchanged before)
+        → reply_heard of_journal settings m from reply (unchanged before)
         ≡ drops Unsolicited (unchanged before) }
+{}
+
+/// An answer to no open probe is dropped, and changes nothing. So is one from another address than
+/// that of the locator that was probed.
+pub fn closed_probes_hear_nothing()
+    ensures closed { (settings : Settings) (before : Journal) (m : ℕ) (from : Addr)
+        (reply : MapReply) → reply.probe ≡ true → (view before m).probe_open reply.nonce ≡ None
+        → reply_heard of_journal settings m from reply (unchanged before)
+        ≡ drops Unsolicited (unchanged before) }
+    ensures foreign { (settings : Settings) (before : Journal) (m : ℕ) (from rloc : Addr)
+        (reply : MapReply) → reply.probe ≡ true
+        → (view before m).probe_open reply.nonce ≡ Some rloc → same_address rloc from ≡ false
+        → reply_heard of_journal settings m from reply (unchanged before)
+        ≡ drops Foreign (unchanged before) }
 {}
 
 /// A message that is dropped, for whatever reason, changes nothing.
@@ -76,12 +92,13 @@ pub fn what_stands_goes_on()
     ensures absorbs { StandingAbsorbs }
 {}
 
-/// What a table decides, notes and hears is what the journal says, for each journal for which it
+/// What a table decides, notes, hears and does each second is what the journal says, for each journal for which it
 /// stands; and then it stands for that journal with the entries.
 pub fn tables_go_as_journals()
     ensures decides { TableDecides }
     ensures notes { TableNotes }
     ensures hears { TableHears }
+    ensures ticks { TableTicks }
 {}
 
 /// A decision gives at most one notice, and sound ones alone.
