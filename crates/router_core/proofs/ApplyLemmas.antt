@@ -1,5 +1,6 @@
 -- What is known of an entry that may follow.
-use Rattle.std.proofs.Common.{◌≡◌, ◌∙◌, ◌≤◌, ◌<◌, ◌^◌, ◌==◌, ◌||◌, ◌&&◌, ℕ, Bool, true, false, nat_lt, nat_le, ◌∷◌, length, Option, is_some, IsTrue, sym, ap, subst, refl, arith}
+use Rattle.std.proofs.Common.{◌≡◌, ◌∙◌, ◌≤◌, ◌<◌, ◌^◌, ◌==◌, ◌||◌, ◌&&◌, ℕ, Bool, true, false, nat_lt, nat_le, ◌∷◌, length, List, Option, Some, None, is_some, IsTrue, sym, ap, subst, refl, arith}
+use Rattle.std.specs.Option.{option_map_or}
 use Rattle.std.proofs.lemmas.Bool.{eqb-true}
 use Rattle.std.proofs.lemmas.Bool.Decides.{nat_tests}
 use Rattle.ip_headers.specs.declared.addr.Addr.{Addr}
@@ -8,15 +9,16 @@ use Rattle.map_cache.specs.Cache as cache
 use Rattle.map_cache.specs.Cache.{lasting}
 use Rattle.mapping_records.specs.declared.eid.Eid.{Eid}
 use Rattle.mapping_records.specs.declared.record.Record.{Record}
-use Rattle.request_queue.specs.Queue.{waiting}
+use Rattle.request_queue.specs.Queue.{may_send_again, waiting, with_nonce}
+use Rattle.request_queue.specs.declared.request.Request.{Request}
 use Rattle.router_log.specs.declared.entry.Entry.{Entry}
-use Rattle.router_log.specs.declared.entry.Entry.TheVariants.{Learned, Asked, Bits}
+use Rattle.router_log.specs.declared.entry.Entry.TheVariants.{Learned, Asked, Bits, Retried}
 use Rattle.router_model.specs.Journal.{Journal, moment_of}
 use Rattle.router_model.specs.Mappings.{exact}
 use Rattle.router_model.specs.Parts.{Parts, Stands, absorbed, admits, view_in, with_entry}
-use Rattle.router_model.specs.Proper.{fits, suits}
+use Rattle.router_model.specs.Proper.{fits, may_retry, suits}
 use Rattle.router_model.proofs.StandsLemmas.{standing-absorbs}
-use Rattle.router_core.proofs.ChangeLemmas.{both, learned-place, may_ask-place}
+use Rattle.router_core.proofs.ChangeLemmas.{both, learned-place, may_ask-place, requests-now}
 
 -- there is room in the journal, its moment isn't before the last one, and it suits what is seen
 pub record May (p : Parts) (e : Entry) : Type 0 where
@@ -93,3 +95,13 @@ pub absorbed-learned : (p : Parts) (m : ℕ) (mapping : Record) (fixed : Bool) (
 absorbed-learned p m mapping fixed e is admitted =
     ap (λ (f : Bool). with_entry (Learned m mapping f) p) (sym (may-learn p m mapping fixed (rw is at admitted)).learned)
     ∙ absorbed-as p e (Learned m mapping fixed) is admitted
+
+-- a request that may be sent again is one that waits
+pub may-retry : (p : Parts) (m nonce : ℕ) → admits p (Retried m nonce) ≡ true → IsTrue (may_send_again nonce (waiting m p.requests))
+may-retry p m nonce is =
+    let known = may p (Retried m nonce) is in
+    again (with_nonce (waiting m p.requests) nonce) (ap (λ (l : List Request). may_retry (with_nonce l nonce)) (sym (requests-now p m known.later)) ∙ known.suit)
+  where
+    again : (o : Option Request) → may_retry o ≡ true → IsTrue (option_map_or (λ (r : Request). nat_lt r.sent_again 2) o false)
+    again None is = cc
+    again (Some r) is = is

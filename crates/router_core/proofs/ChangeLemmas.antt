@@ -20,9 +20,9 @@ use Rattle.map_messages.specs.Message.{message_rules}
 use Rattle.map_messages.specs.declared.message.MapReply.{MapReply}
 use Rattle.map_messages.specs.declared.message.Message.{Message}
 use Rattle.request_queue.specs.declared.request.Request.{Request}
-use Rattle.router_log.specs.declared.verdict.Reason.TheVariants.{Unfit, Unsolicited}
+use Rattle.router_log.specs.declared.verdict.Reason.TheVariants.{Unfit}
 use Rattle.router_log.specs.declared.verdict.Done.TheVariants.{Learned as Taught}
-use Rattle.router_model.specs.Hear.{drops, is_asked_for, is_fit, is_static, message_heard, payload_heard, read_heard, replied_to, reply_heard, shortened, takes, tallied, taught, unless_refused}
+use Rattle.router_model.specs.Hear.{Route, drops, is_asked_for, is_fit, is_static, message_heard, payload_heard, probe_replied, read_heard, replied_to, reply_heard, shortened, takes, tallied, taught, unless_refused}
 use Rattle.router_model.specs.Received.{message_in}
 use Rattle.router_model.specs.Journal.{moment_of}
 use Rattle.router_model.specs.Mappings.{exact}
@@ -37,14 +37,14 @@ pub both : (a b : Bool) → (a && b) ≡ true → (a ≡ true) × (b ≡ true)
 both true b is = (refl, is)
 both false b is = (cc, cc)
 
-later : (m now : ℕ) → now ≤ m → max m now ≡ m
+pub later : (m now : ℕ) → now ≤ m → max m now ≡ m
 later m now less = omega (arith, less)
 
 all-three : (a b c : Bool) → a ≡ true → b ≡ true → c ≡ true → ((a && b) && c) ≡ true
 all-three a b c p q r = rw (p, q, r) refl
 
 -- an entry that suits is taken
-taken : (p : Parts) (m : ℕ) (e : Entry) → moment_of e ≡ m → p.now ≤ m → p.count < 2 ^ 62 → suits (view_in p m) e ≡ true → absorbed p e ≡ with_entry e p
+pub taken : (p : Parts) (m : ℕ) (e : Entry) → moment_of e ≡ m → p.now ≤ m → p.count < 2 ^ 62 → suits (view_in p m) e ≡ true → absorbed p e ≡ with_entry e p
 unfolding admits absorbed
 taken p m e now after few suit =
     ap (λ b. cond b (with_entry e p) p)
@@ -62,7 +62,7 @@ small n k less = grind (arith, nat_tests)
 room-now : (p : Parts) (m : ℕ) (mapping : Record) → p.now ≤ m → cache.has_room mapping (lasting m p.mappings) ≡ has_room (view_in p m) mapping
 room-now p m mapping after = ap (λ (t : ℕ). cache.has_room mapping (lasting t p.mappings)) (sym (later m p.now after)) ∙ room-seen p m mapping
 
-requests-now : (p : Parts) (m : ℕ) → p.now ≤ m → (view_in p m).requests ≡ waiting m p.requests
+pub requests-now : (p : Parts) (m : ℕ) → p.now ≤ m → (view_in p m).requests ≡ waiting m p.requests
 requests-now p m after = requests-seen p m ∙ ap (λ (t : ℕ). waiting t p.requests) (later m p.now after)
 
 -- a mapping that may be learned has its place in the cache
@@ -142,21 +142,27 @@ pub found-now : (p : Parts) (m nonce : ℕ) → p.now ≤ m → with_nonce (wait
 found-now p m nonce after = ap (λ l. with_nonce l nonce) (sym (requests-now p m after))
 
 -- a Map-Reply by its request
-pub reply-by : (settings : Settings) (m : ℕ) (reply : MapReply) (p : Parts) (o : Option Request) → reply.probe ≡ false → with_nonce (view_in p m).requests reply.nonce ≡ o → replied_to table settings m reply o (unchanged p) ≡ reply_heard table settings m reply (unchanged p)
+pub reply-by : (settings : Settings) (m : ℕ) (from : Addr) (reply : MapReply) (p : Parts) (o : Option Request) → reply.probe ≡ false → with_nonce (view_in p m).requests reply.nonce ≡ o → replied_to table settings m reply o (unchanged p) ≡ reply_heard table settings m from reply (unchanged p)
 unfolding reply_heard
-reply-by settings m reply p o plain found =
+reply-by settings m from reply p o plain found =
     sym (
-    ap (λ b. cond b (drops Unsolicited (unchanged p)) (replied_to table settings m reply (with_nonce (view_in p m).requests reply.nonce) (unchanged p))) plain
+    ap (λ b. cond b (probe_replied table settings m from reply ((view_in p m).probe_open reply.nonce) (unchanged p)) (replied_to table settings m reply (with_nonce (view_in p m).requests reply.nonce) (unchanged p))) plain
     ∙ ap (λ o. replied_to table settings m reply o (unchanged p)) found
     )
 
+-- an answer to a probe by the probe that is open
+pub probe-by : (settings : Settings) (m : ℕ) (from : Addr) (reply : MapReply) (p : Parts) → reply.probe ≡ true → probe_replied table settings m from reply ((view_in p m).probe_open reply.nonce) (unchanged p) ≡ reply_heard table settings m from reply (unchanged p)
+unfolding reply_heard
+probe-by settings m from reply p probe =
+    sym (ap (λ b. cond b (probe_replied table settings m from reply ((view_in p m).probe_open reply.nonce) (unchanged p)) (replied_to table settings m reply (with_nonce (view_in p m).requests reply.nonce) (unchanged p))) probe)
+
 -- octets that keep the rules of messages, by their message
-pub payload-read : (settings : Settings) (m : ℕ) (dest : Addr) (port base : ℕ) (payload : List ℕ) (read : Message) (p : Parts) → first_failing (message_rules base payload) ≡ None → message_in payload ≡ Some read → message_heard table settings m dest port read (unchanged p) ≡ payload_heard table settings m dest port base payload (unchanged p)
+pub payload-read : (settings : Settings) (m : ℕ) (route : Route) (base : ℕ) (payload : List ℕ) (read : Message) (p : Parts) → first_failing (message_rules base payload) ≡ None → message_in payload ≡ Some read → message_heard table settings m route read (unchanged p) ≡ payload_heard table settings m route base payload (unchanged p)
 unfolding payload_heard
-payload-read settings m dest port base payload read p rules is =
+payload-read settings m route base payload read p rules is =
     sym (
-    ap (λ o. unless_refused table settings m o (unchanged p) (read_heard table settings m dest port (message_in payload) (unchanged p))) rules
-    ∙ ap (λ o. read_heard table settings m dest port o (unchanged p)) is
+    ap (λ o. unless_refused table settings m o (unchanged p) (read_heard table settings m route (message_in payload) (unchanged p))) rules
+    ∙ ap (λ o. read_heard table settings m route o (unchanged p)) is
     )
 
 -- a reply that taught, by what stands after it

@@ -1,5 +1,5 @@
 -- What an entry makes of the lists of a table.
-use Rattle.std.proofs.Common.{◌≡◌, ℕ, suc, ◌+◌, ◌-◌, ◌*◌, ◌<◌, ◌≤◌, ◌==◌, ◌||◌, not, nat_lt, Bool, true, false, cond, IsTrue, IsFalse, List, [], ◌∷◌, ◌++◌, filter, filter_map, map, Option, Some, None, Result, Ok, Err, OnOk, ◌↔◌, refl, sym, ap, ap₂, ◌∙◌, arith}
+use Rattle.std.proofs.Common.{◌≡◌, ℕ, suc, ◌+◌, ◌-◌, ◌*◌, ◌<◌, ◌≤◌, ◌==◌, ◌||◌, not, nat_lt, Bool, true, false, cond, IsTrue, IsFalse, List, [], ◌∷◌, ◌++◌, filter, filter_map, map, Option, Some, None, Result, Ok, Err, OnOk, OnErr, ◌↔◌, refl, sym, ap, ap₂, ◌∙◌, arith}
 use Rattle.std.specs.List.{cons_option}
 use Rattle.std.proofs.lemmas.Bool.Decides.{nat_tests}
 use Rattle.ip_headers.specs.declared.addr.Addr.{Addr}
@@ -11,21 +11,34 @@ use Rattle.map_cache.specs.Cache.{bits_told, fresh, lasting, lasts, learned, lif
 use Rattle.map_cache.specs.declared.fault.LearnFault.{LearnFault}
 use Rattle.map_cache.specs.declared.fault.LearnFault.TheVariants as learning
 use Rattle.map_cache.specs.declared.mapping.Mapping.{Mapping}
-use Rattle.request_queue.specs.Queue.{asked, is_waiting, waiting, without_nonce}
+use Rattle.locator_state.specs.Probes.{counting_probes, probe_answered, probe_counts, probed, settle_with}
+use Rattle.octets.specs.declared.items.NoMemory.{NoMemory}
+use Rattle.request_queue.specs.Queue.{asked, is_waiting, once_more, sent_again, waiting, without_nonce}
 use Rattle.request_queue.specs.declared.fault.AskFault.{AskFault}
 use Rattle.request_queue.specs.declared.fault.AskFault.TheVariants as asking
 use Rattle.request_queue.specs.declared.request.Request.{Request}
-use Rattle.router_log.specs.declared.entry.Entry.TheVariants.{Answered, Asked, Bits, Learned}
+use Rattle.router_log.specs.declared.entry.Entry.TheVariants.{Answered, Asked, Bits, Learned, ProbeAnswered, Probed, Retried}
+use Rattle.router_log.specs.declared.kept.Probe.{Probe}
+use Rattle.router_log.specs.declared.kept.ProbeState.TheVariants as state
+use Rattle.router_log.specs.declared.kept.ProbeState.TheVariants.{Open, Lost}
+use Rattle.router_model.specs.Observed.{probe_kind}
 use Rattle.router_model.specs.Cache.{mapping_kind, mapping_step}
 use Rattle.router_model.specs.Kept.{absorb}
 use Rattle.router_model.specs.Parts.{Parts, with_entry}
 use Rattle.router_model.specs.Requests.{request_kind, request_step}
-use Rattle.router_core.specs.Table.{nothing_observed}
+use Rattle.router_core.specs.Table.{observed_of}
 
--- the parts of a table without observations
-abbrev pub parts_with : ℕ → ℕ → ℕ → List Mapping → List Request → Parts
-parts_with count drawn now mappings requests =
-    record { count = count; drawn = drawn; now = now; mappings = mappings; requests = requests; observed = nothing_observed }
+-- the parts of a table by what it keeps
+abbrev pub parts_with : ℕ → ℕ → ℕ → List Mapping → List Request → List Probe → Parts
+parts_with count drawn now mappings requests probes =
+    record { count = count; drawn = drawn; now = now; mappings = mappings; requests = requests; observed = observed_of probes }
+
+-- the same lists, and as many entries and nonces
+same-parts : (count more drawn used now : ℕ) (ms other_ms : List Mapping) (rs other_rs : List Request) (ps other_ps : List Probe) → count ≡ more → drawn ≡ used → ms ≡ other_ms → rs ≡ other_rs → ps ≡ other_ps → parts_with count drawn now ms rs ps ≡ parts_with more used now other_ms other_rs other_ps
+same-parts count more drawn used now ms other_ms rs other_rs ps other_ps counts draws m r p =
+    ap₂ (λ (n d : ℕ). parts_with n d now ms rs ps) counts draws
+    ∙ ap₂ (λ (a : List Mapping) (b : List Request). parts_with more used now a b ps) m r
+    ∙ ap (parts_with more used now other_ms other_rs) p
 
 -- items that stay as they are
 filter_map-all : {A : Type 0} (items : List A) → filter_map (λ a. Some a) items ≡ items
@@ -95,10 +108,10 @@ absorb-learned m mapping fixed ms = by (fixed || not (mapping.ttl == 0)) refl
     by true is = rw (is, fresh-lasts m mapping fixed is) (ap put others)
     by false is = rw is others
 
-pub learned-parts : (count drawn now : ℕ) (ms : List Mapping) (rs : List Request) (m : ℕ) (mapping : Record) (fixed : Bool) → parts_with (count + 1) drawn m (learned m mapping fixed ms) (waiting m rs) ≡ with_entry (Learned m mapping fixed) (parts_with count drawn now ms rs)
-learned-parts count drawn now ms rs m mapping fixed =
-    ap₂ (λ (l : List Mapping) (r : List Request). parts_with (count + 1) drawn m l r) (sym (absorb-learned m mapping fixed ms)) (sym (filter_map-all (waiting m rs)))
-    ∙ ap₂ (λ (n d : ℕ). parts_with n d m (absorb mapping_kind (lasts m) (Learned m mapping fixed) ms) (absorb request_kind (is_waiting m) (Learned m mapping fixed) rs)) (one_more count) (no_more drawn)
+pub learned-parts : (count drawn now : ℕ) (ms : List Mapping) (rs : List Request) (ps : List Probe) (m : ℕ) (mapping : Record) (fixed : Bool) → parts_with (count + 1) drawn m (learned m mapping fixed ms) (waiting m rs) (counting_probes m ps) ≡ with_entry (Learned m mapping fixed) (parts_with count drawn now ms rs ps)
+learned-parts count drawn now ms rs ps m mapping fixed =
+    same-parts (count + 1) (suc count) drawn (0 + drawn) m _ (absorb mapping_kind (lasts m) (Learned m mapping fixed) ms) _ (absorb request_kind (is_waiting m) (Learned m mapping fixed) rs) _ (absorb probe_kind (probe_counts m) (Learned m mapping fixed) ps)
+    (one_more count) (no_more drawn) (sym (absorb-learned m mapping fixed ms)) (sym (filter_map-all (waiting m rs))) (sym (filter_map-all (counting_probes m ps)))
 
 -- a cache that has room and place took it
 pub was_learned : {P : Type 0} (r : Result (Unit {0}) LearnFault) (spare : ℕ) (place : Bool) → OnOk r P → (r ≡ Err learning.Memory → spare ≡ 0) → 0 < spare → ((r ≡ Err learning.CacheFull) ↔ IsFalse place) → IsTrue place → P
@@ -112,10 +125,10 @@ was_learned (Err learning.CacheFull) spare place ok memory some full is = apart 
 
 -- ### a request that is made
 
-pub asked-parts : (count drawn now : ℕ) (ms : List Mapping) (rs : List Request) (m : ℕ) (eid : Eid) (source : Option Addr) (invoked : Bool) (nonce : ℕ) → parts_with (count + 1) (drawn + 1) m (lasting m ms) (asked m eid source invoked nonce rs) ≡ with_entry (Asked m eid source invoked nonce) (parts_with count drawn now ms rs)
-asked-parts count drawn now ms rs m eid source invoked nonce =
-    ap₂ (λ (l : List Mapping) (r : List Request). parts_with (count + 1) (drawn + 1) m l r) (sym (filter_map-all (lasting m ms))) (sym whole)
-    ∙ ap₂ (λ (n d : ℕ). parts_with n d m (absorb mapping_kind (lasts m) (Asked m eid source invoked nonce) ms) (absorb request_kind (is_waiting m) (Asked m eid source invoked nonce) rs)) (one_more count) (first_more drawn)
+pub asked-parts : (count drawn now : ℕ) (ms : List Mapping) (rs : List Request) (ps : List Probe) (m : ℕ) (eid : Eid) (source : Option Addr) (invoked : Bool) (nonce : ℕ) → parts_with (count + 1) (drawn + 1) m (lasting m ms) (asked m eid source invoked nonce rs) (counting_probes m ps) ≡ with_entry (Asked m eid source invoked nonce) (parts_with count drawn now ms rs ps)
+asked-parts count drawn now ms rs ps m eid source invoked nonce =
+    same-parts (count + 1) (suc count) (drawn + 1) (1 + drawn) m _ (absorb mapping_kind (lasts m) (Asked m eid source invoked nonce) ms) _ (absorb request_kind (is_waiting m) (Asked m eid source invoked nonce) rs) _ (absorb probe_kind (probe_counts m) (Asked m eid source invoked nonce) ps)
+    (one_more count) (first_more drawn) (sym (filter_map-all (lasting m ms))) (sym whole) (sym (filter_map-all (counting_probes m ps)))
   where
     r : Request
     r = record { eid = eid; source = source; invoked = invoked; nonce = nonce; start = m; sent_again = 0 }
@@ -137,10 +150,10 @@ was_asked (Err asking.QueueFull) spare waits ok memory some full few = let most 
 
 -- ### a request that was answered
 
-pub answered-parts : (count drawn now : ℕ) (ms : List Mapping) (rs : List Request) (m nonce : ℕ) → parts_with (count + 1) drawn m (lasting m ms) (without_nonce nonce (waiting m rs)) ≡ with_entry (Answered m nonce) (parts_with count drawn now ms rs)
-answered-parts count drawn now ms rs m nonce =
-    ap₂ (λ (l : List Mapping) (r : List Request). parts_with (count + 1) drawn m l r) (sym (filter_map-all (lasting m ms))) (sym others)
-    ∙ ap₂ (λ (n d : ℕ). parts_with n d m (absorb mapping_kind (lasts m) (Answered m nonce) ms) (absorb request_kind (is_waiting m) (Answered m nonce) rs)) (one_more count) (no_more drawn)
+pub answered-parts : (count drawn now : ℕ) (ms : List Mapping) (rs : List Request) (ps : List Probe) (m nonce : ℕ) → parts_with (count + 1) drawn m (lasting m ms) (without_nonce nonce (waiting m rs)) (counting_probes m ps) ≡ with_entry (Answered m nonce) (parts_with count drawn now ms rs ps)
+answered-parts count drawn now ms rs ps m nonce =
+    same-parts (count + 1) (suc count) drawn (0 + drawn) m _ (absorb mapping_kind (lasts m) (Answered m nonce) ms) _ (absorb request_kind (is_waiting m) (Answered m nonce) rs) _ (absorb probe_kind (probe_counts m) (Answered m nonce) ps)
+    (one_more count) (no_more drawn) (sym (filter_map-all (lasting m ms))) (sym others) (sym (filter_map-all (counting_probes m ps)))
   where
     others : filter_map (request_step (Answered m nonce)) (waiting m rs) ≡ without_nonce nonce (waiting m rs)
     others = filter_map-drops (λ (old : Request). old.nonce == nonce) (waiting m rs)
@@ -151,7 +164,40 @@ answered-parts count drawn now ms rs m nonce =
 step-told : (m : ℕ) (eid : Eid) (bits width : ℕ) (mapping : Mapping) → mapping_step (Bits m eid bits width) mapping ≡ Some (told_mapping eid bits width mapping)
 step-told m eid bits width mapping = refl
 
-pub told-parts : (count drawn now : ℕ) (ms : List Mapping) (rs : List Request) (m : ℕ) (eid : Eid) (bits width : ℕ) → parts_with (count + 1) drawn m (bits_told eid bits width (lasting m ms)) (waiting m rs) ≡ with_entry (Bits m eid bits width) (parts_with count drawn now ms rs)
-told-parts count drawn now ms rs m eid bits width =
-    ap₂ (λ (l : List Mapping) (r : List Request). parts_with (count + 1) drawn m l r) (sym (filter_map-map (told_mapping eid bits width) (lasting m ms))) (sym (filter_map-all (waiting m rs)))
-    ∙ ap₂ (λ (n d : ℕ). parts_with n d m (absorb mapping_kind (lasts m) (Bits m eid bits width) ms) (absorb request_kind (is_waiting m) (Bits m eid bits width) rs)) (one_more count) (no_more drawn)
+pub told-parts : (count drawn now : ℕ) (ms : List Mapping) (rs : List Request) (ps : List Probe) (m : ℕ) (eid : Eid) (bits width : ℕ) → parts_with (count + 1) drawn m (bits_told eid bits width (lasting m ms)) (waiting m rs) (counting_probes m ps) ≡ with_entry (Bits m eid bits width) (parts_with count drawn now ms rs ps)
+told-parts count drawn now ms rs ps m eid bits width =
+    same-parts (count + 1) (suc count) drawn (0 + drawn) m _ (absorb mapping_kind (lasts m) (Bits m eid bits width) ms) _ (absorb request_kind (is_waiting m) (Bits m eid bits width) rs) _ (absorb probe_kind (probe_counts m) (Bits m eid bits width) ps)
+    (one_more count) (no_more drawn) (sym (filter_map-map (told_mapping eid bits width) (lasting m ms))) (sym (filter_map-all (waiting m rs))) (sym (filter_map-all (counting_probes m ps)))
+
+-- ### a request that was sent again
+
+pub retried-parts : (count drawn now : ℕ) (ms : List Mapping) (rs : List Request) (ps : List Probe) (m nonce : ℕ) → parts_with (count + 1) drawn m (lasting m ms) (sent_again nonce (waiting m rs)) (counting_probes m ps) ≡ with_entry (Retried m nonce) (parts_with count drawn now ms rs ps)
+retried-parts count drawn now ms rs ps m nonce =
+    same-parts (count + 1) (suc count) drawn (0 + drawn) m _ (absorb mapping_kind (lasts m) (Retried m nonce) ms) _ (absorb request_kind (is_waiting m) (Retried m nonce) rs) _ (absorb probe_kind (probe_counts m) (Retried m nonce) ps)
+    (one_more count) (no_more drawn) (sym (filter_map-all (lasting m ms))) (sym (filter_map-map (λ (r : Request). cond (r.nonce == nonce) (once_more r) r) (waiting m rs))) (sym (filter_map-all (counting_probes m ps)))
+
+-- ### a probe that was sent, and one that was answered
+
+young : (n : ℕ) → nat_lt (n - n) 600000000000 ≡ true
+young n = grind (arith, nat_tests)
+
+pub probed-parts : (count drawn now : ℕ) (ms : List Mapping) (rs : List Request) (ps : List Probe) (m : ℕ) (rloc : Addr) (nonce : ℕ) → parts_with (count + 1) (drawn + 1) m (lasting m ms) (waiting m rs) (probed m rloc nonce ps) ≡ with_entry (Probed m rloc nonce) (parts_with count drawn now ms rs ps)
+probed-parts count drawn now ms rs ps m rloc nonce =
+    same-parts (count + 1) (suc count) (drawn + 1) (1 + drawn) m _ (absorb mapping_kind (lasts m) (Probed m rloc nonce) ms) _ (absorb request_kind (is_waiting m) (Probed m rloc nonce) rs) _ (absorb probe_kind (probe_counts m) (Probed m rloc nonce) ps)
+    (one_more count) (first_more drawn) (sym (filter_map-all (lasting m ms))) (sym (filter_map-all (waiting m rs))) (sym whole)
+  where
+    new : Probe
+    new = record { moment = m; rloc = rloc; nonce = nonce; state = Open }
+
+    whole : absorb probe_kind (probe_counts m) (Probed m rloc nonce) ps ≡ probed m rloc nonce ps
+    whole = rw (young m) (ap (λ (l : List Probe). l ++ new ∷ []) (filter_map-map (settle_with Lost nonce) (counting_probes m ps)))
+
+pub probe_answered-parts : (count drawn now : ℕ) (ms : List Mapping) (rs : List Request) (ps : List Probe) (m nonce : ℕ) → parts_with (count + 1) drawn m (lasting m ms) (waiting m rs) (probe_answered m nonce ps) ≡ with_entry (ProbeAnswered m nonce) (parts_with count drawn now ms rs ps)
+probe_answered-parts count drawn now ms rs ps m nonce =
+    same-parts (count + 1) (suc count) drawn (0 + drawn) m _ (absorb mapping_kind (lasts m) (ProbeAnswered m nonce) ms) _ (absorb request_kind (is_waiting m) (ProbeAnswered m nonce) rs) _ (absorb probe_kind (probe_counts m) (ProbeAnswered m nonce) ps)
+    (one_more count) (no_more drawn) (sym (filter_map-all (lasting m ms))) (sym (filter_map-all (waiting m rs))) (sym (filter_map-map (settle_with state.Answered nonce) (counting_probes m ps)))
+
+-- there was room for a probe
+pub was_probed : {P : Type 0} (r : Result (Unit {0}) NoMemory) (spare : ℕ) → OnOk r P → OnErr r (spare ≡ 0) → 0 < spare → P
+was_probed (Ok u) spare ok memory some = ok
+was_probed (Err e) spare ok memory some = absurd (omega (arith, memory, some))

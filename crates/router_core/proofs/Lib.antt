@@ -6,7 +6,12 @@ pub mod Drops
 pub mod EntryLemmas
 pub mod HeldLemmas
 pub mod HostLemmas
+pub mod IdleLemmas
+pub mod OfferLemmas
+pub mod ProbeLemmas
 pub mod RenewingLemmas
+pub mod RestLemmas
 pub mod SiteLemmas
 pub mod StaticLemmas
+pub mod TickingLemmas
 pub mod WritableLemmas

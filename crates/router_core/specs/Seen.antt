@@ -9,6 +9,7 @@ use Rattle.router_core.specs.declared.answering.Path.{Path}
 use Rattle.router_core.specs.declared.courses.Course.{Course}
 use Rattle.router_core.specs.declared.courses.Course.TheVariants.{Settled, Data, Control, Leaving}
 use Rattle.router_core.specs.declared.datagram.Datagram.{Datagram}
+use Rattle.router_core.specs.declared.hearing.Route.{Route}
 
 -- a packet and its place
 abbrev pub packet_seen : IpPacket → model.FramePacket
@@ -35,6 +36,10 @@ IfLeaving _ P = Unit {0}
 abbrev pub IfSettled : Course → (Verdict → Type 0) → Type 0
 IfSettled (Settled verdict) P = P verdict
 IfSettled _ P = Unit {0}
+
+-- how a message came
+abbrev pub route_seen : Route → hearing.Route
+route_seen route = record { from = route.from; dest = route.dest; port = route.port }
 
 -- how a request came
 abbrev pub asker_seen : Asker → hearing.Asker

@@ -17,9 +17,9 @@ pub record IsSendableReply (from to : Addr) (reply : MapReply) : Type 0 where
   pub range : InRangeReply reply
   pub short : length (canonical_reply reply) ≤ MOST_MESSAGE_OCTETS
 
--- there is a resolver, or an own locator of the receiver's family is up; a reply can be written
+-- an own locator of the receiver's family is up; a reply can be written
 abbrev pub IsSendable : Settings → Emit → Type 0
-IsSendable settings (Request eid source invoked nonce) = IsTrue (is_some settings.resolver)
+IsSendable settings (Request eid source invoked nonce) = Unit {0}
 IsSendable settings (Probe to eid nonce) = IsTrue (is_some (ours settings.locators to))
 IsSendable settings (Solicit to eid nonce) = IsTrue (is_some (ours settings.locators to))
 IsSendable settings (Reply from to port reply) = IsSendableReply from to reply

@@ -3,7 +3,7 @@ ghost use Rattle.std.specs.Prelude.{◌≡◌, ◌<◌, ◌≤◌, ◌∷◌, �
 ghost use Rattle.lisp_settings.specs.declared.settings.Settings.{Settings as SettingsValue};
 ghost use Rattle.map_cache.specs.Cache.{has_room, lasting};
 ghost use Rattle.request_queue.specs.Queue.{waiting};
-ghost use Rattle.router_log.specs.declared.entry.Entry.TheVariants.{Asked, Learned};
+ghost use Rattle.router_log.specs.declared.entry.Entry.TheVariants.{Asked, Learned, Probed};
 ghost use Rattle.router_model.specs.Journal.{Journal};
 ghost use Rattle.router_model.specs.Parts.{Stands, absorbed, admits, with_entry};
 ghost use Rattle.router_model.specs.Proper.{fits};
@@ -53,11 +53,21 @@ impl Table {
                 self.tell(*moment, eid, *bits, *width);
                 Ok(())
             }
+            Entry::Retried { moment, nonce } => {
+                self.retry(*moment, *nonce);
+                Ok(())
+            }
+            Entry::Probed {
+                moment,
+                rloc,
+                nonce,
+            } => self.apply_probed(*moment, *rloc, *nonce),
+            Entry::ProbeAnswered { moment, nonce } => {
+                self.answer_probe(*moment, *nonce);
+                Ok(())
+            }
             // Not built yet: none of these may follow.
-            Entry::Retried { .. }
-            | Entry::Probed { .. }
-            | Entry::ProbeAnswered { .. }
-            | Entry::EchoStarted { .. }
+            Entry::EchoStarted { .. }
             | Entry::EchoHeard { .. }
             | Entry::DataFrom { .. }
             | Entry::EchoWanted { .. }
@@ -76,7 +86,7 @@ impl Table {
         ensures err { OnErr result (self.new.parts ≡ self.old.parts) }
     {
         let mapping = copied(self.alloc, mapping)?;
-        self.reserve(1, 0)?;
+        self.reserve(1, 0, 0)?;
         self.learn(m, mapping, false);
         Ok(())
     }
@@ -97,8 +107,21 @@ impl Table {
             ≡ with_entry (Asked m eid source invoked nonce) self.old.parts) }
         ensures err { OnErr result (self.new.parts ≡ self.old.parts) }
     {
-        self.reserve(0, 1)?;
+        self.reserve(0, 1, 0)?;
         self.ask(m, eid, source, invoked, nonce);
+        Ok(())
+    }
+
+    // Takes the entry of a probe that was sent.
+    fn apply_probed(&mut self, m: u64, rloc: Addr, nonce: u64) -> Result<(), NoMemory>
+        requires later { self.old.parts.now ≤ m }
+        requires count { self.old.parts.count < 2 ^ 62 }
+        ensures ok { OnOk result (self.new.parts
+            ≡ with_entry (Probed m rloc nonce) self.old.parts) }
+        ensures err { OnErr result (self.new.parts ≡ self.old.parts) }
+    {
+        self.reserve(0, 0, 1)?;
+        self.probe(m, rloc, nonce);
         Ok(())
     }
 }

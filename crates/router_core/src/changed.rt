@@ -1,5 +1,9 @@
 // What the calls of a table answer.
+ghost use Rattle.std.specs.Prelude.{◌≡◌, ◌∷◌, [], IfOk};
+
+use octets::{Items, NoMemory};
 use router_log::{Emits, Entries, Verdict};
+use std::alloc::Global;
 
 /// What a control message made: the entries that were applied, and the packets to be sent.
 #[derive(Debug, Drop)]
@@ -9,9 +13,18 @@ pub struct Heard {
     pub emits: Emits,
 }
 
-/// What a notice made: the entries that were applied, and the packets to be sent.
+/// What a notice or a second made: the entries that were applied, and the packets to be sent.
 #[derive(Debug, Drop)]
 pub struct Changed {
     pub entries: Entries,
     pub emits: Emits,
+}
+
+/// A list of one item.
+pub(crate) fn only<T: Drop>(alloc: Global, item: T) -> Result<Items<T>, NoMemory>
+    ensures { IfOk result (λ items. items ≡ item ∷ []) }
+{
+    let mut items = Items::new(alloc);
+    items.push(item)?;
+    Ok(items)
 }

@@ -79,13 +79,12 @@ impl Table {
         m.max(self.cache.now())
     }
 
-    /// Neither probes nor echoes speak against a locator: they aren't built yet.
+    /// No probe speaks against a locator, and no echo: those aren't built yet.
     #[tactic(auto, unfolding(router_model::specs::Parts::view_in))]
-    pub(crate) fn is_up(&self, _m: u64, _rloc: &Addr) -> bool
-        ensures { result ≡ (view_in self.now.parts _m).up _rloc.now }
+    pub(crate) fn is_up(&self, m: u64, rloc: &Addr) -> bool
+        ensures { result ≡ (view_in self.now.parts m).up rloc.now }
     {
-        let _ = &self.cache;
-        true
+        self.locators.up(self.moment_at(m), rloc)
     }
 
     /// The mapping in force for an EID.

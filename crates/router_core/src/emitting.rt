@@ -23,7 +23,7 @@ use std::alloc::Global;
 
 /// The packet that an emit stands for, with its IP and UDP headers (RFC 9301, section 5). A
 /// Map-Request goes to the resolver, encapsulated; one that probes or solicits goes to its locator;
-/// a Map-Reply goes to whom asked.
+/// a Map-Reply goes to whom asked. Without a resolver a Map-Request has no octets.
 pub fn emit_octets(alloc: Global, settings: &Settings, emit: &Emit) -> Result<Octets, NoMemory>
     requires lawful { IsLawful settings.now }
     requires sendable { IsSendable settings.now emit.now }
@@ -48,7 +48,7 @@ pub fn emit_octets(alloc: Global, settings: &Settings, emit: &Emit) -> Result<Oc
     }
 }
 
-// A Map-Request to the resolver.
+// A Map-Request to the resolver; without one there is no packet.
 #[tactic(auto, unfolding(router_model::specs::Emits::emit_packet))]
 fn request_octets(
     alloc: Global,
@@ -59,13 +59,12 @@ fn request_octets(
     nonce: u64,
 ) -> Result<Octets, NoMemory>
     requires lawful { IsLawful settings.now }
-    requires resolver { IsTrue (is_some settings.now.resolver) }
     ensures octets { IfOk result (λ packet. packet
         ≡ emit_packet settings.now (emits.Request eid source invoked nonce)) }
     ensures size { IfOk result (λ packet. length packet ≤ MOST_FRAME_OCTETS) }
 {
     let Some(resolver) = settings.resolver else {
-        unreachable!()
+        return Ok(Octets::new(alloc));
     };
     let message = request_message(alloc, settings, eid, source, invoked, nonce)?;
     packet_to(alloc, settings, resolver, &message)

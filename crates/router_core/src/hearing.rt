@@ -1,27 +1,50 @@
 // A control message, heard.
 ghost use Rattle.std.specs.Prelude.{◌≡◌, ◌<◌, ◌≤◌, ◌+◌, ◌^◌, [], length, All, IfOk, OnErr};
 ghost use Rattle.lisp_settings.specs.Lawful.{IsLawful};
+ghost use Rattle.lisp_settings.specs.declared.settings.Settings.{Settings as SettingsValue};
 ghost use Rattle.map_messages.specs.Range.{InRange, InRangeEcm, InRangeReply, InRangeRequest};
 ghost use Rattle.router_log.specs.declared.verdict.Reason.{Reason as ReasonValue};
 ghost use Rattle.router_log.specs.declared.verdict.Verdict.TheVariants.{Drop};
 ghost use Rattle.router_model.specs.Changes.{unchanged};
-ghost use Rattle.router_model.specs.Hear.{carried, course_heard, datagram_heard, drops, hear, hear_by, message_heard, payload_heard, reply_heard, requested};
+ghost use Rattle.router_model.specs.Hear.{carried, course_heard, datagram_heard, drops, hear, hear_by, message_heard, payload_heard, probe_replied, reply_heard, requested, route_of};
 ghost use Rattle.router_model.specs.Journal.{Journal};
 ghost use Rattle.router_model.specs.Lifting.{AreOctets, Follows, MayGo};
-ghost use Rattle.router_model.specs.Parts.{Stands, table};
-ghost use Rattle.router_core.specs.Seen.{asker_seen, course_seen, datagram_seen};
+ghost use Rattle.router_model.specs.Parts.{Stands, table, view_in};
+ghost use Rattle.router_core.specs.Seen.{asker_seen, course_seen, datagram_seen, route_seen};
 ghost use Rattle.router_core.specs.Sendable.{IsSendable};
 ghost use Rattle.router_core.specs.Table.{change_of, heard_seen};
 
 use crate::answering::Asker;
+use crate::changed::only;
 use crate::courses::{Course, course_of};
+use crate::site::same_address;
 use crate::{Datagram, Heard, Table};
 use capture_io::Frame;
 use ip_headers::{Addr, check_udp, udp_payload};
 use lisp_settings::Settings;
 use map_messages::{Ecm, MapReply, MapRequest, Message, MessageFault, read_message};
 use octets::{Items, NoMemory};
-use router_log::{Reason, Verdict};
+use router_log::{Done, Entry, Reason, Verdict};
+
+/// How a message came: from an address and a port, to one of our addresses.
+#[derive(Clone, Copy)]
+pub(crate) struct Route {
+    pub from: Addr,
+    pub dest: Addr,
+    pub port: u16,
+}
+
+// How the message of a datagram came.
+fn route_of(datagram: &Datagram) -> Route
+    ensures { route_seen result ≡ route_of (datagram_seen datagram.now) }
+{
+    let header = &datagram.packet.header;
+    Route {
+        from: header.source(),
+        dest: header.dest(),
+        port: datagram.udp.source,
+    }
+}
 
 impl Table {
     /// Hears a frame that is a control message, at a moment: it takes the entries that come of it. Any
@@ -104,14 +127,7 @@ impl Table {
             Ok(()) => {
                 let place = packet.base + udp.at + 8;
                 let payload = udp_payload(packet, udp);
-                self.hear_payload(
-                    settings,
-                    m,
-                    packet.header.dest(),
-                    udp.source,
-                    place,
-                    payload,
-                )
+                self.hear_payload(settings, m, route_of(datagram), place, payload)
             }
             Err(refused) => Ok(self.dropped(Reason::Refused(refused))),
         }
@@ -123,8 +139,7 @@ impl Table {
         &mut self,
         settings: &Settings,
         m: u64,
-        dest: Addr,
-        port: u16,
+        route: Route,
         base: u32,
         payload: &[u8],
     ) -> Result<Heard, NoMemory>
@@ -133,7 +148,7 @@ impl Table {
         requires count { self.old.parts.count < 2 ^ 61 }
         requires place { base + length payload.now < 2 ^ 32 }
         ensures parts { IfOk result (λ heard. heard_seen self.new.parts heard
-            ≡ payload_heard table settings.now m dest port base payload.now
+            ≡ payload_heard table settings.now m (route_seen route) base payload.now
             (unchanged self.old.parts)) }
         ensures sendable { IfOk result (λ heard. All (IsSendable settings.now) heard.emits) }
         ensures few { IfOk result (λ heard. length heard.emits ≤ 256) }
@@ -143,19 +158,18 @@ impl Table {
         ensures err { OnErr result (self.new.parts ≡ self.old.parts) }
     {
         match read_message(self.alloc, payload, base) {
-            Ok((message, _)) => self.hear_message(settings, m, dest, port, &message),
+            Ok((message, _)) => self.hear_message(settings, m, route, &message),
             Err(MessageFault::Refused(refused)) => Ok(self.dropped(Reason::Refused(refused))),
             Err(MessageFault::Memory) => Err(NoMemory),
         }
     }
 
-    // Hears a message to an own address, from a port.
+    // Hears a message that came so.
     fn hear_message(
         &mut self,
         settings: &Settings,
         m: u64,
-        dest: Addr,
-        port: u16,
+        route: Route,
         message: &Message,
     ) -> Result<Heard, NoMemory>
         requires lawful { IsLawful settings.now }
@@ -163,7 +177,7 @@ impl Table {
         requires count { self.old.parts.count < 2 ^ 61 }
         requires range { InRange message.now }
         ensures parts { IfOk result (λ heard. heard_seen self.new.parts heard
-            ≡ message_heard table settings.now m dest port message.now
+            ≡ message_heard table settings.now m (route_seen route) message.now
             (unchanged self.old.parts)) }
         ensures sendable { IfOk result (λ heard. All (IsSendable settings.now) heard.emits) }
         ensures few { IfOk result (λ heard. length heard.emits ≤ 256) }
@@ -173,12 +187,13 @@ impl Table {
         ensures err { OnErr result (self.new.parts ≡ self.old.parts) }
     {
         match message {
-            Message::Reply(reply) => self.hear_reply(settings, m, reply),
+            Message::Reply(reply) => self.hear_reply(settings, m, route.from, reply),
             Message::Request(request) => {
+                let Route { dest, port, .. } = route;
                 let probe = request.probe;
                 self.hear_request(settings, m, Asker { dest, port, probe }, request)
             }
-            Message::Control(ecm) => self.hear_carried(settings, m, dest, ecm),
+            Message::Control(ecm) => self.hear_carried(settings, m, route.dest, ecm),
         }
     }
 
@@ -241,33 +256,62 @@ impl Table {
         self.answer_request(settings, asker, request)
     }
 
-    // Hears a Map-Reply.
+    // Hears a Map-Reply from an address.
     #[tactic(auto, unfolding(router_model::specs::Hear::reply_heard))]
     fn hear_reply(
         &mut self,
         settings: &Settings,
         m: u64,
+        from: Addr,
         reply: &MapReply,
     ) -> Result<Heard, NoMemory>
         requires later { self.old.parts.now ≤ m }
         requires count { self.old.parts.count < 2 ^ 61 }
         requires range { InRangeReply reply.now }
         ensures parts { IfOk result (λ heard. heard_seen self.new.parts heard
-            ≡ reply_heard table settings.now m reply.now (unchanged self.old.parts)) }
+            ≡ reply_heard table settings.now m from reply.now (unchanged self.old.parts)) }
         ensures emits { IfOk result (λ heard. heard.emits ≡ []) }
         ensures count { IfOk result (λ heard.
             self.new.parts.count ≤ self.old.parts.count + 256) }
         ensures now { IfOk result (λ heard. self.new.parts.now ≤ m) }
         ensures err { OnErr result (self.new.parts ≡ self.old.parts) }
     {
-        // No probe is ever open: they aren't built yet.
         if reply.probe {
-            return Ok(self.dropped(Reason::Unsolicited));
+            return self.hear_probe_reply(m, from, reply);
         }
         match self.queue.find(m, reply.nonce).copied() {
             Some(request) => self.learn_reply(settings, m, &request, reply),
             None => Ok(self.dropped(Reason::Unsolicited)),
         }
+    }
+
+    // Hears an answer to a probe, which counts from the locator that was probed.
+    fn hear_probe_reply(&mut self, m: u64, from: Addr, reply: &MapReply) -> Result<Heard, NoMemory>
+        requires later { self.old.parts.now ≤ m }
+        requires count { self.old.parts.count < 2 ^ 61 }
+        ensures parts { IfOk result (λ heard. (settings : SettingsValue)
+            → heard_seen self.new.parts heard ≡ probe_replied table settings m from reply.now
+            ((view_in self.old.parts m).probe_open reply.now.nonce) (unchanged self.old.parts)) }
+        ensures emits { IfOk result (λ heard. heard.emits ≡ []) }
+        ensures count { IfOk result (λ heard.
+            self.new.parts.count ≤ self.old.parts.count + 1) }
+        ensures now { IfOk result (λ heard. self.new.parts.now ≤ m) }
+        ensures err { OnErr result (self.new.parts ≡ self.old.parts) }
+    {
+        let nonce = reply.nonce;
+        let Some(rloc) = self.locators.probe_open(m, nonce) else {
+            return Ok(self.dropped(Reason::Unsolicited));
+        };
+        if !same_address(rloc, from) {
+            return Ok(self.dropped(Reason::Foreign));
+        }
+        let entries = only(self.alloc, Entry::ProbeAnswered { moment: m, nonce })?;
+        self.answer_probe(m, nonce);
+        Ok(Heard {
+            verdict: Verdict::Control(Done::ProbeReply),
+            entries,
+            emits: Items::new(self.alloc),
+        })
     }
 
     // A drop changes nothing.

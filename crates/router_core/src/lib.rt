@@ -19,9 +19,11 @@ mod learning;
 mod noting;
 mod own_requests;
 mod renewing;
+mod resting;
 mod site;
 mod status;
 mod table;
+mod ticking;
 
 pub use changed::{Changed, Heard};
 pub use courses::{Course, course_of, frame_packet, is_control};

@@ -12,6 +12,7 @@ ghost use Rattle.router_model.specs.Parts.{Stands, table, view_in};
 ghost use Rattle.router_core.specs.Sendable.{IsSendable};
 ghost use Rattle.router_core.specs.Table.{changed_seen};
 
+use crate::changed::only;
 use crate::status::{differs, is_named};
 use crate::{Changed, Table};
 use ip_headers::Addr;
@@ -219,12 +220,13 @@ impl Table {
                 nonce,
             },
         )?;
-        self.reserve(0, 1)?;
+        self.reserve(0, 1, 0)?;
         self.ask(m, eid, source, invoked, nonce);
         Ok(Changed { entries, emits })
     }
 
-    fn nothing(&self) -> Changed
+    /// No entries, and no emits.
+    pub(crate) fn nothing(&self) -> Changed
         ensures { result ≡ record { entries = []; emits = [] } }
     {
         Changed {
@@ -232,13 +234,4 @@ impl Table {
             emits: Items::new(self.alloc),
         }
     }
-}
-
-// A list of one item.
-fn only<T: Drop>(alloc: Global, item: T) -> Result<Items<T>, NoMemory>
-    ensures { IfOk result (λ items. items ≡ item ∷ []) }
-{
-    let mut items = Items::new(alloc);
-    items.push(item)?;
-    Ok(items)
 }

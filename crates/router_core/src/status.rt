@@ -6,6 +6,7 @@ ghost use Rattle.router_model.specs.Cache.{known_up};
 ghost use Rattle.router_model.specs.Mappings.{bit, status_of};
 ghost use Rattle.router_model.specs.Note.{differs};
 
+use crate::site::same_address;
 use ip_headers::Addr;
 use lisp_settings::Locator;
 use map_cache::Mapping;
@@ -26,17 +27,11 @@ pub(crate) fn is_named(locators: &[Locator], address: &Addr) -> bool
     ensures { result ≡ list_any (λ locator. same_address locator.addr address.now) locators.now }
 {
     for locator in locators {
-        if same_address(&locator.addr, address) {
+        if same_address(locator.addr, *address) {
             return true;
         }
     }
     false
-}
-
-fn same_address(a: &Addr, b: &Addr) -> bool
-    ensures { result ≡ same_address a.now b.now }
-{
-    a == b
 }
 
 /// Of the locators of a mapping from number `index` on, one has another status than its bit among the

@@ -1,6 +1,6 @@
 use Rattle.std.proofs.Common.{◌∙◌}
 use Rattle.std.proofs.lemmas.Result.{on_ok_weaker}
-use Rattle.router_core.proofs.ApplyLemmas.{absorbed-as, absorbed-learned, may-ask, may-learn, may-tell, stands-with}
+use Rattle.router_core.proofs.ApplyLemmas.{absorbed-as, absorbed-learned, may-ask, may-learn, may-retry, may-tell, stands-with}
 use Rattle.router_core.proofs.table.Table.apply.Goals as goal
 
 pub apply_learned-requires-clause-place : goal.apply_learned-requires-clause-place
@@ -45,3 +45,27 @@ returns-in-Bits-clause-parts c = c.tell.ensures.parts ∙ absorbed-as c.args.sel
 
 pub returns-in-Bits-clause-journal : goal.returns-in-Bits-clause-journal
 returns-in-Bits-clause-journal c settings journal = stands-with settings c.args.self.now.parts c.tell.new.self.parts journal c.args.entry.now (returns-in-Bits-clause-parts c)
+
+pub retry-requires-clause-again : goal.retry-requires-clause-again
+retry-requires-clause-again c =
+    may-retry c.args.self.now.parts c.in-Retried.moment c.in-Retried.nonce (rw c.in-Retried.is at c.requires)
+
+pub returns-in-Retried-clause-parts : goal.returns-in-Retried-clause-parts
+returns-in-Retried-clause-parts c = c.retry.ensures.parts ∙ absorbed-as c.args.self.now.parts c.args.entry.now _ c.in-Retried.is c.requires
+
+pub returns-in-Retried-clause-journal : goal.returns-in-Retried-clause-journal
+returns-in-Retried-clause-journal c settings journal = stands-with settings c.args.self.now.parts c.retry.new.self.parts journal c.args.entry.now (returns-in-Retried-clause-parts c)
+
+pub returns-in-Probed-clause-parts : goal.returns-in-Probed-clause-parts
+returns-in-Probed-clause-parts c =
+    on_ok_weaker c.apply_probed.result (λ is. is ∙ absorbed-as c.args.self.now.parts c.args.entry.now _ c.in-Probed.is c.requires) c.apply_probed.ensures.ok
+
+pub returns-in-Probed-clause-journal : goal.returns-in-Probed-clause-journal
+returns-in-Probed-clause-journal c =
+    on_ok_weaker c.apply_probed.result (λ is settings journal. stands-with settings c.args.self.now.parts c.apply_probed.new.self.parts journal c.args.entry.now is) (returns-in-Probed-clause-parts c)
+
+pub returns-in-ProbeAnswered-clause-parts : goal.returns-in-ProbeAnswered-clause-parts
+returns-in-ProbeAnswered-clause-parts c = c.answer_probe.ensures.parts ∙ absorbed-as c.args.self.now.parts c.args.entry.now _ c.in-ProbeAnswered.is c.requires
+
+pub returns-in-ProbeAnswered-clause-journal : goal.returns-in-ProbeAnswered-clause-journal
+returns-in-ProbeAnswered-clause-journal c settings journal = stands-with settings c.args.self.now.parts c.answer_probe.new.self.parts journal c.args.entry.now (returns-in-ProbeAnswered-clause-parts c)

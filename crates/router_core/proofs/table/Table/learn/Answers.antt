@@ -3,6 +3,7 @@ use Rattle.map_cache.specs.Cache.{has_room, lasting, learned}
 use Rattle.map_cache.specs.declared.mapping.Mapping.{Mapping}
 use Rattle.request_queue.specs.declared.request.Request.{Request}
 use Rattle.router_log.specs.declared.entry.Entry.TheVariants.{Learned}
+use Rattle.router_log.specs.declared.kept.Probe.{Probe}
 use Rattle.router_model.specs.Parts.{with_entry}
 use Rattle.router_core.specs.Table.{Memory}
 use Rattle.router_core.proofs.EntryLemmas.{learned-parts, parts_with, was_learned}
@@ -17,7 +18,7 @@ returns-clause-parts c =
     let room = subst (λ (t : Memory). 0 < t.mapping_room) (sym c.self.view_is) c.requires.room in
     let ms : c.learn.new.self.mappings ≡ learned m mapping c.args.fixed inside.cache.mappings =
     was_learned c.learn.result inside.cache.spare (has_room mapping (lasting m inside.cache.mappings)) c.learn.ensures.ok c.learn.ensures.memory room c.learn.ensures.full place in
-    ap₂ (λ (now : ℕ) (l : List Mapping). parts_with (inside.count + 1) inside.drawn now l c.purge.new.self.requests) c.learn.ensures.now ms
-    ∙ ap (λ (l : List Request). parts_with (inside.count + 1) inside.drawn m (learned m mapping c.args.fixed inside.cache.mappings) l) c.purge.ensures.requests
-    ∙ learned-parts inside.count inside.drawn inside.cache.now inside.cache.mappings inside.queue.requests m mapping c.args.fixed
+    ap₂ (λ (now : ℕ) (l : List Mapping). parts_with (inside.count + 1) inside.drawn now l c.purge.new.self.requests c.purge-2.new.self.probes) c.learn.ensures.now ms
+    ∙ ap₂ (λ (r : List Request) (p : List Probe). parts_with (inside.count + 1) inside.drawn m (learned m mapping c.args.fixed inside.cache.mappings) r p) c.purge.ensures.requests c.purge-2.ensures.probes
+    ∙ learned-parts inside.count inside.drawn inside.cache.now inside.cache.mappings inside.queue.requests inside.locators.probes m mapping c.args.fixed
     ∙ ap (λ (t : Memory). with_entry (Learned m mapping c.args.fixed) t.parts) c.self.view_is

@@ -3,6 +3,7 @@ use Rattle.map_cache.specs.Cache.{bits_told, lasting}
 use Rattle.map_cache.specs.declared.mapping.Mapping.{Mapping}
 use Rattle.request_queue.specs.declared.request.Request.{Request}
 use Rattle.router_log.specs.declared.entry.Entry.TheVariants.{Bits}
+use Rattle.router_log.specs.declared.kept.Probe.{Probe}
 use Rattle.router_model.specs.Parts.{with_entry}
 use Rattle.router_core.specs.Table.{Memory}
 use Rattle.router_core.proofs.EntryLemmas.{parts_with, told-parts}
@@ -16,8 +17,8 @@ returns c =
     let inside = c.self.inside in
     record {
       parts =
-          ap₂ (λ (now : ℕ) (l : List Mapping). parts_with (inside.count + 1) inside.drawn now l c.purge-2.new.self.requests) (c.set_bits.ensures.now ∙ c.purge.ensures.now) (c.set_bits.ensures.mappings ∙ ap told c.purge.ensures.mappings)
-          ∙ ap (λ (l : List Request). parts_with (inside.count + 1) inside.drawn m (told (lasting m inside.cache.mappings)) l) c.purge-2.ensures.requests
-          ∙ told-parts inside.count inside.drawn inside.cache.now inside.cache.mappings inside.queue.requests m eid c.args.bits c.args.width
+          ap₂ (λ (now : ℕ) (l : List Mapping). parts_with (inside.count + 1) inside.drawn now l c.purge-2.new.self.requests c.purge-3.new.self.probes) (c.set_bits.ensures.now ∙ c.purge.ensures.now) (c.set_bits.ensures.mappings ∙ ap told c.purge.ensures.mappings)
+          ∙ ap₂ (λ (l : List Request) (p : List Probe). parts_with (inside.count + 1) inside.drawn m (told (lasting m inside.cache.mappings)) l p) c.purge-2.ensures.requests c.purge-3.ensures.probes
+          ∙ told-parts inside.count inside.drawn inside.cache.now inside.cache.mappings inside.queue.requests inside.locators.probes m eid c.args.bits c.args.width
           ∙ ap (λ (t : Memory). with_entry (Bits m eid c.args.bits c.args.width) t.parts) c.self.view_is;
     }

@@ -1,0 +1,45 @@
+-- A second in which nothing is to be done.
+use Rattle.std.proofs.Common.{◌≡◌, ◌≤◌, ℕ, Bool, true, false, cond, List, [], ◌∷◌, Option, Some, None, is_some, refl, sym, ap, ◌∙◌, Bor}
+use Rattle.std.specs.List.{slice_get}
+use Rattle.std.specs.Option.{option_copied}
+use Rattle.lisp_settings.specs.declared.settings.Settings.{Settings}
+use Rattle.request_queue.specs.Queue.{all_due}
+use Rattle.router_model.specs.Changes.{each, unchanged}
+use Rattle.router_model.specs.Parts.{Parts, table, view_in}
+use Rattle.router_model.specs.Tick.{all_probed, all_retried, next_targets, probed, retried, ticked}
+use Rattle.router_core.proofs.ChangeLemmas.{later}
+
+empty : {A : Type 0} (items : List A) → slice_get items 0 ≡ None → items ≡ []
+empty [] is = refl
+empty (item ∷ items) is = cc
+
+-- no request is to be sent again
+retries-none : (settings : Settings) (p : Parts) (m : ℕ) → p.now ≤ m → slice_get (all_due m p.requests) 0 ≡ None → all_retried table settings m (unchanged p) ≡ unchanged p
+unfolding view_in
+retries-none settings p m after none =
+    ap (λ requests. each (retried table settings m) requests (unchanged p))
+    (ap (λ (t : ℕ). all_due t p.requests) (later m p.now after) ∙ empty (all_due m p.requests) none)
+
+-- where the settings have no probes
+pub ticked-quiet : (settings : Settings) (p : Parts) (m : ℕ) → p.now ≤ m → slice_get (all_due m p.requests) 0 ≡ None → settings.probe ≡ false → ticked table settings m (unchanged p) ≡ unchanged p
+unfolding ticked
+ticked-quiet settings p m after none quiet =
+    ap (all_probed table settings m) (retries-none settings p m after none)
+    ∙ ap (λ b. cond b (each (probed table settings m) (next_targets settings (view_in p m)) (unchanged p)) (unchanged p)) quiet
+
+-- where none is to be made
+pub ticked-rest : (settings : Settings) (p : Parts) (m : ℕ) → p.now ≤ m → slice_get (all_due m p.requests) 0 ≡ None → next_targets settings (view_in p m) ≡ [] → ticked table settings m (unchanged p) ≡ unchanged p
+unfolding ticked
+ticked-rest settings p m after none rest =
+    ap (all_probed table settings m) (retries-none settings p m after none)
+    ∙ ap (λ targets. cond settings.probe (each (probed table settings m) targets (unchanged p)) (unchanged p)) rest
+    ∙ either settings.probe
+  where
+    either : (b : Bool) → cond b (unchanged p) (unchanged p) ≡ unchanged p
+    either true = refl
+    either false = refl
+
+-- a request that isn't found
+pub copied-none : {A : Type 0} (found : Option (Bor A)) (first : Option A) → option_copied found ≡ first → is_some found ≡ false → first ≡ None
+copied-none None first is isn't = sym is
+copied-none (Some item) first is isn't = cc

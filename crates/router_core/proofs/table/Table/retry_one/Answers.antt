@@ -1,0 +1,21 @@
+use Rattle.std.proofs.Common.{◌∙◌, List, ap, ap₂}
+use Rattle.router_log.specs.declared.emit.Emit.{Emit}
+use Rattle.router_log.specs.declared.entry.Entry.{Entry}
+use Rattle.router_log.specs.declared.entry.Entry.TheVariants.{Retried}
+use Rattle.router_model.specs.Parts.{Parts, with_entry}
+use Rattle.router_core.specs.Table.{change_of}
+use Rattle.router_core.proofs.TickingLemmas.{owed-again, retried-change}
+use Rattle.router_core.proofs.table.Table.retry_one.Goals as goal
+use Rattle.request_queue.specs.Queue.{waiting}
+
+pub retry-requires-clause-again : goal.retry-requires-clause-again
+retry-requires-clause-again c = owed-again (waiting c.args.m c.args.self.now.parts.requests) c.args.request.now c.requires.owed
+
+pub returns-clause-change : goal.returns-clause-change
+returns-clause-change c settings =
+    let m = c.args.m in
+    let p = c.args.self.now.parts in
+    let request = c.args.request.now in
+    ap (λ (q : Parts). change_of q c.push_reserved.new.self.items c.push_reserved-2.new.self.items) c.retry.ensures.parts
+    ∙ ap₂ (λ (e : List Entry) (f : List Emit). change_of (with_entry (Retried m request.nonce) p) e f) c.push_reserved.ensures.items c.push_reserved-2.ensures.items
+    ∙ retried-change settings m request p c.args.entries.now.items c.args.emits.now.items c.requires.later c.requires.count c.requires.owed

@@ -1,0 +1,37 @@
+-- Locators that aren't to be probed until a moment.
+use Rattle.std.specs.Prelude.{◌≡◌, ℕ, ◌+◌, ◌==◌, ◌||◌, nat_le, not, Bool, true, List, Option, Some, None, is_none}
+use Rattle.std.specs.List.{list_all}
+use Rattle.ip_headers.specs.declared.addr.Addr.{Addr}
+use Rattle.mapping_records.specs.Eids.{same_address}
+use Rattle.mapping_records.specs.declared.record.Locator.{Locator}
+use Rattle.lisp_settings.specs.declared.settings.OwnLocator.{OwnLocator}
+use Rattle.locator_state.specs.Lists.{last_where}
+use Rattle.map_cache.specs.declared.mapping.Mapping.{Mapping}
+use Rattle.router_log.specs.Moments.{seconds}
+use Rattle.router_log.specs.declared.kept.Probe.{Probe}
+use Rattle.router_model.specs.Site.{is_own, ours}
+use Rattle.router_model.specs.Tick.{may_take}
+
+-- the last probe is less than 60 seconds old until that moment; without one there is no such moment but 0
+abbrev pub is_recent : ℕ → Option Probe → Bool
+is_recent until None = until == 0
+is_recent until (Some probe) = nat_le until (probe.moment + seconds 60)
+
+-- the last probe of a locator
+abbrev pub last_of : List Probe → Addr → Option Probe
+last_of probes rloc = last_where (λ probe. same_address probe.rloc rloc) probes
+
+-- a locator isn't to be probed until that moment, where these are the own locators
+abbrev pub rests : List OwnLocator → ℕ → List Probe → Locator → Bool
+rests own until probes locator =
+    not (may_take locator)
+    || (is_own own locator.addr || (is_none (ours own locator.addr) || is_recent until (last_of probes locator.addr)))
+
+-- none of these
+abbrev pub all_rest : List OwnLocator → ℕ → List Probe → List Locator → Bool
+all_rest own until probes locators = list_all (rests own until probes) locators
+
+-- none that a mapping names; it needn't be known of moment 0
+abbrev pub IsAtRest : List OwnLocator → ℕ → List Probe → List Mapping → Type 0
+IsAtRest own until probes mappings =
+    ((until == 0) || list_all (λ mapping. all_rest own until probes mapping.details.locators) mappings) ≡ true

@@ -1,0 +1,32 @@
+-- Requests that are sent again, and locators that are probed.
+use Rattle.std.specs.Prelude.{◌≡◌, ℕ, ◌==◌, nat_lt, not, Bool, true, IsTrue, List, [], ◌∷◌, fold, take, Some, is_some}
+use Rattle.std.specs.List.{list_all}
+use Rattle.lisp_settings.specs.declared.settings.Settings.{Settings}
+use Rattle.locator_state.specs.Turns.{with_target}
+use Rattle.locator_state.specs.declared.target.Target.{Target}
+use Rattle.request_queue.specs.Queue.{with_nonce}
+use Rattle.request_queue.specs.declared.request.Request.{Request}
+use Rattle.router_model.specs.Site.{ours}
+
+-- a request may be sent again: it is the one with its nonce among those that wait, and was sent again less than twice
+pub record IsOwed (waits : List Request) (request : Request) : Type 0 where
+  pub found : with_nonce waits request.nonce ≡ Some request
+  pub again : nat_lt request.sent_again 2 ≡ true
+
+-- these have other nonces
+abbrev pub are_apart : ℕ → List Request → Bool
+are_apart nonce requests = list_all (λ request. not (request.nonce == nonce)) requests
+
+-- each of these may, and none has the nonce of another
+abbrev pub AreOwed : List Request → List Request → Type 0
+AreOwed waits [] = Unit {0}
+AreOwed waits (request ∷ others) =
+    IsOwed waits request × ((are_apart request.nonce others ≡ true) × AreOwed waits others)
+
+-- there is an own locator of its family
+abbrev pub HasSender : Settings → Target → Type 0
+HasSender settings target = IsTrue (is_some (ours settings.locators target.rloc))
+
+-- the first 16 in order, once these were offered too
+abbrev pub offered : List Target → List Target → List Target
+offered targets first = take 16 (fold (λ so_far target. with_target target so_far) first targets)

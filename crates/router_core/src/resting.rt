@@ -1,0 +1,94 @@
+// When the next locator can be probed.
+ghost use Rattle.std.specs.Prelude.{◌≡◌, ◌≤◌, true, IfOk, IsTrue};
+ghost use Rattle.std.specs.List.{list_all};
+ghost use Rattle.router_core.specs.Resting.{all_rest, rests};
+
+use crate::site::{is_own, ours};
+use lisp_settings::{Locator, OwnLocator, OwnLocators};
+use locator_state::LocatorState;
+use map_cache::Mapping;
+use octets::{Items, NoMemory};
+use std::alloc::Global;
+
+/// Until a moment no locator that a mapping names is to be probed, where these are the own locators.
+#[derive(Drop)]
+pub(crate) struct Rest {
+    pub own: OwnLocators,
+    pub until: u64,
+}
+
+impl Rest {
+    /// With these own locators; of no moment.
+    pub(crate) fn new(alloc: Global, own: &[OwnLocator]) -> Result<Rest, NoMemory>
+        ensures { IfOk result (λ rest. rest.until ≡ 0) }
+    {
+        let mut copies = Vec::new(alloc);
+        copies.extend_from_slice(own)?;
+        Ok(Rest {
+            own: Items::from_vec(copies),
+            until: 0,
+        })
+    }
+}
+
+/// The own locators are the same.
+pub(crate) fn are_same(a: &[OwnLocator], b: &[OwnLocator]) -> bool
+    ensures { IsTrue result → a.now ≡ b.now }
+{
+    let [first, others @ ..] = a else {
+        return b.is_empty();
+    };
+    let [second, rest @ ..] = b else {
+        return false;
+    };
+    is_same(first, second) && are_same(others, rest)
+}
+
+fn is_same(a: &OwnLocator, b: &OwnLocator) -> bool
+    ensures { IsTrue result → a.now ≡ b.now }
+{
+    a == b
+}
+
+// Until when a locator isn't to be probed.
+fn rest_of(own: &[OwnLocator], m: u64, state: &LocatorState, locator: &Locator) -> u64
+    ensures { (until : _) → until ≤ result
+        → rests own.now until state.now.probes locator.now ≡ true }
+{
+    if locator.priority == 255 || is_own(own, locator.addr) || ours(own, locator.addr).is_none() {
+        return u64::MAX;
+    }
+    match state.last_probe(m, &locator.addr) {
+        None => 0,
+        Some(moment) => moment.saturating_add(60_000_000_000),
+    }
+}
+
+// Until when none of these is to be probed.
+fn rest_of_all(own: &[OwnLocator], m: u64, state: &LocatorState, locators: &[Locator]) -> u64
+    ensures { (until : _) → until ≤ result
+        → all_rest own.now until state.now.probes locators.now ≡ true }
+{
+    let mut until = u64::MAX;
+    for locator in locators {
+        until = until.min(rest_of(own, m, state, locator));
+    }
+    until
+}
+
+/// Until when none of those that mappings name is to be probed, as is known at a moment.
+pub(crate) fn rest_until(
+    own: &[OwnLocator],
+    m: u64,
+    state: &LocatorState,
+    mappings: &[Mapping],
+) -> u64
+    ensures { list_all (λ mapping. all_rest own.now result state.now.probes
+        mapping.details.locators) mappings.now ≡ true }
+{
+    let mut until = u64::MAX;
+    for mapping in mappings {
+        until = until.min(rest_of_all(own, m, state, mapping.details.locators.as_slice()));
+    }
+    until
+}
