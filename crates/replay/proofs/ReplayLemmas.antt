@@ -1,5 +1,5 @@
 -- What a frame adds to a replay.
-use Rattle.std.proofs.Common.{get_or, drop, take, ◌≡◌, ◌+◌, ◌*◌, ◌-◌, ◌≤◌, ◌∙◌, ℕ, List, [], ◌∷◌, ◌++◌, length, Option, Some, None, Result, Ok, Err, false, append_assoc, arith, ap, ap₂, refl, sym}
+use Rattle.std.proofs.Common.{get_or, drop, take, ◌≡◌, ◌+◌, ◌*◌, ◌/◌, ◌-◌, ◌^◌, ◌≤◌, ◌<◌, ◌∙◌, ℕ, List, [], ◌∷◌, ◌++◌, length, Option, Some, None, Result, Ok, Err, false, append_assoc, arith, ap, ap₂, refl, sym}
 use Rattle.std.specs.Result.{OnOk}
 use Rattle.std.proofs.lemmas.Grind.{flat_map-append}
 use Rattle.std.proofs.lemmas.List.{append-nil, length-append, length-map, take_all}
@@ -7,10 +7,9 @@ use Rattle.capture_io.specs.Frame.{Frame}
 use Rattle.capture_io.specs.Output.{packet_record}
 use Rattle.lisp_settings.specs.Lawful.{IsLawful}
 use Rattle.lisp_settings.specs.declared.settings.Settings.{Settings}
-use Rattle.playback.specs.Events.{Arrival, Packet, events_of, played, records_of}
+use Rattle.playback.specs.Events.{Arrival, Packet, records_of, second_of}
 use Rattle.playback.specs.Playing.{Gathers}
 use Rattle.playback.specs.declared.output.Output.{Output}
-use Rattle.playback.proofs.EventLemmas.{played-quiet}
 use Rattle.router_log.specs.Lines.{frame_line}
 use Rattle.router_log.specs.declared.verdict.Verdict.{Verdict}
 use Rattle.router_model.specs.Changes.{Change}
@@ -21,17 +20,13 @@ use Rattle.router_model.proofs.ReplayLemmas.{statics-first}
 use Rattle.router_model.proofs.StaticsLemmas.{length-statics}
 use Rattle.router_model.specs.Course.{Course, control, course_of}
 use Rattle.router_model.specs.Decide.{decide_by, decide_course}
-use Rattle.router_model.specs.Plain.{Router, after_data, after_decision, after_event, after_message, emit_packets, packet_of, packets_of}
+use Rattle.router_model.specs.Plain.{Router, after_data, after_decision, after_event, after_message, after_tick, emit_packets, packet_of, packets_of}
 use Rattle.replay.specs.Taking.{router_of, Sends}
 
 -- a verdict sends at most one packet
 pub packets_few : (moment : ℕ) (packet : Option (List ℕ)) → length (packets_of moment packet) ≤ 1
 packets_few moment None = omega arith
 packets_few moment (Some packet) = omega arith
-
--- at seconds a replay does nothing yet
-pub replay-quiet : (router : Router Parts) (previous : Option ℕ) (frame : Frame) → played (after_event table) router (events_of previous frame) ≡ after_event table router (Arrival frame)
-replay-quiet router previous frame = played-quiet (after_event table) router previous frame (λ second r. refl)
 
 -- three facts make a fourth, where there is a value
 pub on_ok_three : {T E A B C D : Type 0} (r : Result T E) → OnOk r A → OnOk r B → OnOk r C → (A → B → C → D) → OnOk r D
@@ -109,18 +104,51 @@ pub on_ok_two : {T E A B C : Type 0} (r : Result T E) → OnOk r A → OnOk r B 
 on_ok_two (Ok x) a b all = all a b
 on_ok_two (Err e) a b all = tt
 
+-- the packets of emits are what a second gives
+pub second-gathers : (router : Router Parts) (moment : ℕ) (change : Change Parts) (old new : Output)
+    → Sends (emit_packets router.settings moment change.emits) old new → length change.emits ≤ 1040 → Gathers (after_tick table router moment change) old new
+second-gathers router moment change old new sent few =
+    let count : length (emit_packets router.settings moment change.emits) ≡ length change.emits = length-map change.emits _ in
+    record {
+      lines = sent.lines ∙ sym (append-nil old.lines);
+      records = sent.records;
+      written = sent.written;
+      few = omega (arith, count, few);
+    }
+
+not-earlier : (m n : ℕ) → m ≤ n → second_of m ≤ second_of n
+not-earlier m n later = grind (arith, later)
+
+second-later : (m second : ℕ) → m < second * 1000000000 → second_of m + 1 ≤ second
+second-later m second later = grind (arith, later)
+
 -- what a frame more may add to a journal
-pub ready-more : (number before after : ℕ) → before ≤ 65536 + 256 * (number - 1) → after ≤ before + 256 → 1 ≤ number → after ≤ 65536 + 256 * number
-ready-more number before after few more some = omega (arith, few, more, some)
+pub ready-more : (frames number before after earlier moment : ℕ) → number ≡ frames + 1 → earlier ≤ moment → before ≤ 65536 + 256 * frames + 1040 * second_of earlier → after ≤ before + 256 → after ≤ 65536 + 256 * number + 1040 * second_of moment
+ready-more frames number before after earlier moment next later few more =
+    let past = not-earlier earlier moment later in
+    omega (arith, next, past, few, more)
+
+-- and a second
+pub ready-later : (frames before after earlier second : ℕ) → earlier < second * 1000000000 → before ≤ 65536 + 256 * frames + 1040 * second_of earlier → after ≤ before + 1040 → after ≤ 65536 + 256 * frames + 1040 * second_of (second * 1000000000)
+ready-later frames before after earlier second later few more =
+    let past = second-later earlier second later in
+    let same : second * 1000000000 / 1000000000 ≡ second = grind arith in
+    rw same (omega (arith, past, few, more))
+
+-- there is room for more
+pub room-left : (frames count moment : ℕ) → frames ≤ 1000000000 → moment < 2 ^ 32 * 1000000000 → count ≤ 65536 + 256 * frames + 1040 * second_of moment → count < 2 ^ 61
+room-left frames count moment most early few =
+    let past = second-later moment (2 ^ 32) early in
+    omega (arith, past, most, few)
 
 -- a router begins ready, with an entry for each static mapping
 pub ready-first : (settings : Settings) (parts : Parts) → IsLawful settings → parts ≡ parts_in (statics settings)
-    → IsLawful settings × ((parts.now ≤ 0) × (parts.count ≤ 65536 + 256 * 0))
+    → IsLawful settings × ((parts.now ≤ 0) × (parts.count ≤ 65536 + 256 * 0 + 1040 * second_of 0))
 ready-first settings parts lawful is =
     let count = length-statics settings in
     let few = lawful.few_mappings in
     let first = statics-first settings in
-    (lawful, (rw is first, rw is (let few_entries : length (statics settings) ≤ 65536 + 256 * 0 = omega (arith, count, few) in few_entries)))
+    (lawful, (rw is first, rw is (let few_entries : length (statics settings) ≤ 65536 + 256 * 0 + 1040 * second_of 0 = omega (arith, count, few) in few_entries)))
 
 -- a list is its first item and those left
 pub first-left : {A : Type 0} (items : List A) (item : A) → 1 ≤ length items → item ≡ get_or items 0 item → items ≡ item ∷ take (length items - 1) (drop 1 items)

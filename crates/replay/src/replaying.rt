@@ -8,6 +8,7 @@ ghost use Rattle.capture_io.specs.Frames.{read_on};
 ghost use Rattle.capture_io.specs.Reading.{beginning};
 ghost use Rattle.lisp_settings.specs.Lawful.{IsLawful};
 ghost use Rattle.lisp_settings.specs.Settings.{settings_of};
+ghost use Rattle.playback.specs.Events.{second_of};
 ghost use Rattle.router_model.specs.Parts.{Parts, table};
 ghost use Rattle.router_model.specs.Plain.{Router, after_event};
 ghost use Rattle.replay.specs.Taking.{router_of};
@@ -17,13 +18,13 @@ use crate::Status;
 use crate::last_lines::{close, end_line, refuse_capture, refuse_settings};
 use crate::output_file::make_output;
 use crate::settings_file::load_settings;
-use crate::taking::take_frame;
+use crate::taking::{take_frame, take_second};
 use crate::words::FileNames;
 use capture_io::{CaptureFault, CaptureReader, Frame};
 use desk::{Desk, DeskFault};
 use lisp_settings::Settings;
 use octets::NoMemory;
-use playback::{Machine, Output, play};
+use playback::{Machine, Output, Progress, play};
 use router_core::Table;
 use std::alloc::Global;
 
@@ -41,14 +42,26 @@ impl<'a> Machine for Replay<'a> {
 
     ghost step = { after_event table };
 
-    ghost IsReady = { λ count previous replay. IsLawful replay.settings.now
-        × ((replay.table.parts.now ≤ unwrap_or previous 0)
-        × (replay.table.parts.count ≤ 65536 + 256 * count)) };
+    // A frame adds at most 256 entries, a second 1,040.
+    ghost IsReady = { λ progress replay. IsLawful replay.settings.now
+        × ((replay.table.parts.now ≤ unwrap_or progress.moment 0)
+        × (replay.table.parts.count
+        ≤ 65536 + 256 * progress.frames + 1040 * second_of (unwrap_or progress.moment 0))) };
+
+    fn tick(
+        &mut self,
+        alloc: Global,
+        _progress: Progress,
+        second: u32,
+        output: &mut Output,
+    ) -> Result<(), NoMemory> {
+        take_second(alloc, self.settings, &mut self.table, second, output)
+    }
 
     fn take(
         &mut self,
         alloc: Global,
-        _previous: Option<u64>,
+        _progress: Progress,
         frame: &Frame,
         output: &mut Output,
     ) -> Result<(), NoMemory> {

@@ -15,7 +15,7 @@ use crate::last_lines::{close, count_line, refuse_capture};
 use capture_io::{CaptureFault, CaptureReader, Frame};
 use desk::{Desk, DeskFault};
 use octets::NoMemory;
-use playback::{Machine, Output, play};
+use playback::{Machine, Output, Progress, play};
 use std::alloc::Global;
 
 /// A show, which keeps nothing from frame to frame.
@@ -29,12 +29,22 @@ impl Machine for Show {
 
     ghost step = { showing };
 
-    ghost IsReady = { λ _ _ _. Unit {0} };
+    ghost IsReady = { λ _ _. Unit {0} };
+
+    fn tick(
+        &mut self,
+        _alloc: Global,
+        _progress: Progress,
+        _second: u32,
+        _output: &mut Output,
+    ) -> Result<(), NoMemory> {
+        Ok(())
+    }
 
     fn take(
         &mut self,
         alloc: Global,
-        _previous: Option<u64>,
+        _progress: Progress,
         frame: &Frame,
         output: &mut Output,
     ) -> Result<(), NoMemory> {

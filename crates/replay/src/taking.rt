@@ -2,7 +2,7 @@
 ghost use Rattle.std.specs.Prelude.{◌≡◌, ◌<◌, ◌≤◌, ◌+◌, ◌*◌, ◌^◌, ◌∷◌, [], true, length, All, None, OnOk};
 ghost use Rattle.std.specs.List.{list_all};
 ghost use Rattle.lisp_settings.specs.Lawful.{IsLawful};
-ghost use Rattle.playback.specs.Events.{Arrival};
+ghost use Rattle.playback.specs.Events.{Arrival, Tick};
 ghost use Rattle.playback.specs.Playing.{Gathers};
 ghost use Rattle.router_core.specs.Seen.{course_seen, IfLeaving, IfSettled};
 ghost use Rattle.router_core.specs.Sendable.{IsSendable};
@@ -22,6 +22,31 @@ use playback::Output;
 use router_core::{Course, Decision, Table, course_of, emit_octets};
 use router_log::{Emit, Notices, Verdict, push_frame_line};
 use std::alloc::Global;
+
+/// Lets a second begin, and gathers the packets that are sent at it.
+pub(crate) fn take_second(
+    alloc: Global,
+    settings: &Settings,
+    memory: &mut Table,
+    second: u32,
+    output: &mut Output,
+) -> Result<(), NoMemory>
+    requires lawful { IsLawful settings.now }
+    requires later { memory.old.parts.now ≤ second * 1000000000 }
+    requires count { memory.old.parts.count < 2 ^ 61 }
+    requires room { output.old.written < 2 ^ 48 }
+    ensures gathers { OnOk result (Gathers
+        (after_event table (router_of settings.now memory.old.parts) (Tick second))
+        output.old output.new) }
+    ensures state { OnOk result (router_of settings.now memory.new.parts
+        ≡ (after_event table (router_of settings.now memory.old.parts) (Tick second)).after) }
+    ensures now { OnOk result (memory.new.parts.now ≤ second * 1000000000) }
+    ensures count { OnOk result (memory.new.parts.count ≤ memory.old.parts.count + 1040) }
+{
+    let changed = memory.tick(settings, second)?;
+    let moment = u64::from(second) * 1_000_000_000;
+    push_emits(alloc, settings, moment, changed.emits.as_slice(), output)
+}
 
 /// Hears a frame or decides it, and gathers its line and the packets that are sent for it.
 pub(crate) fn take_frame(

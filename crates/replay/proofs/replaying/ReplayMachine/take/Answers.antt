@@ -1,26 +1,17 @@
-use Rattle.std.proofs.Common.{◌∙◌, ap, sym, subst}
-use Rattle.std.proofs.lemmas.Result.{on_ok_weaker}
-use Rattle.playback.specs.Events.{Outcome}
-use Rattle.playback.specs.Playing.{Gathers}
-use Rattle.router_model.specs.Parts.{Parts}
-use Rattle.router_model.specs.Plain.{Router}
-use Rattle.replay.specs.Taking.{router_of}
-use Rattle.replay.proofs.ReplayLemmas.{on_ok_two, ready-more, replay-quiet}
+use Rattle.std.proofs.Common.{arith, unwrap_or}
+use Rattle.replay.proofs.ReplayLemmas.{on_ok_two, ready-more, room-left}
 use Rattle.replay.proofs.replaying.ReplayMachine.take.Goals as goal
 
-pub returns-clause-gathers : goal.returns-clause-gathers
-returns-clause-gathers c =
-    let quiet = replay-quiet (router_of c.args.self.now.settings.now c.args.self.now.table.parts) c.args._previous c.args.frame.now in
-    on_ok_weaker c.take_frame.result (λ gathers.
-    subst (λ (o : Outcome (Router Parts)). Gathers o c.args.output.now c.take_frame.new.output) (sym quiet) gathers) c.take_frame.ensures.gathers
-
-pub returns-clause-state : goal.returns-clause-state
-returns-clause-state c =
-    let quiet = replay-quiet (router_of c.args.self.now.settings.now c.args.self.now.table.parts) c.args._previous c.args.frame.now in
-    on_ok_weaker c.take_frame.result (λ state. state ∙ ap (λ (o : Outcome (Router Parts)). o.after) (sym quiet)) c.take_frame.ensures.state
+pub take_frame-requires-clause-count : goal.take_frame-requires-clause-count
+take_frame-requires-clause-count c =
+    let next = c.requires.next in
+    let most = c.requires.most in
+    let later = c.requires.later in
+    let early = c.requires.moment in
+    room-left c.args._progress.frames c.args.self.now.table.parts.count (unwrap_or c.args._progress.moment 0) (omega (arith, next, most)) (omega (arith, later, early)) c.requires.ready.1.1
 
 pub returns-clause-ready : goal.returns-clause-ready
 returns-clause-ready c =
     let ready = c.requires.ready in
     on_ok_two c.take_frame.result c.take_frame.ensures.now c.take_frame.ensures.count (λ now count.
-    (ready.0, (now, ready-more c.args.frame.now.number _ _ ready.1.1 count c.requires.first)))
+    (ready.0, (now, ready-more c.args._progress.frames c.args.frame.now.number _ _ (unwrap_or c.args._progress.moment 0) c.args.frame.now.moment c.requires.next c.requires.later ready.1.1 count)))

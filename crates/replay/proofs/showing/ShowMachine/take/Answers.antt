@@ -4,4 +4,4 @@ use Rattle.replay.proofs.ShowLemmas.{lines_gathered}
 use Rattle.replay.proofs.showing.ShowMachine.take.Goals as goal
 
 pub returns-clause-gathers : goal.returns-clause-gathers
-returns-clause-gathers c = on_ok_weaker c.push_shown.result (λ lines. lines_gathered c.args._previous c.args.frame.now c.args.output.now _ lines refl refl) c.push_shown.ensures
+returns-clause-gathers c = on_ok_weaker c.push_shown.result (λ lines. lines_gathered c.args.frame.now c.args.output.now _ lines refl refl) c.push_shown.ensures
