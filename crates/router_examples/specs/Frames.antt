@@ -1,5 +1,5 @@
 -- The packets of the examples, and frames of them.
-use Rattle.std.specs.Prelude.{ℕ, ◌+◌, ◌*◌, List, [], ◌++◌, codes, replicate, unwrap_or}
+use Rattle.std.specs.Prelude.{ℕ, ◌+◌, ◌*◌, ◌-◌, List, [], ◌++◌, codes, replicate, unwrap_or}
 use Rattle.capture_io.specs.Frame.{Frame}
 use Rattle.capture_io.specs.declared.link.Link.TheVariants.{Ethernet, Raw}
 use Rattle.lisp_settings.specs.Hex.{octets_in}
@@ -10,6 +10,10 @@ tenths n = 1700000000000000000 + n * 100000000
 
 abbrev pub seconds : ℕ → ℕ
 seconds n = 1700000000000000000 + n * 1000000000
+
+-- a nanosecond before a moment
+abbrev pub just_before : ℕ → ℕ
+just_before moment = moment - 1
 
 -- octets of hexadecimal digits
 abbrev pub hex : List ℕ → List ℕ

@@ -1,19 +1,29 @@
 -- What the plain router makes of captures.
-use Rattle.std.specs.Prelude.{ℕ, ◌+◌, true, false, List, [], ◌∷◌, ◌++◌, flat_map, map, Option, Some}
+use Rattle.std.specs.Prelude.{ℕ, ◌+◌, Bool, true, false, List, [], ◌∷◌, ◌++◌, filter_map, flat_map, map, Option, Some, None}
+use Rattle.ip_headers.specs.declared.addr.Addr.{Addr}
 use Rattle.ip_headers.specs.declared.addr.Addr.TheVariants.{V4}
 use Rattle.capture_io.specs.Frame.{Frame}
+use Rattle.mapping_records.specs.declared.record.Locator.{Locator}
+use Rattle.lisp_settings.specs.declared.settings.OwnLocator.{OwnLocator}
 use Rattle.lisp_settings.specs.declared.settings.Settings.{Settings}
 use Rattle.locator_choice.specs.Choice.{chosen}
+use Rattle.locator_state.specs.Probes.{probe_up}
 use Rattle.playback.specs.Events.{Outcome, Packet, events, played}
+use Rattle.request_queue.specs.Queue.{due}
 use Rattle.router_log.specs.Lines.{verdict_text}
-use Rattle.router_log.specs.declared.entry.Entry.TheVariants.{Asked, Retried}
+use Rattle.router_log.specs.declared.entry.Entry.{Entry}
+use Rattle.router_log.specs.declared.entry.Entry.TheVariants.{Asked, Learned, Probed, ProbeAnswered, Retried}
+use Rattle.router_model.specs.Changes.{Change}
 use Rattle.router_model.specs.Decide.{decide}
 use Rattle.router_model.specs.Hear.{hear}
 use Rattle.router_model.specs.Journal.{Journal, statics}
+use Rattle.router_model.specs.Observed.{observed}
 use Rattle.router_model.specs.Plain.{Router, plain, started}
+use Rattle.router_model.specs.Tick.{tick}
+use Rattle.router_model.specs.View.{view}
 use Rattle.router_examples.specs.Frames.{arp, encapsulated_in_100, framed, inbound, inbound_delivered, packet, raw, seconds, tenths, wired}
-use Rattle.router_examples.specs.Messages.{asked, reply}
-use Rattle.router_examples.specs.Sites.{asking_site, host}
+use Rattle.router_examples.specs.Messages.{asked, first_answer, reply, second_answer}
+use Rattle.router_examples.specs.Sites.{asking_site, far, far_off, host, locator, mapping, narrow_of_0, next_of_0, probing_site, site_probing, wide, wide_of_0}
 
 -- the outcome of a capture
 abbrev pub replayed : Settings → List Frame → Outcome (Router Journal)
@@ -52,15 +62,90 @@ abbrev pub verdict_on : List ℕ → Settings → List ℕ
 verdict_on octets settings =
     verdict_text (decide settings (statics settings) (tenths 0) (raw 1 (tenths 0) octets)).verdict
 
--- a journal with a Map-Request that was sent again after one second and after three
+-- a journal with a Map-Request; it was sent again after one second, and after three
+abbrev pub asked_once : Journal
+asked_once = Asked (seconds 0) host (Some (V4 0x0a010005)) false 0x0102030405060708 ∷ []
+
+abbrev pub asked_twice : Journal
+asked_twice = Retried (seconds 1) 0x0102030405060708 ∷ asked_once
+
 abbrev pub waiting : Journal
-waiting =
-    Retried (seconds 3) 0x0102030405060708 ∷ Retried (seconds 1) 0x0102030405060708
-    ∷ Asked (seconds 0) host (Some (V4 0x0a010005)) false 0x0102030405060708 ∷ []
+waiting = Retried (seconds 3) 0x0102030405060708 ∷ asked_twice
 
 -- what becomes of the reply to it that comes at a moment
 abbrev pub reply_at : ℕ → List ℕ
 reply_at moment = verdict_text (hear asking_site waiting moment (raw 2 moment reply)).verdict
+
+-- whether the requests of a journal that wait are to be sent again at a moment
+abbrev pub due_at : Journal → ℕ → List Bool
+due_at before moment = map (due moment) (view before moment).requests
+
+-- what the second that begins so many seconds after the begin makes of a journal
+abbrev pub second : Settings → Journal → ℕ → Change Journal
+second settings before n = tick settings before (1700000000 + n)
+
+-- the locator that an entry probes
+abbrev pub probed_in : Entry → Option Addr
+probed_in (Probed moment rloc nonce) = Some rloc
+probed_in _ = None
+
+-- the locators that are probed in that second, in order
+abbrev pub probed_at : Settings → Journal → ℕ → List Addr
+probed_at settings before n = filter_map probed_in (second settings before n).entries
+
+-- the nonces of the requests that are sent again in that second, in order
+abbrev pub retried_in : Entry → Option ℕ
+retried_in (Retried moment nonce) = Some nonce
+retried_in _ = None
+
+abbrev pub retried_at : Settings → Journal → ℕ → List ℕ
+retried_at settings before n = filter_map retried_in (second settings before n).entries
+
+-- two requests that wait, the second of which has the lesser nonce
+abbrev pub two_asked : Journal
+two_asked = Asked (seconds 1) wide None true 2 ∷ Asked (seconds 0) host (Some (V4 0x0a010005)) false 5 ∷ []
+
+-- the locators that are probed first by a site with own locators, of a mapping to others
+abbrev pub probes_of : List OwnLocator → List Locator → List Addr
+probes_of own locators = probed_at (site_probing own locators) (statics (site_probing own locators)) 0
+
+-- a mapping that was learnt for a minute
+abbrev pub learnt_for_a_minute : Journal
+learnt_for_a_minute = Learned (seconds 0) (mapping 1 wide_of_0 (locator far ∷ [])) false ∷ []
+
+-- three mappings with the same locators, one of which the least EID names with priority 255
+abbrev pub shared_locators : Journal
+shared_locators =
+    Learned (seconds 0) (mapping 60 narrow_of_0 (locator far ∷ [])) false
+    ∷ Learned (seconds 0) (mapping 60 wide_of_0 (record (locator far) { priority = 255 } ∷ locator (far_off 8) ∷ [])) false
+    ∷ Learned (seconds 0) (mapping 60 next_of_0 (locator far ∷ locator (far_off 8) ∷ [])) false
+    ∷ []
+
+-- the site's mappings, and probes of locators, the last first
+abbrev pub probed_before : Settings → List (ℕ × Addr) → Journal
+probed_before settings probes = map (λ probe. Probed (seconds probe.0) probe.1 0) probes ++ statics settings
+
+-- a journal with a probe that waits for an answer, and one with another probe of that locator after a minute
+abbrev pub probed_once : Journal
+probed_once = Probed (seconds 0) far 0x0102030405060708 ∷ []
+
+abbrev pub probed_twice : Journal
+probed_twice = Probed (seconds 60) far 0x1112131415161718 ∷ probed_once
+
+-- the same with the first one answered after a second
+abbrev pub answered_once : Journal
+answered_once = ProbeAnswered (seconds 1) 0x0102030405060708 ∷ probed_once
+
+abbrev pub probed_again : Journal
+probed_again = Probed (seconds 60) far 0x1112131415161718 ∷ answered_once
+
+-- no probe of a journal speaks against that locator at a moment
+abbrev pub up_at : Journal → ℕ → Bool
+up_at before moment = probe_up moment (observed before).probes far
+
+-- what becomes of an answer to the first probe that comes at a moment
+abbrev pub answer_at : Journal → ℕ → List ℕ
+answer_at before moment = verdict_text (hear probing_site before moment (raw 2 moment first_answer)).verdict
 
 -- the candidates that hashes choose among usable ones of priority 1, by their weights
 abbrev pub choices : List ℕ → List ℕ → List (Option ℕ)
@@ -83,6 +168,20 @@ at_the_link =
     wired 1 arp ∷ wired 2 (framed packet) ∷ wired 3 (framed asked) ∷ wired 4 (framed reply)
     ∷ wired 5 (framed packet) ∷ wired 6 (framed encapsulated_in_100) ∷ wired 7 (framed inbound)
     ∷ wired 8 (framed inbound_delivered) ∷ []
+
+-- a packet without a mapping, and the reply at a moment
+abbrev pub replied_at : ℕ → List Frame
+replied_at moment = raw 1 (seconds 0) packet ∷ raw 2 moment reply ∷ []
+
+-- packets while a probe waits, and after it; and the same around the answer to the next probe
+abbrev pub around_probes : List Frame
+around_probes =
+    raw 1 (tenths 5) packet ∷ raw 2 (tenths 39) packet ∷ raw 3 (seconds 4) packet ∷ raw 4 (tenths 614) packet
+    ∷ raw 5 (tenths 615) second_answer ∷ raw 6 (tenths 616) packet ∷ []
+
+-- a packet before a probe, an answer to it, and a packet three seconds after it
+abbrev pub around_answer : List ℕ → List Frame
+around_answer answer = raw 1 (tenths 5) packet ∷ raw 2 (tenths 15) answer ∷ raw 3 (seconds 4) packet ∷ []
 
 -- a mapping for a minute from 0.1 s on, and packets a nanosecond before its end, and at it
 abbrev pub at_the_end_of : List ℕ → List Frame

@@ -1,5 +1,6 @@
 -- The sites of the examples: EIDs, mappings, settings.
-use Rattle.std.specs.Prelude.{ℕ, ◌+◌, ◌^◌, nat_lt, true, false, IsTrue, List, [], ◌∷◌, map, replicate, Some, None, refl}
+use Rattle.std.specs.Prelude.{ℕ, ◌+◌, ◌^◌, nat_lt, true, false, IsTrue, List, [], ◌∷◌, map, replicate, reverse, Some, None, refl}
+use Rattle.std.specs.List.{range_with_len}
 use Rattle.std.proofs.lemmas.Bool.{ltb-true}
 use Rattle.ip_headers.specs.Addr.{is_prefix}
 use Rattle.ip_headers.specs.declared.addr.Addr.{Addr}
@@ -29,12 +30,29 @@ narrow = eid 100 (V4 0x0a020000) 24 refl refl
 abbrev pub host : Eid
 host = eid 100 (V4 0x0a020009) 32 refl refl
 
+-- 10.2.0.0/24 and 10.3.0.0/16 of instance 0
+abbrev pub narrow_of_0 : Eid
+narrow_of_0 = eid 0 (V4 0x0a020000) 24 refl refl
+
+abbrev pub next_of_0 : Eid
+next_of_0 = eid 0 (V4 0x0a030000) 16 refl refl
+
 -- the site's own locator 192.0.2.1, and 198.51.100.7 of another site
 abbrev pub near : Addr
 near = V4 0xc0000201
 
 abbrev pub far : Addr
 far = V4 0xc6336407
+
+-- 198.51.100.0 and so many more; 2001:db8::1 of the site and 2001:db8::2 of another one
+abbrev pub far_off : ℕ → Addr
+far_off n = V4 (0xc6336400 + n)
+
+abbrev pub near_in_ipv6 : Addr
+near_in_ipv6 = V6 0x20010db8000000000000000000000001
+
+abbrev pub far_in_ipv6 : Addr
+far_in_ipv6 = V6 0x20010db8000000000000000000000002
 
 -- an own locator that is up
 abbrev pub own : Addr → OwnLocator
@@ -90,8 +108,8 @@ site_acting action = record static_site { mappings = record (mapping 1440 wide_o
 -- that site, its locator and that of the mapping in IPv6
 abbrev pub site_over_ipv6 : Settings
 site_over_ipv6 = record static_site {
-  locators = own (V6 0x20010db8000000000000000000000001) ∷ [];
-  mappings = mapping 1440 wide_of_0 (locator (V6 0x20010db8000000000000000000000002) ∷ []) ∷ [];
+  locators = own near_in_ipv6 ∷ [];
+  mappings = mapping 1440 wide_of_0 (locator far_in_ipv6 ∷ []) ∷ [];
 }
 
 -- a site with the EIDs 10.1.0.0/16 of instance 100, which asks the resolver 203.0.113.9
@@ -107,7 +125,7 @@ asking_site = record static_site {
 -- that site, with a static mapping to the nine locators 198.51.100.1 to 198.51.100.9
 abbrev pub nine_locators : Settings
 nine_locators = record asking_site {
-  mappings = mapping 1440 wide (map (λ n. locator (V4 (0xc6336400 + n))) (1 ∷ 2 ∷ 3 ∷ 4 ∷ 5 ∷ 6 ∷ 7 ∷ 8 ∷ 9 ∷ [])) ∷ [];
+  mappings = mapping 1440 wide (map (λ n. locator (far_off n)) (1 ∷ 2 ∷ 3 ∷ 4 ∷ 5 ∷ 6 ∷ 7 ∷ 8 ∷ 9 ∷ [])) ∷ [];
 }
 
 -- a site with the EIDs 10.0.0.0/8, and within these 10.1.0.0/16, 10.1.1.0/24 and 10.1.2.0/24
@@ -118,3 +136,31 @@ nested_site = record static_site {
       ∷ eid 0 (V4 0x0a010100) 24 refl refl ∷ eid 0 (V4 0x0a010200) 24 refl refl ∷ []);
   mappings = [];
 }
+
+-- the first site, which probes locators
+abbrev pub probing_site : Settings
+probing_site = record static_site { probe = true; nonces = 0x0102030405060708 ∷ 0x1112131415161718 ∷ [] }
+
+-- a site with own locators that probes those of its mapping, with the nonces 1 to 20
+abbrev pub site_probing : List OwnLocator → List Locator → Settings
+site_probing own locators = record static_site {
+  probe = true;
+  nonces = range_with_len 1 20;
+  locators = own;
+  mappings = mapping 1440 wide_of_0 locators ∷ [];
+}
+
+-- a site with locators of both families, and a mapping to 2001:db8::2 and 198.51.100.9, .7 and .8
+abbrev pub site_of_both : Settings
+site_of_both =
+    site_probing (own near ∷ own near_in_ipv6 ∷ [])
+    (map locator (far_in_ipv6 ∷ far_off 9 ∷ far_off 7 ∷ far_off 8 ∷ []))
+
+-- a site with a mapping to the seventeen locators 198.51.100.17 to 198.51.100.1
+abbrev pub seventeen_locators : Settings
+seventeen_locators =
+    site_probing (own near ∷ []) (map (λ n. locator (far_off n)) (reverse (range_with_len 1 17)))
+
+-- a site with the first one's mapping that asks for others and probes locators
+abbrev pub asking_and_probing_site : Settings
+asking_and_probing_site = record probing_site { resolver = Some (V4 0xcb007109) }

@@ -4,7 +4,9 @@
 mod answers;
 mod cases;
 mod locators;
+mod probes;
 mod requests;
+mod ticks;
 mod tunnels;
 
 pub use answers::{
@@ -16,11 +18,22 @@ pub use cases::{an_action_settles_a_packet, own_packets_are_passed_over};
 pub use locators::{
     eight_bits_are_told_of_nine_locators, hashes_fall_to_shares, priorities_come_before_weights,
 };
+pub use probes::{
+    a_foreign_answer_is_none, a_locator_is_probed_until_it_answers, a_locator_rests_for_a_minute,
+    a_probe_is_answered_within_three_seconds, a_probe_is_for_the_least_eid,
+    a_probe_speaks_against_its_locator, an_answer_keeps_a_locator_in_use,
+    locators_are_probed_in_turn, sixteen_locators_are_probed_a_second,
+    some_locators_are_not_probed,
+};
 pub use requests::{
     a_mapping_is_asked_for_once, a_mapping_lasts_to_the_nanosecond, a_message_has_a_checksum,
     a_message_is_refused_at_its_first_fault, a_missing_mapping_is_asked_for,
     a_record_beside_is_passed_over, a_reply_comes_within_seven_seconds, a_reply_counts_once,
     a_reply_covers_what_was_asked, a_shorter_prefix_follows_a_longer_one,
+};
+pub use ticks::{
+    a_request_goes_out_again_by_its_age, a_request_goes_out_three_times, a_request_is_due_twice,
+    a_second_sends_a_request_again, requests_come_before_probes, requests_go_out_again_in_order,
 };
 pub use tunnels::{
     a_hop_is_taken_into_a_tunnel, a_nonce_comes_before_versions, a_packet_goes_into_its_tunnel,
