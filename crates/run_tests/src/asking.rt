@@ -12,15 +12,20 @@ fn a_miss_asks_again_once_the_request_is_over(rt: HostRuntime) -> Result<(), Fai
         (
             6,
             999_999_999,
-            (&PACKET, 28, &[], "2 1700000006.999999999 n=1 drop 13 miss"),
+            (&PACKET, 28, &[], "2 1700000006.999999999 n=3 drop 13 miss"),
         ),
         (
             7,
             0,
-            (&PACKET, 28, &[], "3 1700000007.000000000 n=1 drop 13 miss"),
+            (&PACKET, 28, &[], "3 1700000007.000000000 n=3 drop 13 miss"),
         ),
     ];
-    let packets: [Departure<'_>; 2] = [ASKED, (7, 0, &CONTROL, &NEXT_NONCE)];
+    let packets: [Departure<'_>; 4] = [
+        ASKED,
+        (1, 0, &CONTROL, &[]),
+        (3, 0, &CONTROL, &[]),
+        (7, 0, &CONTROL, &NEXT_NONCE),
+    ];
     assert_exchange(
         &rt,
         rt.alloc(),
@@ -28,7 +33,7 @@ fn a_miss_asks_again_once_the_request_is_over(rt: HostRuntime) -> Result<(), Fai
         &NANOSECONDS,
         &frames,
         &packets,
-        "end frames=3 written=2 entries=2",
+        "end frames=3 written=4 entries=4",
     )
 }
 
@@ -70,17 +75,21 @@ fn nonces_are_of_the_list_and_then_of_the_seed(rt: HostRuntime) -> Result<(), Fa
         (
             7,
             0,
-            (&PACKET, 28, &[], "2 1700000007.000000000 n=1 drop 13 miss"),
+            (&PACKET, 28, &[], "2 1700000007.000000000 n=3 drop 13 miss"),
         ),
         (
             14,
             0,
-            (&PACKET, 28, &[], "3 1700000014.000000000 n=2 drop 13 miss"),
+            (&PACKET, 28, &[], "3 1700000014.000000000 n=6 drop 13 miss"),
         ),
     ];
-    let packets: [Departure<'_>; 3] = [
+    let packets: [Departure<'_>; 7] = [
         ASKED,
+        (1, 0, &CONTROL, &[]),
+        (3, 0, &CONTROL, &[]),
         (7, 0, &CONTROL, &SEEDED[0]),
+        (8, 0, &CONTROL, &SEEDED[0]),
+        (10, 0, &CONTROL, &SEEDED[0]),
         (14, 0, &CONTROL, &SEEDED[1]),
     ];
     assert_exchange(
@@ -90,6 +99,6 @@ fn nonces_are_of_the_list_and_then_of_the_seed(rt: HostRuntime) -> Result<(), Fa
         &NANOSECONDS,
         &frames,
         &packets,
-        "end frames=3 written=3 entries=3",
+        "end frames=3 written=7 entries=7",
     )
 }

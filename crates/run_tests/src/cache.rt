@@ -68,37 +68,6 @@ fn a_reply_is_taken_once_and_by_its_nonce(rt: HostRuntime) -> Result<(), Fail> {
     )
 }
 
-#[test]
-fn a_reply_is_taken_until_its_request_is_seven_seconds_old(rt: HostRuntime) -> Result<(), Fail> {
-    let rows = [
-        (
-            6,
-            999_999_999,
-            "2 1700000006.999999999 n=1 control reply learned=1 passed=0",
-            "end frames=2 written=1 entries=3",
-        ),
-        (
-            7,
-            0,
-            "2 1700000007.000000000 n=1 drop 21 unsolicited",
-            "end frames=2 written=1 entries=1",
-        ),
-    ];
-    for (second, nanosecond, line, end) in rows {
-        let reply: Arrival<'_> = (second, nanosecond, (&REPLY, 80, &[], line));
-        assert_exchange(
-            &rt,
-            rt.alloc(),
-            TENANT,
-            &NANOSECONDS,
-            &[MISS, reply],
-            &[ASKED],
-            end,
-        )?;
-    }
-    Ok(())
-}
-
 // A reply of one minute, and the packet as its mapping ends.
 const ENDING: [Arrival<'static>; 4] = [
     MISS,

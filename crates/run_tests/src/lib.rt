@@ -34,6 +34,12 @@ mod nested_solicits;
 #[cfg(test)]
 mod packets;
 #[cfg(test)]
+mod probe_packets;
+#[cfg(test)]
+mod probed_locators;
+#[cfg(test)]
+mod probes;
+#[cfg(test)]
 mod replies;
 #[cfg(test)]
 mod reply_paths;
@@ -49,6 +55,8 @@ mod site;
 mod solicits;
 #[cfg(test)]
 mod status_bits;
+#[cfg(test)]
+mod ticks;
 #[cfg(test)]
 mod tunnels;
 #[cfg(test)]

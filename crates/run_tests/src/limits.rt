@@ -29,19 +29,20 @@ fn capture_of_misses(alloc: Global) -> Result<Octets, Fail> {
     Ok(capture)
 }
 
-// What is said of them.
+// What is said of them. At 1 s the first request is sent again, and by 7 s each of 1,024 was twice.
 fn report_of_misses(alloc: Global) -> Result<String, Fail> {
     let mut report = String::new(alloc);
     for number in 0..1025_u32 {
         let frame = number + 1;
         let second = 1_700_000_000 + number / 1000;
         let millisecond = number % 1000;
+        let known = number + number / 1000;
         report.push_str(&format!(in alloc;
-            "{frame} {second}.{millisecond:03}000000 n={number} drop 13 miss\n"
+            "{frame} {second}.{millisecond:03}000000 n={known} drop 13 miss\n"
         )?)?;
     }
-    report.push_str("1026 1700000007.000000000 n=1024 drop 13 miss\n")?;
-    report.push_str("end frames=1026 written=1025 entries=1025\n")?;
+    report.push_str("1026 1700000007.000000000 n=3072 drop 13 miss\n")?;
+    report.push_str("end frames=1026 written=3073 entries=3073\n")?;
     Ok(report)
 }
 
@@ -131,12 +132,22 @@ fn so_many_requests_are_open_at_once(rt: HostRuntime) -> Result<(), Fail> {
     assert_eq!(rt; said(&desk)?, report_of_misses(alloc)?.as_str());
     assert_eq!(rt; status, Status::Done);
     let output = desk.file("out").ok_or("no output")?;
-    assert_eq!(rt; output.len(), 135_324);
+    assert_eq!(rt; output.len(), 405_660);
     let first = record_of(alloc, 1_700_000_000, 0, &FIRST_ASKED)?;
+    let again = record_of(alloc, 1_700_000_001, 0, &FIRST_ASKED)?;
     let second = record_of(alloc, 1_700_000_000, 1_000_000, &SECOND_ASKED)?;
     let last = record_of(alloc, 1_700_000_001, 23_000_000, &LAST_ASKED)?;
+    let last_again = record_of(alloc, 1_700_000_005, 0, &LAST_ASKED)?;
     let late = record_of(alloc, 1_700_000_007, 0, &LATE_ASKED)?;
-    for (place, record) in [(24, first), (156, second), (135_060, last), (135_192, late)] {
+    let rows = [
+        (24, first),
+        (156, second),
+        (132_024, again),
+        (135_192, last),
+        (405_396, last_again),
+        (405_528, late),
+    ];
+    for (place, record) in rows {
         assert_eq!(rt; output.get(place..place + 132), Some(record.as_slice()));
     }
     Ok(())

@@ -1,5 +1,5 @@
-//! Tests of the node store, the prefix table, the map-cache, the queue of requests and the choice
-//! among locators: times, limits, replacement, the longest match, shares.
+//! Tests of the node store, the prefix table, the map-cache, the queue of requests, the probes of
+//! locators and the choice among them: times, limits, replacement, the longest match, shares.
 #![tactic(auto)]
 
 #[cfg(test)]
@@ -8,6 +8,8 @@ mod choices;
 mod mappings;
 #[cfg(test)]
 mod prefix_tables;
+#[cfg(test)]
+mod probes;
 #[cfg(test)]
 mod requests;
 #[cfg(test)]

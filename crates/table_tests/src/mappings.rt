@@ -4,7 +4,7 @@ ghost use Rattle.std.specs.Prelude.{◌≡◌, ◌≤◌, IfOk};
 use crate::rows::{SECOND, eid, record};
 use ip_headers::{Addr, Prefix};
 use map_cache::{LearnFault, MapCache};
-use mapping_records::Eid;
+use mapping_records::{Eid, Locator, Locators, Record};
 use node_store::Reads;
 use std::alloc::Global;
 use std::test::Fail;
@@ -87,6 +87,80 @@ fn a_fixed_mapping_has_no_end_and_a_ttl_of_0_takes_it_away(rt: HostRuntime) -> R
     assert_eq!(rt; cache.live_count(MINUTE), 1);
     cache.learn(MINUTE, record(rt.alloc(), tenant, 0), false)?;
     assert_eq!(rt; cache.live_count(MINUTE), 0);
+    Ok(())
+}
+
+// A locator of that address.
+fn locator(addr: Addr, priority: u8) -> Locator {
+    Locator {
+        addr,
+        priority,
+        weight: 100,
+        m_priority: 255,
+        m_weight: 0,
+        local: false,
+        probed: false,
+        reachable: true,
+    }
+}
+
+// The record of a mapping of so many minutes to locators.
+fn record_to(alloc: Global, eid: Eid, ttl: u32, locators: &[Locator]) -> Result<Record, Fail>
+    ensures ttl { IfOk result (λ mapping. mapping.ttl ≡ ttl) }
+    ensures locators { IfOk result (λ mapping. mapping.locators ≡ locators.now) }
+{
+    let mut mapping = record(alloc, eid, ttl);
+    mapping.locators = Locators::from_vec(Vec::from_slice(alloc, locators)?);
+    Ok(mapping)
+}
+
+// The least address above another.
+fn next(cache: &MapCache, moment: u64, after: Option<Addr>) -> Option<(Addr, Eid)>
+    requires { cache.now.now ≤ moment }
+{
+    cache.next_locator(moment, after.as_ref())
+}
+
+#[test]
+fn locators_come_in_order_of_address_and_of_one_the_least_eid(rt: HostRuntime) -> Result<(), Fail> {
+    let mut cache = MapCache::new(rt.alloc());
+    let (low, high) = (eid(0x0a02_0000, 16)?, eid(0x0a03_0000, 16)?);
+    let locators = [
+        locator(Addr::V4(12), 254),
+        locator(Addr::V4(4), 255),
+        locator(Addr::V4(9), 1),
+    ];
+    cache.learn(0, record_to(rt.alloc(), high, 1, &locators)?, false)?;
+    let locators = [locator(Addr::V6(1), 0), locator(Addr::V4(9), 2)];
+    cache.learn(0, record_to(rt.alloc(), low, 1, &locators)?, false)?;
+    for (after, found) in [
+        (None, Some((Addr::V4(9), low))),
+        (Some(Addr::V4(8)), Some((Addr::V4(9), low))),
+        (Some(Addr::V4(9)), Some((Addr::V4(12), high))),
+        (Some(Addr::V4(12)), Some((Addr::V6(1), low))),
+        (Some(Addr::V6(0)), Some((Addr::V6(1), low))),
+        (Some(Addr::V6(1)), None),
+    ] {
+        assert_eq!(rt; next(&cache, 0, after), found);
+    }
+    Ok(())
+}
+
+#[test]
+fn the_locators_of_a_mapping_that_has_ended_are_passed_over(rt: HostRuntime) -> Result<(), Fail> {
+    let mut cache = MapCache::new(rt.alloc());
+    let (low, high) = (eid(0x0a02_0000, 16)?, eid(0x0a03_0000, 16)?);
+    let locators = [locator(Addr::V4(9), 1)];
+    cache.learn(0, record_to(rt.alloc(), low, 1, &locators)?, false)?;
+    cache.learn(0, record_to(rt.alloc(), high, 2, &locators)?, false)?;
+    for (moment, found) in [
+        (MINUTE - 1, Some((Addr::V4(9), low))),
+        (MINUTE, Some((Addr::V4(9), high))),
+        (2 * MINUTE, None),
+    ] {
+        assert_eq!(rt; next(&cache, moment, None), found);
+    }
+    assert_eq!(rt; cache.mappings().len(), 2);
     Ok(())
 }
 

@@ -59,6 +59,70 @@ fn of_a_repeated_nonce_the_last_request_counts(rt: HostRuntime) -> Result<(), Fa
     Ok(())
 }
 
+// The nonce of the next request that is to be sent again, which it is then.
+fn send_next(queue: &mut RequestQueue, moment: u64, after: Option<u64>) -> Option<u64> {
+    let nonce = queue.next_due(moment, after)?.nonce;
+    queue.retry(nonce);
+    queue.look_ahead();
+    Some(nonce)
+}
+
+#[test]
+fn a_request_is_sent_again_after_one_second_and_after_three(rt: HostRuntime) -> Result<(), Fail> {
+    let mut queue = RequestQueue::new(rt.alloc());
+    queue.ask(0, eid(0x0a02_0000, 16)?, None, false, 42)?;
+    for (moment, nonce) in [
+        (SECOND - 1, None),
+        (SECOND, Some(42)),
+        (SECOND, None),
+        (3 * SECOND - 1, None),
+        (3 * SECOND, Some(42)),
+        (3 * SECOND, None),
+        (LATE - 1, None),
+    ] {
+        assert_eq!(rt; send_next(&mut queue, moment, None), nonce);
+    }
+    Ok(())
+}
+
+// The nonce of the next request that is to be sent again.
+fn next_due(queue: &RequestQueue, moment: u64, after: Option<u64>) -> Option<u64> {
+    Some(queue.next_due(moment, after)?.nonce)
+}
+
+#[test]
+fn a_request_that_waits_no_longer_is_not_sent_again(rt: HostRuntime) -> Result<(), Fail> {
+    let mut queue = RequestQueue::new(rt.alloc());
+    queue.ask(0, eid(0x0a02_0000, 16)?, None, false, 42)?;
+    queue.look_ahead();
+    assert_eq!(rt; next_due(&queue, LATE - 1, None), Some(42));
+    assert_eq!(rt; next_due(&queue, LATE, None), None);
+    Ok(())
+}
+
+#[test]
+fn requests_are_sent_again_in_asking_order(rt: HostRuntime) -> Result<(), Fail> {
+    let mut queue = RequestQueue::new(rt.alloc());
+    for (moment, nonce) in [(0, 7), (0, 3), (1, 9), (0, 5)] {
+        queue.ask(moment, eid(0x0a02_0000, 16)?, None, false, nonce)?;
+    }
+    let rows = [
+        (None, Some(7)),
+        (Some(7), Some(3)),
+        (Some(3), Some(5)),
+        (Some(9), Some(5)),
+        (Some(5), None),
+        (Some(8), None),
+    ];
+    for (after, nonce) in rows {
+        assert_eq!(rt; next_due(&queue, SECOND, after), nonce);
+    }
+    assert_eq!(rt; send_next(&mut queue, SECOND, Some(7)), Some(3));
+    assert_eq!(rt; next_due(&queue, SECOND, Some(7)), Some(5));
+    assert_eq!(rt; next_due(&queue, SECOND, None), Some(7));
+    Ok(())
+}
+
 // So many requests with the nonces from 0 on.
 fn filled(alloc: Global, requests: u64) -> Result<RequestQueue, Fail> {
     let mut queue = RequestQueue::new(alloc);

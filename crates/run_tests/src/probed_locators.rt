@@ -1,0 +1,131 @@
+// Which locators are probed, in which order, and for which EID.
+use crate::exchanges::{
+    Arrival, Departure, NANOSECONDS, assert_exchange, capture_of, output_of, report_of,
+};
+use crate::packets::{PACKET, SENT, changed, push_record};
+use crate::probe_packets::{PROBE, PROBE_OF_TWO, PROBE_OVER_V6};
+use crate::runs::{SITE, replayed, said};
+use replay::Status;
+use std::alloc::Global;
+use std::test::Fail;
+
+// The site with an own locator of IPv6, and with sixteen locators of IPv4 and one of IPv6. With its
+// nonce the probe of each of the sixteen has the same checksum.
+fn site_of_seventeen(alloc: Global) -> Result<String, Fail> {
+    let mut site = String::from_str(alloc, "probe = true\nnonces = [")?;
+    for last in 1..=16_u8 {
+        let octet = 0x45_u8.wrapping_sub(last);
+        site.push_str(&format!(in alloc; "\"d6405f892fef00{octet:02x}\", ")?)?;
+    }
+    site.push_str("]\n[[locator]]\naddress = \"2001:db8:f::1\"\n")?;
+    site.push_str(SITE)?;
+    site.push_str("[[mapping.locator]]\naddress = \"2001:db8:e::7\"\npriority = 2\n")?;
+    for number in 0..16_u8 {
+        let last = 16_u8.wrapping_sub(number);
+        if last != 7 {
+            site.push_str(&format!(in alloc;
+                "[[mapping.locator]]\naddress = \"198.51.100.{last}\"\npriority = 2\n"
+            )?)?;
+        }
+    }
+    Ok(site)
+}
+
+// The probe of the locator of IPv4 with that last octet.
+fn probe_of(alloc: Global, last: u8) -> Result<Vec<u8>, Fail> {
+    let [first, second] = 0x4e6e_u16.wrapping_sub(u16::from(last)).to_be_bytes();
+    let octet = 0x45_u8.wrapping_sub(last);
+    let edits = [(10, first), (11, second), (19, last), (39, octet)];
+    changed(alloc, &PROBE_OF_TWO, 74, &edits)
+}
+
+// What is said of a packet before the probes, and of one after them.
+const SIXTEEN_LINES: [&str; 2] = [
+    "1 1700000000.000000000 n=1 encapsulated 192.0.2.1 198.51.100.7 64519",
+    "2 1700000002.500000000 n=18 encapsulated 192.0.2.1 198.51.100.7 64519",
+];
+
+#[test]
+fn sixteen_locators_are_probed_at_a_second_in_order(rt: HostRuntime) -> Result<(), Fail> {
+    let alloc = rt.alloc();
+    let frames: [Arrival<'_>; 2] = [
+        (0, 0, (&PACKET, 28, &[], SIXTEEN_LINES[0])),
+        (2, 500_000_000, (&PACKET, 28, &[], SIXTEEN_LINES[1])),
+    ];
+    let capture = capture_of(alloc, &NANOSECONDS, &frames)?;
+    let (status, desk) = replayed(alloc, site_of_seventeen(alloc)?.as_str(), capture)?;
+    let report = report_of(alloc, &frames, "end frames=2 written=19 entries=18")?;
+    assert_eq!(rt; said(&desk)?, report.as_str());
+    assert_eq!(rt; status, Status::Done);
+    let sent = changed(alloc, &SENT, 64, &[(35, 3)])?;
+    let first: Departure<'_> = (0, 0, &sent, &[]);
+    let mut output = output_of(alloc, &[first])?;
+    for last in 1..=16_u8 {
+        push_record(1_700_000_001, 0, &probe_of(alloc, last)?, &mut output)?;
+    }
+    push_record(1_700_000_002, 0, &PROBE_OVER_V6, &mut output)?;
+    push_record(1_700_000_002, 500_000_000, &sent, &mut output)?;
+    assert_eq!(rt; desk.file("out"), Some(output.as_slice()));
+    Ok(())
+}
+
+// What stands before the tables of `SITE`, and behind them: two mappings that name its locator, of
+// which the first never uses it, and names an own locator and one of IPv6.
+const DOWN_V6: &str = r#"
+[[locator]]
+address = "2001:db8:f::1"
+up = false
+"#;
+
+const NAMED_TWICE: &str = r#"
+[[mapping]]
+iid = 0
+prefix = "10.1.0.0/16"
+[[mapping.locator]]
+address = "198.51.100.7"
+priority = 255
+[[mapping.locator]]
+address = "192.0.2.1"
+[[mapping.locator]]
+address = "2001:db8:e::7"
+[[mapping]]
+iid = 0
+prefix = "10.1.2.0/24"
+[[mapping.locator]]
+address = "198.51.100.7"
+"#;
+
+// What is said of a packet before the probe, and of one after it.
+const NAMED_LINES: [&str; 2] = [
+    "1 1700000000.000000000 n=3 encapsulated 192.0.2.1 198.51.100.7 64519",
+    "2 1700000001.000000000 n=4 encapsulated 192.0.2.1 198.51.100.7 64519",
+];
+
+#[test]
+fn a_locator_is_probed_for_the_least_eid_that_names_it(rt: HostRuntime) -> Result<(), Fail> {
+    let alloc = rt.alloc();
+    let settings = format!(in alloc; "probe = true\n{DOWN_V6}{SITE}{NAMED_TWICE}")?;
+    let frames: [Arrival<'_>; 2] = [
+        (0, 0, (&PACKET, 28, &[], NAMED_LINES[0])),
+        (1, 0, (&PACKET, 28, &[], NAMED_LINES[1])),
+    ];
+    let packets: [Departure<'_>; 3] = [
+        (0, 0, &SENT, &[]),
+        (
+            1,
+            0,
+            &PROBE,
+            &[(26, 0xab), (27, 0x68), (49, 0x18), (53, 1), (54, 2)],
+        ),
+        (1, 0, &SENT, &[]),
+    ];
+    assert_exchange(
+        &rt,
+        alloc,
+        settings.as_str(),
+        &NANOSECONDS,
+        &frames,
+        &packets,
+        "end frames=2 written=3 entries=4",
+    )
+}
