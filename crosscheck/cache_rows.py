@@ -63,9 +63,9 @@ def framed(packet):
 SUMMED = "drop 1 refused udp 26 udp-checksum"
 
 
-def after_miss(name, octets, verdict, entries=1, settings=TENANT, moment=100 * MILLI):
+def after_miss(name, octets, verdict, entries=1):
     """A miss, and then one frame that gives no packet."""
-    return Row(name, [(0, PACKET, MISS), (moment, octets, verdict)], [(0, ASKED)], entries, settings)
+    return Row(name, [(0, PACKET, MISS), (100 * MILLI, octets, verdict)], [(0, ASKED)], entries)
 
 
 def small_rows():
@@ -75,8 +75,6 @@ def small_rows():
     yield Row("a reply twice, and one of another nonce", [
         *FIRST, (300 * MILLI, REPLY, "n=3 " + UNSOLICITED),
         (400 * MILLI, reply(short, nonce=16 * "0"), "n=3 " + UNSOLICITED)], WRITTEN, 3, unit=1000)
-    yield after_miss("a reply just before its 7 s end", REPLY, LEARNED, 3, moment=7 * SECOND - 1)
-    yield after_miss("a late reply", REPLY, "n=1 " + UNSOLICITED, moment=7 * SECOND)
     yield Row("a mapping of one minute ends", [
         (0, PACKET, MISS), (100 * MILLI, reply(record("0a020000", 16, 1)), LEARNED),
         (end - 1, PACKET, "n=3 " + sent()), (end, PACKET, "n=3 drop 13 miss")],
@@ -123,12 +121,18 @@ def larger_rows():
         (100 * MILLI, reply(short, record("0a020000", 16, 0)), "n=1 control reply learned=2 passed=0"),
         (200 * MILLI, PACKET, "n=4 drop 13 miss")], [(0, ASKED), (200 * MILLI, DRAWN)], 5)
     yield Row("a second miss while the request is open", [
-        (0, PACKET, MISS), (7 * SECOND - 1, PACKET, "n=1 drop 13 miss"), (7 * SECOND, PACKET, "n=1 drop 13 miss")],
-        [(0, ASKED), (7 * SECOND, DRAWN)], 2)
-    misses = [(i * MILLI, to(numbered(i)), f"n={i} drop 13 miss") for i in range(1025)]
+        (0, PACKET, MISS), (7 * SECOND - 1, PACKET, "n=3 drop 13 miss"), (7 * SECOND, PACKET, "n=3 drop 13 miss")],
+        [(0, ASKED), (SECOND, ASKED), (3 * SECOND, ASKED), (7 * SECOND, DRAWN)], 4)
+    # The first request is sent again at 1 s and 3 s, those of the next second at 2 s and 4 s, the last ones later.
+    misses = [(i * MILLI, to(numbered(i)), f"n={i + (i >= 1000)} drop 13 miss") for i in range(1025)]
+    first, middle, last = range(1), range(1, 1001), range(1001, 1024)
+    again = [(2, middle), (3, first), (3, last), (4, middle), (5, last)]
     yield Row("one request more than may be open", [
-        *misses, (7 * SECOND, to(numbered(1024)), "n=1024 drop 13 miss")],
-        [*((i * MILLI, asked(i)) for i in range(1024)), (7 * SECOND, asked(1024))], 1025)
+        *misses, (7 * SECOND, to(numbered(1024)), f"n={3 * 1024} drop 13 miss")],
+        [*((i * MILLI, asked(i)) for i in range(1000)), (SECOND, asked(0)),
+         *((i * MILLI, asked(i)) for i in range(1000, 1024)),
+         *((second * SECOND, asked(i)) for second, some in again for i in some), (7 * SECOND, asked(1024))],
+        3 * 1024 + 1)
     yield Row("a mapping more than may be live", [
         (0, PACKET, "n=65536 drop 13 miss"),
         (100 * MILLI, reply(short), "n=65537 control reply learned=0 passed=1")], [(0, ASKED)], 65538,

@@ -2,11 +2,13 @@
 """Compares the built program with the plain router on captures made from a number.
 
 usage: compare.py PROGRAM [ROUNDS [SEED]]
-Each round makes settings and a capture of 2,000 frames: packets of the site, packets in tunnels that tell status
-bits, replies to what the router asked, Map-Requests of all kinds and other control messages, in both families and
-mostly in several instances, many of them spoiled or late; and then 40 settings files with spoiled values. It ends
-with status 1 at the first difference.
+Each round makes settings and a capture of 300 frames, at times 2,000: packets of the site, packets in tunnels that
+tell status bits, replies to what the router asked and probed, Map-Requests of all kinds and other control messages,
+in both families and mostly in several instances, many of them spoiled or late, some a minute or ten behind the frame
+before; and then 40 settings files with spoiled values. It ends with status 1 at the first difference.
 """
+import contextlib
+import io
 import os
 import random
 import struct
@@ -15,19 +17,20 @@ import sys
 import tempfile
 import tomllib
 
+import plain
 import settings as rules
 from makers import framed, packet, settings, spoiled_settings
 from sites import Site
 from talk import Talk
 from wire import contents
 
-HERE = os.path.dirname(os.path.abspath(__file__))
+FEW, MANY = 300, 2000
 
 
 def unrelated(r, link, unit):
     """Frames that don't regard what the router does."""
     seconds = 1_700_000_000
-    for _ in range(2000):
+    for _ in range(FEW):
         seconds += r.choice([-1, 0, 0, 1])
         yield seconds * 10**9 + r.randrange(10**9 // unit) * unit, framed(r, link, packet(r))
 
@@ -39,7 +42,8 @@ def frames(r, text, link, unit):
         return unrelated(r, link, unit)
     if r.random() < 0.1:
         return unrelated(r, link, unit)
-    return Talk(r, site, link, unit, r.random() < 0.25).frames(2000)
+    hurried = r.random() < 0.05
+    return Talk(r, site, link, unit, hurried).frames(MANY if hurried else FEW)
 
 
 def capture(r, text, path):
@@ -53,7 +57,15 @@ def capture(r, text, path):
 
 
 def run(*command):
-    return subprocess.run(command, capture_output=True).stdout
+    return subprocess.run(command, capture_output=True, text=True).stdout
+
+
+def said(call, *words):
+    """What a call of the plain router prints."""
+    report = io.StringIO()
+    with contextlib.redirect_stdout(report):
+        call(*words)
+    return report.getvalue()
 
 
 def write(path, text):
@@ -62,11 +74,10 @@ def write(path, text):
 
 
 class Round:
-    """The files of a round, and the two programs."""
+    """The files of a round, and the program."""
 
     def __init__(self, program, folder):
         self.program = program
-        self.plain = [sys.executable, os.path.join(HERE, "plain.py")]
         names = ("settings.toml", "capture.pcap", "ours.pcap", "plain.pcap")
         self.settings, self.capture, self.ours, self.theirs = (os.path.join(folder, name) for name in names)
 
@@ -76,11 +87,11 @@ class Round:
                 os.remove(name)
         words = "--settings", self.settings, "--in", self.capture, "--out", self.ours
         ours = run(self.program, "replay", *words)
-        theirs = run(*self.plain, "replay", self.settings, self.capture, self.theirs)
+        theirs = said(plain.replay, self.settings, self.capture, self.theirs)
         return ours == theirs and contents(self.ours) == contents(self.theirs)
 
     def same_show(self):
-        return run(self.program, "show", "--in", self.capture) == run(*self.plain, "show", self.capture)
+        return run(self.program, "show", "--in", self.capture) == said(plain.show, self.capture)
 
     def same_settings(self, r):
         text = spoiled_settings(r)
@@ -109,7 +120,7 @@ def main():
                 for name in (one.settings, one.capture):
                     os.replace(name, os.path.basename(name))
                 sys.exit(1)
-    print(f"{rounds} rounds of 2,000 frames and 40 settings agree")
+    print(f"{rounds} rounds agree")
 
 
 if __name__ == "__main__":

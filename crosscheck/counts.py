@@ -12,8 +12,9 @@ import tempfile
 
 import settings as rules
 from compare import capture
+from journal import Probed
 from makers import settings
-from plain import Router
+from router import Router
 from sites import Site
 from wire import frames_of, number
 
@@ -38,6 +39,8 @@ def packet_kind(packet):
     message = at + 8
     if packet[message] >> 4 == 2:
         return "reply to a probe" if packet[message] & 8 else "reply"
+    if packet[message] >> 4 == 1:
+        return "probe"
     inner = message + 4 + (40 if packet[message + 4] >> 4 == 6 else 20) + 8
     return "request for a solicitation" if packet[inner + 1] & 0x40 else "request"
 
@@ -51,9 +54,12 @@ def counted(r, folder, counts):
         counts["settings at fault"] += 1
         return
     for moment, link, frame in frames_of(path):
+        sent = [packet for _, packet in router.until(moment)]
         verdict, packets = router.take(moment, link, frame)
-        counts.update(["verdict " + verdict_kind(verdict), *(packet_kind(packet) for packet in packets)])
+        counts.update(["verdict " + verdict_kind(verdict), *(packet_kind(packet) for packet in sent + packets)])
     counts.update("entry " + type(entry).__name__ for entry in router.journal)
+    at_once = collections.Counter(entry.moment for entry in router.journal if type(entry) is Probed)
+    counts["second with sixteen probes"] += sum(count == 16 for count in at_once.values())
 
 
 def main():

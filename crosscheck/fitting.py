@@ -1,7 +1,7 @@
 """Parts of frames made from a number so that they fit an EID, or what it lies in."""
 import struct
 
-from makers import AWAY, HOMES, OTHERS, OWN, host, ip, raw, shares, udp
+from makers import AWAY, HOMES, MANY, OTHERS, OWN, host, ip, raw, shares, udp
 from messages import Eid
 from sending import eid_octets, located
 from wire import ones_sum
@@ -39,11 +39,11 @@ def named(r, eid):
 def locators(r):
     """A count, and the octets of so many locators; of more than 32 the first ones are mostly down."""
     count = r.choice([0, 0, 1, 1, 2, 2, 3, 4, 5, 9, 32, 33, 40, 255])
-    octets = b""
+    pool, octets = r.choice([OTHERS * 3 + OWN, OTHERS * 3 + OWN, MANY]), b""
     for i, (priority, weight) in enumerate(shares(r, count)):
         reachable = r.random() < (0.8 if count <= 9 else 0.2 if i < 32 else 0.9)
         octets += bytes([priority, weight]) + r.randbytes(2) + struct.pack(">H", r.randrange(1 << 15) << 1 | reachable)
-        octets += located(raw(r.choice(OTHERS * 3 + OWN)))
+        octets += located(raw(r.choice(pool)))
     return count, octets
 
 

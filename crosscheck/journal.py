@@ -4,8 +4,11 @@ from typing import NamedTuple, Optional
 from messages import Eid, Record
 
 SECOND = 10**9
-OPEN = 7 * SECOND
-MOST_REQUESTS, MOST_MAPPINGS = 1024, 65536
+# How long a request is open, and how old it is where it is sent again; how long a probe is open, how old it is where
+# its locator is probed again, and how long it counts.
+OPEN, AGAIN = 7 * SECOND, (SECOND, 3 * SECOND)
+PROBE_OPEN, PROBE_AGAIN, PROBE_COUNTS = 3 * SECOND, 60 * SECOND, 600 * SECOND
+MOST_REQUESTS, MOST_MAPPINGS, MOST_PROBES = 1024, 65536, 9600
 
 
 class Learned(NamedTuple):
@@ -22,7 +25,23 @@ class Asked(NamedTuple):
     nonce: int
 
 
+class Retried(NamedTuple):
+    moment: int
+    nonce: int
+
+
 class Answered(NamedTuple):
+    moment: int
+    nonce: int
+
+
+class Probed(NamedTuple):
+    moment: int
+    address: bytes
+    nonce: int
+
+
+class ProbeAnswered(NamedTuple):
     moment: int
     nonce: int
 
@@ -83,8 +102,20 @@ class Journal(list):
                 last.pop(entry.nonce, None)
         return {nonce: entry for nonce, entry in last.items() if now - entry.moment < OPEN}
 
+    def due(self, moment):
+        """The open requests that are to be sent again, in the order in which they were asked."""
+        now, times = self.now(moment), {}
+        for entry in self:
+            if type(entry) is Asked:
+                times[entry.nonce] = 0
+            elif type(entry) is Retried:
+                times[entry.nonce] += 1
+        return [entry for nonce, entry in self.open_requests(moment).items()
+                if times[nonce] < len(AGAIN) and now - entry.moment >= AGAIN[times[nonce]]]
+
     def drawn(self):
-        return sum(type(entry) is Asked for entry in self)
+        kinds = list(map(type, self))
+        return kinds.count(Asked) + kinds.count(Probed)
 
     def may_ask(self, moment, eid):
         """Whether no open request covers the EID, and there is room for one more."""
@@ -96,3 +127,53 @@ class Journal(list):
             return True
         live = self.live(moment)
         return mapping.eid in live or len(live) < MOST_MAPPINGS
+
+    def probes(self):
+        """Each probe, and whether it is answered: of those with one nonce an answer is that of the last."""
+        found, last = [], {}
+        for entry in self:
+            if type(entry) is Probed:
+                last[entry.nonce] = len(found)
+                found.append((entry, False))
+            elif type(entry) is ProbeAnswered:
+                found[last[entry.nonce]] = found[last[entry.nonce]][0], True
+        return found
+
+    def open_probe(self, moment, nonce):
+        """The last probe with the nonce, where it isn't answered and is younger than 3 s, or None."""
+        now, last = self.now(moment), None
+        for entry, answered in self.probes():
+            if entry.nonce == nonce:
+                last = entry if not answered and now - entry.moment < PROBE_OPEN else None
+        return last
+
+    def down(self, moment):
+        """The locators whose last probe that is answered, or 3 s old, isn't answered and still counts."""
+        now, judged = self.now(moment), {}
+        for entry, answered in self.probes():
+            if answered or now - entry.moment >= PROBE_OPEN:
+                judged[entry.address] = entry.moment, answered
+        return {address for address, (start, answered) in judged.items()
+                if not answered and now - start < PROBE_COUNTS}
+
+    def last_probes(self, moment):
+        """When each locator was last probed, where that still counts."""
+        now = self.now(moment)
+        last = {entry.address: entry.moment for entry in self if type(entry) is Probed}
+        return {address: start for address, start in last.items() if now - start < PROBE_COUNTS}
+
+    def may_probe(self, moment):
+        """How many probes more can count."""
+        now = self.now(moment)
+        return MOST_PROBES - sum(type(entry) is Probed and now - entry.moment < PROBE_COUNTS for entry in self)
+
+    def next_second(self, second):
+        """Behind a second in which nothing was to be done: the first one in which something may be, or None.
+
+        As long as no frame comes, something new can only be to be done where a request or a probe gets older
+        than one of the ages that make it so. All else that time does is to end what is open, live or counts.
+        """
+        ages = {Asked: AGAIN, Probed: (PROBE_AGAIN, PROBE_COUNTS)}
+        moments = [entry.moment + age for entry in self for age in ages.get(type(entry), ())]
+        least = min((moment for moment in moments if moment > second * SECOND), default=None)
+        return None if least is None else -(-least // SECOND)

@@ -8,6 +8,7 @@ from wire import ones_sum
 MAC = bytes.fromhex("0200000000010200000000ff")
 OWN = ["192.0.2.1", "192.0.2.2", "2001:db8:f::1", "2001:db8:f::2"]
 OTHERS = ["198.51.100.7", "198.51.100.8", "198.51.100.9", "2001:db8:e::7", "2001:db8:e::8"]
+MANY = OTHERS + [f"198.51.100.{i}" for i in range(32, 56)] + [f"2001:db8:e::{i:x}" for i in range(32, 48)]
 RESOLVERS = ["203.0.113.9", "2001:db8:9::9"]
 HOMES = ["10.1.0.0/16", "10.1.2.0/24", "10.1.2.8/29", "10.1.9.0/24", "2001:db8:1::/48", "2001:db8:1:7::/64"]
 AWAY = ["10.2.0.0/16", "10.2.9.0/24", "10.2.9.8/29", "10.0.0.0/8", "2001:db8:2::/48", "2001:db8::/32"]
@@ -32,6 +33,8 @@ def first_keys(r, up):
         pool = [r.randbytes(8).hex() for _ in range(r.choice([2, 2000, 2000, 2000]))]
         nonces = [f'"{r.choice(pool)}"' for _ in range(r.choice([0, 1, 5, 100, 3000]))]
         lines.append(f"nonces = [{', '.join(nonces)}]")
+    if r.random() < 0.6:
+        lines.append(f"probe = {r.choice(['true'] * 5 + ['false'])}")
     return lines
 
 
@@ -49,9 +52,9 @@ def attachments(r, iids):
         yield from ["[[attachment]]", f"vlan = {vlan}", f"iid = {iid}"]
 
 
-def mapping(r, iid, prefix):
+def mapping(r, iid, prefix, pool):
     yield from ["[[mapping]]", f"iid = {iid}", f'prefix = "{prefix}"', f"action = {r.choice([2, *range(8)])}"]
-    addresses = r.sample(OTHERS + OWN[:1], r.choice([0, 0, 1, 2, 3, 4, 6]))
+    addresses = r.sample(pool + OWN[:1], min(len(pool) + 1, r.choice([0, 0, 1, 2, 3, 4, 6, 24])))
     for address, (priority, weight) in zip(addresses, shares(r, len(addresses))):
         yield from ["[[mapping.locator]]", f'address = "{address}"', f"priority = {priority}", f"weight = {weight}",
                     f"up = {r.choice(['true', 'true', 'false'])}"]
@@ -67,12 +70,13 @@ def settings(r):
         lines += r.choice([[], [f"priority = {r.randrange(256)}", f"weight = {r.randrange(256)}"]])
     lines = first_keys(r, up) + lines
     iids, most = r.sample([0, 7, 300], r.choice([1, 2, 2, 3])), r.choice([0, 1, 6])
+    pool = r.choice([OTHERS, OTHERS, MANY])
     lines += attachments(r, iids)
     for iid in iids:
         for prefix in r.sample(HOMES, r.choice([0, 3, 4, 4, 5, 5, 6, 6, 6, 6])):
             lines += ["[[database]]", f"iid = {iid}", f'prefix = "{prefix}"']
         for prefix in r.sample(AWAY, r.randint(0, most)):
-            lines += mapping(r, iid, prefix)
+            lines += mapping(r, iid, prefix, pool)
     return "\n".join(lines) + "\n"
 
 

@@ -50,14 +50,14 @@ class Trial:
 
 def main():
     program = os.path.abspath(sys.argv[1])
-    site = os.path.join(EXAMPLES, "site")
     with tempfile.TemporaryDirectory() as folder:
         shim, output = os.path.join(folder, "refuse.so"), os.path.join(folder, "out.pcap")
         subprocess.run(["cc", "-shared", "-fPIC", "-o", shim, os.path.join(HERE, "refuse.c"), "-ldl"], check=True)
-        settings, capture = os.path.join(site, "settings.toml"), os.path.join(site, "capture.pcap")
-        words = ["replay", "--settings", settings, "--in", capture, "--out", output]
-        Trial(shim, program, words, output).refuse_each()
-        Trial(shim, program, ["show", "--in", capture], output).refuse_each()
+        for name in "site", "ticks":
+            settings, capture = (os.path.join(EXAMPLES, name, file) for file in ("settings.toml", "capture.pcap"))
+            words = ["replay", "--settings", settings, "--in", capture, "--out", output]
+            Trial(shim, program, words, output).refuse_each()
+            Trial(shim, program, ["show", "--in", capture], output).refuse_each()
 
 
 main()

@@ -1,4 +1,5 @@
 """The nonces of a router: those of its settings, then words of ChaCha with 8 rounds."""
+import functools
 import struct
 
 CONSTANTS = struct.unpack("<4I", b"expand 32-byte k")
@@ -13,6 +14,7 @@ def quarter(words, a, b, c, d):
         words[z] = (value << turn | value >> 32 - turn) & 0xFFFFFFFF
 
 
+@functools.cache
 def block(seed, position, rounds=8):
     """The 16 words of a block of stream 0."""
     start = [*CONSTANTS, *struct.unpack("<8I", seed), position & 0xFFFFFFFF, position >> 32, 0, 0]

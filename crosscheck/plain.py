@@ -8,207 +8,11 @@ captures whole.
 import sys
 
 import settings as rules
-from choice import chosen, flow_hash
-from journal import Answered, Asked, Bits, Journal, Learned
-from messages import Eid, Request, message_of
-from nonces import nonce_at
-from sending import reply_packet, request_packet, wrapped
+from journal import SECOND
+from messages import Request, message_of
+from router import Router
 from sites import Site
-from wire import Packet, Refused, frames_of, link_payload, need, number, output_header, output_record, text_of
-
-
-# Decisions: a verdict, and the packets that are sent.
-
-ACTIONS = {0: "14 no-action", 2: "15 send-request", 4: "17 drop-policy", 5: "18 drop-auth"}
-ECN = {(0, 0): 0, (0, 2): 0, (0, 1): 0, (2, 0): 2, (2, 2): 2, (2, 1): 1, (2, 3): 3,
-       (1, 0): 1, (1, 2): 1, (1, 1): 1, (1, 3): 3, (3, 0): 3, (3, 2): 3, (3, 1): 3, (3, 3): 3}
-
-
-def is_group(address):
-    if len(address) == 4:
-        return address[0] >> 4 == 14 or address == b"\xff\xff\xff\xff"
-    return address[0] == 0xFF
-
-
-class Router:
-    """A site and its journal. Each frame is decided by the whole journal as it then stands."""
-
-    def __init__(self, site):
-        self.site = site
-        self.journal = Journal(Learned(0, mapping, True) for mapping in site.mappings)
-
-    def take(self, moment, link, frame):
-        """The verdict of a frame, and the packets that are sent for it."""
-        try:
-            vlan, place, octets = link_payload(link, frame)
-            packet = Packet(octets, place)
-            if self.site.is_own(packet.source):
-                return "own", []
-            if self.site.is_own(packet.dest):
-                return self.arrived(moment, packet)
-            if vlan not in self.site.attachments:
-                return "drop 10 no-attachment", []
-            return self.departed(moment, self.site.attachments[vlan], packet)
-        except Refused as refused:
-            return f"drop 1 refused {refused}", []
-
-    # Packets out of tunnels.
-
-    def arrived(self, moment, packet):
-        if packet.fragment:
-            return "drop 3 fragment", []
-        if packet.protocol != 17:
-            return "drop 2 not-tunnel", []
-        source, dest, checksum, datagram = packet.udp()
-        if dest == 4341:
-            packet.check(checksum, datagram, True)
-            return self.opened(moment, packet, datagram[8:], packet.base + packet.at + 8)
-        if 4342 not in (source, dest):
-            return "drop 2 not-tunnel", []
-        packet.check(checksum, datagram, False)
-        return self.heard(moment, packet.dest, source, message_of(datagram[8:], packet.base + packet.at + 8))
-
-    def opened(self, moment, packet, payload, place):
-        need(len(payload) >= 8, "lisp", place, "short")
-        if payload[0] & 3:
-            return "drop 4 encrypted", []
-        inner = Packet(payload[8:], place + 8)
-        iid = number(payload, 4, 3) if payload[0] & 8 else 0
-        if not self.site.has_home(iid, inner.dest):
-            return "drop 5 not-ours", []
-        ecn = ECN.get((inner.tos & 3, packet.tos & 3))
-        if ecn is None:
-            return "drop 8 congestion-mark", []
-        ttl = min(inner.ttl, packet.ttl)
-        if ttl <= 1:
-            return "drop 9 ttl-expired", []
-        if payload[0] & 0x40:
-            bits, width = (payload[7], 8) if payload[0] & 8 else (number(payload, 4, 4), 32)
-            self.told(moment, Eid.host(iid, inner.source), packet.source, bits, width)
-        return f"delivered {iid}", [inner.marked(packet.tos & 0xFC | ecn, ttl - 1)]
-
-    def told(self, moment, source, teller, bits, width):
-        """Keeps status bits that one of a mapping's locators tells, where they say anything new."""
-        entry = self.journal.in_force(moment, source)
-        if entry is None or all(locator.address != teller for locator in entry.mapping.locators):
-            return
-        up = self.journal.status(entry.mapping.eid)[:width]
-        if any(is_up != (bits >> i & 1 == 1) for i, is_up in enumerate(up)):
-            self.journal.append(Bits(moment, entry.mapping.eid, bits, width))
-
-    # Packets of the site.
-
-    def departed(self, moment, iid, packet):
-        if is_group(packet.dest):
-            return "drop 11 multicast", []
-        if self.site.has_home(iid, packet.dest):
-            return "local", []
-        if not self.site.has_home(iid, packet.source):
-            return "drop 12 not-site", []
-        eid = Eid.host(iid, packet.dest)
-        entry = self.journal.in_force(moment, eid)
-        if entry is None:
-            return "drop 13 miss", self.asked(moment, eid, packet.source)
-        if not entry.mapping.locators:
-            return self.acted(moment, entry.mapping.action, eid, packet)
-        value = flow_hash(packet)
-        locator = chosen(self.usable(entry.mapping), value)
-        if locator is None:
-            return "drop 19 no-locator", []
-        return self.tunnelled(iid, packet, 0xC000 + value % 0x4000, locator.address)
-
-    def acted(self, moment, action, eid, packet):
-        if action == 1 and packet.ttl <= 1:
-            return "drop 9 ttl-expired", []
-        if action == 1:
-            return "native", [packet.marked(packet.tos, packet.ttl - 1)]
-        sent = self.asked(moment, eid, packet.source) if action == 2 else []
-        return "drop " + ACTIONS.get(action, "16 drop-no-reason"), sent
-
-    def usable(self, mapping):
-        """The locators of a live mapping that packets can be sent to."""
-        return [
-            locator for locator, up in zip(mapping.locators, self.journal.status(mapping.eid))
-            if up and locator.priority != 255 and not self.site.is_own(locator.address)
-            and self.site.ours(len(locator.address))]
-
-    def tunnelled(self, iid, packet, port, to):
-        if packet.ttl <= 1:
-            return "drop 9 ttl-expired", []
-        if (20 if len(to) == 4 else 40) + 16 + len(packet.octets) > 1500:
-            return "drop 20 too-big", []
-        ours = self.site.ours(len(to))
-        sent = wrapped(self.site, iid, packet, port, ours, to)
-        return f"encapsulated {text_of(ours)} {text_of(to)} {port}", [sent]
-
-    # Requests of the router's own.
-
-    def asked(self, moment, eid, source, invoked=False):
-        """Asks for an EID, where no open request covers it."""
-        if self.site.resolver is None or not self.journal.may_ask(moment, eid):
-            return []
-        nonce = nonce_at(self.site.nonces, self.site.seed, self.journal.drawn())
-        self.journal.append(Asked(moment, eid, source, invoked, nonce))
-        return [request_packet(self.site, self.journal[-1])]
-
-    # Control messages.
-
-    def heard(self, moment, dest, port, found):
-        inner_port, message, _ = found
-        if not isinstance(message, Request):
-            return ("drop 25 unexpected" if inner_port is not None else self.replied(moment, message)), []
-        if inner_port is not None:
-            port, message = inner_port, message._replace(probe=False)
-        if message.solicit and not message.probe:
-            return self.solicited(moment, message)
-        return self.answered(message, dest, port)
-
-    def solicited(self, moment, request):
-        """Asks again for what was learned of the EIDs of a solicitation, that of its source first."""
-        sent = []
-        for eid in [*filter(None, [request.source]), *request.eids]:
-            entry = self.journal.in_force(moment, eid)
-            if entry and not entry.fixed:
-                sent += self.asked(moment, entry.mapping.eid, None, True)
-        return f"control solicit asked={len(sent)}", sent
-
-    def answered(self, request, dest, port):
-        homes = set(map(self.site.home, request.eids)) - {None}
-        eids = [own for own in self.site.databases if any(home.covers(own) for home in homes)]
-        if not eids:
-            return "drop 5 not-ours", []
-        path = self.reply_path(request, dest)
-        if path is None:
-            return "drop 24 no-reply-path", []
-        return f"control request answered={len(eids)}", [reply_packet(self.site, request, eids, path, port)]
-
-    def reply_path(self, request, dest):
-        """Where a reply comes from and goes to: for a probe from where the probe went; or None."""
-        for to in request.replies_to:
-            ours = dest if request.probe else self.site.ours(len(to))
-            if ours and len(ours) == len(to):
-                return ours, to
-        return None
-
-    def replied(self, moment, reply):
-        request = self.journal.open_requests(moment).get(reply.nonce)
-        if reply.probe or request is None:
-            return "drop 21 unsolicited"
-        covering = [record.eid for record in reply.records if record.eid.covers(request.eid)]
-        if not covering:
-            return "drop 22 unfit"
-        self.journal.append(Answered(moment, reply.nonce))
-        return self.learned(moment, covering, reply.records)
-
-    def learned(self, moment, covering, records):
-        taken = 0
-        for record in records:
-            within = any(eid.covers(record.eid) for eid in covering)
-            if within and record.eid not in self.site.static and self.journal.may_learn(moment, record):
-                kept = record._replace(locators=record.locators[:32])
-                self.journal.append(Learned(moment, kept, False))
-                taken += 1
-        return f"control reply learned={taken} passed={len(records) - taken}"
+from wire import Packet, Refused, frames_of, link_payload, need, output_header, output_record
 
 
 def replay(settings, capture, output):
@@ -224,12 +28,13 @@ def replay(settings, capture, output):
         file.write(output_header())
         for moment, link, frame in frames_of(capture):
             count += 1
+            sent = router.until(moment)
             known = len(router.journal)
             verdict, packets = router.take(moment, link, frame)
-            print(f"{count} {moment // 10**9}.{moment % 10**9:09} n={known} {verdict}")
-            for packet in packets:
+            print(f"{count} {moment // SECOND}.{moment % SECOND:09} n={known} {verdict}")
+            for at, packet in [*sent, *((moment, packet) for packet in packets)]:
                 written += 1
-                file.write(output_record(moment, packet))
+                file.write(output_record(at, packet))
     print(f"end frames={count} written={written} entries={len(router.journal)}")
 
 

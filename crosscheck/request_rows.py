@@ -101,10 +101,11 @@ def solicit_rows():
     second = reply(record("0a020000", 16, locators=["c6336408"]), nonce=DRAWN_NONCE)
     yield Row("a solicitation asks again, once", [
         *FIRST, (SECOND, asking(within, **solicit), "n=3 control solicit asked=1"),
-        (2 * SECOND, asking(within, **solicit), "n=4 control solicit asked=0"),
-        (3 * SECOND, second, "n=4 control reply learned=1 passed=0"),
-        (4 * SECOND, PACKET, "n=6 " + sent("198.51.100.8"))],
-        [*WRITTEN, (SECOND, again("0a020000", 16)), (4 * SECOND, OTHER_TUNNEL)], 6)
+        (2 * SECOND, asking(within, **solicit), "n=5 control solicit asked=0"),
+        (3 * SECOND, second, "n=5 control reply learned=1 passed=0"),
+        (4 * SECOND, PACKET, "n=7 " + sent("198.51.100.8"))],
+        [*WRITTEN, (SECOND, again("0a020000", 16)), (2 * SECOND, again("0a020000", 16)),
+         (4 * SECOND, OTHER_TUNNEL)], 7)
     yield Row("an encapsulated solicitation asks again, also where it has the mark of a probe", [
         *FIRST, (SECOND, encapsulated(within, port=5000, kind=PROBE | SOLICIT), "n=3 control solicit asked=1")],
         [*WRITTEN, (SECOND, again("0a020000", 16))], 4)

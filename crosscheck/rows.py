@@ -12,6 +12,7 @@ import tempfile
 import cache_rows
 import choice_rows
 import request_rows
+import tick_rows
 
 HERE = os.path.dirname(os.path.abspath(__file__))
 
@@ -36,7 +37,7 @@ def main():
         command = lambda s, i, o: [sys.executable, os.path.join(HERE, "plain.py"), "replay", s, i, o]
     failed = False
     with tempfile.TemporaryDirectory() as folder:
-        for row in [*cache_rows.rows(), *request_rows.rows(), *choice_rows.rows()]:
+        for row in [*cache_rows.rows(), *request_rows.rows(), *choice_rows.rows(), *tick_rows.rows()]:
             report, output = replayed(command, row, folder)
             good = report == row.report and output == row.output()
             print(f"{'ok     ' if good else 'DIFFERS'} {row.name}")

@@ -3,6 +3,8 @@ import struct
 
 from wire import control_packet, ip_header
 
+# Flags of a Map-Request, of a record, and of a locator.
+PROBE, INVOKED = 0x200, 0x40
 A_BIT, L_BIT, P_BIT, R_BIT = 0x1000, 4, 2, 1
 
 
@@ -30,21 +32,27 @@ def eid_octets(iid, address):
     return struct.pack(">HBBBBHI", 16387, 0, 0, 2, 0, size, iid) + located(address)
 
 
-def map_request(asked, replies_to):
+def map_request(flags, nonce, eid, source, replies_to):
     """A Map-Request for one EID; its source, where there is one, is an address of the EID's instance."""
-    eid = asked.eid
-    front = bytes([0x10, 0x40 if asked.invoked else 0, len(replies_to) - 1, 1]) + struct.pack(">Q", asked.nonce)
-    own = bytes(2) if asked.source is None else eid_octets(eid.iid, asked.source)
+    front = struct.pack(">HBBQ", 0x1000 | flags, len(replies_to) - 1, 1, nonce)
+    own = bytes(2) if source is None else eid_octets(eid.iid, source)
     record = bytes([0, eid.length]) + eid_octets(eid.iid, eid.octets())
     return front + own + b"".join(map(located, replies_to)) + record
+
+
+def probe_packet(site, address, nonce, eid):
+    """The packet that probes a locator, with an EID that it is named for."""
+    message = map_request(PROBE, nonce, eid, None, site.up())
+    return control_packet(site.ours(len(address)), address, message)
 
 
 def request_packet(site, asked):
     """The packet that asks the resolver for an EID, encapsulated."""
     eid, size = asked.eid, asked.eid.width // 8
+    message = map_request(INVOKED * asked.invoked, asked.nonce, eid, asked.source, site.up())
     prefixes = [own.octets() for own in site.databases if (own.iid, own.width) == (eid.iid, eid.width)]
     inner = site.ours(size) or next(iter(prefixes), bytes(size))
-    request = control_packet(inner, eid.octets(), map_request(asked, site.up()))
+    request = control_packet(inner, eid.octets(), message)
     return control_packet(site.ours(len(site.resolver)), site.resolver, bytes([0x80, 0, 0, 0]) + request)
 
 

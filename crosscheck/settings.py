@@ -159,7 +159,7 @@ def check(top):
             fail("bad-value", ["nonces", position])
     optional(top, "resolver", lambda value: address(value) is not None, [])
     optional(top, "ttl", number(1, 2**32 - 2), [])
-    optional(top, "probe", lambda value: value is False, [])
+    optional(top, "probe", truth, [])
     optional(top, "echo", lambda value: value is False, [])
     items(top, "locator", 32, locator, [], 1)
     items(top, "attachment", 4096, attachment, [])

@@ -36,6 +36,7 @@ class Site:
         self.static = {mapping.eid for mapping in self.mappings}
         self.resolver = raw(top["resolver"]) if "resolver" in top else None
         self.ttl = top.get("ttl", 1440)
+        self.probe = top.get("probe", False)
         self.nonces = [int(text, 16) for text in top.get("nonces", [])]
         self.seed = bytes.fromhex(top.get("seed", 64 * "0"))
 

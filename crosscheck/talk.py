@@ -3,35 +3,60 @@ import struct
 
 from arrivals import Arrivals
 from fitting import away, longer, plain_ip, randomly, record, shorter, summed
-from journal import MOST_REQUESTS, OPEN, Asked, Bits, Learned, ends
+from journal import (AGAIN, MOST_REQUESTS, OPEN, PROBE_AGAIN, PROBE_COUNTS, PROBE_OPEN, SECOND, Asked, Bits, Learned,
+                     ends)
 from makers import AWAY, HOMES, OTHERS, between, framed, host, inside, packet, raw, spoiled, udp
 from messages import Eid
-from plain import Router
+from router import Router
 
-MILLI, SECOND, DAY = 10**6, 10**9, 86_400 * 10**9
+MILLI, DAY = 10**6, 86_400 * SECOND
+# Long pauses between frames, in seconds: of requests and probes, of probes that come again, of those that count.
+LONG = [(3, 10)] * 10 + [(55, 65)] * 5 + [(590, 610), (0, 700)]
 
 
 class Talk:
-    """Frames one after another; some are at the very end of a request or a mapping, or just before."""
+    """Frames one after another; some are at the very end of something that the router keeps, or just before."""
 
     def __init__(self, r, site, link, unit, hurried):
         self.r, self.site, self.link, self.unit, self.hurried = r, site, link, unit, hurried
         self.router = Router(site)
         self.arrivals = Arrivals(r, site, self.router.journal)
-        self.now = 1_700_000_000 * SECOND
+        self.now = 1_700_000_000 * SECOND + self.rounded(r.choice([0, r.randrange(SECOND)]))
         self.replies, self.iid, self.filled = [], None, False
+        self.slow, self.answering = r.choice([0.01, 0.04, 0.12]), r.choice([0.1, 0.5, 0.8])
+
+    # Moments.
 
     def rounded(self, moment):
         return moment - moment % self.unit
 
-    def pause(self):
-        if self.hurried:
-            return self.r.randrange(2 * MILLI)
-        longest = self.r.choice([0, 1000, MILLI, SECOND, SECOND, 3 * SECOND, 100 * SECOND])
-        return self.r.randrange(longest + 1)
+    def whole(self):
+        """A whole second that is to come, one unit before or behind it, or so many seconds from now."""
+        r = self.r
+        if r.random() < 0.25:
+            return self.now + r.choice([1] * 9 + [2, 3, 3, 7, 7, 60, 60, 600]) * SECOND
+        second = self.now // SECOND + r.choice([1, 1, 1, 2, 3])
+        return second * SECOND + r.choice([-1, 0, 0, 1]) * self.unit
+
+    def much_later(self):
+        """Some seconds or minutes from now, or where a locator was probed again."""
+        r, recent = self.r, self.router.journal.probes()[-40:]
+        if recent and r.random() < 0.7:
+            return r.choice(recent)[0].moment + PROBE_AGAIN + r.randrange(SECOND)
+        least, most = r.choice(LONG)
+        return self.now + r.randrange(least * SECOND, most * SECOND)
 
     def later(self):
-        return self.rounded(self.now + self.pause())
+        """A moment that isn't before now, mostly soon."""
+        r, kind = self.r, self.r.random()
+        if self.hurried and kind < 0.998:
+            return self.rounded(self.now + r.randrange(2 * MILLI))
+        if kind < 0.12:
+            return self.whole()
+        if kind < 0.12 + self.slow:
+            return self.rounded(max(self.now, self.much_later()))
+        longest = r.choice([0, 1000, MILLI, SECOND // 10, SECOND // 2, SECOND])
+        return self.rounded(self.now + r.randrange(longest + 1))
 
     def request(self):
         """A request to reply to, mostly an open one, or None."""
@@ -66,20 +91,17 @@ class Talk:
         r.shuffle(eids)
         return [record(r, eid) for eid in eids]
 
-    def message(self, asked):
+    def message(self, flags, nonce, records):
         r = self.r
-        records = self.records(asked)
         count = len(records) if r.random() < 0.97 else r.randrange(4)
-        first = 0x20 | r.choice([0] * 20 + [4, 1, 5, 8, 8, 2])
-        nonce = asked.nonce if r.random() < 0.95 else asked.nonce ^ 1 << r.randrange(64)
-        front = bytes([first]) + r.randbytes(2) + bytes([count]) + struct.pack(">Q", nonce)
+        nonce = nonce if r.random() < 0.95 else nonce ^ 1 << r.randrange(64)
+        front = bytes([0x20 | flags]) + r.randbytes(2) + bytes([count]) + struct.pack(">Q", nonce)
         return spoiled(r, front + b"".join(records), 0.06)
 
-    def reply(self, asked):
-        r = self.r
-        own = [own.address for own in self.site.locators]
-        source, dest = between(r, lambda: raw(r.choice(OTHERS)), lambda: r.choice(own))
-        message = self.message(asked)
+    def sent_here(self, pick_source, message):
+        """A message from outside, now and then encapsulated; it may come again."""
+        r, own = self.r, [own.address for own in self.site.locators]
+        source, dest = between(r, pick_source, lambda: r.choice(own))
         if r.random() < 0.04:
             inner = plain_ip(r, source, source, udp(r, source, source, message, (4342, 4342)))
             message = bytes([0x80]) + r.randbytes(3) + inner
@@ -87,6 +109,31 @@ class Talk:
         octets = plain_ip(r, source, dest, summed(r, source, dest, message, ports))
         self.replies.append(spoiled(r, octets, 0.03))
         return self.replies[-1]
+
+    def other(self):
+        return raw(self.r.choice(OTHERS))
+
+    def reply(self, asked):
+        flags = self.r.choice([0] * 20 + [4, 1, 5, 8, 8, 2])
+        return self.sent_here(self.other, self.message(flags, asked.nonce, self.records(asked)))
+
+    # Replies to probes.
+
+    def probe(self):
+        """A probe to reply to, mostly an open one, or None."""
+        r, recent = self.r, self.router.journal.probes()[-40:]
+        waiting = [probe for probe, answered in recent if not answered and self.now - probe.moment < PROBE_OPEN]
+        if waiting and r.random() < 0.9:
+            return r.choice(waiting)
+        return r.choice(recent)[0] if recent and r.random() < 0.1 else None
+
+    def probe_reply(self, probe):
+        """A reply to a probe, mostly from its locator, with records that don't count."""
+        r = self.r
+        records = [record(r, away(r, r.choice([0, 7, 300]))) for _ in range(r.choice([0, 1, 1, 2]))]
+        message = self.message(r.choice([8] * 20 + [12, 9, 13, 10, 0]), probe.nonce, records)
+        reached = any(len(own.address) == len(probe.address) for own in self.site.locators)
+        return self.sent_here((lambda: probe.address) if reached and r.random() < 0.88 else self.other, message)
 
     # Packets of the site.
 
@@ -110,6 +157,9 @@ class Talk:
     def destination(self):
         """Something that was asked for or learned, or something new."""
         r = self.r
+        mapped = [] if self.hurried else self.mapped()
+        if mapped and r.random() < 0.3:
+            return r.choice(mapped).eid
         known = [entry.mapping.eid if type(entry) is Learned else entry.eid for entry in self.router.journal[-60:]
                  if type(entry) in (Asked, Learned, Bits)]
         if known and r.random() < (0.1 if self.hurried else 0.4):
@@ -120,31 +170,49 @@ class Talk:
         return Eid.host(home.iid, raw("10.0.0.0")[:1] + r.randbytes(3) if home.width == 32
                         else raw("2001:db8::")[:4] + r.randbytes(12))
 
-    def ending(self):
-        """A mapping that ends soon, or one of a day."""
-        longest = DAY if self.r.random() < 0.01 else 100 * SECOND
-        live = [entry for entry in self.router.journal.live(self.now).values() if not entry.fixed]
-        return [entry for entry in live if ends(entry) - self.now < longest]
+    # Frames at the end of something.
 
     def regarding(self, mapping):
         """A packet to a mapping's EID, one from it, or a solicitation for it."""
         make = self.r.choice([self.leaving, self.leaving, self.arrivals.solicitation, None])
         return make(mapping.eid) if make else self.arrivals.arriving(mapping)
 
+    def to_locator(self, address):
+        """A packet whose mapping names the locator, where there is one."""
+        named = [entry.mapping.eid for entry in self.router.journal.live(self.now).values()
+                 if any(locator.address == address for locator in entry.mapping.locators)]
+        return self.leaving(self.r.choice(named) if named else self.destination())
+
+    def request_ends(self):
+        """Where a request is sent again or ends, with a reply to it or a packet that is for its EID."""
+        for entry in list(self.router.journal.open_requests(self.now).values())[-40:]:
+            make = self.r.choice([self.reply, lambda asked: self.leaving(asked.eid)])
+            yield from ((entry.moment + age, make, entry) for age in (*AGAIN, OPEN, OPEN))
+
+    def mapping_ends(self):
+        """Where a mapping ends soon, or, where no probes fill the time, one of a day."""
+        longest = DAY if not self.site.probe and self.r.random() < 0.01 else 100 * SECOND
+        for entry in self.router.journal.live(self.now).values():
+            if not entry.fixed and ends(entry) - self.now < longest:
+                yield ends(entry), self.regarding, entry.mapping
+
+    def probe_ends(self):
+        """Where a probe ends, comes again, or counts no more, with a reply to it or a packet to its locator."""
+        for entry, _ in self.router.journal.probes()[-40:]:
+            make = self.r.choice([self.probe_reply, lambda probe: self.to_locator(probe.address)])
+            yield from ((entry.moment + age, make, entry) for age in [PROBE_OPEN] * 9 + [PROBE_AGAIN, PROBE_COUNTS])
+
     def aimed(self):
-        """A frame at the end of a request or of a mapping, or one unit before."""
+        """The end of something, or one unit before, and what makes a frame then; or None."""
         r, early = self.r, self.r.choice([0, self.unit])
-        waiting = list(self.router.journal.open_requests(self.now).values())
-        waiting = [entry for entry in waiting if entry.moment + OPEN - early >= self.now]
-        ending = [entry for entry in self.ending() if ends(entry) - early >= self.now]
-        if ending and (not waiting or r.random() < 0.6):
-            entry = r.choice(ending)
-            return ends(entry) - early, self.regarding(entry.mapping)
-        if waiting:
-            entry = r.choice(waiting)
-            octets = self.reply(entry) if r.random() < 0.7 else self.leaving(entry.eid)
-            return entry.moment + OPEN - early, octets
-        return self.later(), self.leaving(self.destination())
+        for find in r.sample([self.request_ends, self.mapping_ends, self.probe_ends], 3):
+            found = [one for one in find() if one[0] - early >= self.now]
+            if found:
+                moment, make, regarded = r.choice(found)
+                return moment - early, lambda: make(regarded)
+        return None
+
+    # All frames.
 
     def shares(self):
         """How often a frame is at an end; else a reply; else comes from outside in another way; else is any."""
@@ -153,27 +221,30 @@ class Talk:
         self.filled = self.filled or len(self.router.journal.open_requests(self.now)) >= MOST_REQUESTS
         return (0.001, 0.15, 0.4, 0.1) if self.filled else (0, 0.005, 0.01, 0.01)
 
+    def mapped(self):
+        return [entry.mapping for entry in self.arrivals.mapped(self.now) if entry.mapping.locators]
+
     def arrived(self):
         """A Map-Request, or a packet in a tunnel."""
-        mapped = [entry.mapping for entry in self.arrivals.mapped(self.now) if entry.mapping.locators]
+        mapped = self.mapped()
         if not mapped or self.r.random() < 0.5:
             return self.arrivals.inquiry(self.now)
         return self.arrivals.arriving(self.r.choice(mapped))
 
-    def one(self):
+    def any(self):
         r = self.r
-        at_end, reply, outside, other = self.shares()
-        if r.random() < at_end:
-            return self.aimed()
+        _, reply, outside, other = self.shares()
+        if not self.hurried and r.random() < self.answering and (probe := self.probe()):
+            return self.probe_reply(probe)
         if r.random() < reply and (asked := self.request()):
-            return self.later(), self.reply(asked)
+            return self.reply(asked)
         if self.replies and r.random() < other / 3:
-            return self.later(), r.choice(self.replies[-20:])
+            return r.choice(self.replies[-20:])
         if r.random() < outside:
-            return self.later(), self.arrived()
+            return self.arrived()
         if r.random() < other:
-            return self.later(), packet(r)
-        return self.later(), self.leaving(self.destination())
+            return packet(r)
+        return self.leaving(self.destination())
 
     def tagged(self, octets):
         """A frame in the VLAN of the instance that was chosen last, mostly."""
@@ -187,10 +258,14 @@ class Talk:
 
     def frames(self, count):
         """Moments as the capture has them, some behind the greatest before, and frames."""
-        for _ in range(count):
-            moment, octets = self.one()
-            frame = self.tagged(octets)
+        for i in range(count):
+            late = i > 0 and self.r.random() < 0.03
+            moment, make = self.now, self.any
+            if i > 0 and not late:
+                aim = self.aimed() if self.r.random() < self.shares()[0] else None
+                moment, make = aim or (self.later(), self.any)
             self.now = max(self.now, moment)
+            self.router.until(self.now)
+            frame = self.tagged(make())
             self.router.take(self.now, self.link, frame)
-            late = self.r.random() < 0.03
             yield self.now - (self.rounded(self.r.randrange(2 * SECOND)) if late else 0), frame

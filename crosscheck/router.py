@@ -1,0 +1,260 @@
+"""A plain router: what it decides of each frame and does at each second, by the whole journal as it then stands."""
+from choice import chosen, flow_hash
+from journal import PROBE_AGAIN, SECOND, Answered, Asked, Bits, Journal, Learned, ProbeAnswered, Probed, Retried
+from messages import Eid, Request, message_of
+from nonces import nonce_at
+from sending import probe_packet, reply_packet, request_packet, wrapped
+from wire import Packet, Refused, link_payload, need, number, text_of
+
+ACTIONS = {0: "14 no-action", 2: "15 send-request", 4: "17 drop-policy", 5: "18 drop-auth"}
+ECN = {(0, 0): 0, (0, 2): 0, (0, 1): 0, (2, 0): 2, (2, 2): 2, (2, 1): 1, (2, 3): 3,
+       (1, 0): 1, (1, 2): 1, (1, 1): 1, (1, 3): 3, (3, 0): 3, (3, 2): 3, (3, 1): 3, (3, 3): 3}
+MOST_AT_ONCE = 16
+
+
+def is_group(address):
+    if len(address) == 4:
+        return address[0] >> 4 == 14 or address == b"\xff\xff\xff\xff"
+    return address[0] == 0xFF
+
+
+class Router:
+    """A site and its journal."""
+
+    def __init__(self, site):
+        self.site, self.latest = site, None
+        self.journal = Journal(Learned(0, mapping, True) for mapping in site.mappings)
+
+    # Seconds.
+
+    def until(self, moment):
+        """Plays the whole seconds behind the frame before, up to a frame's moment: what is sent, and when."""
+        sent, second = [], None if self.latest is None else self.latest // SECOND + 1
+        self.latest = moment
+        while second is not None and second * SECOND <= moment:
+            packets = self.ticked(second * SECOND)
+            sent += ((second * SECOND, packet) for packet in packets)
+            second = second + 1 if packets else self.journal.next_second(second)
+        return sent
+
+    def ticked(self, moment):
+        """What is sent at a whole second: due requests once more, and probes."""
+        sent = []
+        for asked in self.journal.due(moment):
+            self.journal.append(Retried(moment, asked.nonce))
+            sent.append(request_packet(self.site, asked))
+        return sent + self.probed(moment) if self.site.probe else sent
+
+    def probed(self, moment):
+        """Probes of the locators that were never probed, or not for longest, by address where that is alike."""
+        last, named, sent = self.journal.last_probes(moment), self.named(moment), []
+        waiting = [address for address in named
+                   if address not in last or self.journal.now(moment) - last[address] >= PROBE_AGAIN]
+        waiting.sort(key=lambda address: (last.get(address, -1), len(address), address))
+        for address in waiting[:min(MOST_AT_ONCE, self.journal.may_probe(moment))]:
+            nonce = self.nonce()
+            self.journal.append(Probed(moment, address, nonce))
+            sent.append(probe_packet(self.site, address, nonce, named[address]))
+        return sent
+
+    def named(self, moment):
+        """The locators that can be probed, and for each the least EID whose mapping names it for packets."""
+        named = {}
+        for eid, entry in sorted(self.journal.live(moment).items()):
+            for locator in entry.mapping.locators:
+                if locator.priority != 255 and self.is_reached(locator.address):
+                    named.setdefault(locator.address, eid)
+        return named
+
+    def is_reached(self, address):
+        return not self.site.is_own(address) and self.site.ours(len(address)) is not None
+
+    # Frames.
+
+    def take(self, moment, link, frame):
+        """The verdict of a frame, and the packets that are sent for it."""
+        try:
+            vlan, place, octets = link_payload(link, frame)
+            packet = Packet(octets, place)
+            if self.site.is_own(packet.source):
+                return "own", []
+            if self.site.is_own(packet.dest):
+                return self.arrived(moment, packet)
+            if vlan not in self.site.attachments:
+                return "drop 10 no-attachment", []
+            return self.departed(moment, self.site.attachments[vlan], packet)
+        except Refused as refused:
+            return f"drop 1 refused {refused}", []
+
+    # Packets out of tunnels.
+
+    def arrived(self, moment, packet):
+        if packet.fragment:
+            return "drop 3 fragment", []
+        if packet.protocol != 17:
+            return "drop 2 not-tunnel", []
+        source, dest, checksum, datagram = packet.udp()
+        if dest == 4341:
+            packet.check(checksum, datagram, True)
+            return self.opened(moment, packet, datagram[8:], packet.base + packet.at + 8)
+        if 4342 not in (source, dest):
+            return "drop 2 not-tunnel", []
+        packet.check(checksum, datagram, False)
+        return self.heard(moment, packet, source, message_of(datagram[8:], packet.base + packet.at + 8))
+
+    def opened(self, moment, packet, payload, place):
+        need(len(payload) >= 8, "lisp", place, "short")
+        if payload[0] & 3:
+            return "drop 4 encrypted", []
+        inner = Packet(payload[8:], place + 8)
+        iid = number(payload, 4, 3) if payload[0] & 8 else 0
+        if not self.site.has_home(iid, inner.dest):
+            return "drop 5 not-ours", []
+        ecn = ECN.get((inner.tos & 3, packet.tos & 3))
+        if ecn is None:
+            return "drop 8 congestion-mark", []
+        ttl = min(inner.ttl, packet.ttl)
+        if ttl <= 1:
+            return "drop 9 ttl-expired", []
+        if payload[0] & 0x40:
+            bits, width = (payload[7], 8) if payload[0] & 8 else (number(payload, 4, 4), 32)
+            self.told(moment, Eid.host(iid, inner.source), packet.source, bits, width)
+        return f"delivered {iid}", [inner.marked(packet.tos & 0xFC | ecn, ttl - 1)]
+
+    def told(self, moment, source, teller, bits, width):
+        """Keeps status bits that one of a mapping's locators tells, where they say anything new."""
+        entry = self.journal.in_force(moment, source)
+        if entry is None or all(locator.address != teller for locator in entry.mapping.locators):
+            return
+        up = self.journal.status(entry.mapping.eid)[:width]
+        if any(is_up != (bits >> i & 1 == 1) for i, is_up in enumerate(up)):
+            self.journal.append(Bits(moment, entry.mapping.eid, bits, width))
+
+    # Packets of the site.
+
+    def departed(self, moment, iid, packet):
+        if is_group(packet.dest):
+            return "drop 11 multicast", []
+        if self.site.has_home(iid, packet.dest):
+            return "local", []
+        if not self.site.has_home(iid, packet.source):
+            return "drop 12 not-site", []
+        eid = Eid.host(iid, packet.dest)
+        entry = self.journal.in_force(moment, eid)
+        if entry is None:
+            return "drop 13 miss", self.asked(moment, eid, packet.source)
+        if not entry.mapping.locators:
+            return self.acted(moment, entry.mapping.action, eid, packet)
+        value = flow_hash(packet)
+        locator = chosen(self.usable(moment, entry.mapping), value)
+        if locator is None:
+            return "drop 19 no-locator", []
+        return self.tunnelled(iid, packet, 0xC000 + value % 0x4000, locator.address)
+
+    def acted(self, moment, action, eid, packet):
+        if action == 1 and packet.ttl <= 1:
+            return "drop 9 ttl-expired", []
+        if action == 1:
+            return "native", [packet.marked(packet.tos, packet.ttl - 1)]
+        sent = self.asked(moment, eid, packet.source) if action == 2 else []
+        return "drop " + ACTIONS.get(action, "16 drop-no-reason"), sent
+
+    def usable(self, moment, mapping):
+        """The locators of a live mapping that packets can be sent to."""
+        down = self.journal.down(moment)
+        return [
+            locator for locator, up in zip(mapping.locators, self.journal.status(mapping.eid))
+            if up and locator.priority != 255 and self.is_reached(locator.address) and locator.address not in down]
+
+    def tunnelled(self, iid, packet, port, to):
+        if packet.ttl <= 1:
+            return "drop 9 ttl-expired", []
+        if (20 if len(to) == 4 else 40) + 16 + len(packet.octets) > 1500:
+            return "drop 20 too-big", []
+        ours = self.site.ours(len(to))
+        sent = wrapped(self.site, iid, packet, port, ours, to)
+        return f"encapsulated {text_of(ours)} {text_of(to)} {port}", [sent]
+
+    # Requests of the router's own.
+
+    def asked(self, moment, eid, source, invoked=False):
+        """Asks for an EID, where no open request covers it."""
+        if self.site.resolver is None or not self.journal.may_ask(moment, eid):
+            return []
+        self.journal.append(Asked(moment, eid, source, invoked, self.nonce()))
+        return [request_packet(self.site, self.journal[-1])]
+
+    def nonce(self):
+        return nonce_at(self.site.nonces, self.site.seed, self.journal.drawn())
+
+    # Control messages.
+
+    def heard(self, moment, packet, port, found):
+        inner_port, message, _ = found
+        if not isinstance(message, Request):
+            if inner_port is not None:
+                return "drop 25 unexpected", []
+            if message.probe:
+                return self.probe_answered(moment, packet.source, message.nonce), []
+            return self.replied(moment, message), []
+        if inner_port is not None:
+            port, message = inner_port, message._replace(probe=False)
+        if message.solicit and not message.probe:
+            return self.solicited(moment, message)
+        return self.answered(message, packet.dest, port)
+
+    def solicited(self, moment, request):
+        """Asks again for what was learned of the EIDs of a solicitation, that of its source first."""
+        sent = []
+        for eid in [*filter(None, [request.source]), *request.eids]:
+            entry = self.journal.in_force(moment, eid)
+            if entry and not entry.fixed:
+                sent += self.asked(moment, entry.mapping.eid, None, True)
+        return f"control solicit asked={len(sent)}", sent
+
+    def answered(self, request, dest, port):
+        homes = set(map(self.site.home, request.eids)) - {None}
+        eids = [own for own in self.site.databases if any(home.covers(own) for home in homes)]
+        if not eids:
+            return "drop 5 not-ours", []
+        path = self.reply_path(request, dest)
+        if path is None:
+            return "drop 24 no-reply-path", []
+        return f"control request answered={len(eids)}", [reply_packet(self.site, request, eids, path, port)]
+
+    def reply_path(self, request, dest):
+        """Where a reply comes from and goes to: for a probe from where the probe went; or None."""
+        for to in request.replies_to:
+            ours = dest if request.probe else self.site.ours(len(to))
+            if ours and len(ours) == len(to):
+                return ours, to
+        return None
+
+    def probe_answered(self, moment, source, nonce):
+        probe = self.journal.open_probe(moment, nonce)
+        if probe is None:
+            return "drop 21 unsolicited"
+        if source != probe.address:
+            return "drop 23 foreign"
+        self.journal.append(ProbeAnswered(moment, nonce))
+        return "control probe-reply"
+
+    def replied(self, moment, reply):
+        request = self.journal.open_requests(moment).get(reply.nonce)
+        if request is None:
+            return "drop 21 unsolicited"
+        covering = [record.eid for record in reply.records if record.eid.covers(request.eid)]
+        if not covering:
+            return "drop 22 unfit"
+        self.journal.append(Answered(moment, reply.nonce))
+        return self.learned(moment, covering, reply.records)
+
+    def learned(self, moment, covering, records):
+        taken = 0
+        for record in records:
+            within = any(eid.covers(record.eid) for eid in covering)
+            if within and record.eid not in self.site.static and self.journal.may_learn(moment, record):
+                kept = record._replace(locators=record.locators[:32])
+                self.journal.append(Learned(moment, kept, False))
+                taken += 1
+        return f"control reply learned={taken} passed={len(records) - taken}"
