@@ -13,7 +13,7 @@ import random
 import struct
 import sys
 
-from packets import ones_sum
+from packets import udp_packet
 
 DESTINATIONS = 1_000
 OWN, OTHER = bytes([192, 0, 2, 1]), bytes([198, 51, 100, 7])
@@ -34,16 +34,6 @@ def mapping(i, locators):
         for last, priority, weight in locators)
 
 
-def packet(source, dest, ports, payload, summed):
-    size = 8 + len(payload)
-    udp = struct.pack(">HHHH", *ports, size, 0) + payload
-    if summed:
-        total = ones_sum(source + dest + struct.pack(">HH", 17, size) + udp)
-        udp = udp[:6] + struct.pack(">H", (0xFFFF - total) or 0xFFFF) + payload
-    front = struct.pack(">BBHHHBBH", 0x45, 0, 20 + size, 0, 0, 64, 17, 0) + source + dest
-    return front[:10] + struct.pack(">H", 0xFFFF - ones_sum(front)) + front[12:] + udp
-
-
 def record(i, half, octets):
     """A record of a capture, in the first or the second half of the time of the frame."""
     fraction = i % 10_000 * 100 + 50 * half
@@ -57,7 +47,7 @@ def frames(count, seed):
         size, host, port = numbers.randint(80, 1400), numbers.randrange(65536), numbers.randrange(65536)
         dest = numbers.randrange(DESTINATIONS)
         source = bytes([10, 1]) + struct.pack(">H", host)
-        yield dest, packet(source, address(dest), (port, 2000), zeros[:size - 28], False)
+        yield dest, udp_packet(source, address(dest), (port, 2000), zeros[:size - 28], False)
 
 
 def reply(dest, nonce):
@@ -66,7 +56,7 @@ def reply(dest, nonce):
     locators = b"".join(
         struct.pack(">BBBBHH", priority, weight, 255, 0, 1, 1) + OTHER[:3] + bytes([last])
         for last, priority, weight in LOCATORS)
-    return packet(OTHER, OWN, (4342, 4342), front + eid + locators, True)
+    return udp_packet(OTHER, OWN, (4342, 4342), front + eid + locators, True)
 
 
 def nonces(path):

@@ -11,7 +11,7 @@ import random
 import struct
 import sys
 
-from packets import ones_sum
+from packets import udp_packet
 
 START, SPAN, AGAIN, AT_ONCE, ANSWERED = 1_700_000_000, 100, 60, 16, 100_000
 OWN = bytes([192, 0, 2, 1])
@@ -30,21 +30,11 @@ def mapping(i, some):
         f'[[mapping.locator]]\naddress = "{".".join(map(str, locator(j)))}"\n' for j in some)
 
 
-def packet(source, dest, ports, payload, summed):
-    size = 8 + len(payload)
-    udp = struct.pack(">HHHH", *ports, size, 0) + payload
-    if summed:
-        total = ones_sum(source + dest + struct.pack(">HH", 17, size) + udp)
-        udp = udp[:6] + struct.pack(">H", (0xFFFF - total) or 0xFFFF) + payload
-    front = struct.pack(">BBHHHBBH", 0x45, 0, 20 + size, 0, 0, 64, 17, 0) + source + dest
-    return front[:10] + struct.pack(">H", 0xFFFF - ones_sum(front)) + front[12:] + udp
-
-
 def answer(source, nonce):
     """A Map-Reply to a probe, with one mapping of one locator."""
     record = struct.pack(">IBBHHH", 1440, 1, 24, 0x1000, 0, 1) + bytes([10, 2, 0, 0])
     message = struct.pack(">IQ", 0x28000001, nonce) + record + struct.pack(">BBBBHH", 1, 1, 255, 0, 7, 1) + source
-    return packet(source, OWN, (4342, 4342), message, True)
+    return udp_packet(source, OWN, (4342, 4342), message, True)
 
 
 def record(moment, octets):
@@ -58,7 +48,7 @@ def write_gap(folder, seconds, locators):
     with open(f"{folder}/settings.toml", "w") as file:
         file.write(site + "".join(
             mapping(i // 25, range(i, min(i + 25, locators))) for i in range(0, locators, 25)))
-    octets = packet(bytes([10, 1, 0, 5]), bytes([10, 3, 0, 9]), (1000, 2000), b"", False)
+    octets = udp_packet(bytes([10, 1, 0, 5]), bytes([10, 3, 0, 9]), (1000, 2000), b"", False)
     with open(f"{folder}/capture.pcap", "wb") as file:
         file.write(HEADER + record(0, octets) + record(seconds * 10**6, octets))
 
@@ -77,7 +67,7 @@ def frames(count, seed):
     for i in range(count):
         size, host, port = numbers.randint(80, 1400), numbers.randrange(65536), numbers.randrange(65536)
         source = bytes([10, 1]) + struct.pack(">H", host)
-        yield i * SPAN * 10**6 // count, packet(source, bytes([10, 2, 0, 9]), (port, 2000), zeros[:size - 28], False)
+        yield i * SPAN * 10**6 // count, udp_packet(source, bytes([10, 2, 0, 9]), (port, 2000), zeros[:size - 28], False)
 
 
 def write_busy(folder, count, locators, seed):
