@@ -1,11 +1,8 @@
 // Which locators are probed, in which order, and for which EID.
-use crate::exchanges::{
-    Arrival, Departure, NANOSECONDS, assert_exchange, capture_of, output_of, report_of,
-};
-use crate::packets::{PACKET, SENT, changed, push_record};
+use crate::exchanges::{Arrival, Departure, NANOSECONDS, assert_exchange};
+use crate::packets::{PACKET, SENT};
 use crate::probe_packets::{PROBE, PROBE_OF_TWO, PROBE_OVER_V6};
-use crate::runs::{SITE, replayed, said};
-use replay::Status;
+use crate::runs::SITE;
 use std::alloc::Global;
 use std::test::Fail;
 
@@ -31,42 +28,53 @@ fn site_of_seventeen(alloc: Global) -> Result<String, Fail> {
     Ok(site)
 }
 
-// The probe of the locator of IPv4 with that last octet.
-fn probe_of(alloc: Global, last: u8) -> Result<Vec<u8>, Fail> {
-    let [first, second] = 0x4e6e_u16.wrapping_sub(u16::from(last)).to_be_bytes();
-    let octet = 0x45_u8.wrapping_sub(last);
-    let edits = [(10, first), (11, second), (19, last), (39, octet)];
-    changed(alloc, &PROBE_OF_TWO, 74, &edits)
-}
-
 // What is said of a packet before the probes, and of one after them.
 const SIXTEEN_LINES: [&str; 2] = [
     "1 1700000000.000000000 n=1 encapsulated 192.0.2.1 198.51.100.7 64519",
     "2 1700000002.500000000 n=18 encapsulated 192.0.2.1 198.51.100.7 64519",
 ];
 
+// The packet before the probes, those of the sixteen locators, that of the one of IPv6, and the packet
+// after them. Each goes to the first locator.
+const SIXTEEN_PACKETS: [Departure<'static>; 19] = [
+    (0, 0, &SENT, &[(35, 3)]),
+    (1, 0, &PROBE_OF_TWO, &[(11, 0x6d), (19, 1), (39, 0x44)]),
+    (1, 0, &PROBE_OF_TWO, &[(11, 0x6c), (19, 2), (39, 0x43)]),
+    (1, 0, &PROBE_OF_TWO, &[(11, 0x6b), (19, 3), (39, 0x42)]),
+    (1, 0, &PROBE_OF_TWO, &[(11, 0x6a), (19, 4), (39, 0x41)]),
+    (1, 0, &PROBE_OF_TWO, &[(11, 0x69), (19, 5), (39, 0x40)]),
+    (1, 0, &PROBE_OF_TWO, &[(11, 0x68), (19, 6), (39, 0x3f)]),
+    (1, 0, &PROBE_OF_TWO, &[(11, 0x67), (19, 7), (39, 0x3e)]),
+    (1, 0, &PROBE_OF_TWO, &[(11, 0x66), (19, 8), (39, 0x3d)]),
+    (1, 0, &PROBE_OF_TWO, &[(11, 0x65), (19, 9), (39, 0x3c)]),
+    (1, 0, &PROBE_OF_TWO, &[(11, 0x64), (19, 10), (39, 0x3b)]),
+    (1, 0, &PROBE_OF_TWO, &[(11, 0x63), (19, 11), (39, 0x3a)]),
+    (1, 0, &PROBE_OF_TWO, &[(11, 0x62), (19, 12), (39, 0x39)]),
+    (1, 0, &PROBE_OF_TWO, &[(11, 0x61), (19, 13), (39, 0x38)]),
+    (1, 0, &PROBE_OF_TWO, &[(11, 0x60), (19, 14), (39, 0x37)]),
+    (1, 0, &PROBE_OF_TWO, &[(11, 0x5f), (19, 15), (39, 0x36)]),
+    (1, 0, &PROBE_OF_TWO, &[(11, 0x5e), (19, 16), (39, 0x35)]),
+    (2, 0, &PROBE_OVER_V6, &[]),
+    (2, 500_000_000, &SENT, &[(35, 3)]),
+];
+
 #[test]
 fn sixteen_locators_are_probed_at_a_second_in_order(rt: HostRuntime) -> Result<(), Fail> {
     let alloc = rt.alloc();
+    let settings = site_of_seventeen(alloc)?;
     let frames: [Arrival<'_>; 2] = [
         (0, 0, (&PACKET, 28, &[], SIXTEEN_LINES[0])),
         (2, 500_000_000, (&PACKET, 28, &[], SIXTEEN_LINES[1])),
     ];
-    let capture = capture_of(alloc, &NANOSECONDS, &frames)?;
-    let (status, desk) = replayed(alloc, site_of_seventeen(alloc)?.as_str(), capture)?;
-    let report = report_of(alloc, &frames, "end frames=2 written=19 entries=18")?;
-    assert_eq!(rt; said(&desk)?, report.as_str());
-    assert_eq!(rt; status, Status::Done);
-    let sent = changed(alloc, &SENT, 64, &[(35, 3)])?;
-    let first: Departure<'_> = (0, 0, &sent, &[]);
-    let mut output = output_of(alloc, &[first])?;
-    for last in 1..=16_u8 {
-        push_record(1_700_000_001, 0, &probe_of(alloc, last)?, &mut output)?;
-    }
-    push_record(1_700_000_002, 0, &PROBE_OVER_V6, &mut output)?;
-    push_record(1_700_000_002, 500_000_000, &sent, &mut output)?;
-    assert_eq!(rt; desk.file("out"), Some(output.as_slice()));
-    Ok(())
+    assert_exchange(
+        &rt,
+        alloc,
+        settings.as_str(),
+        &NANOSECONDS,
+        &frames,
+        &SIXTEEN_PACKETS,
+        "end frames=2 written=19 entries=18",
+    )
 }
 
 // What stands before the tables of `SITE`, and behind them: two mappings that name its locator, of
