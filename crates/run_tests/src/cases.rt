@@ -1,6 +1,7 @@
 // Each case of a decision that sends nothing, and each refusal, once.
-use crate::packets::{ETHERNET, PACKET, PACKET_V6, RAW, Row, TAGGED, UNTAGGED};
-use crate::runs::{SITE, assert_kept};
+use crate::assertions::assert_kept;
+use run_rows::packets::{ETHERNET, PACKET, PACKET_V6, RAW, Row, TAGGED, UNTAGGED};
+use run_rows::runs::SITE;
 use std::test::Fail;
 
 #[test]

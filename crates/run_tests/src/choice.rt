@@ -1,6 +1,6 @@
 // To which locator of a mapping a flow goes.
-use crate::packets::{PACKET, RAW, Row, SENT, changed};
-use crate::runs::{assert_kept, assert_sent};
+use crate::assertions::{assert_kept, assert_sent};
+use run_rows::packets::{PACKET, RAW, Row, SENT, changed};
 use std::alloc::Global;
 use std::test::Fail;
 

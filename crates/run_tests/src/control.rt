@@ -1,8 +1,9 @@
 // A control message to an own locator, alone.
-use crate::control_packets::ENCAPSULATED_REPLY;
-use crate::packets::{RAW, RELAYED, REPLY, REQUEST, Row, TUNNEL};
-use crate::request_packets::QUESTION;
-use crate::runs::{SITE, assert_kept};
+use crate::assertions::assert_kept;
+use run_rows::control_packets::ENCAPSULATED_REPLY;
+use run_rows::packets::{RAW, RELAYED, REPLY, REQUEST, Row, TUNNEL};
+use run_rows::request_packets::QUESTION;
+use run_rows::runs::SITE;
 use std::test::Fail;
 
 // By the checksum, by the message's form, and by what it is.

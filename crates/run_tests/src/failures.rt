@@ -1,12 +1,12 @@
 // A call of the desk that fails in an exchange.
-use crate::exchanges::{
-    ASKED, CARRIED, LEARNED, MISS, TENANT, USED, capture_of, output_of, report_of,
-};
-use crate::packets::RAW;
-use crate::runs::{REPLAY, desk_with, run_words, said};
 use desk::{Calls, MemoryDesk};
 use octets::Octets;
 use replay::Status;
+use run_rows::exchanges::{
+    ASKED, CARRIED, LEARNED, MISS, TENANT, USED, capture_of, output_of, report_of,
+};
+use run_rows::packets::RAW;
+use run_rows::runs::{REPLAY, desk_with, run_words, said};
 use std::alloc::Global;
 use std::test::Fail;
 

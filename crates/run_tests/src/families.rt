@@ -1,11 +1,12 @@
 // Packets and tunnels of both families.
-use crate::packets::{
-    ETHERNET, PACKET, PACKET_V6, RAW, Row, TAGGED, WRITTEN, changed, push_record,
-};
-use crate::runs::{SITE, assert_kept, assert_sent, replayed, said};
+use crate::assertions::{assert_kept, assert_sent};
 use desk::MemoryDesk;
 use octets::Octets;
 use replay::Status;
+use run_rows::packets::{
+    ETHERNET, PACKET, PACKET_V6, RAW, Row, TAGGED, WRITTEN, changed, push_record,
+};
+use run_rows::runs::{SITE, replayed, said};
 use std::alloc::Global;
 use std::test::Fail;
 

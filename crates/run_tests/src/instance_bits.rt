@@ -1,6 +1,7 @@
 // Status bits where one prefix is mapped in two instances.
-use crate::exchanges::{Arrival, Departure, IN_100, assert_exchange, ethernet};
-use crate::packets::{DELIVERED, ETHERNET, SENT, TAGGED, TUNNEL, UNTAGGED};
+use crate::assertions::assert_exchange;
+use run_rows::exchanges::{Arrival, Departure, IN_100, ethernet};
+use run_rows::packets::{DELIVERED, ETHERNET, SENT, TAGGED, TUNNEL, UNTAGGED};
 use std::test::Fail;
 
 // A site with one prefix in two instances.

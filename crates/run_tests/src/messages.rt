@@ -1,11 +1,12 @@
 // Messages that are shown.
-use crate::packets::{
+use crate::assertions::assert_shown;
+use octets::Octets;
+use replay::Status;
+use run_rows::packets::{
     CONTROL, ETHERNET, PACKET, RAW, RELAYED, REPLY, REQUEST, Row, SENT, TUNNEL, UNTAGGED, WRITTEN,
     changed, one_frame, push_record,
 };
-use crate::runs::{assert_shown, said, shown};
-use octets::Octets;
-use replay::Status;
+use run_rows::runs::{said, shown};
 use std::test::Fail;
 
 #[test]

@@ -1,10 +1,11 @@
 // What settings say of packets: instances, actions, locators; and what they may not say.
-use crate::packets::{
-    DELIVERED, ETHERNET, PACKET, RAW, Row, SENT, TAGGED, TUNNEL, changed, one_frame,
-};
-use crate::runs::{SITE, assert_kept, assert_sent, replayed, said};
+use crate::assertions::{assert_kept, assert_sent};
 use octets::Octets;
 use replay::Status;
+use run_rows::packets::{
+    DELIVERED, ETHERNET, PACKET, RAW, Row, SENT, TAGGED, TUNNEL, changed, one_frame,
+};
+use run_rows::runs::{SITE, replayed, said};
 use std::alloc::Global;
 use std::test::Fail;
 

@@ -1,7 +1,8 @@
 // Status bits in tunnel packets: which locators of a mapping they take out and bring back.
-use crate::exchanges::{ASKED, Arrival, Departure, MISS, NANOSECONDS, TENANT, assert_exchange};
-use crate::packets::{DELIVERED, PACKET, SENT, TUNNEL};
-use crate::request_packets::{ASKED_AGAIN, NINE_LOCATORS, SOLICITATION};
+use crate::assertions::assert_exchange;
+use run_rows::exchanges::{ASKED, Arrival, Departure, MISS, NANOSECONDS, TENANT};
+use run_rows::packets::{DELIVERED, PACKET, SENT, TUNNEL};
+use run_rows::request_packets::{ASKED_AGAIN, NINE_LOCATORS, SOLICITATION};
 use std::test::Fail;
 
 // The status bits of instance 100 with the eighth clear, and with all set.

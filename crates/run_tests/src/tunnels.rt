@@ -1,6 +1,7 @@
 // Packets to an own locator: delivered, or dropped with the reason.
-use crate::packets::{DELIVERED, RAW, Row, TUNNEL};
-use crate::runs::{SITE, assert_kept, assert_sent};
+use crate::assertions::{assert_kept, assert_sent};
+use run_rows::packets::{DELIVERED, RAW, Row, TUNNEL};
+use run_rows::runs::SITE;
 use std::test::Fail;
 
 #[test]

@@ -1,11 +1,12 @@
 // Whole runs: report, output and status.
-use crate::packets::{
-    ETHERNET, PACKET, RAW, Row, SENT, UNTAGGED, WRITTEN, changed, one_frame, push_record,
-};
-use crate::runs::{REPLAY, SITE, assert_sent, desk_with, replayed, run_words, said};
+use crate::assertions::assert_sent;
 use desk::Calls;
 use octets::Octets;
 use replay::Status;
+use run_rows::packets::{
+    ETHERNET, PACKET, RAW, Row, SENT, UNTAGGED, WRITTEN, changed, one_frame, push_record,
+};
+use run_rows::runs::{REPLAY, SITE, desk_with, replayed, run_words, said};
 use std::test::Fail;
 
 #[test]

@@ -1,10 +1,9 @@
 // Locators that are probed: until when they are up, and which answers count.
-use crate::exchanges::{
-    ASKED, Arrival, Departure, IN_100, MISS, NANOSECONDS, TENANT, assert_exchange,
-};
-use crate::packets::{CONTROL, PACKET, REPLY, SENT};
-use crate::probe_packets::{NEXT_ANSWER, NEXT_PROBE, PROBE, PROBE_ANSWER, TENANT_PROBE};
-use crate::runs::SITE;
+use crate::assertions::assert_exchange;
+use run_rows::exchanges::{ASKED, Arrival, Departure, IN_100, MISS, NANOSECONDS, TENANT};
+use run_rows::packets::{CONTROL, PACKET, REPLY, SENT};
+use run_rows::probe_packets::{NEXT_ANSWER, NEXT_PROBE, PROBE, PROBE_ANSWER, TENANT_PROBE};
+use run_rows::runs::SITE;
 use std::alloc::Global;
 use std::process::Abort;
 use std::test::Fail;

@@ -1,8 +1,7 @@
 // What a learned mapping without locators says of the next packet.
-use crate::exchanges::{
-    ASKED, Arrival, Departure, MISS, NANOSECONDS, NEXT_NONCE, TENANT, assert_exchange,
-};
-use crate::packets::{CONTROL, PACKET, REPLY};
+use crate::assertions::assert_exchange;
+use run_rows::exchanges::{ASKED, Arrival, Departure, MISS, NANOSECONDS, NEXT_NONCE, TENANT};
+use run_rows::packets::{CONTROL, PACKET, REPLY};
 use std::test::Fail;
 
 const TAKEN: &str = "2 1700000000.100000000 n=1 control reply learned=1 passed=0";

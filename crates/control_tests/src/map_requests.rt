@@ -1,11 +1,12 @@
 // Map-Requests to the site: which records answer them.
-use crate::exchanges::{Arrival, Departure, NANOSECONDS, assert_exchange};
-use crate::packets::repeated;
-use crate::request_packets::{
+use crate::assertions::assert_exchange;
+use run_rows::exchanges::{Arrival, Departure, NANOSECONDS};
+use run_rows::packets::repeated;
+use run_rows::request_packets::{
     ANSWER, FOUR_ANSWERS, MIXED_ANSWERS, MIXED_EIDS, QUESTION, SOLICITATION, TENANT_ANSWER,
     THREE_ANSWERS,
 };
-use crate::runs::SITE;
+use run_rows::runs::SITE;
 use std::test::Fail;
 
 // A site of four prefixes that lie within each other or side by side.

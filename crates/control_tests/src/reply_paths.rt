@@ -1,11 +1,12 @@
 // Map-Requests to the site: from where and to whom they are answered.
-use crate::exchanges::{Arrival, Departure, NANOSECONDS, assert_exchange};
-use crate::packets::repeated;
-use crate::request_packets::{
+use crate::assertions::assert_exchange;
+use run_rows::exchanges::{Arrival, Departure, NANOSECONDS};
+use run_rows::packets::repeated;
+use run_rows::request_packets::{
     ANSWER, ANSWER_OF_THREE, ANSWER_OVER_V6, QUESTION, QUESTION_FROM_V6, QUESTION_OVER_V6,
     RELAYED_QUESTION,
 };
-use crate::runs::SITE;
+use run_rows::runs::SITE;
 use std::test::Fail;
 
 // What is said of a probe of 10.1.0.0/16, of the same request without P and then with P whose reply

@@ -1,9 +1,10 @@
 // What a reply must be, and what is taken of it.
-use crate::control_packets::{ENCAPSULATED_REPLY, TWO_RECORDS};
-use crate::exchanges::{
-    ASKED, Arrival, CARRIED, Departure, MISS, NANOSECONDS, NEXT_NONCE, TENANT, assert_exchange,
+use crate::assertions::assert_exchange;
+use run_rows::control_packets::{ENCAPSULATED_REPLY, TWO_RECORDS};
+use run_rows::exchanges::{
+    ASKED, Arrival, CARRIED, Departure, MISS, NANOSECONDS, NEXT_NONCE, TENANT,
 };
-use crate::packets::{CONTROL, PACKET, REPLY, Row};
+use run_rows::packets::{CONTROL, PACKET, REPLY, Row};
 use std::alloc::Global;
 use std::process::Abort;
 use std::test::Fail;

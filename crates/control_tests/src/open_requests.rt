@@ -1,9 +1,9 @@
-// As many requests as may be open, and as many mappings as may be live.
-use crate::exchanges::{ASKED, Arrival, NANOSECONDS, TENANT, assert_exchange};
-use crate::packets::{CONTROL, PACKET, REPLY, changed, push_record};
-use crate::runs::{replayed, said};
+// As many requests as may be open at once.
 use octets::Octets;
 use replay::Status;
+use run_rows::exchanges::{NANOSECONDS, TENANT};
+use run_rows::packets::{CONTROL, PACKET, changed, push_record};
+use run_rows::runs::{replayed, said};
 use std::alloc::Global;
 use std::test::Fail;
 
@@ -151,50 +151,4 @@ fn so_many_requests_are_open_at_once(rt: HostRuntime) -> Result<(), Fail> {
         assert_eq!(rt; output.get(place..place + 132), Some(record.as_slice()));
     }
     Ok(())
-}
-
-// A miss and its reply where no mapping more may be live.
-const FULL: [Arrival<'static>; 2] = [
-    (
-        0,
-        0,
-        (
-            &PACKET,
-            28,
-            &[],
-            "1 1700000000.000000000 n=65536 drop 13 miss",
-        ),
-    ),
-    (
-        0,
-        100_000_000,
-        (
-            &REPLY,
-            80,
-            &[],
-            "2 1700000000.100000000 n=65537 control reply learned=0 passed=1",
-        ),
-    ),
-];
-
-#[test]
-fn so_many_mappings_are_live_at_once(rt: HostRuntime) -> Result<(), Fail> {
-    let alloc = rt.alloc();
-    let mut settings = String::from_str(alloc, TENANT)?;
-    for number in 0..=u16::MAX {
-        let [high, low] = number.to_be_bytes();
-        settings.push_str(&format!(in alloc;
-            "[[mapping]]\niid = 100\nprefix = \"20.0.{high}.{low}/32\"\n"
-        )?)?;
-    }
-    let end = "end frames=2 written=1 entries=65538";
-    assert_exchange(
-        &rt,
-        alloc,
-        settings.as_str(),
-        &NANOSECONDS,
-        &FULL,
-        &[ASKED],
-        end,
-    )
 }

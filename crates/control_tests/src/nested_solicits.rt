@@ -1,8 +1,9 @@
 // A Map-Request that solicits one for two mappings, of which one lies within the other.
-use crate::control_packets::TWO_RECORDS;
-use crate::exchanges::{ASKED, Arrival, Departure, MISS, NANOSECONDS, TENANT, assert_exchange};
-use crate::packets::{CONTROL, PACKET, REPLY};
-use crate::request_packets::{ASKED_AGAIN, SOLICITATION};
+use crate::assertions::assert_exchange;
+use run_rows::control_packets::TWO_RECORDS;
+use run_rows::exchanges::{ASKED, Arrival, Departure, MISS, NANOSECONDS, TENANT};
+use run_rows::packets::{CONTROL, PACKET, REPLY};
+use run_rows::request_packets::{ASKED_AGAIN, SOLICITATION};
 use std::test::Fail;
 
 // What is said of a miss of 10.2.0.1, of the reply to the miss before it, with 10.2.0.0/16 and

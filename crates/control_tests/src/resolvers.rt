@@ -1,7 +1,8 @@
 // Which packet asks the resolver, over either family.
-use crate::control_packets::{CONTROL_IN_V6, CONTROL_OVER_V6, CONTROL_V6, REPLY_V6, SENT_V6};
-use crate::exchanges::{Arrival, Departure, MISS, NANOSECONDS, assert_exchange};
-use crate::packets::PACKET_V6;
+use crate::assertions::assert_exchange;
+use run_rows::control_packets::{CONTROL_IN_V6, CONTROL_OVER_V6, CONTROL_V6, REPLY_V6, SENT_V6};
+use run_rows::exchanges::{Arrival, Departure, MISS, NANOSECONDS};
+use run_rows::packets::PACKET_V6;
 use std::test::Fail;
 
 // A site of IPv6 EIDs with a resolver of IPv4. The least database prefix is that in 2001:db8:0:1::.

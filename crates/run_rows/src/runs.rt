@@ -1,10 +1,9 @@
 // Runs over a desk in memory, and what they end with.
-use crate::packets::{RAW, Row, WRITTEN, changed, one_frame};
+use crate::packets::{Row, changed, one_frame};
 use desk::{Calls, Files, MemoryDesk, NamedFile};
 use octets::Octets;
 use replay::{Status, Word, run};
 use std::alloc::Global;
-use std::process::Abort;
 use std::str;
 use std::test::Fail;
 
@@ -92,63 +91,15 @@ pub fn said(desk: &MemoryDesk) -> Result<&str, Fail> {
     Ok(str::from_utf8(desk.said())?)
 }
 
-// The report of one frame at 1,700,000,000 s, for which so many packets are sent.
-fn report_of_one(alloc: Global, verdict: &str, written: u32) -> Result<String, Fail> {
+/// The report of one frame at 1,700,000,000 s, for which so many packets are sent.
+pub fn report_of_one(alloc: Global, verdict: &str, written: u32) -> Result<String, Fail> {
     Ok(format!(in alloc;
         "1 1700000000.000000000 n=1 {verdict}\nend frames=1 written={written} entries=1\n"
     )?)
 }
 
-// The capture of a row.
-fn capture_of(alloc: Global, header: &[u8], row: Row<'_>) -> Result<Octets, Fail> {
+/// The capture of a row.
+pub fn capture_of_one(alloc: Global, header: &[u8], row: Row<'_>) -> Result<Octets, Fail> {
     let (octets, size, edits, _) = row;
     one_frame(alloc, header, &changed(alloc, octets, size, edits)?)
-}
-
-/// The one frame has that verdict, and nothing is sent.
-pub fn assert_kept(
-    rt: &impl Abort,
-    alloc: Global,
-    settings: &str,
-    header: &[u8],
-    row: Row<'_>,
-) -> Result<(), Fail> {
-    let (status, desk) = replayed(alloc, settings, capture_of(alloc, header, row)?)?;
-    let report = report_of_one(alloc, row.3, 0)?;
-    assert_eq!(rt; said(&desk)?, report.as_str());
-    assert_eq!(rt; status, Status::Done);
-    assert_eq!(rt; desk.file("out"), Some(WRITTEN.as_slice()));
-    Ok(())
-}
-
-/// The one frame, a raw packet, has that verdict, and the packet is sent for it.
-pub fn assert_sent(
-    rt: &impl Abort,
-    alloc: Global,
-    settings: &str,
-    row: Row<'_>,
-    packet: &[u8],
-) -> Result<(), Fail> {
-    let (status, desk) = replayed(alloc, settings, capture_of(alloc, &RAW, row)?)?;
-    let report = report_of_one(alloc, row.3, 1)?;
-    let output = one_frame(alloc, &WRITTEN, packet)?;
-    assert_eq!(rt; said(&desk)?, report.as_str());
-    assert_eq!(rt; status, Status::Done);
-    assert_eq!(rt; desk.file("out"), Some(output.as_slice()));
-    Ok(())
-}
-
-/// That is shown of the one frame, and no file is made.
-pub fn assert_shown(
-    rt: &impl Abort,
-    alloc: Global,
-    header: &[u8],
-    row: Row<'_>,
-) -> Result<(), Fail> {
-    let (status, desk) = shown(alloc, capture_of(alloc, header, row)?)?;
-    let report = format!(in alloc; "1 {}\nend frames=1\n", row.3)?;
-    assert_eq!(rt; said(&desk)?, report.as_str());
-    assert_eq!(rt; status, Status::Done);
-    assert_eq!(rt; desk.file("out"), None);
-    Ok(())
 }

@@ -1,10 +1,7 @@
 // Exchanges with a resolver: the frames that come, what is reported, and the packets that are sent.
 use crate::packets::{CONTROL, PACKET, REPLY, Row, SENT, UNTAGGED, WRITTEN, changed, push_record};
-use crate::runs::{replayed, said};
 use octets::Octets;
-use replay::Status;
 use std::alloc::Global;
-use std::process::Abort;
 use std::test::Fail;
 
 /// A frame that comes: its second behind 1,700,000,000, its fraction as the capture counts it, and
@@ -122,26 +119,6 @@ pub fn report_of(alloc: Global, frames: &[Arrival<'_>], end: &str) -> Result<Str
     report.push_str(end)?;
     report.push_str("\n")?;
     Ok(report)
-}
-
-/// The frames of a capture with that header have their lines, the report ends with that line, and
-/// the packets are sent.
-pub fn assert_exchange(
-    rt: &impl Abort,
-    alloc: Global,
-    settings: &str,
-    header: &[u8],
-    frames: &[Arrival<'_>],
-    packets: &[Departure<'_>],
-    end: &str,
-) -> Result<(), Fail> {
-    let (status, desk) = replayed(alloc, settings, capture_of(alloc, header, frames)?)?;
-    let report = report_of(alloc, frames, end)?;
-    let output = output_of(alloc, packets)?;
-    assert_eq!(rt; said(&desk)?, report.as_str());
-    assert_eq!(rt; status, Status::Done);
-    assert_eq!(rt; desk.file("out"), Some(output.as_slice()));
-    Ok(())
 }
 
 /// The packet behind the Ethernet header of `UNTAGGED`.

@@ -1,8 +1,9 @@
 // Which locators are probed, in which order, and for which EID.
-use crate::exchanges::{Arrival, Departure, NANOSECONDS, assert_exchange};
-use crate::packets::{PACKET, SENT};
-use crate::probe_packets::{PROBE, PROBE_OF_TWO, PROBE_OVER_V6};
-use crate::runs::SITE;
+use crate::assertions::assert_exchange;
+use run_rows::exchanges::{Arrival, Departure, NANOSECONDS};
+use run_rows::packets::{PACKET, SENT};
+use run_rows::probe_packets::{PROBE, PROBE_OF_TWO, PROBE_OVER_V6};
+use run_rows::runs::SITE;
 use std::alloc::Global;
 use std::test::Fail;
 

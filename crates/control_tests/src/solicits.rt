@@ -1,12 +1,13 @@
 // Map-Requests that solicit one: which mappings are asked for again.
-use crate::exchanges::{
-    ASKED, Arrival, CARRIED, Departure, LEARNED, MISS, NANOSECONDS, TENANT, USED, assert_exchange,
+use crate::assertions::assert_exchange;
+use run_rows::exchanges::{
+    ASKED, Arrival, CARRIED, Departure, LEARNED, MISS, NANOSECONDS, TENANT, USED,
 };
-use crate::packets::{PACKET, RAW, REPLY, Row};
-use crate::request_packets::{
+use run_rows::packets::{PACKET, RAW, REPLY};
+use run_rows::request_packets::{
     ASKED_AGAIN, QUESTION, RELAYED_SOLICITATION, SOLICITATION, TENANT_ANSWER,
 };
-use crate::runs::{SITE, assert_kept};
+use run_rows::runs::SITE;
 use std::test::Fail;
 
 #[test]
@@ -148,21 +149,26 @@ fn only_what_is_learned_and_not_yet_asked_for_is_solicited(rt: HostRuntime) -> R
         end,
     )?;
     // Of a static mapping, where there is no resolver.
-    let row: Row<'_> = (
-        &QUESTION,
-        56,
-        &[
-            (26, 0x19),
-            (27, 0x97),
-            (28, 0x11),
-            (49, 0x10),
-            (53, 2),
-            (54, 0),
-            (55, 0),
-        ],
-        "control solicit asked=0",
+    let frame: Arrival<'_> = (
+        0,
+        0,
+        (
+            &QUESTION,
+            56,
+            &[
+                (26, 0x19),
+                (27, 0x97),
+                (28, 0x11),
+                (49, 0x10),
+                (53, 2),
+                (54, 0),
+                (55, 0),
+            ],
+            "1 1700000000.000000000 n=1 control solicit asked=0",
+        ),
     );
-    assert_kept(&rt, alloc, SITE, &RAW, row)
+    let end = "end frames=1 written=0 entries=1";
+    assert_exchange(&rt, alloc, SITE, &RAW, &[frame], &[], end)
 }
 
 // What is said of two solicitations that probe, and of two that are encapsulated.

@@ -1,8 +1,9 @@
 // The whole seconds between frames: which come, and which requests are sent again.
-use crate::exchanges::{ASKED, Arrival, Departure, MISS, NANOSECONDS, TENANT, assert_exchange};
-use crate::packets::{CONTROL, PACKET, REPLY, SENT};
-use crate::probe_packets::{PROBE, TENANT_PROBE};
-use crate::runs::SITE;
+use crate::assertions::assert_exchange;
+use run_rows::exchanges::{ASKED, Arrival, Departure, MISS, NANOSECONDS, TENANT};
+use run_rows::packets::{CONTROL, PACKET, REPLY, SENT};
+use run_rows::probe_packets::{PROBE, TENANT_PROBE};
+use run_rows::runs::SITE;
 use std::test::Fail;
 
 // The request for the packet that misses, sent three times.

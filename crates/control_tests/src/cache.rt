@@ -1,10 +1,11 @@
 // The map-cache over whole runs: a miss asks, the reply is learned, and a mapping ends.
-use crate::control_packets::{ARP, TWO_RECORDS};
-use crate::exchanges::{
+use crate::assertions::assert_exchange;
+use run_rows::control_packets::{ARP, TWO_RECORDS};
+use run_rows::exchanges::{
     ASKED, Arrival, CARRIED, Departure, IN_100, LEARNED, MISS, NANOSECONDS, NEXT_NONCE, TENANT,
-    USED, assert_exchange, ethernet,
+    USED, ethernet,
 };
-use crate::packets::{CONTROL, DELIVERED, ETHERNET, PACKET, RAW, REPLY, SENT, TUNNEL, UNTAGGED};
+use run_rows::packets::{CONTROL, DELIVERED, ETHERNET, PACKET, RAW, REPLY, SENT, TUNNEL, UNTAGGED};
 use std::test::Fail;
 
 #[test]

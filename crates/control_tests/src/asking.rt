@@ -1,8 +1,7 @@
 // When a miss asks, and with which nonce.
-use crate::exchanges::{
-    ASKED, Arrival, Departure, MISS, NANOSECONDS, NEXT_NONCE, TENANT, assert_exchange,
-};
-use crate::packets::{CONTROL, PACKET};
+use crate::assertions::assert_exchange;
+use run_rows::exchanges::{ASKED, Arrival, Departure, MISS, NANOSECONDS, NEXT_NONCE, TENANT};
+use run_rows::packets::{CONTROL, PACKET};
 use std::test::Fail;
 
 #[test]
