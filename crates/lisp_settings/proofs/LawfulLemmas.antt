@@ -13,7 +13,7 @@ use Rattle.mapping_records.specs.Orders.{addr_order, eid_order}
 use Rattle.lisp_settings.specs.Settings.{attachment_in, attachments, database_in, databases, eid_in, locator_in, locator_of, mapped_in, mapped_locators, mapping_in, mappings, own_locators, settings_in, top_keys, version_in}
 use Rattle.lisp_settings.specs.Fields.{only_keys, optional}
 use Rattle.lisp_settings.specs.Resolver.{is_reachable, only_reachable, resolver_in}
-use Rattle.lisp_settings.specs.Values.{off, seed, in_range, number}
+use Rattle.lisp_settings.specs.Values.{seed, in_range, number}
 use Rattle.lisp_settings.specs.declared.settings.OwnLocator.{OwnLocator}
 use Rattle.lisp_settings.specs.declared.fault.SettingsFault.{SettingsFault}
 use Rattle.lisp_settings.specs.declared.fault.SettingsFault.TheVariants.{BadValue}
@@ -40,7 +40,7 @@ number-within : (least greatest : ℕ) (value : Data) → IfSome (number least g
 number-within least greatest value = number-of least greatest (as_integer value)
 
 version_in-small : (table : Members) → IfOk (version_in table) (λ version. version ≤ 4095)
-version_in-small table = IfOk-weaker (version_in table) _ _ (λ version within. omega (arith, within.1)) (optional-holds (IsWithin 0 0) (codes "version") (number 0 0) 0 table (omega arith, omega arith) (number-within 0 0))
+version_in-small table = IfOk-weaker (version_in table) _ _ (λ version within. within.1) (optional-holds (IsWithin 0 4095) (codes "version") (number 0 4095) 0 table (omega arith, omega arith) (number-within 0 4095))
 
 attachment_in-lawful : (table : Members) → IfOk (attachment_in table) IsLawfulAttachment
 attachment_in-lawful table =
@@ -128,7 +128,7 @@ settings_in-lawful top =
     pass IsLawful (resolver_in top) _ (λ resolver.
     step (IsWithin 1 4294967294) IsLawful (optional (codes "ttl") (number 1 4294967294) 1440 top) _ (optional-holds (IsWithin 1 4294967294) (codes "ttl") (number 1 4294967294) 1440 top (omega arith, omega arith) (number-within 1 4294967294)) (λ ttl within.
     pass IsLawful (optional (codes "probe") as_bool false top) _ (λ probe.
-    pass IsLawful (optional (codes "echo") off false top) _ (λ echo.
+    pass IsLawful (optional (codes "echo") as_bool false top) _ (λ echo.
     step AreOwn IsLawful (own_locators top) _ (own_locators-lawful top) (λ locators own.
     step (AreKept (λ attachment. attachment.vlan) nat_cmp IsLawfulAttachment 4096) IsLawful (attachments top) _ (attachments-lawful top) (λ attachments attached.
     step (AreKept (λ database. database.eid) eid_order IsLawfulDatabase 64) IsLawful (databases top) _ (databases-lawful top) (λ databases based.

@@ -14,7 +14,7 @@ use Rattle.lisp_settings.specs.Fields.{◌>>=◌, only_keys, taken, required, op
 use Rattle.lisp_settings.specs.Lists.{any_ascending, any_number, one_or_more, ascending, nonces_at}
 use Rattle.mapping_records.specs.Orders.{addr_order, eid_order}
 use Rattle.lisp_settings.specs.Resolver.{resolver_in, only_reachable}
-use Rattle.lisp_settings.specs.Values.{number, address, prefix, seed, off}
+use Rattle.lisp_settings.specs.Values.{number, address, prefix, seed}
 use Rattle.lisp_settings.specs.declared.fault.SettingsFault.{SettingsFault}
 use Rattle.lisp_settings.specs.declared.fault.SettingsFault.TheVariants.{NotToml, TooLong}
 use Rattle.lisp_settings.specs.declared.settings.OwnLocator.{OwnLocator}
@@ -53,9 +53,9 @@ eid_in table = do
   prefix ← required (codes "prefix") prefix table
   taken (codes "iid") (eid_of iid prefix)
 
--- the Map-Version at the key `version`: only 0, as long as others aren't built
+-- the Map-Version at the key `version`, of 12 bits (RFC 9302, section 6)
 abbrev pub version_in : Members → Result ℕ SettingsFault
-version_in table = optional (codes "version") (number 0 0) 0 table
+version_in table = optional (codes "version") (number 0 4095) 0 table
 
 -- a table of `database`
 abbrev pub database_in : Members → Result Database SettingsFault
@@ -142,7 +142,7 @@ settings_in top = do
   resolver ← resolver_in top
   ttl ← optional (codes "ttl") (number 1 4294967294) 1440 top
   probe ← optional (codes "probe") as_bool false top
-  echo ← optional (codes "echo") off false top
+  echo ← optional (codes "echo") as_bool false top
   locators ← own_locators top
   attachments ← attachments top
   databases ← databases top

@@ -1,6 +1,6 @@
 -- The values of a settings file.
-use Rattle.std.specs.Prelude.{ℕ, ℤ, pos, negsuc, Bool, true, false, ◌&&◌, nat_le, List, Option, Some, None, is_some, if◌then◌else◌}
-use Rattle.toml.specs.Data.{Data, Items, no_items, item, as_str, as_integer, as_bool, as_array, as_table}
+use Rattle.std.specs.Prelude.{ℕ, ℤ, pos, negsuc, Bool, true, ◌&&◌, nat_le, List, Option, Some, None, is_some, if◌then◌else◌}
+use Rattle.toml.specs.Data.{Data, Items, no_items, item, as_str, as_integer, as_array, as_table}
 use Rattle.ip_headers.specs.declared.addr.Addr.{Addr}
 use Rattle.ip_headers.specs.declared.prefix.Prefix.{Prefix}
 use Rattle.lisp_settings.specs.AddressText.{◌>>=◌, address_of, prefix_of}
@@ -43,9 +43,3 @@ only_tables items = if are_tables items then Some items else None
 -- an array of tables
 abbrev pub tables : Data → Option Items
 tables value = as_array value >>= only_tables
-
--- only false, as long as what the key turns on isn't built
-abbrev pub off : Data → Option Bool
-off value = do
-  on ← as_bool value
-  if on then None else Some false

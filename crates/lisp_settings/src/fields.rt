@@ -4,7 +4,7 @@ ghost use Rattle.std.specs.List.{list_any};
 ghost use Rattle.toml.specs.Data.{as_bool, get_member};
 ghost use Rattle.toml.specs.View.{view, table_view};
 ghost use Rattle.lisp_settings.specs.Fields.{only_keys, optional, required, taken, unknown_key, value_at};
-ghost use Rattle.lisp_settings.specs.Values.{address, number, off, prefix};
+ghost use Rattle.lisp_settings.specs.Values.{address, number, prefix};
 ghost use Rattle.lisp_settings.specs.declared.fault.SettingsFault.TheVariants as fault;
 
 use crate::fault::{Key, SettingsFault};
@@ -150,17 +150,5 @@ pub fn flag_or(
     match value_at(table, key) {
         Some(value) => taken(alloc, key, value.as_bool()),
         None => Ok(default),
-    }
-}
-
-/// False, also where the key isn't there: what the key turns on isn't built yet.
-pub fn off_at(alloc: Global, table: &Table, key: &str) -> Result<bool, SettingsFault>
-    ensures ok { IfOk result (λ flag. optional key.now off false (table_view table.now) ≡ Ok flag) }
-    ensures err { IfErr result (λ e. e ≢ fault.Memory
-        → optional key.now off false (table_view table.now) ≡ Err e) }
-{
-    match value_at(table, key) {
-        Some(value) => taken(alloc, key, values::off(value)),
-        None => Ok(false),
     }
 }

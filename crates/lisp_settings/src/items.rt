@@ -187,10 +187,10 @@ fn eid_at(alloc: Global, table: &Table) -> Result<Eid, SettingsFault>
     Ok(Eid { iid, prefix })
 }
 
-/// The Map-Version at the key `version`: 0, since others aren't built yet.
+/// The Map-Version at the key `version`, which has 12 bits (RFC 9302, section 6).
 fn version_at(alloc: Global, table: &Table) -> Result<u16, SettingsFault>
     ensures ok { IfOk result (λ version. version_in (table_view table.now) ≡ Ok version) }
     ensures err { IfErr result (λ e. e ≢ fault.Memory → version_in (table_view table.now) ≡ Err e) }
 {
-    Ok(number_or(alloc, table, "version", (0, 0), 0)? as u16)
+    Ok(number_or(alloc, table, "version", (0, 4095), 0)? as u16)
 }

@@ -8,7 +8,7 @@ ghost use Rattle.lisp_settings.specs.Values.{seed};
 ghost use Rattle.lisp_settings.specs.declared.fault.SettingsFault.TheVariants as fault;
 
 use crate::fault::SettingsFault;
-use crate::fields::{flag_or, number_or, off_at, only_keys, taken, value_at};
+use crate::fields::{flag_or, number_or, only_keys, taken, value_at};
 use crate::items::MOST_LOCATORS;
 use crate::lists::{any_ascending, ascending, one_or_more};
 use crate::nonces::nonces_at;
@@ -66,7 +66,7 @@ fn read_top(alloc: Global, top: &Table) -> Result<Settings, SettingsFault>
         resolver: resolver_at(alloc, top)?,
         ttl: number_or(alloc, top, "ttl", (1, 4_294_967_294), 1440)?,
         probe: flag_or(alloc, top, "probe", false)?,
-        echo: off_at(alloc, top, "echo")?,
+        echo: flag_or(alloc, top, "echo", false)?,
         locators: own_locators(alloc, top)?,
         attachments: any_ascending(alloc, top, "attachment", MOST_ATTACHMENTS)?,
         databases: any_ascending(alloc, top, "database", MOST_DATABASES)?,

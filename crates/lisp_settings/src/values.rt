@@ -3,7 +3,7 @@ ghost use Rattle.std.specs.Prelude.{◌≡◌, ◌≤◌, IfSome, option_map};
 ghost use Rattle.toml.specs.Data.{as_array};
 ghost use Rattle.toml.specs.View.{view, items_view};
 ghost use Rattle.lisp_settings.specs.Hex.{hex_number};
-ghost use Rattle.lisp_settings.specs.Values.{address, are_tables, in_range, nonce, number, off, prefix, seed, tables};
+ghost use Rattle.lisp_settings.specs.Values.{address, are_tables, in_range, nonce, number, prefix, seed, tables};
 
 use crate::addresses::{read_address, read_prefix};
 use crate::hex::hex_octets;
@@ -60,13 +60,6 @@ fn hex_number(text: &[u8]) -> Option<u64>
 {
     let octets: [u8; 8] = hex_octets(text)?;
     Some(u64::from_be_bytes(octets))
-}
-
-/// False: what the key turns on isn't built yet.
-pub fn off(value: &Value) -> Option<bool>
-    ensures { result ≡ off (view value.now) }
-{
-    if value.as_bool()? { None } else { Some(false) }
 }
 
 /// The items of an array of tables.

@@ -68,15 +68,15 @@ fn each_key_has_its_value(rt: HostRuntime) -> Result<(), Fail> {
         r#"
 ttl = 4294967294
 probe = true
-echo = false
+echo = true
 locator = [{address = "::1", priority = 255, weight = 0, up = false}]
 attachment = [{vlan = 4095, iid = 16777215}]
-database = [{iid = 16777215, prefix = "2001:DB8::1/32", version = 0}]
-mapping = [{iid = 7, prefix = "10.2.3.4/16", version = 0, action = 7}]
+database = [{iid = 16777215, prefix = "2001:DB8::1/32", version = 4095}]
+mapping = [{iid = 7, prefix = "10.2.3.4/16", version = 2048, action = 7}]
 "#,
     )?;
     assert_eq!(rt; settings.ttl, 4_294_967_294);
-    assert_eq!(rt; (settings.probe, settings.echo), (true, false));
+    assert_eq!(rt; (settings.probe, settings.echo), (true, true));
     let own = OwnLocator {
         addr: Addr::V6(1),
         priority: 255,
@@ -88,7 +88,7 @@ mapping = [{iid = 7, prefix = "10.2.3.4/16", version = 0, action = 7}]
     assert_eq!(rt; (attachment.vlan, attachment.iid), (4095, 16_777_215));
     let database = settings.databases.as_slice().first().ok_or("none")?;
     let prefix = database.eid.prefix;
-    assert_eq!(rt; database.eid.iid, 16_777_215);
+    assert_eq!(rt; (database.eid.iid, database.version), (16_777_215, 4095));
     assert_eq!(rt;
         (prefix.addr, prefix.len),
         (Addr::V6(0x2001_0db8 << 96), 32)
@@ -96,6 +96,7 @@ mapping = [{iid = 7, prefix = "10.2.3.4/16", version = 0, action = 7}]
     let mapping = settings.mappings.as_slice().first().ok_or("none")?;
     let prefix = mapping.eid.prefix;
     assert_eq!(rt; (mapping.eid.iid, mapping.action), (7, 7));
+    assert_eq!(rt; mapping.version, 2048);
     assert_eq!(rt; (prefix.addr, prefix.len), (Addr::V4(0x0a02_0000), 16));
     assert_eq!(rt; mapping.locators.len(), 0);
     Ok(())
