@@ -4,8 +4,6 @@ ghost use Rattle.lisp_header.specs.Versions.{newer, successor};
 
 /// Whether Map-Version `a` is newer than `b`: ahead of it in the circle, by half of it at most.
 pub fn newer(a: u16, b: u16) -> bool
-    requires a { a ≤ 4095 }
-    requires b { b ≤ 4095 }
     ensures { result ≡ newer a b }
 {
     if a > b { a - b <= 2048 } else { b - a > 2048 }
