@@ -1,3 +1,6 @@
+pub mod Echoes
 pub mod Lists
+pub mod Observed
 pub mod Probes
+pub mod Solicits
 pub mod Turns

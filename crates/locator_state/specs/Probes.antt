@@ -76,8 +76,3 @@ probed m rloc nonce probes =
 -- those that count, once an answer came: the open ones with its nonce are answered
 abbrev pub probe_answered : ℕ → ℕ → List Probe → List Probe
 probe_answered m nonce probes = settle_nonce Answered nonce (counting_probes m probes)
-
--- what is known of locators as callers see it: the probes, and how many more there is room for
-pub record Located : Type 0 where
-  pub probes : List Probe
-  pub spare : ℕ

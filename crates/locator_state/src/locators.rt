@@ -1,12 +1,20 @@
-// What is known of locators, over a vector.
+// What is known of locators, over vectors.
 ghost use Rattle.std.specs.Prelude.{◌≡◌, ◌≤◌, ◌<◌, ◌+◌, nat_lt, [], OnOk, OnErr};
-ghost use Rattle.locator_state.specs.Probes.{counting_probes, last_probe, probe_answered, probe_count, probe_open, probe_up, probed};
+ghost use Rattle.locator_state.specs.Echoes.{data_due, data_from, echo_heard, echo_on, echo_out, echo_started, may_start, may_want, wanted};
+ghost use Rattle.locator_state.specs.Observed.{HasRoom, UsesRoom, is_up, recent, with_probes, with_solicits, with_starts, with_wishes};
+ghost use Rattle.locator_state.specs.Probes.{last_probe, probe_answered, probe_count, probe_open, probed};
+ghost use Rattle.locator_state.specs.Solicits.{may_solicit, solicited};
 ghost use Rattle.locator_state.specs.declared.locators.TheConstants.{MOST_PROBES};
 
-use crate::probing::{
-    drop_old, is_judged, last_judged, last_of, last_with, probe_counts, settle_nonce, up_by,
+use crate::echoing::{
+    answer_or, ask_or_plain, come_all, data_due, drop_starts, drop_wishes, echo_on, echo_up,
+    echo_wanted, few_starts, few_wishes, hear_all, is_asked, is_other,
 };
-use crate::{Addr, NoMemory, Probe, ProbeState};
+use crate::probing::{
+    drop_probes, is_judged, last_judged, last_of, last_with, probe_counts, settle_nonce, up_by,
+};
+use crate::soliciting::{drop_solicits, few_solicits, is_solicited};
+use crate::{Addr, EchoOut, EchoStart, EchoWish, Eid, NoMemory, Probe, ProbeState, Solicitation};
 use std::alloc::Global;
 use std::marker::Model;
 
@@ -16,49 +24,79 @@ pub const MOST_PROBES: usize = 9600;
 /// The most probes that are kept, so that they can be counted.
 const MOST_KEPT: usize = u32::MAX as usize;
 
-/// The probes of locators, the oldest first. One is kept until something is noted, or until a purge,
-/// at a moment at which it is 600 seconds old. What is asked at a moment is answered by those that
-/// count then. Moments are in nanoseconds.
+/// What is known of locators: their probes, the echoes that were asked of them (starts), the echoes
+/// that they want (wishes), and their solicitations; of each kind the oldest first. An item is kept
+/// until something is noted, or until a purge, at a moment at which it counts no longer: a probe
+/// counts for 600 seconds, a start for 60, a wish for 2, a solicitation for 10. What is asked at a
+/// moment is answered by those that count then. Moments are in nanoseconds.
 #[derive(Debug, Drop)]
 pub struct LocatorState {
     probes: Vec<Probe>,
+    starts: Vec<EchoStart>,
+    wishes: Vec<EchoWish>,
+    solicits: Vec<Solicitation>,
 }
 
 impl Model for LocatorState {
     ghost use Rattle.std.specs.Prelude.{◌≤◌, ◌-◌, min, vec_len, vec_capacity};
-    ghost use Rattle.locator_state.specs.Probes.{Located};
+    ghost use Rattle.locator_state.specs.Observed.{Located};
     ghost use Rattle.locator_state.specs.declared.locators.TheConstants.{MOST_KEPT};
 
     ghost Value = { Located };
 
     ghost view = { λ state. record {
-      probes = state.probes.items;
-      spare = min (vec_capacity state.probes - vec_len state.probes)
+      observed = record {
+        probes = state.probes.items;
+        starts = state.starts.items;
+        wishes = state.wishes.items;
+        solicits = state.solicits.items;
+      };
+      probe_room = min (vec_capacity state.probes - vec_len state.probes)
           (MOST_KEPT - vec_len state.probes);
+      start_room = vec_capacity state.starts - vec_len state.starts;
+      wish_room = vec_capacity state.wishes - vec_len state.wishes;
+      solicit_room = vec_capacity state.solicits - vec_len state.solicits;
     } };
 
     ghost invariant = { λ state. vec_len state.probes ≤ MOST_KEPT };
 }
 
 impl LocatorState {
-    /// No probes. Takes no memory.
+    /// Nothing is known. Takes no memory.
     pub fn new(alloc: Global) -> LocatorState
-        ensures { result.probes ≡ [] }
+        ensures { result.observed ≡ record { probes = []; starts = []; wishes = []; solicits = [] } }
     {
         LocatorState {
             probes: Vec::new(alloc),
+            starts: Vec::new(alloc),
+            wishes: Vec::new(alloc),
+            solicits: Vec::new(alloc),
         }
     }
 
-    /// Makes room for so many further probes, and of each other kind. No other kind is kept yet, so
-    /// that these take no room.
+    /// Makes room for so many further probes, and for so many of each other kind.
     pub fn reserve(&mut self, probes: u32, others: u32) -> Result<(), NoMemory>
         requires probes { probes ≤ 65536 }
         requires others { others ≤ 65536 }
-        ensures probes { self.new.probes ≡ self.old.probes }
-        ensures spare { self.old.spare ≤ self.new.spare }
-        ensures ok { OnOk result (probes ≤ self.new.spare) }
-        ensures memory { OnErr result (self.old.spare < probes) }
+        ensures observed { self.new.observed ≡ self.old.observed }
+        ensures ok { OnOk result (HasRoom probes others self.new) }
+        ensures memory { OnErr result (HasRoom probes others self.old → ⊥) }
+        ensures room { UsesRoom 0 0 0 0 self.old self.new }
+    {
+        self.reserve_probes(probes)?;
+        self.starts.reserve(others as usize)?;
+        self.wishes.reserve(others as usize)?;
+        self.solicits.reserve(others as usize)?;
+        Ok(())
+    }
+
+    // Makes room for so many further probes, as long as they can be counted.
+    fn reserve_probes(&mut self, probes: u32) -> Result<(), NoMemory>
+        requires { probes ≤ 65536 }
+        ensures observed { self.new.observed ≡ self.old.observed }
+        ensures ok { OnOk result (probes ≤ self.new.probe_room) }
+        ensures memory { OnErr result (self.old.probe_room < probes) }
+        ensures room { UsesRoom 0 0 0 0 self.old self.new }
     {
         if MOST_KEPT - self.probes.len() < probes as usize {
             return Err(NoMemory);
@@ -69,21 +107,25 @@ impl LocatorState {
 
     /// Takes away what counts no longer at a moment.
     pub fn purge(&mut self, m: u64)
-        ensures probes { self.new.probes ≡ counting_probes m self.old.probes }
-        ensures spare { self.old.spare ≤ self.new.spare }
+        ensures observed { self.new.observed ≡ recent m self.old.observed }
+        ensures room { UsesRoom 0 0 0 0 self.old self.new }
     {
-        drop_old(m, &mut self.probes);
+        drop_probes(m, &mut self.probes);
+        drop_starts(m, &mut self.starts);
+        drop_wishes(m, &mut self.wishes);
+        drop_solicits(m, &mut self.solicits);
     }
 
     /// A probe of a locator was sent: it is open, and the open ones with its nonce are lost. Where
     /// this is refused, nothing has changed.
     pub fn probed(&mut self, m: u64, rloc: Addr, nonce: u64) -> Result<(), NoMemory>
-        ensures ok { OnOk result (self.new.probes ≡ probed m rloc nonce self.old.probes) }
-        ensures err { OnErr result (self.new.probes ≡ self.old.probes) }
-        ensures memory { OnErr result (self.old.spare ≡ 0) }
-        ensures spare { self.old.spare ≤ self.new.spare + 1 }
+        ensures ok { OnOk result (self.new.observed
+            ≡ with_probes m (probed m rloc nonce self.old.observed.probes) self.old.observed) }
+        ensures err { OnErr result (self.new.observed ≡ self.old.observed) }
+        ensures memory { OnErr result (self.old.probe_room ≡ 0) }
+        ensures room { UsesRoom 1 0 0 0 self.old self.new }
     {
-        self.reserve(1, 0)?;
+        self.reserve_probes(1)?;
         self.purge(m);
         settle_nonce(ProbeState::Lost, nonce, &mut self.probes);
         self.probes.push_reserved(Probe {
@@ -97,16 +139,93 @@ impl LocatorState {
 
     /// An answer came: the open probes with its nonce are answered.
     pub fn probe_answered(&mut self, m: u64, nonce: u64)
-        ensures probes { self.new.probes ≡ probe_answered m nonce self.old.probes }
-        ensures spare { self.old.spare ≤ self.new.spare }
+        ensures observed { self.new.observed
+            ≡ with_probes m (probe_answered m nonce self.old.observed.probes) self.old.observed }
+        ensures room { UsesRoom 0 0 0 0 self.old self.new }
     {
         self.purge(m);
         settle_nonce(ProbeState::Answered, nonce, &mut self.probes);
     }
 
+    /// An echo is asked of a locator from now on. Where this is refused, nothing has changed.
+    pub fn echo_started(&mut self, m: u64, rloc: Addr, nonce: u32) -> Result<(), NoMemory>
+        ensures ok { OnOk result (self.new.observed
+            ≡ with_starts m (echo_started m rloc nonce self.old.observed.starts) self.old.observed) }
+        ensures err { OnErr result (self.new.observed ≡ self.old.observed) }
+        ensures memory { OnErr result (self.old.start_room ≡ 0) }
+        ensures room { UsesRoom 0 1 0 0 self.old self.new }
+    {
+        self.starts.reserve(1)?;
+        self.purge(m);
+        self.starts.push_reserved(EchoStart {
+            moment: m,
+            rloc,
+            nonce,
+            heard: false,
+            came: false,
+        });
+        Ok(())
+    }
+
+    /// The echo of a locator came.
+    pub fn echo_heard(&mut self, m: u64, rloc: &Addr)
+        ensures observed { self.new.observed
+            ≡ with_starts m (echo_heard m rloc.now self.old.observed.starts) self.old.observed }
+        ensures room { UsesRoom 0 0 0 0 self.old self.new }
+    {
+        self.purge(m);
+        hear_all(rloc, &mut self.starts);
+    }
+
+    /// A packet came from a locator, with an echo or without a nonce.
+    pub fn data_from(&mut self, m: u64, rloc: &Addr)
+        ensures observed { self.new.observed
+            ≡ with_starts m (data_from m rloc.now self.old.observed.starts) self.old.observed }
+        ensures room { UsesRoom 0 0 0 0 self.old self.new }
+    {
+        self.purge(m);
+        come_all(rloc, &mut self.starts);
+    }
+
+    /// A locator asked for an echo. Where this is refused, nothing has changed.
+    pub fn echo_wanted(&mut self, m: u64, rloc: Addr, nonce: u32) -> Result<(), NoMemory>
+        ensures ok { OnOk result (self.new.observed
+            ≡ with_wishes m (wanted m rloc nonce self.old.observed.wishes) self.old.observed) }
+        ensures err { OnErr result (self.new.observed ≡ self.old.observed) }
+        ensures memory { OnErr result (self.old.wish_room ≡ 0) }
+        ensures room { UsesRoom 0 0 1 0 self.old self.new }
+    {
+        self.wishes.reserve(1)?;
+        self.purge(m);
+        self.wishes.push_reserved(EchoWish {
+            moment: m,
+            rloc,
+            nonce,
+        });
+        Ok(())
+    }
+
+    /// A locator was solicited for an EID of the site. Where this is refused, nothing has changed.
+    pub fn solicited(&mut self, m: u64, rloc: Addr, eid: Eid) -> Result<(), NoMemory>
+        ensures ok { OnOk result (self.new.observed
+            ≡ with_solicits m (solicited m rloc eid self.old.observed.solicits) self.old.observed) }
+        ensures err { OnErr result (self.new.observed ≡ self.old.observed) }
+        ensures memory { OnErr result (self.old.solicit_room ≡ 0) }
+        ensures room { UsesRoom 0 0 0 1 self.old self.new }
+    {
+        self.solicits.reserve(1)?;
+        self.purge(m);
+        self.solicits.push_reserved(Solicitation {
+            moment: m,
+            rloc,
+            eid,
+        });
+        Ok(())
+    }
+
     /// The locator of the open probe with that nonce, for 3 seconds. None where there is none.
     pub fn probe_open(&self, m: u64, nonce: u64) -> Option<Addr>
-        ensures { result ≡ probe_open m self.now.probes nonce }
+        ensures { result ≡ probe_open m self.now.observed.probes nonce }
     {
         let probe = last_with(nonce, &self.probes)?;
         if is_judged(m, probe) {
@@ -117,7 +236,7 @@ impl LocatorState {
 
     /// The moment of the last probe of a locator. None where there is none, or it counts no longer.
     pub fn last_probe(&self, m: u64, rloc: &Addr) -> Option<u64>
-        ensures { result ≡ last_probe m self.now.probes rloc.now }
+        ensures { result ≡ last_probe m self.now.observed.probes rloc.now }
     {
         let probe = last_of(rloc, &self.probes)?;
         if probe_counts(m, probe) {
@@ -128,7 +247,7 @@ impl LocatorState {
 
     /// How many probes count at a moment.
     pub fn probe_count(&self, m: u64) -> u32
-        ensures { result ≡ probe_count m self.now.probes }
+        ensures { result ≡ probe_count m self.now.observed.probes }
     {
         self.probes
             .iter()
@@ -138,16 +257,69 @@ impl LocatorState {
 
     /// There is room for one more probe at a moment. Nothing is counted where few are kept.
     pub fn may_probe(&self, m: u64) -> bool
-        ensures { result ≡ nat_lt (probe_count m self.now.probes) MOST_PROBES }
+        ensures { result ≡ nat_lt (probe_count m self.now.observed.probes) MOST_PROBES }
     {
         self.probes.len() < MOST_PROBES || (self.probe_count(m) as usize) < MOST_PROBES
     }
 
-    /// No probe speaks against a locator: the last one that is judged was answered. One is judged
-    /// once it is answered or 3 seconds old, until it is 600 seconds old.
-    pub fn up(&self, m: u64, rloc: &Addr) -> bool
-        ensures { result ≡ probe_up m self.now.probes rloc.now }
+    /// The nonce of the echo that is asked of a locator, for 10 seconds and until it is heard. None
+    /// where none is asked.
+    pub fn echo_on(&self, m: u64, rloc: &Addr) -> Option<u32>
+        ensures { result ≡ echo_on m self.now.observed.starts rloc.now }
     {
-        up_by(m, last_judged(m, rloc, &self.probes))
+        echo_on(m, rloc, &self.starts)
+    }
+
+    /// An echo is asked of a locator, and no packet came from it since.
+    pub fn data_due(&self, m: u64, rloc: &Addr) -> bool
+        ensures { result ≡ data_due m self.now.observed.starts rloc.now }
+    {
+        data_due(m, rloc, &self.starts)
+    }
+
+    /// What the header of a packet to a locator does about echoes: answering goes before asking.
+    pub fn echo_out(&self, m: u64, rloc: &Addr) -> EchoOut
+        ensures { result
+            ≡ echo_out m self.now.observed.starts self.now.observed.wishes rloc.now }
+    {
+        answer_or(
+            ask_or_plain(echo_on(m, rloc, &self.starts)),
+            echo_wanted(m, rloc, &self.wishes),
+        )
+    }
+
+    /// An echo may be asked of a locator: none was for 60 seconds, it wants none itself, and fewer
+    /// than 4,096 are asked for.
+    pub fn may_start(&self, m: u64, rloc: &Addr) -> bool
+        ensures { result
+            ≡ may_start m self.now.observed.starts self.now.observed.wishes rloc.now }
+    {
+        !is_asked(m, rloc, &self.starts)
+            && echo_wanted(m, rloc, &self.wishes).is_none()
+            && few_starts(m, &self.starts)
+    }
+
+    /// That a locator wants this nonce may be noted: it doesn't want it already, and fewer than 4,096
+    /// are wanted.
+    pub fn may_want(&self, m: u64, rloc: &Addr, nonce: u32) -> bool
+        ensures { result ≡ may_want m self.now.observed.wishes rloc.now nonce }
+    {
+        is_other(nonce, echo_wanted(m, rloc, &self.wishes)) && few_wishes(m, &self.wishes)
+    }
+
+    /// A locator may be solicited for an EID: it wasn't for 10 seconds, and fewer than 4,096 were.
+    pub fn may_solicit(&self, m: u64, rloc: &Addr, eid: &Eid) -> bool
+        ensures { result ≡ may_solicit m self.now.observed.solicits rloc.now eid.now }
+    {
+        !is_solicited(m, rloc, eid, &self.solicits) && few_solicits(m, &self.solicits)
+    }
+
+    /// Nothing speaks against a locator: the last probe that is judged was answered, and packets
+    /// came with the echo that was asked for. A probe is judged once it is answered or 3 seconds
+    /// old, until it is 600 seconds old; an echo from 10 to 60 seconds.
+    pub fn up(&self, m: u64, rloc: &Addr) -> bool
+        ensures { result ≡ is_up m self.now.observed rloc.now }
+    {
+        up_by(m, last_judged(m, rloc, &self.probes)) && echo_up(m, rloc, &self.starts)
     }
 }

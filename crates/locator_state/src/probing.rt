@@ -101,7 +101,7 @@ pub(crate) fn settle_nonce(state: ProbeState, nonce: u64, probes: &mut Vec<Probe
 }
 
 /// Takes away what counts no longer at a moment.
-pub(crate) fn drop_old(now: u64, probes: &mut Vec<Probe>)
+pub(crate) fn drop_probes(now: u64, probes: &mut Vec<Probe>)
     ensures items { probes.new.items ≡ counting_probes now probes.old.items }
     ensures len { vec_len probes.new ≤ vec_len probes.old }
     ensures capacity { vec_capacity probes.new ≡ vec_capacity probes.old }

@@ -1,9 +1,12 @@
-//! Tests of the node store, the prefix table, the map-cache, the queue of requests, the probes of
-//! locators and the choice among them: times, limits, replacement, the longest match, shares.
+//! Tests of the node store, the prefix table, the map-cache, the queue of requests, what is known
+//! of locators (probes, echoes, solicitations) and the choice among them: times, limits,
+//! replacement, the longest match, shares.
 #![tactic(auto)]
 
 #[cfg(test)]
 mod choices;
+#[cfg(test)]
+mod echoes;
 #[cfg(test)]
 mod mappings;
 #[cfg(test)]

@@ -1,0 +1,65 @@
+-- All that is known of locators.
+use Rattle.std.specs.Prelude.{ℕ, ◌≤◌, ◌+◌, ◌&&◌, Bool, List}
+use Rattle.ip_headers.specs.declared.addr.Addr.{Addr}
+use Rattle.router_log.specs.declared.kept.EchoStart.{EchoStart}
+use Rattle.router_log.specs.declared.kept.EchoWish.{EchoWish}
+use Rattle.router_log.specs.declared.kept.Probe.{Probe}
+use Rattle.router_log.specs.declared.kept.Solicitation.{Solicitation}
+use Rattle.locator_state.specs.Echoes.{counting_starts, counting_wishes, echo_up}
+use Rattle.locator_state.specs.Probes.{counting_probes, probe_up}
+use Rattle.locator_state.specs.Solicits.{counting_solicits}
+
+-- four lists, in each the oldest first: probes, echoes that were asked for, echoes that are wanted, solicitations
+pub record Observed : Type 0 where
+  pub probes : List Probe
+  pub starts : List EchoStart
+  pub wishes : List EchoWish
+  pub solicits : List Solicitation
+
+-- neither probes nor echoes speak against a locator
+abbrev pub is_up : ℕ → Observed → Addr → Bool
+is_up now o rloc = probe_up now o.probes rloc && echo_up now o.starts rloc
+
+-- what still counts
+abbrev pub recent : ℕ → Observed → Observed
+recent now o = record {
+  probes = counting_probes now o.probes;
+  starts = counting_starts now o.starts;
+  wishes = counting_wishes now o.wishes;
+  solicits = counting_solicits now o.solicits;
+}
+
+-- what still counts, but for one list, which is this
+abbrev pub with_probes : ℕ → List Probe → Observed → Observed
+with_probes now probes o = record (recent now o) { probes = probes }
+
+abbrev pub with_starts : ℕ → List EchoStart → Observed → Observed
+with_starts now starts o = record (recent now o) { starts = starts }
+
+abbrev pub with_wishes : ℕ → List EchoWish → Observed → Observed
+with_wishes now wishes o = record (recent now o) { wishes = wishes }
+
+abbrev pub with_solicits : ℕ → List Solicitation → Observed → Observed
+with_solicits now solicits o = record (recent now o) { solicits = solicits }
+
+-- what is known of locators as callers see it, and of each kind how many more there is room for
+pub record Located : Type 0 where
+  pub observed : Observed
+  pub probe_room : ℕ
+  pub start_room : ℕ
+  pub wish_room : ℕ
+  pub solicit_room : ℕ
+
+-- of each kind there is room for so many more
+pub record HasRoom (more others : ℕ) (now : Located) : Type 0 where
+  pub probes : more ≤ now.probe_room
+  pub starts : others ≤ now.start_room
+  pub wishes : others ≤ now.wish_room
+  pub solicits : others ≤ now.solicit_room
+
+-- of each kind at most so much room was used
+pub record UsesRoom (a b c d : ℕ) (old new : Located) : Type 0 where
+  pub probes : old.probe_room ≤ new.probe_room + a
+  pub starts : old.start_room ≤ new.start_room + b
+  pub wishes : old.wish_room ≤ new.wish_room + c
+  pub solicits : old.solicit_room ≤ new.solicit_room + d
