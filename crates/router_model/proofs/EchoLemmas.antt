@@ -10,9 +10,11 @@ use Rattle.router_log.specs.declared.kept.EchoStart.{EchoStart}
 use Rattle.router_log.specs.declared.kept.EchoWish.{EchoWish}
 use Rattle.router_log.specs.declared.kept.Solicitation.{Solicitation}
 use Rattle.mapping_records.specs.Eids.{same_address}
+use Rattle.locator_state.specs.Echoes.{start_counts, wish_counts}
+use Rattle.locator_state.specs.Solicits.{solicit_counts}
 use Rattle.router_model.specs.Journal.{Journal, IsRising, moment_of}
 use Rattle.router_model.specs.Kept.{Kind, counting, carried, scanned, last_put, any}
-use Rattle.router_model.specs.Observed.{begun_solicit, begun_start, begun_wish, has_come, is_heard, solicit_counts, solicit_kind, solicits, start_counts, start_kind, start_step, starts, wish_counts, wish_kind, wishes}
+use Rattle.router_model.specs.Observed.{begun_solicit, begun_start, begun_wish, has_come, is_heard, solicit_kind, solicits, start_kind, start_step, starts, wish_kind, wishes}
 use Rattle.router_model.proofs.AgedLemmas.{Rises, aged-keeps, scanned-rises, young-scanned}
 use Rattle.router_model.proofs.KeptLemmas.{Keeps}
 use Rattle.router_model.proofs.KeyLemmas.{changed-keeps}

@@ -12,14 +12,17 @@ use Rattle.router_log.specs.declared.kept.EchoWish.{EchoWish}
 use Rattle.router_log.specs.declared.kept.Probe.{Probe}
 use Rattle.router_model.specs.Cache.{held_of, kept_mappings, mapping_kind}
 use Rattle.map_cache.specs.Cache.{lasts}
-use Rattle.mapping_records.specs.Eids.{same_address, same_eid}
+use Rattle.mapping_records.specs.Eids.{same_address}
 use Rattle.router_model.specs.Journal.{Journal, IsRising, at, drawn, last_moment, moment_of, uses_nonce}
 use Rattle.router_log.specs.Moments.{younger}
 use Rattle.router_model.specs.Kept.{absorb}
+use Rattle.locator_state.specs.Echoes.{answer_or, ask_or_plain, echo_on, echo_up, echo_wanted, is_deaf, is_on, is_other, may_start, may_want, start_counts, wish_counts}
 use Rattle.locator_state.specs.Lists.{last_where, only_if}
+use Rattle.locator_state.specs.Observed.{Observed, recent}
+use Rattle.locator_state.specs.Solicits.{is_of, may_solicit, solicit_counts}
 use Rattle.router_model.specs.Mappings.{live_mappings}
 use Rattle.locator_state.specs.Probes.{is_judged, probe_counts, probe_up, up_by}
-use Rattle.router_model.specs.Observed.{Observed, answer_or, ask_or_plain, echo_on, echo_up, echo_wanted, is_deaf, is_on, is_other, may_solicit, may_start, may_want, observed, observing, probe_kind, recent, solicit_counts, solicit_kind, start_counts, start_kind, wish_counts, wish_kind}
+use Rattle.router_model.specs.Observed.{observed, observing, probe_kind, solicit_kind, start_kind, wish_kind}
 use Rattle.router_model.specs.Parts.{absorbed, admits, parts_in, view_at, view_in, with_entry}
 use Rattle.router_model.specs.Proper.{fits, is_admitted, suits}
 use Rattle.router_model.specs.Requests.{open_requests, request_kind}
@@ -120,7 +123,7 @@ module _ (journal : Journal) (rising : IsRising journal) (t : ℕ) (later : last
   start_count-is : count_by (start_counts t) left.starts ≡ count_by (start_counts t) all.starts
   start_count-is = count-within (start_counts s) (start_counts t) (λ e. starts-keep.ages s t later e) all.starts
 
-  may_start-is : (rloc : Addr) → may_start t left rloc ≡ may_start t all rloc
+  may_start-is : (rloc : Addr) → may_start t left.starts left.wishes rloc ≡ may_start t all.starts all.wishes rloc
   may_start-is rloc = λ i.
       not (any-within (start_counts s) (λ e. same_address e.rloc rloc && start_counts t e) (λ e is. starts-keep.ages s t later e (and_both (same_address e.rloc rloc) _ is).1) all.starts i)
       && (is_none (wanted-is rloc i) && nat_lt (start_count-is i) 4096)
@@ -132,7 +135,7 @@ module _ (journal : Journal) (rising : IsRising journal) (t : ℕ) (later : last
 
   may_solicit-is : (rloc : Addr) (eid : Eid) → may_solicit t left.solicits rloc eid ≡ may_solicit t all.solicits rloc eid
   may_solicit-is rloc eid = λ i.
-      not (any-within (solicit_counts s) (λ old. (same_address old.rloc rloc && same_eid old.eid eid) && solicit_counts t old) (λ old is. solicits-keep.ages s t later old (and_both (same_address old.rloc rloc && same_eid old.eid eid) _ is).1) all.solicits i)
+      not (any-within (solicit_counts s) (λ old. is_of rloc eid old && solicit_counts t old) (λ old is. solicits-keep.ages s t later old (and_both (is_of rloc eid old) _ is).1) all.solicits i)
       && nat_lt (count-within (solicit_counts s) (solicit_counts t) (λ old. solicits-keep.ages s t later old) all.solicits i) 4096
 
   agrees : Agrees (view_at (parts_in journal) t) (view_of t (live_mappings t journal) (open_requests t journal) all (drawn journal))

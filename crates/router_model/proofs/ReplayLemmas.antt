@@ -50,10 +50,10 @@ module _ (settings : Settings) (more : ℕ) (journal : Journal) where
       let hears = frames-lift settings frame.moment more 256 frame (unchanged journal) (frame-sound settings frame are) (fewer-ready settings frame.moment (more + 2048) (more + 256) journal (omega arith) ready) in
       record { same = ap (after_message table (router_tabled (router_of settings journal)) frame) hears.same; settings_stay = refl; ready = hears.ready }
 
-  decision-replays : (frame : Frame) → Ready settings frame.moment (more + 2048) journal → Replays settings frame.moment more (after_decision table (router_tabled (router_of settings journal)) frame (decide_by settings (table.see (parts_in journal) frame.moment) frame)) (after_decision of_journal (router_of settings journal) frame (decide_by settings (view journal frame.moment) frame))
-  decision-replays frame ready =
+  decision-replays : (frame : Frame) → AreOctets frame.octets → Ready settings frame.moment (more + 2048) journal → Replays settings frame.moment more (after_decision table (router_tabled (router_of settings journal)) frame (decide_by settings (table.see (parts_in journal) frame.moment) frame)) (after_decision of_journal (router_of settings journal) frame (decide_by settings (view journal frame.moment) frame))
+  decision-replays frame are ready =
       let decision : Decision = decide_by settings (view journal frame.moment) frame in
-      let sound = notices-sound settings (view journal frame.moment) frame in
+      let sound = notices-sound settings (view journal frame.moment) frame are in
       let few = sound.1 in
       let goes =
       goes-each settings frame.moment (noted table settings frame.moment) (noted of_journal settings frame.moment) is_sound (λ more n change pass ready. notes-lift settings frame.moment more n change pass ready) decision.notices sound.0 more (unchanged (parts_in journal)) (unchanged journal)
@@ -67,7 +67,7 @@ module _ (settings : Settings) (more : ℕ) (journal : Journal) where
     where
       by : (b : Bool) → Replays settings frame.moment more (cond b (after_message table (router_tabled (router_of settings journal)) frame (hear_by table settings frame.moment frame (unchanged (parts_in journal)))) (after_decision table (router_tabled (router_of settings journal)) frame (decide_by settings (table.see (parts_in journal) frame.moment) frame))) (cond b (after_message of_journal (router_of settings journal) frame (hear_by of_journal settings frame.moment frame (unchanged journal))) (after_decision of_journal (router_of settings journal) frame (decide_by settings (view journal frame.moment) frame)))
       by true = message-replays frame are ready
-      by false = decision-replays frame ready
+      by false = decision-replays frame are ready
 
   event-replays : (event : Event) → HasOctets event → Ready settings (event_moment event) (more + 2048) journal → Replays settings (event_moment event) more (after_event table (router_tabled (router_of settings journal)) event) (plain (router_of settings journal) event)
   event-replays (Tick s) are ready = tick-replays s ready

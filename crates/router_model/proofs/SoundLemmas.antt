@@ -40,7 +40,7 @@ use Rattle.router_model.specs.Lifting.{AreOctets, IsSoundFrame, entries_in, is_b
 use Rattle.router_model.specs.Received.{asked_eid_in, ecm_in, ecm_of_reply, ecm_of_request, eid_prefix_in, head_of, items_in, message_in, record_in, reply_addr_in, reply_in, request_in}
 use Rattle.router_model.specs.Site.{instance_of, is_own}
 
-octet-at : (octets : List ℕ) (i : ℕ) → AreOctets octets → slice_index octets i < 256
+pub octet-at : (octets : List ℕ) (i : ℕ) → AreOctets octets → slice_index octets i < 256
 octet-at octets i are = by (nat_lt i (length octets)) refl
   where
     below : nat_lt i (length octets) ≡ true → i < length octets
@@ -138,7 +138,7 @@ request-few octets request are is = by (items_in reply_addr_in reply_addr_size (
         let same = all.1 in
         subst (λ (r : MapRequest). length (ranges_of r) ≤ 256) (same_Some (made replies_to eids records) request is) (ranges (source_at (drop 12 octets)) _ _ eids (omega (arith, few, same)))
 
-payload-octets : (packet : List ℕ) (udp : UdpHeader) → AreOctets packet → AreOctets (payload_in packet udp)
+pub payload-octets : (packet : List ℕ) (udp : UdpHeader) → AreOctets packet → AreOctets (payload_in packet udp)
 payload-octets packet udp are = All-take (λ octet. octet < 256) _ _ (All-drop (λ octet. octet < 256) _ packet are)
 
 ecm-few : (octets : List ℕ) (ecm : Ecm) → AreOctets octets → ecm_in octets ≡ Some ecm → requests_in ecm.request ≤ 256
@@ -188,7 +188,8 @@ message-sound octets read are is = by (is_ecm octets) (is_request octets) is
 
 -- ### the packet of a datagram is made of the frame's octets
 
-abbrev HasPacket : List ℕ → Course → Type 0
+abbrev pub HasPacket : List ℕ → Course → Type 0
+HasPacket octets (Data d) = d.packet.octets ≡ octets
 HasPacket octets (Control d) = d.packet.octets ≡ octets
 HasPacket octets _ = Unit {0}
 
@@ -196,7 +197,7 @@ port-packet : (packet : FramePacket) (udp : UdpHeader) → HasPacket packet.octe
 port-packet packet udp = by (udp.dest == 4341) (udp.dest == 4342 || udp.source == 4342)
   where
     by : (b c : Bool) → HasPacket packet.octets (cond b (Data (record { packet = packet; udp = udp })) (cond c (Control (record { packet = packet; udp = udp })) (Settled (Drop NotTunnel))))
-    by true c = tt
+    by true c = refl
     by false true = refl
     by false false = tt
 
@@ -230,7 +231,7 @@ packet-packet settings vlan packet = by (is_own settings.locators (source_of pac
     by false true = arriving-packet packet
     by false false = leaving-packet packet (instance_of settings.attachments vlan)
 
-course-packet : (settings : Settings) (frame : Frame) → HasPacket (packet_in (link_octets frame)) (course_of settings frame)
+pub course-packet : (settings : Settings) (frame : Frame) → HasPacket (packet_in (link_octets frame)) (course_of settings frame)
 course-packet settings frame =
     refused-packet (packet_in (link_octets frame)) (frame_refusal frame) _ (packet-packet settings (link_vlan frame) (frame_packet frame))
 
@@ -241,7 +242,7 @@ link-octets frame are = by frame.link
     by Ethernet = All-drop (λ octet. octet < 256) (type_place frame.octets + 2) frame.octets are
     by Raw = are
 
-front-octets : (frame : Frame) → AreOctets frame.octets → AreOctets (packet_in (link_octets frame))
+pub front-octets : (frame : Frame) → AreOctets frame.octets → AreOctets (packet_in (link_octets frame))
 front-octets frame are = All-take (λ octet. octet < 256) _ (link_octets frame) (link-octets frame are)
 
 -- each frame of octets is sound

@@ -1,5 +1,5 @@
--- What the router does with a frame (RFC 9300, sections 5.3 and 10; this router's order of cases), and what it notices.
-use Rattle.std.specs.Prelude.{ℕ, ◌/◌, ◌%◌, ◌^◌, ◌==◌, ◌||◌, not, Bool, false, List, [], ◌∷◌, drop, length, Option, Some, None, is_none, is_some, option_and_then, option_map, option_to_list, unwrap_or, if◌then◌else◌}
+-- What the router does with a frame (RFC 9300, sections 5.3 and 10; RFC 9302, section 7; this router's order of cases), and what it notices.
+use Rattle.std.specs.Prelude.{ℕ, ◌/◌, ◌%◌, ◌^◌, ◌==◌, ◌||◌, ◌&&◌, not, Bool, true, false, List, [], ◌∷◌, ◌++◌, drop, length, Option, Some, None, is_none, is_some, option_and_then, option_map, option_to_list, unwrap_or, if◌then◌else◌}
 use Rattle.octets.specs.Rules.{first_failing}
 use Rattle.ip_headers.specs.Addr.{width}
 use Rattle.ip_headers.specs.Ip.{dest_of, header_at, packet_in, source_of}
@@ -9,6 +9,7 @@ use Rattle.ip_headers.specs.declared.addr.Addr.{Addr}
 use Rattle.ip_headers.specs.declared.addr.Addr.TheVariants.{V4, V6}
 use Rattle.ip_headers.specs.declared.header.IpHeader.{IpHeader}
 use Rattle.lisp_header.specs.Header.{header_at as lisp_header_at}
+use Rattle.lisp_header.specs.Versions.{newer}
 use Rattle.lisp_header.specs.declared.header.LispHeader.{LispHeader}
 use Rattle.encap.specs.Forwarded.{forwarded}
 use Rattle.encap.specs.Rules.{Unsent, encap_rules, forward_rules}
@@ -28,11 +29,13 @@ use Rattle.lisp_settings.specs.declared.settings.Database.{Database}
 use Rattle.lisp_settings.specs.declared.settings.Settings.{Settings}
 use Rattle.locator_choice.specs.Hash.{flow_hash, source_port}
 use Rattle.router_log.specs.declared.decision.Decision.{Decision}
+use Rattle.router_log.specs.declared.kept.EchoOut.{EchoOut}
+use Rattle.router_log.specs.declared.kept.EchoOut.TheVariants as echo
 use Rattle.router_log.specs.declared.notice.Notice.{Notice}
-use Rattle.router_log.specs.declared.notice.Notice.TheVariants.{Ask, Bits}
+use Rattle.router_log.specs.declared.notice.Notice.TheVariants as notice
 use Rattle.router_log.specs.declared.verdict.Reason.{Reason}
 use Rattle.router_log.specs.declared.verdict.Reason.TheVariants as reason
-use Rattle.router_log.specs.declared.verdict.Reason.TheVariants.{NotTunnel, Encrypted, NotOurs, CongestionMark, TtlExpired, Multicast, NotSite, Miss, NoAction, SendRequest, DropNoReason, DropPolicy, DropAuth, NoLocator, TooBig}
+use Rattle.router_log.specs.declared.verdict.Reason.TheVariants.{NotTunnel, Encrypted, NotOurs, DestVersionNewer, SourceVersionOlder, CongestionMark, TtlExpired, Multicast, NotSite, Miss, NoAction, SendRequest, DropNoReason, DropPolicy, DropAuth, NoLocator, TooBig}
 use Rattle.router_log.specs.declared.verdict.Verdict.{Verdict}
 use Rattle.router_log.specs.declared.verdict.Verdict.TheVariants.{Local, Encapsulated, Delivered, Native, Drop}
 use Rattle.router_model.specs.Choice.{chosen}
@@ -51,9 +54,46 @@ alone verdict = record { verdict = verdict; notices = [] }
 abbrev pub drops : Reason → Decision
 drops why = alone (Drop why)
 
+-- what is settled by a case, or else what follows
+abbrev pub unless_decided : Option Verdict → Decision → Decision
+unless_decided None decision = decision
+unless_decided (Some decided) decision = alone decided
+
 -- the mapping in force for an address of an instance
 abbrev pub force_for : View → ℕ → Addr → Option Held
 force_for v iid addr = force v.mappings iid addr (width addr)
+
+-- a notice that is given where a test holds
+abbrev pub given : Bool → Notice → List Notice
+given true notice = notice ∷ []
+given false notice = []
+
+-- ### Map-Versions
+
+-- 0 is no version (RFC 9302, section 6.1)
+abbrev pub is_version : ℕ → Bool
+is_version version = not (version == 0)
+
+-- both versions are there, and the first is newer
+abbrev pub is_newer : ℕ → ℕ → Bool
+is_newer a b = is_version a && (is_version b && newer a b)
+
+-- the versions that a LISP header names, 0 without them
+abbrev pub source_version : LispHeader → ℕ
+source_version lisp = (unwrap_or lisp.versions (0, 0)).0
+
+abbrev pub dest_version : LispHeader → ℕ
+dest_version lisp = (unwrap_or lisp.versions (0, 0)).1
+
+-- the version of the mapping in force, 0 without one
+abbrev pub cached_version : Option Held → ℕ
+cached_version None = 0
+cached_version (Some held) = held.mapping.version
+
+-- the version of a database prefix, 0 without one
+abbrev pub home_version : Option Database → ℕ
+home_version None = 0
+home_version (Some home) = home.version
 
 -- ### a packet in a tunnel to the router
 
@@ -73,26 +113,54 @@ bits_width lisp = if is_some lisp.instance then 8 else 32
 -- what status bits from a locator tell of the mapping in force for the inner source
 abbrev pub bits_notice : Addr → LispHeader → ℕ → Option Held → Option Notice
 bits_notice rloc lisp bits held =
-    option_map (λ (held : Held). Bits held.eid rloc bits (bits_width lisp)) held
+    option_map (λ (held : Held). notice.Bits held.eid rloc bits (bits_width lisp)) held
 
--- what a delivered packet from a locator tells (not built: of echoes and versions)
-abbrev pub delivery_notices : Addr → LispHeader → Option Held → List Notice
-delivery_notices rloc lisp held =
+-- a nonce asks for its echo where E is set, and else is an echo; only a packet that asks for one doesn't count as
+-- data (RFC 9300, section 10.1)
+abbrev pub nonce_notices : Addr → Bool → Option ℕ → List Notice
+nonce_notices rloc asks None = notice.DataFrom rloc ∷ []
+nonce_notices rloc true (Some nonce) = notice.EchoWanted rloc nonce ∷ []
+nonce_notices rloc false (Some nonce) = notice.EchoHeard rloc nonce ∷ notice.DataFrom rloc ∷ []
+
+-- the other side knows an old version of the site's mapping (RFC 9302, section 7.1)
+abbrev pub solicit_notice : Addr → LispHeader → Database → List Notice
+solicit_notice rloc lisp home =
+    given (is_version (dest_version lisp) && newer home.version (dest_version lisp)) (notice.Solicit rloc home.eid)
+
+-- the other side has a newer version of its own mapping than was learnt (RFC 9302, section 7.2)
+abbrev pub refresh_notice : LispHeader → Option Held → List Notice
+refresh_notice lisp None = []
+refresh_notice lisp (Some held) =
+    given (not held.fixed && is_newer (source_version lisp) held.mapping.version) (notice.Refresh held.eid)
+
+-- what a delivered packet from a locator tells, in order
+abbrev pub delivery_notices : Addr → LispHeader → Database → Option Held → List Notice
+delivery_notices rloc lisp home held =
     option_to_list (option_and_then (λ bits. bits_notice rloc lisp bits held) lisp.status)
+    ++ (nonce_notices rloc lisp.echo lisp.nonce ++ (solicit_notice rloc lisp home ++ refresh_notice lisp held))
 
--- a packet for the site, which leaves its tunnel unless a rule drops it (not built: versions)
-abbrev pub leaves : IpHeader → LispHeader → List ℕ → Option Held → Option Undelivered → Decision
-leaves outer lisp inner held (Some why) = drops (delivery_reason why)
-leaves outer lisp inner held None = record {
+-- a packet for the site, which leaves its tunnel unless a rule drops it
+abbrev pub leaves : IpHeader → LispHeader → List ℕ → Database → Option Held → Option Undelivered → Decision
+leaves outer lisp inner home held (Some why) = drops (delivery_reason why)
+leaves outer lisp inner home held None = record {
   verdict = Delivered (iid_of lisp) (delivered inner outer);
-  notices = delivery_notices (source_of outer) lisp held;
+  notices = delivery_notices (source_of outer) lisp home held;
 }
+
+-- the cases in which a packet for the site is dropped by its versions, in order: each the test that it isn't so, and
+-- the verdict where it is (RFC 9302, section 7)
+abbrev pub version_cases : LispHeader → Database → Option Held → List (Bool × Verdict)
+version_cases lisp home held =
+    (not (is_newer (dest_version lisp) home.version), Drop DestVersionNewer)
+    ∷ (not (is_newer (cached_version held) (source_version lisp)), Drop SourceVersionOlder)
+    ∷ []
 
 -- a packet in a tunnel by the database prefix of its destination, and the mapping in force for its source
 abbrev pub for_home : IpHeader → LispHeader → List ℕ → Option Held → Option Database → Decision
 for_home outer lisp inner held None = drops NotOurs
 for_home outer lisp inner held (Some home) =
-    leaves outer lisp inner held (first_failing (deliver_rules inner outer))
+    unless_decided (first_failing (version_cases lisp home held))
+    (leaves outer lisp inner home held (first_failing (deliver_rules inner outer)))
 
 -- the packet behind a LISP header
 abbrev pub unwrapped : Settings → View → IpHeader → LispHeader → List ℕ → Decision
@@ -134,26 +202,36 @@ site_cases settings iid header =
     ∷ (is_some (home_of settings.databases iid (source_of header)), Drop NotSite)
     ∷ []
 
--- what is settled by a case, or else what follows
-abbrev pub unless_decided : Option Verdict → Decision → Decision
-unless_decided None decision = decision
-unless_decided (Some decided) decision = alone decided
-
 -- a drop, after which a mapping for the destination is to be asked for
 abbrev pub asking : ℕ → IpHeader → Reason → Decision
 asking iid header why = record {
   verdict = Drop why;
   notices = option_to_list
-      (option_map (λ eid. Ask eid (Some (source_of header))) (host_eid iid (dest_of header)));
+      (option_map (λ eid. notice.Ask eid (Some (source_of header))) (host_eid iid (dest_of header)));
 }
 
--- the LISP header of a tunnel packet: the own status bits, beside an instance the lowest 8 (not
--- built: echoes and versions)
-abbrev pub lisp_header : Settings → ℕ → LispHeader
-lisp_header settings iid = record {
-  nonce = None;
-  echo = false;
-  versions = None;
+-- the nonce of a header, by what it does about echoes
+abbrev pub echo_nonce : EchoOut → Option ℕ
+echo_nonce echo.Plain = None
+echo_nonce (echo.Answer nonce) = Some nonce
+echo_nonce (echo.Ask nonce) = Some nonce
+
+-- the header asks for an echo
+abbrev pub asks_echo : EchoOut → Bool
+asks_echo (echo.Ask nonce) = true
+asks_echo _ = false
+
+-- the versions of its source and destination, where a header without nonce has either
+abbrev pub versions_of : EchoOut → ℕ → ℕ → Option (ℕ × ℕ)
+versions_of echo.Plain source dest = if is_version source || is_version dest then Some (source, dest) else None
+versions_of _ source dest = None
+
+-- the LISP header of a tunnel packet: an echo or else versions, and the own status bits, beside an instance the lowest 8
+abbrev pub lisp_header : Settings → ℕ → EchoOut → ℕ → ℕ → LispHeader
+lisp_header settings iid out source dest = record {
+  nonce = echo_nonce out;
+  echo = asks_echo out;
+  versions = versions_of out source dest;
   status = Some (if iid == 0 then own_bits settings.locators else own_bits settings.locators % 256);
   instance = if iid == 0 then None else Some iid;
   key = 0;
@@ -168,24 +246,29 @@ abbrev pub unsent_reason : Unsent → Reason
 unsent_reason encap.TtlExpired = TtlExpired
 unsent_reason encap.TooBig = TooBig
 
--- the packet, in a tunnel between two locators, unless it can't be sent
-abbrev pub sent : Settings → ℕ → FramePacket → Addr → Addr → Option Unsent → Verdict
-sent settings iid packet from to (Some why) = Drop (unsent_reason why)
-sent settings iid packet from to None =
-    let port = source_port (hash_of packet) in
-    Encapsulated from to port (wrapped packet.octets from to port (lisp_header settings iid))
+-- an echo may be asked of the locator that a packet went to
+abbrev pub echo_notice : Settings → View → Addr → List Notice
+echo_notice settings v to = given (settings.echo && v.may_start to) (notice.EchoDue to)
+
+-- the packet with its LISP header, in a tunnel between two locators, unless it can't be sent
+abbrev pub sent : Settings → View → LispHeader → FramePacket → Addr → Addr → Option Unsent → Decision
+sent settings v lisp packet from to (Some why) = drops (unsent_reason why)
+sent settings v lisp packet from to None = record {
+  verdict = Encapsulated from to (source_port (hash_of packet)) (wrapped packet.octets from to (source_port (hash_of packet)) lisp);
+  notices = echo_notice settings v to;
+}
 
 -- the packet, from ours of the family of a locator
-abbrev pub from_ours : Settings → ℕ → FramePacket → Addr → Option Addr → Verdict
-from_ours settings iid packet to None = Drop NoLocator
-from_ours settings iid packet to (Some from) =
-    sent settings iid packet from to (first_failing (encap_rules packet.octets from))
+abbrev pub from_ours : Settings → View → LispHeader → FramePacket → Addr → Option Addr → Decision
+from_ours settings v lisp packet to None = drops NoLocator
+from_ours settings v lisp packet to (Some from) =
+    sent settings v lisp packet from to (first_failing (encap_rules packet.octets from))
 
--- the packet, to the locator that is chosen
-abbrev pub towards : Settings → ℕ → FramePacket → Option Addr → Verdict
-towards settings iid packet None = Drop NoLocator
-towards settings iid packet (Some to) =
-    from_ours settings iid packet to (ours settings.locators to)
+-- the packet, to the locator that is chosen; `source` is the version of the site's mapping, `dest` that of the other's
+abbrev pub towards : Settings → View → ℕ → FramePacket → ℕ → ℕ → Option Addr → Decision
+towards settings v iid packet source dest None = drops NoLocator
+towards settings v iid packet source dest (Some to) =
+    from_ours settings v (lisp_header settings iid (v.echo_out to) source dest) packet to (ours settings.locators to)
 
 -- the packet goes on as it is, with one hop less
 abbrev pub natively : List ℕ → Option Unsent → Verdict
@@ -206,7 +289,8 @@ abbrev pub mapped : Settings → View → ℕ → FramePacket → Option Held �
 mapped settings v iid packet None = asking iid packet.header Miss
 mapped settings v iid packet (Some held) =
     if length held.mapping.locators == 0 then by_action iid packet (action_of held.mapping.action)
-    else alone (towards settings iid packet (chosen settings v held.up held.mapping.locators (hash_of packet)))
+    else towards settings v iid packet (home_version (home_of settings.databases iid (source_of packet.header))) held.mapping.version
+    (chosen settings v held.up held.mapping.locators (hash_of packet))
 
 -- a packet of an instance
 unfoldable pub routed : Settings → View → ℕ → FramePacket → Decision

@@ -29,7 +29,7 @@ use Rattle.router_model.specs.Mappings.{bit, bit_told, exact, held, live, live_m
 use Rattle.router_model.specs.Note.{note, noted}
 use Rattle.router_model.specs.Parts.{Parts, Stands, absorbed, admits, parts_in, parts_of, table, view_in}
 use Rattle.router_model.specs.Plain.{Router, after_event, plain, started}
-use Rattle.router_model.specs.Proper.{EachFits, IsProper, fits, is_admitted}
+use Rattle.router_model.specs.Proper.{EachFits, IsProper, fits, is_admitted, is_short}
 use Rattle.router_model.specs.Received.{message_in}
 use Rattle.router_model.specs.Tick.{tick, ticked}
 use Rattle.router_model.specs.View.{View, view}
@@ -92,10 +92,15 @@ pub record Goes (settings : Settings) (m more : ℕ) (by_table : Change Parts) (
   pub same : by_table ≡ tabled by_journal
   pub ready : Ready settings m more by_journal.after
 
--- a notice as decisions give it: there are 8 or 32 status bits
+-- a notice as decisions give it: there are 8 or 32 status bits, and a nonce has 24
 abbrev pub is_sound : Notice → Bool
 is_sound (notice.Bits eid rloc bits width) = (width == 8) || (width == 32)
+is_sound (notice.EchoWanted rloc nonce) = is_short nonce
 is_sound _ = true
+
+-- notices as a decision gives them: at most five
+abbrev pub AreSound : List Notice → Type 0
+AreSound notices = (list_all is_sound notices ≡ true) × (length notices ≤ 5)
 
 -- a notice is noted by a table as by the journal: the same entries, which fit, and the same emits
 abbrev pub NotesLift : Type 0
@@ -171,9 +176,9 @@ TableTicks = (settings : Settings) (parts : Parts) (journal : Journal) (second :
 abbrev pub TableHears : Type 0
 TableHears = (settings : Settings) (parts : Parts) (journal : Journal) (m : ℕ) (frame : Frame) → Stands settings parts journal → MayGo journal m → AreOctets frame.octets → let by_table = hear_by table settings m frame (unchanged parts) in let by_journal = hear settings journal m frame in (by_table.verdict ≡ by_journal.verdict) × Follows settings by_table.change by_journal.change
 
--- a decision gives at most one notice, and sound ones alone
+-- a decision on a frame of octets gives at most five notices, and sound ones alone
 abbrev pub NoticesSound : Type 0
-NoticesSound = (settings : Settings) (v : View) (frame : Frame) → let notices = (decide_by settings v frame).notices in (list_all is_sound notices ≡ true) × (length notices ≤ 1)
+NoticesSound = (settings : Settings) (v : View) (frame : Frame) → AreOctets frame.octets → AreSound (decide_by settings v frame).notices
 
 -- ### whole replays
 

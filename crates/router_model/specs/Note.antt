@@ -1,16 +1,18 @@
 -- What a notice makes of the journal.
-use Rattle.std.specs.Prelude.{ℕ, suc, ◌==◌, ◌||◌, ◌&&◌, nat_lt, not, Bool, true, false, List, [], ◌∷◌, length, Option, Some, None, if◌then◌else◌}
+use Rattle.std.specs.Prelude.{ℕ, suc, ◌%◌, ◌^◌, ◌==◌, ◌||◌, ◌&&◌, nat_lt, not, Bool, true, false, List, [], ◌∷◌, length, Option, Some, None, is_some, if◌then◌else◌}
 use Rattle.std.specs.List.{list_any}
 use Rattle.ip_headers.specs.declared.addr.Addr.{Addr}
 use Rattle.mapping_records.specs.Eids.{same_address}
 use Rattle.mapping_records.specs.declared.eid.Eid.{Eid}
 use Rattle.lisp_settings.specs.declared.settings.Settings.{Settings}
 use Rattle.router_log.specs.declared.notice.Notice.{Notice}
+use Rattle.router_log.specs.declared.emit.Emit.TheVariants as emit
 use Rattle.router_log.specs.declared.entry.Entry.TheVariants as entry
-use Rattle.router_log.specs.declared.notice.Notice.TheVariants.{Ask, Bits}
-use Rattle.router_model.specs.Changes.{Change, Ledger, asked, entered, journal, may_ask, seen, unchanged}
+use Rattle.router_log.specs.declared.notice.Notice.TheVariants as notice
+use Rattle.router_model.specs.Changes.{Change, Ledger, asked, emitted, entered, journal, may_ask, next_nonce, seen, unchanged}
 use Rattle.router_model.specs.Journal.{Journal}
 use Rattle.router_model.specs.Mappings.{Held, bit, exact, force}
+use Rattle.router_model.specs.Site.{ours}
 use Rattle.router_model.specs.View.{View}
 
 -- no mapping tells where packets go: none is in force, or one that says to ask
@@ -22,6 +24,11 @@ is_wanting (Some held) = (length held.mapping.locators == 0) && (held.mapping.ac
 abbrev pub is_missing : Settings → View → Eid → Bool
 is_missing settings v eid =
     is_wanting (force v.mappings eid.iid eid.prefix.addr eid.prefix.len) && may_ask settings v eid
+
+-- a live mapping was learnt
+abbrev pub is_learnt : Option Held → Bool
+is_learnt None = false
+is_learnt (Some held) = not held.fixed
 
 -- of the locators from number i on, one below the width has another status than its bit
 abbrev pub differs : ℕ → ℕ → ℕ → List Bool → Bool
@@ -35,15 +42,41 @@ is_news rloc bits width None = false
 is_news rloc bits width (Some held) =
     list_any (λ locator. same_address locator.addr rloc) held.mapping.locators && differs bits width 0 held.up
 
+-- that nonce is asked for
+abbrev pub is_echo : ℕ → Option ℕ → Bool
+is_echo nonce None = false
+is_echo nonce (Some asked) = asked == nonce
+
 module _ {S : Type 0} (ledger : Ledger S) (settings : Settings) (m : ℕ) where
-  -- one notice (not built: all others)
+  -- a solicitation goes out, with that nonce (RFC 9302, section 7.1)
+  abbrev pub solicited : ℕ → Addr → Eid → Change S → Change S
+  solicited nonce rloc eid change =
+      emitted (emit.Solicit rloc eid nonce) (entered ledger settings m (entry.Solicited m rloc eid nonce) change)
+
+  -- one notice
   unfoldable pub noted : Notice → Change S → Change S
-  noted (Ask eid source) change =
+  noted (notice.Ask eid source) change =
       if is_missing settings (seen ledger settings m change) eid then asked ledger settings m eid source false change else change
-  noted (Bits eid rloc bits width) change =
+  noted (notice.Refresh eid) change =
+      if is_learnt (exact (seen ledger settings m change).mappings eid) && may_ask settings (seen ledger settings m change) eid
+      then asked ledger settings m eid None false change else change
+  noted (notice.Bits eid rloc bits width) change =
       if is_news rloc bits width (exact (seen ledger settings m change).mappings eid)
       then entered ledger settings m (entry.Bits m eid bits width) change else change
-  noted _ change = change
+  noted (notice.EchoWanted rloc nonce) change =
+      if (seen ledger settings m change).may_want rloc nonce
+      then entered ledger settings m (entry.EchoWanted m rloc nonce) change else change
+  noted (notice.EchoHeard rloc nonce) change =
+      if is_echo nonce ((seen ledger settings m change).echo_on rloc)
+      then entered ledger settings m (entry.EchoHeard m rloc) change else change
+  noted (notice.DataFrom rloc) change =
+      if (seen ledger settings m change).data_due rloc then entered ledger settings m (entry.DataFrom m rloc) change else change
+  noted (notice.Solicit rloc eid) change =
+      if is_some (ours settings.locators rloc) && (seen ledger settings m change).may_solicit rloc eid
+      then solicited (next_nonce ledger settings m change) rloc eid change else change
+  noted (notice.EchoDue rloc) change =
+      if settings.echo && (seen ledger settings m change).may_start rloc
+      then entered ledger settings m (entry.EchoStarted m rloc (next_nonce ledger settings m change % 2 ^ 24)) change else change
 
 -- a notice at m, noted in the journal
 abbrev pub note : Settings → Journal → ℕ → Notice → Change Journal

@@ -2,6 +2,7 @@
 use Rattle.std.specs.Prelude.{◌≡◌, ℕ, suc, ◌+◌, max, Bool, List, [], ◌∷◌, filter, length, map, if◌then◌else◌}
 use Rattle.lisp_settings.specs.declared.settings.Settings.{Settings}
 use Rattle.router_log.specs.declared.entry.Entry.{Entry}
+use Rattle.locator_state.specs.Observed.{Observed, recent}
 use Rattle.map_cache.specs.declared.mapping.Mapping.{Mapping}
 use Rattle.request_queue.specs.declared.request.Request.{Request}
 use Rattle.router_model.specs.Cache.{held_of, kept_mappings, mapping_kind}
@@ -9,7 +10,7 @@ use Rattle.map_cache.specs.Cache.{lasts}
 use Rattle.router_model.specs.Changes.{Ledger}
 use Rattle.router_model.specs.Journal.{Journal, drawn, last_moment, moment_of, uses_nonce, statics}
 use Rattle.router_model.specs.Kept.{absorb}
-use Rattle.router_model.specs.Observed.{Observed, observed, observing, recent}
+use Rattle.router_model.specs.Observed.{observed, observing}
 use Rattle.router_model.specs.Proper.{IsProper, is_admitted}
 use Rattle.router_model.specs.Requests.{open_requests, request_kind}
 use Rattle.request_queue.specs.Queue.{is_waiting}

@@ -4,7 +4,7 @@ use Rattle.mapping_records.specs.declared.record.Record.{Record}
 use Rattle.lisp_settings.specs.Nonces.{nonce_of}
 use Rattle.lisp_settings.specs.declared.settings.Settings.{Settings}
 use Rattle.router_log.specs.declared.entry.Entry.{Entry}
-use Rattle.router_log.specs.declared.entry.Entry.TheVariants.{Learned, Asked, Retried, Answered, Bits, Probed, ProbeAnswered, EchoStarted, Solicited}
+use Rattle.router_log.specs.declared.entry.Entry.TheVariants.{Learned, Asked, Retried, Answered, Probed, ProbeAnswered, Bits, EchoStarted, EchoHeard, DataFrom, EchoWanted, Solicited}
 use Rattle.router_model.specs.Changes.{has_room}
 use Rattle.router_model.specs.Journal.{Journal, drawn, last_moment, moment_of, statics}
 use Rattle.router_model.specs.Mappings.{exact}
@@ -21,7 +21,11 @@ abbrev pub may_retry : Option Request → Bool
 may_retry None = false
 may_retry (Some request) = nat_lt request.sent_again 2
 
--- the entry may follow what is seen at its moment (not built: other kinds)
+-- the nonce of an echo has 24 bits (RFC 9300, section 5.1)
+abbrev pub is_short : ℕ → Bool
+is_short nonce = nat_lt nonce (2 ^ 24)
+
+-- the entry may follow what is seen at its moment
 abbrev pub suits : View → Entry → Bool
 suits v (Learned moment mapping fixed) = not fixed && (is_in_range mapping && has_room v mapping)
 suits v (Asked moment eid source invoked nonce) = nat_lt (length v.requests) 1024
@@ -30,7 +34,11 @@ suits v (Answered moment nonce) = is_some (with_nonce v.requests nonce)
 suits v (Bits moment eid bits width) = is_some (exact v.mappings eid) && ((width == 8) || (width == 32))
 suits v (Probed moment rloc nonce) = nat_lt v.probe_count 9600
 suits v (ProbeAnswered moment nonce) = is_some (v.probe_open nonce)
-suits v _ = false
+suits v (EchoStarted moment rloc nonce) = v.may_start rloc && is_short nonce
+suits v (EchoHeard moment rloc) = is_some (v.echo_on rloc)
+suits v (DataFrom moment rloc) = v.data_due rloc
+suits v (EchoWanted moment rloc nonce) = v.may_want rloc nonce && is_short nonce
+suits v (Solicited moment rloc eid nonce) = v.may_solicit rloc eid
 
 -- the entry may follow so many entries, of which the last has that moment, seen so at its own; its nonce apart
 abbrev pub is_admitted : ℕ → ℕ → View → Entry → Bool

@@ -1,13 +1,16 @@
 -- What a decision asks of the journal at a moment.
-use Rattle.std.specs.Prelude.{◌≡◌, ℕ, ◌&&◌, Bool, List, Option}
+use Rattle.std.specs.Prelude.{◌≡◌, ℕ, Bool, List, Option}
 use Rattle.ip_headers.specs.declared.addr.Addr.{Addr}
 use Rattle.mapping_records.specs.declared.eid.Eid.{Eid}
 use Rattle.router_log.specs.declared.kept.EchoOut.{EchoOut}
 use Rattle.request_queue.specs.declared.request.Request.{Request}
 use Rattle.router_model.specs.Journal.{Journal, at, drawn}
 use Rattle.router_model.specs.Mappings.{Held, live_mappings}
-use Rattle.locator_state.specs.Probes.{last_probe, probe_count, probe_open, probe_up}
-use Rattle.router_model.specs.Observed.{Observed, data_due, echo_on, echo_out, echo_up, may_solicit, may_start, may_want, observed}
+use Rattle.locator_state.specs.Echoes.{data_due, echo_on, echo_out, may_start, may_want}
+use Rattle.locator_state.specs.Observed.{Observed, is_up}
+use Rattle.locator_state.specs.Probes.{last_probe, probe_count, probe_open}
+use Rattle.locator_state.specs.Solicits.{may_solicit}
+use Rattle.router_model.specs.Observed.{observed}
 use Rattle.router_model.specs.Requests.{open_requests}
 
 -- all that decisions and entries are judged by
@@ -50,11 +53,11 @@ view_of now mappings requests o drawn = record {
   probe_open = probe_open now o.probes;
   last_probe = last_probe now o.probes;
   probe_count = probe_count now o.probes;
-  up = λ rloc. probe_up now o.probes rloc && echo_up now o.starts rloc;
+  up = is_up now o;
   echo_on = echo_on now o.starts;
   data_due = data_due now o.starts;
-  echo_out = echo_out now o;
-  may_start = may_start now o;
+  echo_out = echo_out now o.starts o.wishes;
+  may_start = may_start now o.starts o.wishes;
   may_want = may_want now o.wishes;
   may_solicit = may_solicit now o.solicits;
   drawn = drawn;

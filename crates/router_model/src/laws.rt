@@ -101,7 +101,7 @@ pub fn tables_go_as_journals()
     ensures ticks { TableTicks }
 {}
 
-/// A decision gives at most one notice, and sound ones alone.
+/// A decision on a frame of octets gives at most five notices, and sound ones alone.
 pub fn decisions_give_sound_notices()
     ensures { NoticesSound }
 {}
