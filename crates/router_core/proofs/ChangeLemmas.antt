@@ -1,5 +1,5 @@
 -- What a table's steps are in terms of the model's.
-use Rattle.std.proofs.Common.{◌≡◌, ℕ, ◌+◌, ◌-◌, ◌^◌, ◌<◌, ◌≤◌, ◌==◌, ◌||◌, ◌&&◌, max, not, nat_le, nat_lt, Bool, true, false, cond, IsTrue, List, [], ◌∷◌, ◌++◌, length, Option, Some, None, is_some, refl, sym, ap, subst, ◌∙◌, arith}
+use Rattle.std.proofs.Common.{◌≡◌, ℕ, ◌+◌, ◌-◌, ◌^◌, ◌<◌, ◌≤◌, ◌&&◌, max, not, nat_le, nat_lt, Bool, true, false, cond, IsTrue, List, [], ◌∷◌, ◌++◌, length, Option, Some, None, is_some, refl, sym, ap, subst, ◌∙◌, arith}
 use Rattle.std.proofs.lemmas.Bool.Decides.{nat_tests}
 use Rattle.ip_headers.specs.declared.addr.Addr.{Addr}
 use Rattle.mapping_records.specs.declared.eid.Eid.{Eid}
@@ -12,8 +12,7 @@ use Rattle.lisp_settings.specs.declared.settings.Settings.{Settings}
 use Rattle.router_log.specs.declared.emit.Emit.{Emit}
 use Rattle.router_log.specs.declared.emit.Emit.TheVariants.{Request as AskFor}
 use Rattle.router_log.specs.declared.entry.Entry.{Entry}
-use Rattle.router_log.specs.declared.entry.Entry.TheVariants.{Answered, Asked, Bits, Learned}
-use Rattle.router_log.specs.declared.notice.Notice.TheVariants as notice
+use Rattle.router_log.specs.declared.entry.Entry.TheVariants.{Answered, Asked, Learned}
 use Rattle.router_model.specs.Changes.{Change, asked, each, entered, has_room, unchanged}
 use Rattle.octets.specs.Rules.{first_failing}
 use Rattle.map_messages.specs.Message.{message_rules}
@@ -25,11 +24,8 @@ use Rattle.router_log.specs.declared.verdict.Done.TheVariants.{Learned as Taught
 use Rattle.router_model.specs.Hear.{Route, drops, is_asked_for, is_fit, is_static, message_heard, payload_heard, probe_replied, read_heard, replied_to, reply_heard, shortened, takes, tallied, taught, unless_refused}
 use Rattle.router_model.specs.Received.{message_in}
 use Rattle.router_model.specs.Journal.{moment_of}
-use Rattle.router_model.specs.Mappings.{exact}
-use Rattle.router_model.specs.Note.{is_news, noted}
 use Rattle.router_model.specs.Parts.{Parts, absorbed, admits, table, view_in, with_entry}
 use Rattle.router_model.specs.Proper.{suits}
-use Rattle.router_model.proofs.NoteLemmas.{news-some}
 use Rattle.router_core.specs.Table.{change_of}
 use Rattle.router_core.proofs.HeldLemmas.{drawn-seen, requests-seen, room-seen}
 
@@ -113,22 +109,6 @@ asked-change settings m eid source invoked p entries emits after few place =
 pub answered-change : (settings : Settings) (m nonce : ℕ) (p : Parts) → p.now ≤ m → p.count < 2 ^ 62 → is_some (with_nonce (waiting m p.requests) nonce) ≡ true → change_of (with_entry (Answered m nonce) p) (Answered m nonce ∷ []) [] ≡ entered table settings m (Answered m nonce) (unchanged p)
 answered-change settings m nonce p after few open_now =
     ap (λ (q : Parts). change_of q (Answered m nonce ∷ []) []) (sym (taken p m (Answered m nonce) refl after few (ap (λ l. is_some (with_nonce l nonce)) (requests-now p m after) ∙ open_now)))
-
--- status bits that tell something new
-pub told-change : (settings : Settings) (m : ℕ) (eid : Eid) (rloc : Addr) (bits width : ℕ) (p : Parts) → p.now ≤ m → p.count < 2 ^ 62 → is_news rloc bits width (exact (view_in p m).mappings eid) ≡ true → ((width == 8) || (width == 32)) ≡ true → change_of (with_entry (Bits m eid bits width) p) (Bits m eid bits width ∷ []) [] ≡ noted table settings m (notice.Bits eid rloc bits width) (unchanged p)
-unfolding noted
-told-change settings m eid rloc bits width p after few news sound =
-    ap (λ (q : Parts). change_of q (Bits m eid bits width ∷ []) []) (sym (taken p m (Bits m eid bits width) refl after few (two _ _ (news-some rloc bits width _ news) sound)))
-    ∙ sym (ap (λ b. cond b (entered table settings m (Bits m eid bits width) (unchanged p)) (unchanged p)) news)
-  where
-    two : (a b : Bool) → a ≡ true → b ≡ true → (a && b) ≡ true
-    two a b q r = rw (q, r) refl
-
--- and others
-pub told-not : (settings : Settings) (m : ℕ) (eid : Eid) (rloc : Addr) (bits width : ℕ) (p : Parts) → is_news rloc bits width (exact (view_in p m).mappings eid) ≡ false → unchanged p ≡ noted table settings m (notice.Bits eid rloc bits width) (unchanged p)
-unfolding noted
-told-not settings m eid rloc bits width p isn't =
-    sym (ap (λ b. cond b (entered table settings m (Bits m eid bits width) (unchanged p)) (unchanged p)) isn't)
 
 -- that may be made
 pub may_ask-place : (p : Parts) (m : ℕ) → p.now ≤ m → nat_lt (length (view_in p m).requests) 1024 ≡ true → length (waiting m p.requests) < 1024

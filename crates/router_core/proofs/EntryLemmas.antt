@@ -11,33 +11,39 @@ use Rattle.map_cache.specs.Cache.{bits_told, fresh, lasting, lasts, learned, lif
 use Rattle.map_cache.specs.declared.fault.LearnFault.{LearnFault}
 use Rattle.map_cache.specs.declared.fault.LearnFault.TheVariants as learning
 use Rattle.map_cache.specs.declared.mapping.Mapping.{Mapping}
+use Rattle.locator_state.specs.Echoes.{come_from, counting_starts, counting_wishes, data_from, echo_heard, echo_started, hear_from, start_counts, wanted, wish_counts}
+use Rattle.locator_state.specs.Observed.{Observed, recent, with_probes, with_solicits, with_starts, with_wishes}
 use Rattle.locator_state.specs.Probes.{counting_probes, probe_answered, probe_counts, probed, settle_with}
+use Rattle.locator_state.specs.Solicits.{counting_solicits, solicit_counts, solicited}
 use Rattle.octets.specs.declared.items.NoMemory.{NoMemory}
 use Rattle.request_queue.specs.Queue.{asked, is_waiting, once_more, sent_again, waiting, without_nonce}
 use Rattle.request_queue.specs.declared.fault.AskFault.{AskFault}
 use Rattle.request_queue.specs.declared.fault.AskFault.TheVariants as asking
 use Rattle.request_queue.specs.declared.request.Request.{Request}
-use Rattle.router_log.specs.declared.entry.Entry.TheVariants.{Answered, Asked, Bits, Learned, ProbeAnswered, Probed, Retried}
+use Rattle.router_log.specs.declared.entry.Entry.TheVariants.{Answered, Asked, Bits, DataFrom, EchoHeard, EchoStarted, EchoWanted, Learned, ProbeAnswered, Probed, Retried, Solicited}
+use Rattle.router_log.specs.declared.entry.Entry.{Entry}
+use Rattle.router_log.specs.declared.kept.EchoStart.{EchoStart}
+use Rattle.router_log.specs.declared.kept.EchoWish.{EchoWish}
 use Rattle.router_log.specs.declared.kept.Probe.{Probe}
+use Rattle.router_log.specs.declared.kept.Solicitation.{Solicitation}
 use Rattle.router_log.specs.declared.kept.ProbeState.TheVariants as state
 use Rattle.router_log.specs.declared.kept.ProbeState.TheVariants.{Open, Lost}
-use Rattle.router_model.specs.Observed.{probe_kind}
+use Rattle.router_model.specs.Observed.{observing, probe_kind, solicit_kind, start_kind, wish_kind}
 use Rattle.router_model.specs.Cache.{mapping_kind, mapping_step}
 use Rattle.router_model.specs.Kept.{absorb}
 use Rattle.router_model.specs.Parts.{Parts, with_entry}
 use Rattle.router_model.specs.Requests.{request_kind, request_step}
-use Rattle.router_core.specs.Table.{observed_of}
 
 -- the parts of a table by what it keeps
-abbrev pub parts_with : ℕ → ℕ → ℕ → List Mapping → List Request → List Probe → Parts
-parts_with count drawn now mappings requests probes =
-    record { count = count; drawn = drawn; now = now; mappings = mappings; requests = requests; observed = observed_of probes }
+abbrev pub parts_with : ℕ → ℕ → ℕ → List Mapping → List Request → Observed → Parts
+parts_with count drawn now mappings requests observed =
+    record { count = count; drawn = drawn; now = now; mappings = mappings; requests = requests; observed = observed }
 
 -- the same lists, and as many entries and nonces
-same-parts : (count more drawn used now : ℕ) (ms other_ms : List Mapping) (rs other_rs : List Request) (ps other_ps : List Probe) → count ≡ more → drawn ≡ used → ms ≡ other_ms → rs ≡ other_rs → ps ≡ other_ps → parts_with count drawn now ms rs ps ≡ parts_with more used now other_ms other_rs other_ps
-same-parts count more drawn used now ms other_ms rs other_rs ps other_ps counts draws m r p =
-    ap₂ (λ (n d : ℕ). parts_with n d now ms rs ps) counts draws
-    ∙ ap₂ (λ (a : List Mapping) (b : List Request). parts_with more used now a b ps) m r
+same-parts : (count more drawn used now : ℕ) (ms other_ms : List Mapping) (rs other_rs : List Request) (o other : Observed) → count ≡ more → drawn ≡ used → ms ≡ other_ms → rs ≡ other_rs → o ≡ other → parts_with count drawn now ms rs o ≡ parts_with more used now other_ms other_rs other
+same-parts count more drawn used now ms other_ms rs other_rs o other counts draws m r p =
+    ap₂ (λ (n d : ℕ). parts_with n d now ms rs o) counts draws
+    ∙ ap₂ (λ (a : List Mapping) (b : List Request). parts_with more used now a b o) m r
     ∙ ap (parts_with more used now other_ms other_rs) p
 
 -- items that stay as they are
@@ -58,6 +64,34 @@ filter_map-drops {A} test (a ∷ items) = by (test a) (filter_map-drops test ite
 filter_map-map : {A : Type 0} (f : A → A) (items : List A) → filter_map (λ a. Some (f a)) items ≡ map f items
 filter_map-map f [] = refl
 filter_map-map f (a ∷ items) = ap (λ (l : List _). f a ∷ l) (filter_map-map f items)
+
+-- what is known of locators, list by list
+abbrev made : List Probe → List EchoStart → List EchoWish → List Solicitation → Observed
+made probes starts wishes solicits = record { probes = probes; starts = starts; wishes = wishes; solicits = solicits }
+
+same-observed : (ps qs : List Probe) (ss ts : List EchoStart) (ws vs : List EchoWish) (cs ds : List Solicitation) → ps ≡ qs → ss ≡ ts → ws ≡ vs → cs ≡ ds → made ps ss ws cs ≡ made qs ts vs ds
+same-observed ps qs ss ts ws vs cs ds p s w c = λ i. made (p i) (s i) (w i) (c i)
+
+-- a list in which nothing changes
+abbrev unchanged : {A : Type 0} → List A → List A
+unchanged items = filter_map (λ a. Some a) items
+
+-- what counts, where nothing changes
+still : (m : ℕ) (o : Observed) → made (unchanged (counting_probes m o.probes)) (unchanged (counting_starts m o.starts)) (unchanged (counting_wishes m o.wishes)) (unchanged (counting_solicits m o.solicits)) ≡ recent m o
+still m o = same-observed _ _ _ _ _ _ _ _ (filter_map-all (counting_probes m o.probes)) (filter_map-all (counting_starts m o.starts)) (filter_map-all (counting_wishes m o.wishes)) (filter_map-all (counting_solicits m o.solicits))
+
+-- where one list alone changes
+other_probes : (m : ℕ) (ps qs : List Probe) (o : Observed) → ps ≡ qs → made ps (unchanged (counting_starts m o.starts)) (unchanged (counting_wishes m o.wishes)) (unchanged (counting_solicits m o.solicits)) ≡ with_probes m qs o
+other_probes m ps qs o is = same-observed _ _ _ _ _ _ _ _ is (filter_map-all (counting_starts m o.starts)) (filter_map-all (counting_wishes m o.wishes)) (filter_map-all (counting_solicits m o.solicits))
+
+other_starts : (m : ℕ) (ss ts : List EchoStart) (o : Observed) → ss ≡ ts → made (unchanged (counting_probes m o.probes)) ss (unchanged (counting_wishes m o.wishes)) (unchanged (counting_solicits m o.solicits)) ≡ with_starts m ts o
+other_starts m ss ts o is = same-observed _ _ _ _ _ _ _ _ (filter_map-all (counting_probes m o.probes)) is (filter_map-all (counting_wishes m o.wishes)) (filter_map-all (counting_solicits m o.solicits))
+
+other_wishes : (m : ℕ) (ws vs : List EchoWish) (o : Observed) → ws ≡ vs → made (unchanged (counting_probes m o.probes)) (unchanged (counting_starts m o.starts)) ws (unchanged (counting_solicits m o.solicits)) ≡ with_wishes m vs o
+other_wishes m ws vs o is = same-observed _ _ _ _ _ _ _ _ (filter_map-all (counting_probes m o.probes)) (filter_map-all (counting_starts m o.starts)) is (filter_map-all (counting_solicits m o.solicits))
+
+other_solicits : (m : ℕ) (cs ds : List Solicitation) (o : Observed) → cs ≡ ds → made (unchanged (counting_probes m o.probes)) (unchanged (counting_starts m o.starts)) (unchanged (counting_wishes m o.wishes)) cs ≡ with_solicits m ds o
+other_solicits m cs ds o is = same-observed _ _ _ _ _ _ _ _ (filter_map-all (counting_probes m o.probes)) (filter_map-all (counting_starts m o.starts)) (filter_map-all (counting_wishes m o.wishes)) is
 
 one_more : (n : ℕ) → n + 1 ≡ suc n
 one_more n = omega arith
@@ -108,10 +142,10 @@ absorb-learned m mapping fixed ms = by (fixed || not (mapping.ttl == 0)) refl
     by true is = rw (is, fresh-lasts m mapping fixed is) (ap put others)
     by false is = rw is others
 
-pub learned-parts : (count drawn now : ℕ) (ms : List Mapping) (rs : List Request) (ps : List Probe) (m : ℕ) (mapping : Record) (fixed : Bool) → parts_with (count + 1) drawn m (learned m mapping fixed ms) (waiting m rs) (counting_probes m ps) ≡ with_entry (Learned m mapping fixed) (parts_with count drawn now ms rs ps)
-learned-parts count drawn now ms rs ps m mapping fixed =
-    same-parts (count + 1) (suc count) drawn (0 + drawn) m _ (absorb mapping_kind (lasts m) (Learned m mapping fixed) ms) _ (absorb request_kind (is_waiting m) (Learned m mapping fixed) rs) _ (absorb probe_kind (probe_counts m) (Learned m mapping fixed) ps)
-    (one_more count) (no_more drawn) (sym (absorb-learned m mapping fixed ms)) (sym (filter_map-all (waiting m rs))) (sym (filter_map-all (counting_probes m ps)))
+pub learned-parts : (count drawn now : ℕ) (ms : List Mapping) (rs : List Request) (o : Observed) (m : ℕ) (mapping : Record) (fixed : Bool) → parts_with (count + 1) drawn m (learned m mapping fixed ms) (waiting m rs) (recent m o) ≡ with_entry (Learned m mapping fixed) (parts_with count drawn now ms rs o)
+learned-parts count drawn now ms rs o m mapping fixed =
+    same-parts (count + 1) (suc count) drawn (0 + drawn) m _ (absorb mapping_kind (lasts m) (Learned m mapping fixed) ms) _ (absorb request_kind (is_waiting m) (Learned m mapping fixed) rs) _ (observing m (Learned m mapping fixed) o)
+    (one_more count) (no_more drawn) (sym (absorb-learned m mapping fixed ms)) (sym (filter_map-all (waiting m rs))) (sym (still m o))
 
 -- a cache that has room and place took it
 pub was_learned : {P : Type 0} (r : Result (Unit {0}) LearnFault) (spare : ℕ) (place : Bool) → OnOk r P → (r ≡ Err learning.Memory → spare ≡ 0) → 0 < spare → ((r ≡ Err learning.CacheFull) ↔ IsFalse place) → IsTrue place → P
@@ -125,10 +159,10 @@ was_learned (Err learning.CacheFull) spare place ok memory some full is = apart 
 
 -- ### a request that is made
 
-pub asked-parts : (count drawn now : ℕ) (ms : List Mapping) (rs : List Request) (ps : List Probe) (m : ℕ) (eid : Eid) (source : Option Addr) (invoked : Bool) (nonce : ℕ) → parts_with (count + 1) (drawn + 1) m (lasting m ms) (asked m eid source invoked nonce rs) (counting_probes m ps) ≡ with_entry (Asked m eid source invoked nonce) (parts_with count drawn now ms rs ps)
-asked-parts count drawn now ms rs ps m eid source invoked nonce =
-    same-parts (count + 1) (suc count) (drawn + 1) (1 + drawn) m _ (absorb mapping_kind (lasts m) (Asked m eid source invoked nonce) ms) _ (absorb request_kind (is_waiting m) (Asked m eid source invoked nonce) rs) _ (absorb probe_kind (probe_counts m) (Asked m eid source invoked nonce) ps)
-    (one_more count) (first_more drawn) (sym (filter_map-all (lasting m ms))) (sym whole) (sym (filter_map-all (counting_probes m ps)))
+pub asked-parts : (count drawn now : ℕ) (ms : List Mapping) (rs : List Request) (o : Observed) (m : ℕ) (eid : Eid) (source : Option Addr) (invoked : Bool) (nonce : ℕ) → parts_with (count + 1) (drawn + 1) m (lasting m ms) (asked m eid source invoked nonce rs) (recent m o) ≡ with_entry (Asked m eid source invoked nonce) (parts_with count drawn now ms rs o)
+asked-parts count drawn now ms rs o m eid source invoked nonce =
+    same-parts (count + 1) (suc count) (drawn + 1) (1 + drawn) m _ (absorb mapping_kind (lasts m) (Asked m eid source invoked nonce) ms) _ (absorb request_kind (is_waiting m) (Asked m eid source invoked nonce) rs) _ (observing m (Asked m eid source invoked nonce) o)
+    (one_more count) (first_more drawn) (sym (filter_map-all (lasting m ms))) (sym whole) (sym (still m o))
   where
     r : Request
     r = record { eid = eid; source = source; invoked = invoked; nonce = nonce; start = m; sent_again = 0 }
@@ -150,10 +184,10 @@ was_asked (Err asking.QueueFull) spare waits ok memory some full few = let most 
 
 -- ### a request that was answered
 
-pub answered-parts : (count drawn now : ℕ) (ms : List Mapping) (rs : List Request) (ps : List Probe) (m nonce : ℕ) → parts_with (count + 1) drawn m (lasting m ms) (without_nonce nonce (waiting m rs)) (counting_probes m ps) ≡ with_entry (Answered m nonce) (parts_with count drawn now ms rs ps)
-answered-parts count drawn now ms rs ps m nonce =
-    same-parts (count + 1) (suc count) drawn (0 + drawn) m _ (absorb mapping_kind (lasts m) (Answered m nonce) ms) _ (absorb request_kind (is_waiting m) (Answered m nonce) rs) _ (absorb probe_kind (probe_counts m) (Answered m nonce) ps)
-    (one_more count) (no_more drawn) (sym (filter_map-all (lasting m ms))) (sym others) (sym (filter_map-all (counting_probes m ps)))
+pub answered-parts : (count drawn now : ℕ) (ms : List Mapping) (rs : List Request) (o : Observed) (m nonce : ℕ) → parts_with (count + 1) drawn m (lasting m ms) (without_nonce nonce (waiting m rs)) (recent m o) ≡ with_entry (Answered m nonce) (parts_with count drawn now ms rs o)
+answered-parts count drawn now ms rs o m nonce =
+    same-parts (count + 1) (suc count) drawn (0 + drawn) m _ (absorb mapping_kind (lasts m) (Answered m nonce) ms) _ (absorb request_kind (is_waiting m) (Answered m nonce) rs) _ (observing m (Answered m nonce) o)
+    (one_more count) (no_more drawn) (sym (filter_map-all (lasting m ms))) (sym others) (sym (still m o))
   where
     others : filter_map (request_step (Answered m nonce)) (waiting m rs) ≡ without_nonce nonce (waiting m rs)
     others = filter_map-drops (λ (old : Request). old.nonce == nonce) (waiting m rs)
@@ -164,40 +198,96 @@ answered-parts count drawn now ms rs ps m nonce =
 step-told : (m : ℕ) (eid : Eid) (bits width : ℕ) (mapping : Mapping) → mapping_step (Bits m eid bits width) mapping ≡ Some (told_mapping eid bits width mapping)
 step-told m eid bits width mapping = refl
 
-pub told-parts : (count drawn now : ℕ) (ms : List Mapping) (rs : List Request) (ps : List Probe) (m : ℕ) (eid : Eid) (bits width : ℕ) → parts_with (count + 1) drawn m (bits_told eid bits width (lasting m ms)) (waiting m rs) (counting_probes m ps) ≡ with_entry (Bits m eid bits width) (parts_with count drawn now ms rs ps)
-told-parts count drawn now ms rs ps m eid bits width =
-    same-parts (count + 1) (suc count) drawn (0 + drawn) m _ (absorb mapping_kind (lasts m) (Bits m eid bits width) ms) _ (absorb request_kind (is_waiting m) (Bits m eid bits width) rs) _ (absorb probe_kind (probe_counts m) (Bits m eid bits width) ps)
-    (one_more count) (no_more drawn) (sym (filter_map-map (told_mapping eid bits width) (lasting m ms))) (sym (filter_map-all (waiting m rs))) (sym (filter_map-all (counting_probes m ps)))
+pub told-parts : (count drawn now : ℕ) (ms : List Mapping) (rs : List Request) (o : Observed) (m : ℕ) (eid : Eid) (bits width : ℕ) → parts_with (count + 1) drawn m (bits_told eid bits width (lasting m ms)) (waiting m rs) (recent m o) ≡ with_entry (Bits m eid bits width) (parts_with count drawn now ms rs o)
+told-parts count drawn now ms rs o m eid bits width =
+    same-parts (count + 1) (suc count) drawn (0 + drawn) m _ (absorb mapping_kind (lasts m) (Bits m eid bits width) ms) _ (absorb request_kind (is_waiting m) (Bits m eid bits width) rs) _ (observing m (Bits m eid bits width) o)
+    (one_more count) (no_more drawn) (sym (filter_map-map (told_mapping eid bits width) (lasting m ms))) (sym (filter_map-all (waiting m rs))) (sym (still m o))
 
 -- ### a request that was sent again
 
-pub retried-parts : (count drawn now : ℕ) (ms : List Mapping) (rs : List Request) (ps : List Probe) (m nonce : ℕ) → parts_with (count + 1) drawn m (lasting m ms) (sent_again nonce (waiting m rs)) (counting_probes m ps) ≡ with_entry (Retried m nonce) (parts_with count drawn now ms rs ps)
-retried-parts count drawn now ms rs ps m nonce =
-    same-parts (count + 1) (suc count) drawn (0 + drawn) m _ (absorb mapping_kind (lasts m) (Retried m nonce) ms) _ (absorb request_kind (is_waiting m) (Retried m nonce) rs) _ (absorb probe_kind (probe_counts m) (Retried m nonce) ps)
-    (one_more count) (no_more drawn) (sym (filter_map-all (lasting m ms))) (sym (filter_map-map (λ (r : Request). cond (r.nonce == nonce) (once_more r) r) (waiting m rs))) (sym (filter_map-all (counting_probes m ps)))
+pub retried-parts : (count drawn now : ℕ) (ms : List Mapping) (rs : List Request) (o : Observed) (m nonce : ℕ) → parts_with (count + 1) drawn m (lasting m ms) (sent_again nonce (waiting m rs)) (recent m o) ≡ with_entry (Retried m nonce) (parts_with count drawn now ms rs o)
+retried-parts count drawn now ms rs o m nonce =
+    same-parts (count + 1) (suc count) drawn (0 + drawn) m _ (absorb mapping_kind (lasts m) (Retried m nonce) ms) _ (absorb request_kind (is_waiting m) (Retried m nonce) rs) _ (observing m (Retried m nonce) o)
+    (one_more count) (no_more drawn) (sym (filter_map-all (lasting m ms))) (sym (filter_map-map (λ (r : Request). cond (r.nonce == nonce) (once_more r) r) (waiting m rs))) (sym (still m o))
 
 -- ### a probe that was sent, and one that was answered
 
 young : (n : ℕ) → nat_lt (n - n) 600000000000 ≡ true
 young n = grind (arith, nat_tests)
 
-pub probed-parts : (count drawn now : ℕ) (ms : List Mapping) (rs : List Request) (ps : List Probe) (m : ℕ) (rloc : Addr) (nonce : ℕ) → parts_with (count + 1) (drawn + 1) m (lasting m ms) (waiting m rs) (probed m rloc nonce ps) ≡ with_entry (Probed m rloc nonce) (parts_with count drawn now ms rs ps)
-probed-parts count drawn now ms rs ps m rloc nonce =
-    same-parts (count + 1) (suc count) (drawn + 1) (1 + drawn) m _ (absorb mapping_kind (lasts m) (Probed m rloc nonce) ms) _ (absorb request_kind (is_waiting m) (Probed m rloc nonce) rs) _ (absorb probe_kind (probe_counts m) (Probed m rloc nonce) ps)
-    (one_more count) (first_more drawn) (sym (filter_map-all (lasting m ms))) (sym (filter_map-all (waiting m rs))) (sym whole)
+pub probed-parts : (count drawn now : ℕ) (ms : List Mapping) (rs : List Request) (o : Observed) (m : ℕ) (rloc : Addr) (nonce : ℕ) → parts_with (count + 1) (drawn + 1) m (lasting m ms) (waiting m rs) (with_probes m (probed m rloc nonce o.probes) o) ≡ with_entry (Probed m rloc nonce) (parts_with count drawn now ms rs o)
+probed-parts count drawn now ms rs o m rloc nonce =
+    same-parts (count + 1) (suc count) (drawn + 1) (1 + drawn) m _ (absorb mapping_kind (lasts m) (Probed m rloc nonce) ms) _ (absorb request_kind (is_waiting m) (Probed m rloc nonce) rs) _ (observing m (Probed m rloc nonce) o)
+    (one_more count) (first_more drawn) (sym (filter_map-all (lasting m ms))) (sym (filter_map-all (waiting m rs))) (sym (other_probes m _ _ o whole))
   where
     new : Probe
     new = record { moment = m; rloc = rloc; nonce = nonce; state = Open }
 
-    whole : absorb probe_kind (probe_counts m) (Probed m rloc nonce) ps ≡ probed m rloc nonce ps
-    whole = rw (young m) (ap (λ (l : List Probe). l ++ new ∷ []) (filter_map-map (settle_with Lost nonce) (counting_probes m ps)))
+    whole : absorb probe_kind (probe_counts m) (Probed m rloc nonce) o.probes ≡ probed m rloc nonce o.probes
+    whole = rw (young m) (ap (λ (l : List Probe). l ++ new ∷ []) (filter_map-map (settle_with Lost nonce) (counting_probes m o.probes)))
 
-pub probe_answered-parts : (count drawn now : ℕ) (ms : List Mapping) (rs : List Request) (ps : List Probe) (m nonce : ℕ) → parts_with (count + 1) drawn m (lasting m ms) (waiting m rs) (probe_answered m nonce ps) ≡ with_entry (ProbeAnswered m nonce) (parts_with count drawn now ms rs ps)
-probe_answered-parts count drawn now ms rs ps m nonce =
-    same-parts (count + 1) (suc count) drawn (0 + drawn) m _ (absorb mapping_kind (lasts m) (ProbeAnswered m nonce) ms) _ (absorb request_kind (is_waiting m) (ProbeAnswered m nonce) rs) _ (absorb probe_kind (probe_counts m) (ProbeAnswered m nonce) ps)
-    (one_more count) (no_more drawn) (sym (filter_map-all (lasting m ms))) (sym (filter_map-all (waiting m rs))) (sym (filter_map-map (settle_with state.Answered nonce) (counting_probes m ps)))
+pub probe_answered-parts : (count drawn now : ℕ) (ms : List Mapping) (rs : List Request) (o : Observed) (m nonce : ℕ) → parts_with (count + 1) drawn m (lasting m ms) (waiting m rs) (with_probes m (probe_answered m nonce o.probes) o) ≡ with_entry (ProbeAnswered m nonce) (parts_with count drawn now ms rs o)
+probe_answered-parts count drawn now ms rs o m nonce =
+    same-parts (count + 1) (suc count) drawn (0 + drawn) m _ (absorb mapping_kind (lasts m) (ProbeAnswered m nonce) ms) _ (absorb request_kind (is_waiting m) (ProbeAnswered m nonce) rs) _ (observing m (ProbeAnswered m nonce) o)
+    (one_more count) (no_more drawn) (sym (filter_map-all (lasting m ms))) (sym (filter_map-all (waiting m rs))) (sym (other_probes m _ _ o (filter_map-map (settle_with state.Answered nonce) (counting_probes m o.probes))))
 
--- there was room for a probe
-pub was_probed : {P : Type 0} (r : Result (Unit {0}) NoMemory) (spare : ℕ) → OnOk r P → OnErr r (spare ≡ 0) → 0 < spare → P
-was_probed (Ok u) spare ok memory some = ok
-was_probed (Err e) spare ok memory some = absurd (omega (arith, memory, some))
+-- ### echoes, and packets that came
+
+-- the parts of a table with one entry more, of which only what is known of locators takes notice
+observed-parts : (e : Entry) (count drawn more now m : ℕ) (ms : List Mapping) (rs : List Request) (o other : Observed) → with_entry e (parts_with count drawn now ms rs o) ≡ parts_with (suc count) more m (unchanged (lasting m ms)) (unchanged (waiting m rs)) (observing m e o) → (used : ℕ) → used ≡ more → other ≡ observing m e o → parts_with (count + 1) used m (lasting m ms) (waiting m rs) other ≡ with_entry e (parts_with count drawn now ms rs o)
+observed-parts e count drawn more now m ms rs o other is used draws same =
+    same-parts (count + 1) (suc count) used more m _ _ _ _ _ _ (one_more count) draws (sym (filter_map-all (lasting m ms))) (sym (filter_map-all (waiting m rs))) same ∙ sym is
+
+pub started-parts : (count drawn now : ℕ) (ms : List Mapping) (rs : List Request) (o : Observed) (m : ℕ) (rloc : Addr) (nonce : ℕ) → parts_with (count + 1) (drawn + 1) m (lasting m ms) (waiting m rs) (with_starts m (echo_started m rloc nonce o.starts) o) ≡ with_entry (EchoStarted m rloc nonce) (parts_with count drawn now ms rs o)
+started-parts count drawn now ms rs o m rloc nonce =
+    observed-parts (EchoStarted m rloc nonce) count drawn (1 + drawn) now m ms rs o _ refl (drawn + 1) (first_more drawn) (sym (other_starts m _ _ o whole))
+  where
+    new : EchoStart
+    new = record { moment = m; rloc = rloc; nonce = nonce; heard = false; came = false }
+
+    fresh_start : (n : ℕ) → nat_lt (n - n) 60000000000 ≡ true
+    fresh_start n = grind (arith, nat_tests)
+
+    whole : absorb start_kind (start_counts m) (EchoStarted m rloc nonce) o.starts ≡ echo_started m rloc nonce o.starts
+    whole = rw (fresh_start m) (ap (λ (l : List EchoStart). l ++ new ∷ []) (filter_map-all (counting_starts m o.starts)))
+
+pub heard-parts : (count drawn now : ℕ) (ms : List Mapping) (rs : List Request) (o : Observed) (m : ℕ) (rloc : Addr) → parts_with (count + 1) drawn m (lasting m ms) (waiting m rs) (with_starts m (echo_heard m rloc o.starts) o) ≡ with_entry (EchoHeard m rloc) (parts_with count drawn now ms rs o)
+heard-parts count drawn now ms rs o m rloc =
+    observed-parts (EchoHeard m rloc) count drawn (0 + drawn) now m ms rs o _ refl drawn (no_more drawn) (sym (other_starts m _ _ o (filter_map-map (hear_from rloc) (counting_starts m o.starts))))
+
+pub data-parts : (count drawn now : ℕ) (ms : List Mapping) (rs : List Request) (o : Observed) (m : ℕ) (rloc : Addr) → parts_with (count + 1) drawn m (lasting m ms) (waiting m rs) (with_starts m (data_from m rloc o.starts) o) ≡ with_entry (DataFrom m rloc) (parts_with count drawn now ms rs o)
+data-parts count drawn now ms rs o m rloc =
+    observed-parts (DataFrom m rloc) count drawn (0 + drawn) now m ms rs o _ refl drawn (no_more drawn) (sym (other_starts m _ _ o (filter_map-map (come_from rloc) (counting_starts m o.starts))))
+
+pub wanted-parts : (count drawn now : ℕ) (ms : List Mapping) (rs : List Request) (o : Observed) (m : ℕ) (rloc : Addr) (nonce : ℕ) → parts_with (count + 1) drawn m (lasting m ms) (waiting m rs) (with_wishes m (wanted m rloc nonce o.wishes) o) ≡ with_entry (EchoWanted m rloc nonce) (parts_with count drawn now ms rs o)
+wanted-parts count drawn now ms rs o m rloc nonce =
+    observed-parts (EchoWanted m rloc nonce) count drawn (0 + drawn) now m ms rs o _ refl drawn (no_more drawn) (sym (other_wishes m _ _ o whole))
+  where
+    new : EchoWish
+    new = record { moment = m; rloc = rloc; nonce = nonce }
+
+    fresh_wish : (n : ℕ) → nat_lt (n - n) 2000000000 ≡ true
+    fresh_wish n = grind (arith, nat_tests)
+
+    whole : absorb wish_kind (wish_counts m) (EchoWanted m rloc nonce) o.wishes ≡ wanted m rloc nonce o.wishes
+    whole = rw (fresh_wish m) (ap (λ (l : List EchoWish). l ++ new ∷ []) (filter_map-all (counting_wishes m o.wishes)))
+
+-- ### a locator that was solicited
+
+pub solicited-parts : (count drawn now : ℕ) (ms : List Mapping) (rs : List Request) (o : Observed) (m : ℕ) (rloc : Addr) (eid : Eid) (nonce : ℕ) → parts_with (count + 1) (drawn + 1) m (lasting m ms) (waiting m rs) (with_solicits m (solicited m rloc eid o.solicits) o) ≡ with_entry (Solicited m rloc eid nonce) (parts_with count drawn now ms rs o)
+solicited-parts count drawn now ms rs o m rloc eid nonce =
+    observed-parts (Solicited m rloc eid nonce) count drawn (1 + drawn) now m ms rs o _ refl (drawn + 1) (first_more drawn) (sym (other_solicits m _ _ o whole))
+  where
+    new : Solicitation
+    new = record { moment = m; rloc = rloc; eid = eid }
+
+    fresh_solicit : (n : ℕ) → nat_lt (n - n) 10000000000 ≡ true
+    fresh_solicit n = grind (arith, nat_tests)
+
+    whole : absorb solicit_kind (solicit_counts m) (Solicited m rloc eid nonce) o.solicits ≡ solicited m rloc eid o.solicits
+    whole = rw (fresh_solicit m) (ap (λ (l : List Solicitation). l ++ new ∷ []) (filter_map-all (counting_solicits m o.solicits)))
+
+-- there was room for an item
+pub was_kept : {P : Type 0} (r : Result (Unit {0}) NoMemory) (spare : ℕ) → OnOk r P → OnErr r (spare ≡ 0) → 0 < spare → P
+was_kept (Ok u) spare ok memory some = ok
+was_kept (Err e) spare ok memory some = absurd (omega (arith, memory, some))

@@ -67,7 +67,7 @@ room-seen p m mapping =
     ap (λ b. (mapping.ttl == 0) || (b || nat_lt (length ms) 65536)) same
     ∙ ap (λ (n : ℕ). (mapping.ttl == 0) || (is_some (exact (map held_of ms) mapping.eid) || nat_lt n 65536)) (sym (length-map ms held_of))
 
--- neither probes nor echoes are built
+-- the requests and nonces of a view
 pub requests-seen : (p : Parts) (m : ℕ) → (view_in p m).requests ≡ waiting (max m p.now) p.requests
 unfolding view_in
 requests-seen p m = refl

@@ -1,5 +1,6 @@
 pub mod AnsweringLemmas
 pub mod ApplyLemmas
+pub mod BoundLemmas
 pub mod ChangeLemmas
 pub mod CopyLemmas
 pub mod Drops
@@ -7,6 +8,7 @@ pub mod EntryLemmas
 pub mod HeldLemmas
 pub mod HostLemmas
 pub mod IdleLemmas
+pub mod NotingLemmas
 pub mod OfferLemmas
 pub mod ProbeLemmas
 pub mod RenewingLemmas

@@ -1,4 +1,5 @@
 pub mod Answering
+pub mod Bounded
 pub mod Copies
 pub mod Renewing
 pub mod Resting

@@ -1,25 +1,22 @@
 -- What a table is seen as, and what its calls leave.
-use Rattle.std.specs.Prelude.{ℕ, [], List}
+use Rattle.std.specs.Prelude.{ℕ, List}
 use Rattle.router_log.specs.declared.emit.Emit.{Emit}
 use Rattle.router_log.specs.declared.entry.Entry.{Entry}
-use Rattle.router_log.specs.declared.kept.Probe.{Probe}
 use Rattle.router_model.specs.Changes.{Change}
 use Rattle.router_model.specs.Hear as model
-use Rattle.router_model.specs.Observed.{Observed}
 use Rattle.router_model.specs.Parts.{Parts}
 use Rattle.router_core.specs.declared.changed.Changed.{Changed}
 use Rattle.router_core.specs.declared.changed.Heard.{Heard}
 
--- the parts of a table, and how many mappings, requests and probes more it has room for
+-- the parts of a table, and of each kind how many more it has room for
 pub record Memory : Type 0 where
   pub parts : Parts
   pub mapping_room : ℕ
   pub request_room : ℕ
   pub probe_room : ℕ
-
--- of locators only probes are observed (not built: echoes, solicitations)
-abbrev pub observed_of : List Probe → Observed
-observed_of probes = record { probes = probes; starts = []; wishes = []; solicits = [] }
+  pub start_room : ℕ
+  pub wish_room : ℕ
+  pub solicit_room : ℕ
 
 -- a change, by its entries and emits and the parts that it left
 abbrev pub change_of : Parts → List Entry → List Emit → Change Parts

@@ -3,7 +3,7 @@ ghost use Rattle.std.specs.Prelude.{◌≡◌, ◌<◌, ◌≤◌, ◌∷◌, �
 ghost use Rattle.lisp_settings.specs.declared.settings.Settings.{Settings as SettingsValue};
 ghost use Rattle.map_cache.specs.Cache.{has_room, lasting};
 ghost use Rattle.request_queue.specs.Queue.{waiting};
-ghost use Rattle.router_log.specs.declared.entry.Entry.TheVariants.{Asked, Learned, Probed};
+ghost use Rattle.router_log.specs.declared.entry.Entry.TheVariants.{Asked, EchoStarted, EchoWanted, Learned, Probed, Solicited};
 ghost use Rattle.router_model.specs.Journal.{Journal};
 ghost use Rattle.router_model.specs.Parts.{Stands, absorbed, admits, with_entry};
 ghost use Rattle.router_model.specs.Proper.{fits};
@@ -66,12 +66,30 @@ impl Table {
                 self.answer_probe(*moment, *nonce);
                 Ok(())
             }
-            // Not built yet: none of these may follow.
-            Entry::EchoStarted { .. }
-            | Entry::EchoHeard { .. }
-            | Entry::DataFrom { .. }
-            | Entry::EchoWanted { .. }
-            | Entry::Solicited { .. } => unreachable!(),
+            Entry::EchoStarted {
+                moment,
+                rloc,
+                nonce,
+            } => self.apply_started(*moment, *rloc, *nonce),
+            Entry::EchoHeard { moment, rloc } => {
+                self.hear_echo(*moment, rloc);
+                Ok(())
+            }
+            Entry::DataFrom { moment, rloc } => {
+                self.take_data(*moment, rloc);
+                Ok(())
+            }
+            Entry::EchoWanted {
+                moment,
+                rloc,
+                nonce,
+            } => self.apply_wanted(*moment, *rloc, *nonce),
+            Entry::Solicited {
+                moment,
+                rloc,
+                eid,
+                nonce,
+            } => self.apply_solicited(*moment, *rloc, *eid, *nonce),
         }
     }
 
@@ -79,6 +97,7 @@ impl Table {
     fn apply_learned(&mut self, m: u64, mapping: &Record) -> Result<(), NoMemory>
         requires later { self.old.parts.now ≤ m }
         requires locators { length mapping.now.locators ≤ 32 }
+        requires version { mapping.now.version ≤ 4095 }
         requires place { IsTrue (has_room mapping.now (lasting m self.old.parts.mappings)) }
         requires count { self.old.parts.count < 2 ^ 62 }
         ensures ok { OnOk result (self.new.parts
@@ -86,7 +105,7 @@ impl Table {
         ensures err { OnErr result (self.new.parts ≡ self.old.parts) }
     {
         let mapping = copied(self.alloc, mapping)?;
-        self.reserve(1, 0, 0)?;
+        self.reserve_mappings(1)?;
         self.learn(m, mapping, false);
         Ok(())
     }
@@ -107,7 +126,7 @@ impl Table {
             ≡ with_entry (Asked m eid source invoked nonce) self.old.parts) }
         ensures err { OnErr result (self.new.parts ≡ self.old.parts) }
     {
-        self.reserve(0, 1, 0)?;
+        self.reserve_requests(1)?;
         self.ask(m, eid, source, invoked, nonce);
         Ok(())
     }
@@ -120,8 +139,49 @@ impl Table {
             ≡ with_entry (Probed m rloc nonce) self.old.parts) }
         ensures err { OnErr result (self.new.parts ≡ self.old.parts) }
     {
-        self.reserve(0, 0, 1)?;
+        self.reserve_probes(1)?;
         self.probe(m, rloc, nonce);
+        Ok(())
+    }
+
+    // Takes the entry of an echo that is asked for.
+    fn apply_started(&mut self, m: u64, rloc: Addr, nonce: u32) -> Result<(), NoMemory>
+        requires later { self.old.parts.now ≤ m }
+        requires short { nonce < 2 ^ 24 }
+        requires count { self.old.parts.count < 2 ^ 62 }
+        ensures ok { OnOk result (self.new.parts
+            ≡ with_entry (EchoStarted m rloc nonce) self.old.parts) }
+        ensures err { OnErr result (self.new.parts ≡ self.old.parts) }
+    {
+        self.reserve_others()?;
+        self.start_echo(m, rloc, nonce);
+        Ok(())
+    }
+
+    // Takes the entry of an echo that a locator wants.
+    fn apply_wanted(&mut self, m: u64, rloc: Addr, nonce: u32) -> Result<(), NoMemory>
+        requires later { self.old.parts.now ≤ m }
+        requires short { nonce < 2 ^ 24 }
+        requires count { self.old.parts.count < 2 ^ 62 }
+        ensures ok { OnOk result (self.new.parts
+            ≡ with_entry (EchoWanted m rloc nonce) self.old.parts) }
+        ensures err { OnErr result (self.new.parts ≡ self.old.parts) }
+    {
+        self.reserve_others()?;
+        self.want_echo(m, rloc, nonce);
+        Ok(())
+    }
+
+    // Takes the entry of a locator that was solicited.
+    fn apply_solicited(&mut self, m: u64, rloc: Addr, eid: Eid, nonce: u64) -> Result<(), NoMemory>
+        requires later { self.old.parts.now ≤ m }
+        requires count { self.old.parts.count < 2 ^ 62 }
+        ensures ok { OnOk result (self.new.parts
+            ≡ with_entry (Solicited m rloc eid nonce) self.old.parts) }
+        ensures err { OnErr result (self.new.parts ≡ self.old.parts) }
+    {
+        self.reserve_others()?;
+        self.solicit(m, rloc, eid, nonce);
         Ok(())
     }
 }

@@ -6,10 +6,12 @@ ghost use Rattle.map_cache.specs.Lists.{IsFew};
 ghost use Rattle.router_model.specs.Cache.{held_of};
 ghost use Rattle.router_model.specs.Decide.{decide, decide_by, decide_course};
 ghost use Rattle.router_model.specs.Journal.{Journal};
+ghost use Rattle.router_model.specs.Lifting.{AreSound};
 ghost use Rattle.router_model.specs.Mappings.{exact, force};
 ghost use Rattle.router_model.specs.Parts.{Stands, view_in};
 ghost use Rattle.router_model.specs.Plain.{FitsRecord, packet_of};
 ghost use Rattle.router_core.specs.Seen.{course_seen, IfLeaving, IfSettled};
+ghost use Rattle.router_core.specs.Bounded.{IsShortOut, IsVersioned};
 
 use crate::Table;
 use crate::arrival::tunnelled;
@@ -22,11 +24,12 @@ use map_cache::Mapping;
 use mapping_records::Eid;
 use node_store::Reads;
 use octets::{Items, NoMemory};
-use router_log::{Decision, Reason, Verdict};
+use router_log::{Decision, EchoOut, Reason, Verdict};
 
 impl Table {
     /// The decision on a frame that is no control message, at a moment, which may be one before the last
-    /// entry's: that of the journal. A control message is heard, and here dropped.
+    /// entry's: that of the journal. It has at most five notices. A control message is heard, and here
+    /// dropped.
     #[tactic(auto, unfolding(router_model::specs::Decide::decide_by))]
     pub fn decide(&self, settings: &Settings, m: u64, frame: &Frame) -> Result<Decision, NoMemory>
         requires { IsLawful settings.now }
@@ -36,6 +39,7 @@ impl Table {
             → Stands settings.now self.now.parts journal
             → decision ≡ decide settings.now journal m frame.now) }
         ensures size { IfOk result (λ decision. FitsRecord decision.verdict) }
+        ensures notices { IfOk result (λ decision. AreSound decision.notices) }
     {
         self.decide_course(settings, m, course_of(settings, frame))
     }
@@ -53,6 +57,7 @@ impl Table {
         ensures parts { IfOk result (λ decision. decision
             ≡ decide_course settings.now (view_in self.now.parts m) (course_seen course.entry)) }
         ensures size { IfOk result (λ decision. FitsRecord decision.verdict) }
+        ensures notices { IfOk result (λ decision. AreSound decision.notices) }
     {
         match course {
             Course::Settled(verdict) => Ok(self.alone(verdict)),
@@ -79,12 +84,29 @@ impl Table {
         m.max(self.cache.now())
     }
 
-    /// No probe speaks against a locator, and no echo: those aren't built yet.
+    /// Neither probes nor echoes speak against a locator.
     #[tactic(auto, unfolding(router_model::specs::Parts::view_in))]
     pub(crate) fn is_up(&self, m: u64, rloc: &Addr) -> bool
         ensures { result ≡ (view_in self.now.parts m).up rloc.now }
     {
         self.locators.up(self.moment_at(m), rloc)
+    }
+
+    /// What the header of a packet to a locator does about echoes.
+    #[tactic(auto, unfolding(router_model::specs::Parts::view_in))]
+    pub(crate) fn echo_out(&self, m: u64, rloc: &Addr) -> EchoOut
+        ensures out { result ≡ (view_in self.now.parts m).echo_out rloc.now }
+        ensures short { IsShortOut result }
+    {
+        self.locators.echo_out(self.moment_at(m), rloc)
+    }
+
+    /// An echo may be asked of a locator.
+    #[tactic(auto, unfolding(router_model::specs::Parts::view_in))]
+    pub(crate) fn may_start(&self, m: u64, rloc: &Addr) -> bool
+        ensures { result ≡ (view_in self.now.parts m).may_start rloc.now }
+    {
+        self.locators.may_start(self.moment_at(m), rloc)
     }
 
     /// The mapping in force for an EID.
@@ -93,6 +115,7 @@ impl Table {
             ≡ force (view_in self.now.parts m).mappings eid.now.iid eid.now.prefix.addr
             eid.now.prefix.len }
         ensures few { IfSome (option_copied result) IsFew }
+        ensures version { IfSome (option_copied result) IsVersioned }
     {
         self.cache
             .in_force(self.moment_at(m), eid, &mut Reads::new())

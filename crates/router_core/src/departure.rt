@@ -6,19 +6,22 @@ ghost use Rattle.ip_headers.specs.Ip.{dest_of};
 ghost use Rattle.lisp_header.specs.Header.{InRange};
 ghost use Rattle.encap.specs.Rules.{encap_rules, forward_rules};
 ghost use Rattle.lisp_settings.specs.Lawful.{IsLawful};
-ghost use Rattle.locator_choice.specs.Hash.{source_port};
 ghost use Rattle.map_cache.specs.Lists.{IsFew};
 ghost use Rattle.router_model.specs.Cache.{held_of};
-ghost use Rattle.router_model.specs.Decide.{asking, by_action, hash_of, is_multicast, lisp_header, mapped, natively, routed, sent, site_cases, towards};
+ghost use Rattle.router_model.specs.Decide.{asking, by_action, echo_notice, from_ours, is_multicast, mapped, natively, routed, sent, site_cases};
 ghost use Rattle.router_model.specs.Hosts.{host_eid};
+ghost use Rattle.router_model.specs.Lifting.{AreSound};
 ghost use Rattle.router_model.specs.Parts.{view_in};
 ghost use Rattle.router_model.specs.Plain.{packet_of, FitsRecord};
+ghost use Rattle.router_model.specs.Site.{ours};
 ghost use Rattle.router_log.specs.declared.verdict.Verdict.TheVariants.{Drop};
 ghost use Rattle.router_core.specs.Seen.{packet_seen};
+ghost use Rattle.router_core.specs.Bounded.{IsVersioned};
 
 use crate::Table;
 use crate::choice::chosen;
-use crate::site::{ours, own_bits};
+use crate::site::ours;
+use crate::tunnel_headers::{header_to, home_version};
 use encap::{EncapDrop, encapsulate, forward_native};
 use ip_headers::{Addr, IpPacket, five_tuple};
 use lisp_header::LispHeader;
@@ -27,7 +30,7 @@ use locator_choice::{flow_hash, source_port};
 use map_cache::Mapping;
 use mapping_records::{Action, Eid, Prefix};
 use octets::{Items, NoMemory};
-use router_log::{Decision, Notice, Reason, Verdict};
+use router_log::{Decision, Notice, Notices, Reason, Verdict};
 use std::alloc::Global;
 
 /// The decision on a packet of an instance.
@@ -44,6 +47,7 @@ pub(crate) fn routed(
     ensures decision { IfOk result (λ decision. decision
         ≡ routed settings.now (view_in table.now.parts m) iid (packet_seen packet.now)) }
     ensures size { IfOk result (λ decision. FitsRecord decision.verdict) }
+    ensures notices { IfOk result (λ decision. AreSound decision.notices) }
 {
     if let Some(verdict) = kept_out(settings, iid, packet) {
         return Ok(table.alone(verdict));
@@ -75,6 +79,7 @@ fn asking(alloc: Global, eid: Eid, packet: &IpPacket, reason: Reason) -> Result<
     ensures decision { IfOk result (λ decision. decision
         ≡ asking eid.iid packet.now.header reason) }
     ensures size { IfOk result (λ decision. FitsRecord decision.verdict) }
+    ensures notices { IfOk result (λ decision. AreSound decision.notices) }
 {
     let mut notices = Items::new(alloc);
     notices.push(Notice::Ask {
@@ -126,10 +131,12 @@ fn mapped(
     requires lawful { IsLawful settings.now }
     requires instance { iid < 2 ^ 24 }
     requires few { IsFew mapping.now }
+    requires version { IsVersioned mapping.now }
     ensures decision { IfOk result (λ decision. decision
         ≡ mapped settings.now (view_in table.now.parts m) iid (packet_seen packet.now)
         (Some (held_of mapping.now))) }
     ensures size { IfOk result (λ decision. FitsRecord decision.verdict) }
+    ensures notices { IfOk result (λ decision. AreSound decision.notices) }
 {
     if mapping.details.locators.len() == 0 {
         return by_action(table, iid, packet, Action::of(mapping.details.action));
@@ -137,9 +144,9 @@ fn mapped(
     let hash = flow_hash(&five_tuple(packet));
     match chosen(table, settings, m, mapping, hash) {
         Some(to) => {
-            let port = source_port(hash);
-            let verdict = towards(table.alloc, settings, iid, packet, to, port)?;
-            Ok(table.alone(verdict))
+            let versions = (home_version(settings, iid, packet), mapping.details.version);
+            let header = header_to(table, settings, m, iid, to, versions);
+            towards(table, settings, m, packet, to, &header)
         }
         None => Ok(table.alone(Verdict::Drop(Reason::NoLocator))),
     }
@@ -156,6 +163,7 @@ fn by_action(
     ensures decision { IfOk result (λ decision. decision
         ≡ by_action iid (packet_seen packet.now) action) }
     ensures size { IfOk result (λ decision. FitsRecord decision.verdict) }
+    ensures notices { IfOk result (λ decision. AreSound decision.notices) }
 {
     let reason = match action {
         Action::NativelyForward => {
@@ -188,86 +196,73 @@ fn natively(alloc: Global, packet: &IpPacket) -> Result<Verdict, NoMemory>
     }
 }
 
-// The packet, in a tunnel to that locator.
+// The packet with its LISP header, in a tunnel to that locator.
 fn towards(
-    alloc: Global,
+    table: &Table,
     settings: &Settings,
-    iid: u32,
+    m: u64,
     packet: &IpPacket,
     to: Addr,
-    port: u16,
-) -> Result<Verdict, NoMemory>
-    requires lawful { IsLawful settings.now }
-    requires instance { iid < 2 ^ 24 }
-    requires port { port ≡ source_port (hash_of (packet_seen packet.now)) }
-    ensures verdict { IfOk result (λ verdict. verdict
-        ≡ towards settings.now iid (packet_seen packet.now) (Some to)) }
-    ensures size { IfOk result FitsRecord }
+    header: &LispHeader,
+) -> Result<Decision, NoMemory>
+    requires { InRange header.now }
+    ensures decision { IfOk result (λ decision. decision
+        ≡ from_ours settings.now (view_in table.now.parts m) header.now (packet_seen packet.now) to
+        (ours settings.now.locators to)) }
+    ensures size { IfOk result (λ decision. FitsRecord decision.verdict) }
+    ensures notices { IfOk result (λ decision. AreSound decision.notices) }
 {
     match ours(settings.locators.as_slice(), to) {
-        Some(from) => sent(alloc, settings, iid, packet, from, to, port),
-        None => Ok(Verdict::Drop(Reason::NoLocator)),
+        Some(from) => sent(table, settings, m, packet, from, to, header),
+        None => Ok(table.alone(Verdict::Drop(Reason::NoLocator))),
     }
 }
 
-// The packet, in a tunnel between two locators.
+// The packet with its LISP header, in a tunnel between two locators, and an echo that may be asked of
+// the second.
 fn sent(
-    alloc: Global,
+    table: &Table,
     settings: &Settings,
-    iid: u32,
+    m: u64,
     packet: &IpPacket,
     from: Addr,
     to: Addr,
-    port: u16,
-) -> Result<Verdict, NoMemory>
-    requires lawful { IsLawful settings.now }
-    requires instance { iid < 2 ^ 24 }
-    requires port { port ≡ source_port (hash_of (packet_seen packet.now)) }
+    header: &LispHeader,
+) -> Result<Decision, NoMemory>
+    requires range { InRange header.now }
     requires family { width from ≡ width to }
-    ensures verdict { IfOk result (λ verdict. verdict
-        ≡ sent settings.now iid (packet_seen packet.now) from to
+    ensures decision { IfOk result (λ decision. decision
+        ≡ sent settings.now (view_in table.now.parts m) header.now (packet_seen packet.now) from to
         (first_failing (encap_rules packet.now.octets.now from))) }
-    ensures size { IfOk result FitsRecord }
+    ensures size { IfOk result (λ decision. FitsRecord decision.verdict) }
+    ensures notices { IfOk result (λ decision. AreSound decision.notices) }
 {
-    let header = lisp_header(settings, iid);
-    match encapsulate(alloc, packet, from, to, port, &header) {
-        Ok(packet) => Ok(Verdict::Encapsulated {
-            from,
-            to,
-            port,
-            packet,
+    let port = source_port(flow_hash(&five_tuple(packet)));
+    match encapsulate(table.alloc, packet, from, to, port, header) {
+        Ok(packet) => Ok(Decision {
+            verdict: Verdict::Encapsulated {
+                from,
+                to,
+                port,
+                packet,
+            },
+            notices: echo_notices(table, settings, m, to)?,
         }),
-        Err(EncapDrop::TtlExpired) => Ok(Verdict::Drop(Reason::TtlExpired)),
-        Err(EncapDrop::TooBig) => Ok(Verdict::Drop(Reason::TooBig)),
+        Err(EncapDrop::TtlExpired) => Ok(table.alone(Verdict::Drop(Reason::TtlExpired))),
+        Err(EncapDrop::TooBig) => Ok(table.alone(Verdict::Drop(Reason::TooBig))),
         Err(EncapDrop::Memory) => Err(NoMemory),
     }
 }
 
-// The header of a tunnel packet: the status bits of the own locators, and the instance where it
-// is not 0.
-fn lisp_header(settings: &Settings, iid: u32) -> LispHeader
-    requires lawful { IsLawful settings.now }
-    requires instance { iid < 2 ^ 24 }
-    ensures header { result ≡ lisp_header settings.now iid }
-    ensures range { InRange result }
+// An echo that may be asked of the locator that a packet went to.
+fn echo_notices(table: &Table, settings: &Settings, m: u64, to: Addr) -> Result<Notices, NoMemory>
+    ensures notices { IfOk result (λ notices. notices
+        ≡ echo_notice settings.now (view_in table.now.parts m) to) }
+    ensures sound { IfOk result AreSound }
 {
-    let bits = own_bits(settings.locators.as_slice()) as u32;
-    if iid == 0 {
-        return LispHeader {
-            nonce: None,
-            echo: false,
-            versions: None,
-            status: Some(bits),
-            instance: None,
-            key: 0,
-        };
+    let mut notices = Items::new(table.alloc);
+    if table.is_echo_due(settings, m, &to) {
+        notices.push(Notice::EchoDue { rloc: to })?;
     }
-    LispHeader {
-        nonce: None,
-        echo: false,
-        versions: None,
-        status: Some(bits % 256),
-        instance: Some(iid),
-        key: 0,
-    }
+    Ok(notices)
 }

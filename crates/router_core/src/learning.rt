@@ -54,7 +54,7 @@ impl Table {
         let mut entries = Vec::new(self.alloc);
         entries.reserve(1 + mappings.len())?;
         let mut copies = all_copies(self.alloc, mappings)?;
-        self.reserve(mappings.len() as u32, 0, 0)?;
+        self.reserve_mappings(mappings.len() as u32)?;
         self.answer(m, reply.nonce);
         entries.push_reserved(Entry::Answered {
             moment: m,

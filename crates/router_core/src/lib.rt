@@ -17,13 +17,18 @@ mod emitting;
 mod hearing;
 mod learning;
 mod noting;
+mod noting_echoes;
+mod noting_versions;
 mod own_requests;
 mod renewing;
 mod resting;
 mod site;
 mod status;
 mod table;
+mod tellings;
 mod ticking;
+mod tunnel_headers;
+mod versions;
 
 pub use changed::{Changed, Heard};
 pub use courses::{Course, course_of, frame_packet, is_control};

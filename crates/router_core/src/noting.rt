@@ -21,12 +21,12 @@ use mapping_records::Eid;
 use node_store::Reads;
 use octets::{Items, NoMemory};
 use request_queue::MOST_REQUESTS;
-use router_log::{Emit, Entry, Notice};
+use router_log::{Emit, Entries, Entry, Notice};
 use std::alloc::Global;
 
 impl Table {
     /// Notes what was noticed at a moment: it takes the entries that come of it. Where memory is
-    /// refused, the table is as it was. There are 8 status bits in a notice, or 32.
+    /// refused, the table is as it was. There are 8 status bits in a notice, or 32, and a nonce has 24.
     #[tactic(auto, unfolding(router_model::specs::Note::noted))]
     pub fn note(
         &mut self,
@@ -58,13 +58,12 @@ impl Table {
                 bits,
                 width,
             } => self.note_bits(m, eid, rloc, *bits, *width),
-            // Not built yet.
-            Notice::Refresh { .. }
-            | Notice::EchoWanted { .. }
-            | Notice::EchoHeard { .. }
-            | Notice::DataFrom { .. }
-            | Notice::Solicit { .. }
-            | Notice::EchoDue { .. } => Ok(self.nothing()),
+            Notice::Refresh { eid } => self.note_old(settings, m, eid),
+            Notice::EchoWanted { rloc, nonce } => self.note_wanted(m, *rloc, *nonce),
+            Notice::EchoHeard { rloc, nonce } => self.note_heard(m, rloc, *nonce),
+            Notice::DataFrom { rloc } => self.note_data(m, rloc),
+            Notice::Solicit { rloc, eid } => self.note_solicit(settings, m, *rloc, *eid),
+            Notice::EchoDue { rloc } => self.note_due(settings, m, *rloc),
         }
     }
 
@@ -103,10 +102,7 @@ impl Table {
             },
         )?;
         self.tell(m, eid, bits, width);
-        Ok(Changed {
-            entries,
-            emits: Items::new(self.alloc),
-        })
+        Ok(self.quiet(entries))
     }
 
     // The mapping of the EID is live, names that locator, and one of its locators has another status.
@@ -178,8 +174,8 @@ impl Table {
             && (self.queue.open_count(now) as usize) < MOST_REQUESTS
     }
 
-    // Makes a request with the next nonce.
-    fn make_request(
+    /// Makes a request with the next nonce.
+    pub(crate) fn make_request(
         &mut self,
         settings: &Settings,
         m: u64,
@@ -220,9 +216,19 @@ impl Table {
                 nonce,
             },
         )?;
-        self.reserve(0, 1, 0)?;
+        self.reserve_requests(1)?;
         self.ask(m, eid, source, invoked, nonce);
         Ok(Changed { entries, emits })
+    }
+
+    /// Entries without emits.
+    pub(crate) fn quiet(&self, entries: Entries) -> Changed
+        ensures { result ≡ record { entries = entries; emits = [] } }
+    {
+        Changed {
+            entries,
+            emits: Items::new(self.alloc),
+        }
     }
 
     /// No entries, and no emits.

@@ -44,7 +44,7 @@ impl Table {
         entries.reserve(1 + eids.len())?;
         let mut emits = Vec::new(self.alloc);
         emits.reserve(1 + eids.len())?;
-        self.reserve(0, 1 + eids.len() as u32, 0)?;
+        self.reserve_requests(1 + eids.len() as u32)?;
         self.renew_source(settings, m, request.source, &mut entries, &mut emits);
         self.renew_each(settings, m, eids, &mut entries, &mut emits);
         Ok(Heard {

@@ -53,7 +53,7 @@ fn is_same(a: &OwnLocator, b: &OwnLocator) -> bool
 // Until when a locator isn't to be probed.
 fn rest_of(own: &[OwnLocator], m: u64, state: &LocatorState, locator: &Locator) -> u64
     ensures { (until : _) → until ≤ result
-        → rests own.now until state.now.probes locator.now ≡ true }
+        → rests own.now until state.now.observed.probes locator.now ≡ true }
 {
     if locator.priority == 255 || is_own(own, locator.addr) || ours(own, locator.addr).is_none() {
         return u64::MAX;
@@ -67,7 +67,7 @@ fn rest_of(own: &[OwnLocator], m: u64, state: &LocatorState, locator: &Locator) 
 // Until when none of these is to be probed.
 fn rest_of_all(own: &[OwnLocator], m: u64, state: &LocatorState, locators: &[Locator]) -> u64
     ensures { (until : _) → until ≤ result
-        → all_rest own.now until state.now.probes locators.now ≡ true }
+        → all_rest own.now until state.now.observed.probes locators.now ≡ true }
 {
     let mut until = u64::MAX;
     for locator in locators {
@@ -83,7 +83,7 @@ pub(crate) fn rest_until(
     state: &LocatorState,
     mappings: &[Mapping],
 ) -> u64
-    ensures { list_all (λ mapping. all_rest own.now result state.now.probes
+    ensures { list_all (λ mapping. all_rest own.now result state.now.observed.probes
         mapping.details.locators) mappings.now ≡ true }
 {
     let mut until = u64::MAX;

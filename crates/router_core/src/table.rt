@@ -3,7 +3,7 @@ ghost use Rattle.std.specs.Prelude.{◌≡◌, ◌<◌, ◌≤◌, ◌+◌, ◌^
 ghost use Rattle.map_cache.specs.Cache.{has_room, lasting};
 ghost use Rattle.request_queue.specs.Queue.{may_send_again, waiting};
 ghost use Rattle.lisp_settings.specs.Lawful.{IsLawful};
-ghost use Rattle.router_log.specs.declared.entry.Entry.TheVariants.{Answered, Asked, Bits, Learned, ProbeAnswered, Probed, Retried};
+ghost use Rattle.router_log.specs.declared.entry.Entry.TheVariants.{Answered, Asked, Bits, DataFrom, EchoHeard, EchoStarted, EchoWanted, Learned, ProbeAnswered, Probed, Retried, Solicited};
 ghost use Rattle.router_model.specs.Journal.{statics};
 ghost use Rattle.router_model.specs.Parts.{Stands, parts_in, with_entry};
 
@@ -19,7 +19,7 @@ use request_queue::RequestQueue;
 use std::alloc::Global;
 use std::marker::Model;
 
-/// What a router remembers of its journal: of the mappings, requests, probes and nonces what still
+/// What a router remembers of its journal: of the mappings, requests, locators and nonces what still
 /// counts, and so no journal.
 #[derive(Drop)]
 pub struct Table {
@@ -37,7 +37,8 @@ pub struct Table {
 impl Model for Table {
     ghost use Rattle.std.specs.Prelude.{◌≤◌};
     ghost use Rattle.router_core.specs.Resting.{IsAtRest};
-    ghost use Rattle.router_core.specs.Table.{Memory, observed_of};
+    ghost use Rattle.router_core.specs.Table.{Memory};
+    ghost use Rattle.router_core.specs.Bounded.{AreShort, AreVersioned};
 
     ghost Value = { Memory };
 
@@ -48,15 +49,21 @@ impl Model for Table {
         now = table.cache.now;
         mappings = table.cache.mappings;
         requests = table.queue.requests;
-        observed = observed_of table.locators.probes;
+        observed = table.locators.observed;
       };
       mapping_room = table.cache.spare;
       request_room = table.queue.spare;
-      probe_room = table.locators.spare;
+      probe_room = table.locators.probe_room;
+      start_room = table.locators.start_room;
+      wish_room = table.locators.wish_room;
+      solicit_room = table.locators.solicit_room;
     } };
 
     ghost invariant = { λ table. (table.drawn ≤ table.count)
-        × IsAtRest table.rest.own table.rest.until table.locators.probes table.cache.mappings };
+        × IsAtRest table.rest.own table.rest.until table.locators.observed.probes
+        table.cache.mappings
+        × AreVersioned table.cache.mappings
+        × AreShort table.locators.observed };
 }
 
 impl Table {
@@ -69,7 +76,7 @@ impl Table {
     {
         let mappings = settings.mappings.as_slice();
         let mut table = Table::empty(alloc, Rest::new(alloc, settings.locators.as_slice())?);
-        table.reserve(mappings.len() as u32, 0, 0)?;
+        table.reserve_mappings(mappings.len() as u32)?;
         for mapping in mappings {
             let mapping = copied(alloc, mapping)?;
             table.learn(0, mapping, true);
@@ -99,30 +106,48 @@ impl Table {
         self.count
     }
 
-    /// Makes room for so many further mappings, requests and probes.
-    pub(crate) fn reserve(
-        &mut self,
-        mappings: u32,
-        requests: u32,
-        probes: u32,
-    ) -> Result<(), NoMemory>
-        requires mappings { mappings ≤ 65536 }
-        requires requests { requests ≤ 16384 }
-        requires probes { probes ≤ 65536 }
+    /// Makes room for so many further mappings.
+    pub(crate) fn reserve_mappings(&mut self, n: u32) -> Result<(), NoMemory>
+        requires { n ≤ 65536 }
         ensures parts { self.new.parts ≡ self.old.parts }
-        ensures mapping_room { OnOk result (mappings ≤ self.new.mapping_room) }
-        ensures request_room { OnOk result (requests ≤ self.new.request_room) }
-        ensures probe_room { OnOk result (probes ≤ self.new.probe_room) }
+        ensures room { OnOk result (n ≤ self.new.mapping_room) }
     {
-        self.cache.reserve(mappings, 0)?;
-        self.queue.reserve(requests)?;
-        self.locators.reserve(probes, 0)
+        self.cache.reserve(n, 0)
+    }
+
+    /// Makes room for so many further requests.
+    pub(crate) fn reserve_requests(&mut self, n: u32) -> Result<(), NoMemory>
+        requires { n ≤ 16384 }
+        ensures parts { self.new.parts ≡ self.old.parts }
+        ensures room { OnOk result (n ≤ self.new.request_room) }
+    {
+        self.queue.reserve(n)
+    }
+
+    /// Makes room for so many further probes.
+    pub(crate) fn reserve_probes(&mut self, n: u32) -> Result<(), NoMemory>
+        requires { n ≤ 65536 }
+        ensures parts { self.new.parts ≡ self.old.parts }
+        ensures room { OnOk result (n ≤ self.new.probe_room) }
+    {
+        self.locators.reserve(n, 0)
+    }
+
+    /// Makes room for one echo more that is asked for, one that is wanted, and one solicitation.
+    pub(crate) fn reserve_others(&mut self) -> Result<(), NoMemory>
+        ensures parts { self.new.parts ≡ self.old.parts }
+        ensures start_room { OnOk result (0 < self.new.start_room) }
+        ensures wish_room { OnOk result (0 < self.new.wish_room) }
+        ensures solicit_room { OnOk result (0 < self.new.solicit_room) }
+    {
+        self.locators.reserve(0, 1)
     }
 
     /// Takes the entry of a mapping that was learned, for which there is room.
     pub(crate) fn learn(&mut self, m: u64, mapping: Record, fixed: bool)
         requires later { self.old.parts.now ≤ m }
         requires locators { length mapping.locators ≤ 32 }
+        requires version { mapping.version ≤ 4095 }
         requires fixed { IsTrue fixed → mapping.ttl ≢ 0 }
         requires place { IsTrue (has_room mapping (lasting m self.old.parts.mappings)) }
         requires room { 0 < self.old.mapping_room }
@@ -215,6 +240,78 @@ impl Table {
         self.queue.purge(m);
         self.locators.probe_answered(m, nonce);
         self.count += 1;
+    }
+
+    /// Takes the entry of an echo that is asked for, for which there is room.
+    pub(crate) fn start_echo(&mut self, m: u64, rloc: Addr, nonce: u32)
+        requires later { self.old.parts.now ≤ m }
+        requires room { 0 < self.old.start_room }
+        requires short { nonce < 2 ^ 24 }
+        requires count { self.old.parts.count < 2 ^ 63 }
+        ensures parts { self.new.parts ≡ with_entry (EchoStarted m rloc nonce) self.old.parts }
+    {
+        self.rest.until = 0;
+        self.cache.purge(m);
+        self.queue.purge(m);
+        let _ = self.locators.echo_started(m, rloc, nonce);
+        self.count += 1;
+        self.drawn += 1;
+    }
+
+    /// Takes the entry of an echo that came.
+    pub(crate) fn hear_echo(&mut self, m: u64, rloc: &Addr)
+        requires later { self.old.parts.now ≤ m }
+        requires count { self.old.parts.count < 2 ^ 63 }
+        ensures parts { self.new.parts ≡ with_entry (EchoHeard m rloc.now) self.old.parts }
+    {
+        self.rest.until = 0;
+        self.cache.purge(m);
+        self.queue.purge(m);
+        self.locators.echo_heard(m, rloc);
+        self.count += 1;
+    }
+
+    /// Takes the entry of a packet that came from a locator.
+    pub(crate) fn take_data(&mut self, m: u64, rloc: &Addr)
+        requires later { self.old.parts.now ≤ m }
+        requires count { self.old.parts.count < 2 ^ 63 }
+        ensures parts { self.new.parts ≡ with_entry (DataFrom m rloc.now) self.old.parts }
+    {
+        self.rest.until = 0;
+        self.cache.purge(m);
+        self.queue.purge(m);
+        self.locators.data_from(m, rloc);
+        self.count += 1;
+    }
+
+    /// Takes the entry of an echo that a locator wants, for which there is room.
+    pub(crate) fn want_echo(&mut self, m: u64, rloc: Addr, nonce: u32)
+        requires later { self.old.parts.now ≤ m }
+        requires room { 0 < self.old.wish_room }
+        requires short { nonce < 2 ^ 24 }
+        requires count { self.old.parts.count < 2 ^ 63 }
+        ensures parts { self.new.parts ≡ with_entry (EchoWanted m rloc nonce) self.old.parts }
+    {
+        self.rest.until = 0;
+        self.cache.purge(m);
+        self.queue.purge(m);
+        let _ = self.locators.echo_wanted(m, rloc, nonce);
+        self.count += 1;
+    }
+
+    /// Takes the entry of a locator that was solicited, for which there is room.
+    pub(crate) fn solicit(&mut self, m: u64, rloc: Addr, eid: Eid, nonce: u64)
+        requires later { self.old.parts.now ≤ m }
+        requires room { 0 < self.old.solicit_room }
+        requires count { self.old.parts.count < 2 ^ 63 }
+        ensures parts { self.new.parts ≡ with_entry (Solicited m rloc eid nonce) self.old.parts }
+    {
+        self.rest.until = 0;
+        self.cache.purge(m);
+        self.queue.purge(m);
+        let _ = self.locators.solicited(m, rloc, eid);
+        self.count += 1;
+        self.drawn += 1;
     }
 
     /// Takes the entry of status bits that were told.

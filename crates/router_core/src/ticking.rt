@@ -111,7 +111,7 @@ impl Table {
         emits.reserve(most)?;
         let mut targets = Vec::new(self.alloc);
         targets.reserve(MOST_TARGETS + 1)?;
-        self.reserve(0, 0, MOST_TARGETS as u32)?;
+        self.reserve_probes(MOST_TARGETS as u32)?;
         self.retry_each(m, due.as_slice(), &mut entries, &mut emits);
         self.probe_next(settings, m, &mut targets, &mut entries, &mut emits);
         Ok(Changed {

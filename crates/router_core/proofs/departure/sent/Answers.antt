@@ -1,40 +1,45 @@
-use Rattle.std.proofs.Common.{◌≡◌, ◌∙◌, ℕ, List, Some, None, sym, ap}
+use Rattle.std.proofs.Common.{◌≡◌, ◌∙◌, ℕ, List, None, Some, ap, ap₂, sym}
 use Rattle.octets.specs.Rules.{first_failing}
 use Rattle.encap.specs.Rules.{encap_rules}
 use Rattle.encap.specs.Rules as unsent
 use Rattle.encap.specs.Wrapped.{wrapped}
-use Rattle.lisp_header.specs.declared.header.LispHeader.{LispHeader}
-use Rattle.locator_choice.specs.Hash.{source_port}
+use Rattle.ip_headers.specs.declared.tuple.FiveTuple.{FiveTuple}
+use Rattle.locator_choice.specs.Hash.{flow_hash, source_port}
+use Rattle.router_log.specs.declared.decision.Decision.{Decision}
+use Rattle.router_log.specs.declared.notice.Notice.{Notice}
 use Rattle.router_log.specs.declared.verdict.Verdict.TheVariants.{Encapsulated}
-use Rattle.router_model.specs.Decide.{hash_of, lisp_header, sent}
+use Rattle.router_model.specs.Decide.{echo_notice, hash_of, sent}
+use Rattle.router_model.specs.Parts.{view_in}
 use Rattle.router_core.specs.Seen.{packet_seen}
 use Rattle.router_core.proofs.Drops.{sent_big, sent_expired, sent_none}
 use Rattle.router_core.proofs.departure.sent.Goals as goal
 
-pub returns-in-Ok-clause-verdict : goal.returns-in-Ok-clause-verdict
-returns-in-Ok-clause-verdict c =
+pub returns-in_ok-echo_notices-in-Ok-clause-decision : goal.returns-in_ok-echo_notices-in-Ok-clause-decision
+returns-in_ok-echo_notices-in-Ok-clause-decision c =
     let settings = c.args.settings.now in
+    let v = view_in c.args.table.now.parts c.args.m in
+    let lisp = c.args.header.now in
     let octets = c.args.packet.now.octets.now in
     let from = c.args.from in
-    let iid = c.args.iid in
+    let to = c.args.to in
     let none : first_failing (encap_rules octets from) ≡ None = sent_none (first_failing (encap_rules octets from)) c.in-Ok.packet c.in-Ok.ensures.refused in
     let right = source_port (hash_of (packet_seen c.args.packet.now)) in
-    let port : c.args.port ≡ right = c.requires.port in
-    let wrap : ℕ → LispHeader → List ℕ = λ p lisp. wrapped octets from c.args.to p lisp in
-    let packet : c.in-Ok.packet ≡ wrap right (lisp_header settings iid) =
-    c.in-Ok.ensures.ok ∙ ap (wrap c.args.port) c.lisp_header-header.ensures.header ∙ ap (λ (p : ℕ). wrap p (lisp_header settings iid)) port in
-    ap (λ (p : ℕ). Encapsulated from c.args.to p c.in-Ok.packet) port
-    ∙ ap (Encapsulated from c.args.to right) packet
-    ∙ sym (ap (sent settings iid (packet_seen c.args.packet.now) from c.args.to) none)
+    let port : c.source_port-port.result ≡ right = c.source_port-port.ensures ∙ ap source_port (c.flow_hash.ensures ∙ ap (λ (t : FiveTuple). flow_hash t) c.five_tuple.ensures) in
+    let made : ℕ → List ℕ → List Notice → Decision = λ port packet notices. record { verdict = Encapsulated from to port packet; notices = notices } in
+    ap₂ (made c.source_port-port.result) c.in-Ok.ensures.ok c.in_ok-echo_notices-in-Ok.ensures.notices
+    ∙ ap (λ (port : ℕ). made port (wrapped octets from to port lisp) (echo_notice settings v to)) port
+    ∙ sym (ap (sent settings v lisp (packet_seen c.args.packet.now) from to) none)
 
-pub returns-in-Err-TtlExpired-clause-verdict : goal.returns-in-Err-TtlExpired-clause-verdict
-returns-in-Err-TtlExpired-clause-verdict c =
+pub returns-in-Err-TtlExpired-clause-decision : goal.returns-in-Err-TtlExpired-clause-decision
+returns-in-Err-TtlExpired-clause-decision c =
+    let v = view_in c.args.table.now.parts c.args.m in
     let octets = c.args.packet.now.octets.now in
     let some : first_failing (encap_rules octets c.args.from) ≡ Some unsent.TtlExpired = sent_expired _ (first_failing (encap_rules octets c.args.from)) (rw c.in-Err-TtlExpired.field-0-is at c.in-Err-TtlExpired.ensures.refused) in
-    sym (ap (sent c.args.settings.now c.args.iid (packet_seen c.args.packet.now) c.args.from c.args.to) some)
+    c.alone.ensures ∙ sym (ap (sent c.args.settings.now v c.args.header.now (packet_seen c.args.packet.now) c.args.from c.args.to) some)
 
-pub returns-in-Err-TooBig-clause-verdict : goal.returns-in-Err-TooBig-clause-verdict
-returns-in-Err-TooBig-clause-verdict c =
+pub returns-in-Err-TooBig-clause-decision : goal.returns-in-Err-TooBig-clause-decision
+returns-in-Err-TooBig-clause-decision c =
+    let v = view_in c.args.table.now.parts c.args.m in
     let octets = c.args.packet.now.octets.now in
     let some : first_failing (encap_rules octets c.args.from) ≡ Some unsent.TooBig = sent_big _ (first_failing (encap_rules octets c.args.from)) (rw c.in-Err-TooBig.field-0-is at c.in-Err-TooBig.ensures.refused) in
-    sym (ap (sent c.args.settings.now c.args.iid (packet_seen c.args.packet.now) c.args.from c.args.to) some)
+    c.alone-in-Err-TooBig.ensures ∙ sym (ap (sent c.args.settings.now v c.args.header.now (packet_seen c.args.packet.now) c.args.from c.args.to) some)

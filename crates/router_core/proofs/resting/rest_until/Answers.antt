@@ -6,7 +6,7 @@ use Rattle.router_core.proofs.resting.rest_until.Goals as goal
 
 pub loop-mapping-preserved : goal.loop-mapping-preserved
 loop-mapping-preserved c = λ until below others.
-    let rests = all_rest c.args.own.now until c.args.state.now.probes in
+    let rests = all_rest c.args.own.now until c.args.state.now.observed.probes in
     let here : rests (get_or c.args.mappings.now c.loop-mapping.mapping-index c.mapping-item.result).details.locators ≡ true =
     subst (λ (next : Mapping). rests next.details.locators ≡ true) c.mapping-item.is
     (sym (ap rests c.as_slice.ensures) ∙ c.rest_of_all.ensures until (omega (arith, below, c.min-until.ensures))) in

@@ -1,12 +1,14 @@
-use Rattle.std.proofs.Common.{◌∙◌, ◌+◌, ℕ, List, ap, ap₂}
+use Rattle.std.proofs.Common.{List, ap, ap₂, arith, refl, subst, sym, ℕ, ◌+◌, ◌∙◌}
 use Rattle.map_cache.specs.Cache.{lasting}
 use Rattle.map_cache.specs.declared.mapping.Mapping.{Mapping}
 use Rattle.request_queue.specs.Queue.{without_nonce}
 use Rattle.request_queue.specs.declared.request.Request.{Request}
 use Rattle.router_log.specs.declared.entry.Entry.TheVariants.{Answered}
-use Rattle.router_log.specs.declared.kept.Probe.{Probe}
+use Rattle.locator_state.specs.Observed.{Observed}
 use Rattle.router_model.specs.Parts.{with_entry}
 use Rattle.router_core.specs.Table.{Memory}
+use Rattle.router_core.specs.Bounded.{AreShort, AreVersioned}
+use Rattle.router_core.proofs.BoundLemmas.{lasting-versioned, recent-short}
 use Rattle.router_core.proofs.EntryLemmas.{answered-parts, parts_with}
 use Rattle.router_core.proofs.table.Table.answer.Goals as goal
 
@@ -14,7 +16,14 @@ pub returns-clause-parts : goal.returns-clause-parts
 returns-clause-parts c =
     let m = c.args.m in
     let inside = c.self.inside in
-    ap₂ (λ (now : ℕ) (l : List Mapping). parts_with (inside.count + 1) inside.drawn now l c.answer.new.self.requests c.purge-3.new.self.probes) c.purge.ensures.now c.purge.ensures.mappings
-    ∙ ap₂ (λ (l : List Request) (p : List Probe). parts_with (inside.count + 1) inside.drawn m (lasting m inside.cache.mappings) l p) (c.answer.ensures.requests ∙ ap (without_nonce c.args.nonce) c.purge-2.ensures.requests) c.purge-3.ensures.probes
-    ∙ answered-parts inside.count inside.drawn inside.cache.now inside.cache.mappings inside.queue.requests inside.locators.probes m c.args.nonce
+    ap₂ (λ (now : ℕ) (l : List Mapping). parts_with (inside.count + 1) inside.drawn now l c.answer.new.self.requests c.purge-3.new.self.observed) c.purge.ensures.now c.purge.ensures.mappings
+    ∙ ap₂ (λ (l : List Request) (p : Observed). parts_with (inside.count + 1) inside.drawn m (lasting m inside.cache.mappings) l p) (c.answer.ensures.requests ∙ ap (without_nonce c.args.nonce) c.purge-2.ensures.requests) c.purge-3.ensures.observed
+    ∙ answered-parts inside.count inside.drawn inside.cache.now inside.cache.mappings inside.queue.requests inside.locators.observed m c.args.nonce
     ∙ ap (λ (t : Memory). with_entry (Answered m c.args.nonce) t.parts) c.self.view_is
+
+pub invariant_of-self : goal.invariant_of-self
+invariant_of-self c =
+    let m = c.args.m in
+    let inside = c.self.inside in
+    let few = c.self.invariant.0 in
+    (omega (arith, few), refl, subst AreVersioned (sym c.purge.ensures.mappings) (lasting-versioned m inside.cache.mappings c.self.invariant.2), subst AreShort (sym c.purge-3.ensures.observed) (recent-short m inside.locators.observed c.self.invariant.3))

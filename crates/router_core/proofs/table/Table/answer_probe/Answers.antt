@@ -1,11 +1,14 @@
-use Rattle.std.proofs.Common.{◌∙◌, ◌+◌, ℕ, List, ap, ap₂}
+use Rattle.std.proofs.Common.{List, ap, ap₂, arith, refl, subst, sym, ℕ, ◌+◌, ◌∙◌}
 use Rattle.map_cache.specs.Cache.{lasting}
 use Rattle.map_cache.specs.declared.mapping.Mapping.{Mapping}
 use Rattle.request_queue.specs.declared.request.Request.{Request}
 use Rattle.router_log.specs.declared.entry.Entry.TheVariants.{ProbeAnswered}
-use Rattle.router_log.specs.declared.kept.Probe.{Probe}
+use Rattle.locator_state.specs.Observed.{Observed}
+use Rattle.locator_state.specs.Probes.{probe_answered}
 use Rattle.router_model.specs.Parts.{with_entry}
 use Rattle.router_core.specs.Table.{Memory}
+use Rattle.router_core.specs.Bounded.{AreShort, AreVersioned}
+use Rattle.router_core.proofs.BoundLemmas.{lasting-versioned, probes-short}
 use Rattle.router_core.proofs.EntryLemmas.{parts_with, probe_answered-parts}
 use Rattle.router_core.proofs.table.Table.answer_probe.Goals as goal
 
@@ -15,8 +18,15 @@ returns c =
     let inside = c.self.inside in
     record {
       parts =
-          ap₂ (λ (now : ℕ) (l : List Mapping). parts_with (inside.count + 1) inside.drawn now l c.purge-2.new.self.requests c.probe_answered.new.self.probes) c.purge.ensures.now c.purge.ensures.mappings
-          ∙ ap₂ (λ (l : List Request) (p : List Probe). parts_with (inside.count + 1) inside.drawn m (lasting m inside.cache.mappings) l p) c.purge-2.ensures.requests c.probe_answered.ensures.probes
-          ∙ probe_answered-parts inside.count inside.drawn inside.cache.now inside.cache.mappings inside.queue.requests inside.locators.probes m c.args.nonce
+          ap₂ (λ (now : ℕ) (l : List Mapping). parts_with (inside.count + 1) inside.drawn now l c.purge-2.new.self.requests c.probe_answered.new.self.observed) c.purge.ensures.now c.purge.ensures.mappings
+          ∙ ap₂ (λ (l : List Request) (p : Observed). parts_with (inside.count + 1) inside.drawn m (lasting m inside.cache.mappings) l p) c.purge-2.ensures.requests c.probe_answered.ensures.observed
+          ∙ probe_answered-parts inside.count inside.drawn inside.cache.now inside.cache.mappings inside.queue.requests inside.locators.observed m c.args.nonce
           ∙ ap (λ (t : Memory). with_entry (ProbeAnswered m c.args.nonce) t.parts) c.self.view_is;
     }
+
+pub invariant_of-self : goal.invariant_of-self
+invariant_of-self c =
+    let m = c.args.m in
+    let inside = c.self.inside in
+    let few = c.self.invariant.0 in
+    (omega (arith, few), refl, subst AreVersioned (sym c.purge.ensures.mappings) (lasting-versioned m inside.cache.mappings c.self.invariant.2), subst AreShort (sym c.probe_answered.ensures.observed) (probes-short m (probe_answered m c.args.nonce inside.locators.observed.probes) inside.locators.observed c.self.invariant.3))

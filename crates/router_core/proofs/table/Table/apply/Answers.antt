@@ -69,3 +69,39 @@ returns-in-ProbeAnswered-clause-parts c = c.answer_probe.ensures.parts ∙ absor
 
 pub returns-in-ProbeAnswered-clause-journal : goal.returns-in-ProbeAnswered-clause-journal
 returns-in-ProbeAnswered-clause-journal c settings journal = stands-with settings c.args.self.now.parts c.answer_probe.new.self.parts journal c.args.entry.now (returns-in-ProbeAnswered-clause-parts c)
+
+pub returns-in-EchoStarted-clause-parts : goal.returns-in-EchoStarted-clause-parts
+returns-in-EchoStarted-clause-parts c =
+    on_ok_weaker c.apply_started.result (λ is. is ∙ absorbed-as c.args.self.now.parts c.args.entry.now _ c.in-EchoStarted.is c.requires) c.apply_started.ensures.ok
+
+pub returns-in-EchoStarted-clause-journal : goal.returns-in-EchoStarted-clause-journal
+returns-in-EchoStarted-clause-journal c =
+    on_ok_weaker c.apply_started.result (λ is settings journal. stands-with settings c.args.self.now.parts c.apply_started.new.self.parts journal c.args.entry.now is) (returns-in-EchoStarted-clause-parts c)
+
+pub returns-in-EchoHeard-clause-parts : goal.returns-in-EchoHeard-clause-parts
+returns-in-EchoHeard-clause-parts c = c.hear_echo.ensures.parts ∙ absorbed-as c.args.self.now.parts c.args.entry.now _ c.in-EchoHeard.is c.requires
+
+pub returns-in-EchoHeard-clause-journal : goal.returns-in-EchoHeard-clause-journal
+returns-in-EchoHeard-clause-journal c settings journal = stands-with settings c.args.self.now.parts c.hear_echo.new.self.parts journal c.args.entry.now (returns-in-EchoHeard-clause-parts c)
+
+pub returns-in-DataFrom-clause-parts : goal.returns-in-DataFrom-clause-parts
+returns-in-DataFrom-clause-parts c = c.take_data.ensures.parts ∙ absorbed-as c.args.self.now.parts c.args.entry.now _ c.in-DataFrom.is c.requires
+
+pub returns-in-DataFrom-clause-journal : goal.returns-in-DataFrom-clause-journal
+returns-in-DataFrom-clause-journal c settings journal = stands-with settings c.args.self.now.parts c.take_data.new.self.parts journal c.args.entry.now (returns-in-DataFrom-clause-parts c)
+
+pub returns-in-EchoWanted-clause-parts : goal.returns-in-EchoWanted-clause-parts
+returns-in-EchoWanted-clause-parts c =
+    on_ok_weaker c.apply_wanted.result (λ is. is ∙ absorbed-as c.args.self.now.parts c.args.entry.now _ c.in-EchoWanted.is c.requires) c.apply_wanted.ensures.ok
+
+pub returns-in-EchoWanted-clause-journal : goal.returns-in-EchoWanted-clause-journal
+returns-in-EchoWanted-clause-journal c =
+    on_ok_weaker c.apply_wanted.result (λ is settings journal. stands-with settings c.args.self.now.parts c.apply_wanted.new.self.parts journal c.args.entry.now is) (returns-in-EchoWanted-clause-parts c)
+
+pub returns-in-Solicited-clause-parts : goal.returns-in-Solicited-clause-parts
+returns-in-Solicited-clause-parts c =
+    on_ok_weaker c.apply_solicited.result (λ is. is ∙ absorbed-as c.args.self.now.parts c.args.entry.now _ c.in-Solicited.is c.requires) c.apply_solicited.ensures.ok
+
+pub returns-in-Solicited-clause-journal : goal.returns-in-Solicited-clause-journal
+returns-in-Solicited-clause-journal c =
+    on_ok_weaker c.apply_solicited.result (λ is settings journal. stands-with settings c.args.self.now.parts c.apply_solicited.new.self.parts journal c.args.entry.now is) (returns-in-Solicited-clause-parts c)

@@ -1,12 +1,14 @@
-use Rattle.std.proofs.Common.{◌≡◌, ◌∙◌, ◌<◌, ◌+◌, ℕ, List, length, sym, ap, ap₂, subst}
+use Rattle.std.proofs.Common.{List, ap, ap₂, arith, length, refl, subst, sym, ℕ, ◌+◌, ◌<◌, ◌∙◌, ◌≡◌}
 use Rattle.map_cache.specs.Cache.{lasting}
 use Rattle.map_cache.specs.declared.mapping.Mapping.{Mapping}
 use Rattle.request_queue.specs.Queue.{asked, waiting}
 use Rattle.request_queue.specs.declared.request.Request.{Request}
 use Rattle.router_log.specs.declared.entry.Entry.TheVariants.{Asked}
-use Rattle.router_log.specs.declared.kept.Probe.{Probe}
+use Rattle.locator_state.specs.Observed.{Observed}
 use Rattle.router_model.specs.Parts.{with_entry}
 use Rattle.router_core.specs.Table.{Memory}
+use Rattle.router_core.specs.Bounded.{AreShort, AreVersioned}
+use Rattle.router_core.proofs.BoundLemmas.{lasting-versioned, recent-short}
 use Rattle.router_core.proofs.EntryLemmas.{asked-parts, parts_with, was_asked}
 use Rattle.router_core.proofs.table.Table.ask.Goals as goal
 
@@ -19,7 +21,14 @@ returns-clause-parts c =
     let room = subst (λ (t : Memory). 0 < t.request_room) (sym c.self.view_is) c.requires.room in
     let rs : c.ask.new.self.requests ≡ after =
     was_asked c.ask.result inside.queue.spare (length (waiting m inside.queue.requests)) c.ask.ensures.ok c.ask.ensures.memory room c.ask.ensures.full place in
-    ap₂ (λ (now : ℕ) (l : List Mapping). parts_with (inside.count + 1) (inside.drawn + 1) now l c.ask.new.self.requests c.purge-2.new.self.probes) c.purge.ensures.now c.purge.ensures.mappings
-    ∙ ap₂ (λ (l : List Request) (p : List Probe). parts_with (inside.count + 1) (inside.drawn + 1) m (lasting m inside.cache.mappings) l p) rs c.purge-2.ensures.probes
-    ∙ asked-parts inside.count inside.drawn inside.cache.now inside.cache.mappings inside.queue.requests inside.locators.probes m c.args.eid c.args.source c.args.invoked c.args.nonce
+    ap₂ (λ (now : ℕ) (l : List Mapping). parts_with (inside.count + 1) (inside.drawn + 1) now l c.ask.new.self.requests c.purge-2.new.self.observed) c.purge.ensures.now c.purge.ensures.mappings
+    ∙ ap₂ (λ (l : List Request) (p : Observed). parts_with (inside.count + 1) (inside.drawn + 1) m (lasting m inside.cache.mappings) l p) rs c.purge-2.ensures.observed
+    ∙ asked-parts inside.count inside.drawn inside.cache.now inside.cache.mappings inside.queue.requests inside.locators.observed m c.args.eid c.args.source c.args.invoked c.args.nonce
     ∙ ap (λ (t : Memory). with_entry (Asked m c.args.eid c.args.source c.args.invoked c.args.nonce) t.parts) c.self.view_is
+
+pub invariant_of-self : goal.invariant_of-self
+invariant_of-self c =
+    let m = c.args.m in
+    let inside = c.self.inside in
+    let few = c.self.invariant.0 in
+    (omega (arith, few), refl, subst AreVersioned (sym c.purge.ensures.mappings) (lasting-versioned m inside.cache.mappings c.self.invariant.2), subst AreShort (sym c.purge-2.ensures.observed) (recent-short m inside.locators.observed c.self.invariant.3))

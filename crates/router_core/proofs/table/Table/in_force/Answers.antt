@@ -1,10 +1,12 @@
-use Rattle.std.proofs.Common.{◌∙◌, ℕ, max, List, ap, option_map}
+use Rattle.std.proofs.Common.{◌∙◌, ℕ, max, IfSome, List, Option, ap, option_map, subst, sym}
 use Rattle.map_cache.specs.Cache as cache
 use Rattle.map_cache.specs.Cache.{lasting}
 use Rattle.map_cache.specs.declared.mapping.Mapping.{Mapping}
 use Rattle.router_model.specs.Cache.{held_of}
 use Rattle.router_core.specs.Table.{Memory}
+use Rattle.router_core.specs.Bounded.{IsVersioned}
 use Rattle.router_core.proofs.HeldLemmas.{force-seen}
+use Rattle.router_core.proofs.BoundLemmas.{force-versioned}
 use Rattle.router_core.proofs.table.Table.in_force.Goals as goal
 
 pub returns-clause-found : goal.returns-clause-found
@@ -14,3 +16,8 @@ returns-clause-found c =
     ∙ ap (λ (n : ℕ). among (lasting n c.self.inside.cache.mappings)) c.moment_at.ensures
     ∙ ap (λ (t : Memory). among (lasting (max c.args.m c.args.self.now.parts.now) t.parts.mappings)) c.self.view_is
     ∙ force-seen c.args.self.now.parts c.args.m c.args.eid.now
+
+pub returns-clause-version : goal.returns-clause-version
+returns-clause-version c =
+    subst (λ (o : Option Mapping). IfSome o IsVersioned) (sym c.in_force.ensures.found)
+    (force-versioned c.moment_at.result c.args.eid.now c.self.inside.cache.mappings c.self.invariant.2)

@@ -11,5 +11,5 @@ returns-then-m-self c = λ same.
     let own : kept.rest.own ≡ c.args.settings.now.locators = sym c.as_slice.ensures ∙ c.are_same.ensures same ∙ c.as_slice-then-m-self.ensures in
     let at_rest : IsAtRest c.args.settings.now.locators kept.rest.until c.args.self.now.parts.observed.probes c.args.self.now.parts.mappings =
     subst (λ (t : Memory). IsAtRest c.args.settings.now.locators kept.rest.until t.parts.observed.probes t.parts.mappings) c.self.view_is
-    (subst (λ (l : List OwnLocator). IsAtRest l kept.rest.until kept.locators.probes kept.cache.mappings) own c.self.invariant.1) in
+    (subst (λ (l : List OwnLocator). IsAtRest l kept.rest.until kept.locators.observed.probes kept.cache.mappings) own c.self.invariant.1) in
     none-next c.args.self.now.parts c.args.m kept.rest.until c.args.settings.now c.requires c.if-m-self.true at_rest

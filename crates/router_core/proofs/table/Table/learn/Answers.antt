@@ -1,11 +1,13 @@
-use Rattle.std.proofs.Common.{◌≡◌, ◌∙◌, ◌<◌, ◌+◌, ℕ, List, IsTrue, sym, ap, ap₂, subst}
+use Rattle.std.proofs.Common.{IsTrue, List, ap, ap₂, arith, refl, subst, sym, ℕ, ◌+◌, ◌<◌, ◌∙◌, ◌≡◌}
 use Rattle.map_cache.specs.Cache.{has_room, lasting, learned}
 use Rattle.map_cache.specs.declared.mapping.Mapping.{Mapping}
 use Rattle.request_queue.specs.declared.request.Request.{Request}
 use Rattle.router_log.specs.declared.entry.Entry.TheVariants.{Learned}
-use Rattle.router_log.specs.declared.kept.Probe.{Probe}
+use Rattle.locator_state.specs.Observed.{Observed}
 use Rattle.router_model.specs.Parts.{with_entry}
 use Rattle.router_core.specs.Table.{Memory}
+use Rattle.router_core.specs.Bounded.{AreShort, AreVersioned}
+use Rattle.router_core.proofs.BoundLemmas.{learned-versioned, recent-short}
 use Rattle.router_core.proofs.EntryLemmas.{learned-parts, parts_with, was_learned}
 use Rattle.router_core.proofs.table.Table.learn.Goals as goal
 
@@ -18,7 +20,23 @@ returns-clause-parts c =
     let room = subst (λ (t : Memory). 0 < t.mapping_room) (sym c.self.view_is) c.requires.room in
     let ms : c.learn.new.self.mappings ≡ learned m mapping c.args.fixed inside.cache.mappings =
     was_learned c.learn.result inside.cache.spare (has_room mapping (lasting m inside.cache.mappings)) c.learn.ensures.ok c.learn.ensures.memory room c.learn.ensures.full place in
-    ap₂ (λ (now : ℕ) (l : List Mapping). parts_with (inside.count + 1) inside.drawn now l c.purge.new.self.requests c.purge-2.new.self.probes) c.learn.ensures.now ms
-    ∙ ap₂ (λ (r : List Request) (p : List Probe). parts_with (inside.count + 1) inside.drawn m (learned m mapping c.args.fixed inside.cache.mappings) r p) c.purge.ensures.requests c.purge-2.ensures.probes
-    ∙ learned-parts inside.count inside.drawn inside.cache.now inside.cache.mappings inside.queue.requests inside.locators.probes m mapping c.args.fixed
+    ap₂ (λ (now : ℕ) (l : List Mapping). parts_with (inside.count + 1) inside.drawn now l c.purge.new.self.requests c.purge-2.new.self.observed) c.learn.ensures.now ms
+    ∙ ap₂ (λ (r : List Request) (p : Observed). parts_with (inside.count + 1) inside.drawn m (learned m mapping c.args.fixed inside.cache.mappings) r p) c.purge.ensures.requests c.purge-2.ensures.observed
+    ∙ learned-parts inside.count inside.drawn inside.cache.now inside.cache.mappings inside.queue.requests inside.locators.observed m mapping c.args.fixed
     ∙ ap (λ (t : Memory). with_entry (Learned m mapping c.args.fixed) t.parts) c.self.view_is
+
+pub invariant_of-self : goal.invariant_of-self
+invariant_of-self c =
+    let m = c.args.m in
+    let inside = c.self.inside in
+    let few = c.self.invariant.0 in (
+      omega (arith, few),
+      refl,
+      (
+          let place = subst (λ (t : Memory). IsTrue (has_room c.args.mapping (lasting m t.parts.mappings))) (sym c.self.view_is) c.requires.place in
+          let room = subst (λ (t : Memory). 0 < t.mapping_room) (sym c.self.view_is) c.requires.room in
+          let ms : c.learn.new.self.mappings ≡ learned m c.args.mapping c.args.fixed inside.cache.mappings =
+          was_learned c.learn.result inside.cache.spare (has_room c.args.mapping (lasting m inside.cache.mappings)) c.learn.ensures.ok c.learn.ensures.memory room c.learn.ensures.full place in
+          subst AreVersioned (sym ms) (learned-versioned m c.args.mapping c.args.fixed inside.cache.mappings c.requires.version c.self.invariant.2)),
+      subst AreShort (sym c.purge-2.ensures.observed) (recent-short m inside.locators.observed c.self.invariant.3),
+    )

@@ -25,7 +25,7 @@ returns-clause-parts c =
     let answered = Answered m reply.nonce in
     let fits = ap (is_fit request.eid) (sym c.as_slice-mappings.ensures) ∙ sym c.is_fit.ensures ∙ c.if-not-is_fit.false in
     let first : change_of c.answer.new.self.parts c.push_reserved.new.self.items [] ≡ entered table settings m answered (unchanged p) =
-    ap (λ (q : Parts). change_of q c.push_reserved.new.self.items []) (c.answer.ensures.parts ∙ ap (with_entry answered) c.in_ok-reserve-2.ensures.parts)
+    ap (λ (q : Parts). change_of q c.push_reserved.new.self.items []) (c.answer.ensures.parts ∙ ap (with_entry answered) c.in_ok-reserve_mappings.ensures.parts)
     ∙ ap (λ (e : List Entry). change_of (with_entry answered p) e []) (c.push_reserved.ensures.items ∙ ap (λ (e : List Entry). e ++ answered ∷ []) (c.in_ok-reserve.ensures.items ∙ c.new-entries.ensures.items))
     ∙ answered-change settings m reply.nonce p c.requires.later (omega (arith, count)) (ap is_some c.requires.open) in
     let taught_all = c.learn_each.ensures.change

@@ -18,7 +18,7 @@ returns-clause-parts c =
     let emit : ℕ → Emit = λ n. Request c.args.eid c.args.source c.args.invoked n in
     let drawn : c.nonce_at-nonce.result ≡ nonce_of settings.seed settings.nonces p.drawn =
     c.nonce_at-nonce.ensures ∙ ap (λ (t : Memory). nonce_of settings.seed settings.nonces t.parts.drawn) c.self.view_is in
-    ap (λ (q : Parts). change_of q c.in_ok-entries.entries c.in_ok-emits.emits) (c.ask.ensures.parts ∙ ap (with_entry (entry c.nonce_at-nonce.result)) c.in_ok-reserve.ensures.parts)
+    ap (λ (q : Parts). change_of q c.in_ok-entries.entries c.in_ok-emits.emits) (c.ask.ensures.parts ∙ ap (with_entry (entry c.nonce_at-nonce.result)) c.in_ok-reserve_requests.ensures.parts)
     ∙ ap₂ (λ (e : List Entry) (f : List Emit). change_of (with_entry (entry c.nonce_at-nonce.result) p) e f) c.in_ok-entries.ensures c.in_ok-emits.ensures
     ∙ ap (λ (n : ℕ). change_of (with_entry (entry n) p) (entry n ∷ []) (emit n ∷ [])) drawn
     ∙ asked-change settings c.args.m c.args.eid c.args.source c.args.invoked p [] [] c.requires.later (omega (arith, few)) c.requires.place

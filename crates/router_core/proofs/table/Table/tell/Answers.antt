@@ -1,11 +1,13 @@
-use Rattle.std.proofs.Common.{◌∙◌, ◌+◌, ℕ, List, ap, ap₂}
+use Rattle.std.proofs.Common.{List, ap, ap₂, arith, refl, subst, sym, ℕ, ◌+◌, ◌∙◌}
 use Rattle.map_cache.specs.Cache.{bits_told, lasting}
 use Rattle.map_cache.specs.declared.mapping.Mapping.{Mapping}
 use Rattle.request_queue.specs.declared.request.Request.{Request}
 use Rattle.router_log.specs.declared.entry.Entry.TheVariants.{Bits}
-use Rattle.router_log.specs.declared.kept.Probe.{Probe}
+use Rattle.locator_state.specs.Observed.{Observed}
 use Rattle.router_model.specs.Parts.{with_entry}
 use Rattle.router_core.specs.Table.{Memory}
+use Rattle.router_core.specs.Bounded.{AreShort, AreVersioned}
+use Rattle.router_core.proofs.BoundLemmas.{lasting-versioned, recent-short, told-versioned}
 use Rattle.router_core.proofs.EntryLemmas.{parts_with, told-parts}
 use Rattle.router_core.proofs.table.Table.tell.Goals as goal
 
@@ -17,8 +19,15 @@ returns c =
     let inside = c.self.inside in
     record {
       parts =
-          ap₂ (λ (now : ℕ) (l : List Mapping). parts_with (inside.count + 1) inside.drawn now l c.purge-2.new.self.requests c.purge-3.new.self.probes) (c.set_bits.ensures.now ∙ c.purge.ensures.now) (c.set_bits.ensures.mappings ∙ ap told c.purge.ensures.mappings)
-          ∙ ap₂ (λ (l : List Request) (p : List Probe). parts_with (inside.count + 1) inside.drawn m (told (lasting m inside.cache.mappings)) l p) c.purge-2.ensures.requests c.purge-3.ensures.probes
-          ∙ told-parts inside.count inside.drawn inside.cache.now inside.cache.mappings inside.queue.requests inside.locators.probes m eid c.args.bits c.args.width
+          ap₂ (λ (now : ℕ) (l : List Mapping). parts_with (inside.count + 1) inside.drawn now l c.purge-2.new.self.requests c.purge-3.new.self.observed) (c.set_bits.ensures.now ∙ c.purge.ensures.now) (c.set_bits.ensures.mappings ∙ ap told c.purge.ensures.mappings)
+          ∙ ap₂ (λ (l : List Request) (p : Observed). parts_with (inside.count + 1) inside.drawn m (told (lasting m inside.cache.mappings)) l p) c.purge-2.ensures.requests c.purge-3.ensures.observed
+          ∙ told-parts inside.count inside.drawn inside.cache.now inside.cache.mappings inside.queue.requests inside.locators.observed m eid c.args.bits c.args.width
           ∙ ap (λ (t : Memory). with_entry (Bits m eid c.args.bits c.args.width) t.parts) c.self.view_is;
     }
+
+pub invariant_of-self : goal.invariant_of-self
+invariant_of-self c =
+    let m = c.args.m in
+    let inside = c.self.inside in
+    let few = c.self.invariant.0 in
+    (omega (arith, few), refl, subst AreVersioned (sym (c.set_bits.ensures.mappings ∙ ap (bits_told c.args.eid.now c.args.bits c.args.width) c.purge.ensures.mappings)) (told-versioned c.args.eid.now c.args.bits c.args.width (lasting m inside.cache.mappings) (lasting-versioned m inside.cache.mappings c.self.invariant.2)), subst AreShort (sym c.purge-3.ensures.observed) (recent-short m inside.locators.observed c.self.invariant.3))

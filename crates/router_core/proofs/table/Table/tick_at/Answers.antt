@@ -25,8 +25,8 @@ returns-clause-parts c =
     let change = change_of c.retry_each.new.self.parts c.retry_each.new.entries.items c.retry_each.new.emits.items in
     let first : change ≡ each (retried table settings m) (all_due m p.requests) (unchanged p) =
     c.retry_each.ensures.change settings
-    ∙ retried-from settings m c.as_slice.result.now (all_due m p.requests) c.reserve-4.new.self.parts p c.reserve.new.self.items c.reserve-2.new.self.items
-    (c.as_slice.ensures.value ∙ c.in_ok-due.ensures.items) c.in_ok-reserve-4.ensures.parts (c.in_ok-reserve.ensures.items ∙ c.new-entries.ensures.items) (c.in_ok-reserve-2.ensures.items ∙ c.new-emits.ensures.items) in
+    ∙ retried-from settings m c.as_slice.result.now (all_due m p.requests) c.reserve_probes.new.self.parts p c.reserve.new.self.items c.reserve-2.new.self.items
+    (c.as_slice.ensures.value ∙ c.in_ok-due.ensures.items) c.in_ok-reserve_probes.ensures.parts (c.in_ok-reserve.ensures.items ∙ c.new-entries.ensures.items) (c.in_ok-reserve-2.ensures.items ∙ c.new-emits.ensures.items) in
     ap₂ (λ (e : List Entry) (f : List Emit). change_of c.probe_next.new.self.parts e f) c.from_vec.ensures c.from_vec-2.ensures
     ∙ c.probe_next.ensures.change
     ∙ ticked-by settings m p change c.requires.later first

@@ -1,0 +1,31 @@
+use Rattle.std.proofs.Common.{List, ap, ap₂, arith, refl, subst, sym, ℕ, ◌+◌, ◌∙◌}
+use Rattle.locator_state.specs.Observed.{Observed}
+use Rattle.map_cache.specs.Cache.{lasting}
+use Rattle.map_cache.specs.declared.mapping.Mapping.{Mapping}
+use Rattle.request_queue.specs.declared.request.Request.{Request}
+use Rattle.router_log.specs.declared.entry.Entry.TheVariants.{EchoHeard}
+use Rattle.router_model.specs.Parts.{with_entry}
+use Rattle.router_core.specs.Table.{Memory}
+use Rattle.router_core.specs.Bounded.{AreShort, AreVersioned}
+use Rattle.router_core.proofs.BoundLemmas.{heard-short, lasting-versioned}
+use Rattle.router_core.proofs.EntryLemmas.{heard-parts, parts_with}
+use Rattle.router_core.proofs.table.Table.hear_echo.Goals as goal
+
+pub returns : goal.returns
+returns c =
+    let m = c.args.m in
+    let inside = c.self.inside in
+    record {
+      parts =
+          ap₂ (λ (now : ℕ) (l : List Mapping). parts_with (inside.count + 1) inside.drawn now l c.purge-2.new.self.requests c.echo_heard.new.self.observed) c.purge.ensures.now c.purge.ensures.mappings
+          ∙ ap₂ (λ (l : List Request) (p : Observed). parts_with (inside.count + 1) inside.drawn m (lasting m inside.cache.mappings) l p) c.purge-2.ensures.requests c.echo_heard.ensures.observed
+          ∙ heard-parts inside.count inside.drawn inside.cache.now inside.cache.mappings inside.queue.requests inside.locators.observed m c.args.rloc.now
+          ∙ ap (λ (t : Memory). with_entry (EchoHeard m c.args.rloc.now) t.parts) c.self.view_is;
+    }
+
+pub invariant_of-self : goal.invariant_of-self
+invariant_of-self c =
+    let m = c.args.m in
+    let inside = c.self.inside in
+    let few = c.self.invariant.0 in
+    (omega (arith, few), refl, subst AreVersioned (sym c.purge.ensures.mappings) (lasting-versioned m inside.cache.mappings c.self.invariant.2), subst AreShort (sym c.echo_heard.ensures.observed) (heard-short m c.args.rloc.now inside.locators.observed c.self.invariant.3))

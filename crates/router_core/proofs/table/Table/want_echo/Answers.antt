@@ -1,0 +1,43 @@
+use Rattle.std.proofs.Common.{List, ap, ap₂, arith, refl, subst, sym, ℕ, ◌+◌, ◌<◌, ◌∙◌, ◌≡◌}
+use Rattle.locator_state.specs.Echoes.{wanted}
+use Rattle.locator_state.specs.Observed.{Observed, with_wishes}
+use Rattle.map_cache.specs.Cache.{lasting}
+use Rattle.map_cache.specs.declared.mapping.Mapping.{Mapping}
+use Rattle.request_queue.specs.declared.request.Request.{Request}
+use Rattle.router_log.specs.declared.entry.Entry.TheVariants.{EchoWanted}
+use Rattle.router_model.specs.Parts.{with_entry}
+use Rattle.router_core.specs.Table.{Memory}
+use Rattle.router_core.specs.Bounded.{AreShort, AreVersioned}
+use Rattle.router_core.proofs.BoundLemmas.{lasting-versioned, wanted-short}
+use Rattle.router_core.proofs.EntryLemmas.{parts_with, wanted-parts, was_kept}
+use Rattle.router_core.proofs.table.Table.want_echo.Goals as goal
+
+pub returns : goal.returns
+returns c =
+    let m = c.args.m in
+    let inside = c.self.inside in
+    let room = subst (λ (t : Memory). 0 < t.wish_room) (sym c.self.view_is) c.requires.room in
+    let os : c.echo_wanted.new.self.observed ≡ with_wishes m (wanted m c.args.rloc c.args.nonce inside.locators.observed.wishes) inside.locators.observed =
+    was_kept c.echo_wanted.result inside.locators.wish_room c.echo_wanted.ensures.ok c.echo_wanted.ensures.memory room in
+    record {
+      parts =
+          ap₂ (λ (now : ℕ) (l : List Mapping). parts_with (inside.count + 1) inside.drawn now l c.purge-2.new.self.requests c.echo_wanted.new.self.observed) c.purge.ensures.now c.purge.ensures.mappings
+          ∙ ap₂ (λ (l : List Request) (p : Observed). parts_with (inside.count + 1) inside.drawn m (lasting m inside.cache.mappings) l p) c.purge-2.ensures.requests os
+          ∙ wanted-parts inside.count inside.drawn inside.cache.now inside.cache.mappings inside.queue.requests inside.locators.observed m c.args.rloc c.args.nonce
+          ∙ ap (λ (t : Memory). with_entry (EchoWanted m c.args.rloc c.args.nonce) t.parts) c.self.view_is;
+    }
+
+pub invariant_of-self : goal.invariant_of-self
+invariant_of-self c =
+    let m = c.args.m in
+    let inside = c.self.inside in
+    let few = c.self.invariant.0 in (
+      omega (arith, few),
+      refl,
+      subst AreVersioned (sym c.purge.ensures.mappings) (lasting-versioned m inside.cache.mappings c.self.invariant.2),
+      (
+          let room = subst (λ (t : Memory). 0 < t.wish_room) (sym c.self.view_is) c.requires.room in
+          let os : c.echo_wanted.new.self.observed ≡ with_wishes m (wanted m c.args.rloc c.args.nonce inside.locators.observed.wishes) inside.locators.observed =
+          was_kept c.echo_wanted.result inside.locators.wish_room c.echo_wanted.ensures.ok c.echo_wanted.ensures.memory room in
+          subst AreShort (sym os) (wanted-short m c.args.rloc c.args.nonce inside.locators.observed c.requires.short c.self.invariant.3)),
+    )

@@ -1,0 +1,185 @@
+// What is noticed of echoes, noted (RFC 9300, section 10.1).
+ghost use Rattle.std.specs.Prelude.{◌≡◌, ◌<◌, ◌≤◌, ◌^◌, ◌&&◌, ◌+◌, [], true, IfOk, OnErr};
+ghost use Rattle.lisp_settings.specs.declared.settings.Settings.{Settings as SettingsValue};
+ghost use Rattle.router_log.specs.declared.notice.Notice.TheVariants.{DataFrom, EchoDue, EchoHeard, EchoWanted};
+ghost use Rattle.router_model.specs.Changes.{unchanged};
+ghost use Rattle.router_model.specs.Note.{is_echo, noted};
+ghost use Rattle.router_model.specs.Parts.{table, view_in};
+ghost use Rattle.router_model.specs.Proper.{is_short};
+ghost use Rattle.router_core.specs.Table.{changed_seen};
+
+use crate::changed::only;
+use crate::{Changed, Table};
+use ip_headers::Addr;
+use lisp_settings::{Settings, nonce_at};
+use octets::NoMemory;
+use router_log::Entry;
+
+impl Table {
+    /// Notes that a locator asks for an echo of this nonce.
+    #[tactic(auto, unfolding(router_model::specs::Note::noted))]
+    pub(crate) fn note_wanted(
+        &mut self,
+        m: u64,
+        rloc: Addr,
+        nonce: u32,
+    ) -> Result<Changed, NoMemory>
+        requires later { self.old.parts.now ≤ m }
+        requires count { self.old.parts.count < 2 ^ 61 }
+        requires short { is_short nonce ≡ true }
+        ensures parts { IfOk result (λ changed. (settings : SettingsValue)
+            → changed_seen self.new.parts changed
+            ≡ noted table settings m (EchoWanted rloc nonce) (unchanged self.old.parts)) }
+        ensures quiet { IfOk result (λ changed. changed.emits ≡ []) }
+        ensures count { IfOk result (λ changed.
+            self.new.parts.count ≤ self.old.parts.count + 1) }
+        ensures now { IfOk result (λ changed. self.new.parts.now ≤ m) }
+        ensures err { OnErr result (self.new.parts ≡ self.old.parts) }
+    {
+        if !self.may_want(m, &rloc, nonce) {
+            return Ok(self.nothing());
+        }
+        let entries = only(
+            self.alloc,
+            Entry::EchoWanted {
+                moment: m,
+                rloc,
+                nonce,
+            },
+        )?;
+        self.reserve_others()?;
+        self.want_echo(m, rloc, nonce);
+        Ok(self.quiet(entries))
+    }
+
+    // That may be noted.
+    #[tactic(auto, unfolding(router_model::specs::Parts::view_in))]
+    fn may_want(&self, m: u64, rloc: &Addr, nonce: u32) -> bool
+        ensures { result ≡ (view_in self.now.parts m).may_want rloc.now nonce }
+    {
+        self.locators.may_want(self.moment_at(m), rloc, nonce)
+    }
+
+    /// Notes that a locator echoed this nonce.
+    #[tactic(auto, unfolding(router_model::specs::Note::noted))]
+    pub(crate) fn note_heard(
+        &mut self,
+        m: u64,
+        rloc: &Addr,
+        nonce: u32,
+    ) -> Result<Changed, NoMemory>
+        requires later { self.old.parts.now ≤ m }
+        requires count { self.old.parts.count < 2 ^ 61 }
+        ensures parts { IfOk result (λ changed. (settings : SettingsValue)
+            → changed_seen self.new.parts changed
+            ≡ noted table settings m (EchoHeard rloc.now nonce) (unchanged self.old.parts)) }
+        ensures quiet { IfOk result (λ changed. changed.emits ≡ []) }
+        ensures count { IfOk result (λ changed.
+            self.new.parts.count ≤ self.old.parts.count + 1) }
+        ensures now { IfOk result (λ changed. self.new.parts.now ≤ m) }
+        ensures err { OnErr result (self.new.parts ≡ self.old.parts) }
+    {
+        if !self.is_echo(m, rloc, nonce) {
+            return Ok(self.nothing());
+        }
+        let entries = only(
+            self.alloc,
+            Entry::EchoHeard {
+                moment: m,
+                rloc: *rloc,
+            },
+        )?;
+        self.hear_echo(m, rloc);
+        Ok(self.quiet(entries))
+    }
+
+    // An echo of that nonce is asked for.
+    #[tactic(auto, unfolding(router_model::specs::Parts::view_in))]
+    fn is_echo(&self, m: u64, rloc: &Addr, nonce: u32) -> bool
+        ensures { result ≡ is_echo nonce ((view_in self.now.parts m).echo_on rloc.now) }
+    {
+        match self.locators.echo_on(self.moment_at(m), rloc) {
+            None => false,
+            Some(asked) => asked == nonce,
+        }
+    }
+
+    /// Notes that a packet came from a locator that asks for no echo.
+    #[tactic(auto, unfolding(router_model::specs::Note::noted))]
+    pub(crate) fn note_data(&mut self, m: u64, rloc: &Addr) -> Result<Changed, NoMemory>
+        requires later { self.old.parts.now ≤ m }
+        requires count { self.old.parts.count < 2 ^ 61 }
+        ensures parts { IfOk result (λ changed. (settings : SettingsValue)
+            → changed_seen self.new.parts changed
+            ≡ noted table settings m (DataFrom rloc.now) (unchanged self.old.parts)) }
+        ensures quiet { IfOk result (λ changed. changed.emits ≡ []) }
+        ensures count { IfOk result (λ changed.
+            self.new.parts.count ≤ self.old.parts.count + 1) }
+        ensures now { IfOk result (λ changed. self.new.parts.now ≤ m) }
+        ensures err { OnErr result (self.new.parts ≡ self.old.parts) }
+    {
+        if !self.is_data_due(m, rloc) {
+            return Ok(self.nothing());
+        }
+        let entries = only(
+            self.alloc,
+            Entry::DataFrom {
+                moment: m,
+                rloc: *rloc,
+            },
+        )?;
+        self.take_data(m, rloc);
+        Ok(self.quiet(entries))
+    }
+
+    // An echo is asked of the locator, and no packet came since.
+    #[tactic(auto, unfolding(router_model::specs::Parts::view_in))]
+    fn is_data_due(&self, m: u64, rloc: &Addr) -> bool
+        ensures { result ≡ (view_in self.now.parts m).data_due rloc.now }
+    {
+        self.locators.data_due(self.moment_at(m), rloc)
+    }
+
+    /// Notes that an echo may be asked of a locator: it is asked of it from now on.
+    #[tactic(auto, unfolding(router_model::specs::Note::noted))]
+    pub(crate) fn note_due(
+        &mut self,
+        settings: &Settings,
+        m: u64,
+        rloc: Addr,
+    ) -> Result<Changed, NoMemory>
+        requires later { self.old.parts.now ≤ m }
+        requires count { self.old.parts.count < 2 ^ 61 }
+        ensures parts { IfOk result (λ changed. changed_seen self.new.parts changed
+            ≡ noted table settings.now m (EchoDue rloc) (unchanged self.old.parts)) }
+        ensures quiet { IfOk result (λ changed. changed.emits ≡ []) }
+        ensures count { IfOk result (λ changed.
+            self.new.parts.count ≤ self.old.parts.count + 1) }
+        ensures now { IfOk result (λ changed. self.new.parts.now ≤ m) }
+        ensures err { OnErr result (self.new.parts ≡ self.old.parts) }
+    {
+        if !self.is_echo_due(settings, m, &rloc) {
+            return Ok(self.nothing());
+        }
+        let nonce = (nonce_at(settings, self.drawn) % (1 << 24)) as u32;
+        let entries = only(
+            self.alloc,
+            Entry::EchoStarted {
+                moment: m,
+                rloc,
+                nonce,
+            },
+        )?;
+        self.reserve_others()?;
+        self.start_echo(m, rloc, nonce);
+        Ok(self.quiet(entries))
+    }
+
+    /// An echo is asked of the locators of packets, and may be asked of this one.
+    pub(crate) fn is_echo_due(&self, settings: &Settings, m: u64, rloc: &Addr) -> bool
+        ensures { result
+            ≡ (settings.now.echo && (view_in self.now.parts m).may_start rloc.now) }
+    {
+        settings.echo && self.may_start(m, rloc)
+    }
+}

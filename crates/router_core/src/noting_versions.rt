@@ -1,0 +1,121 @@
+// What is noticed of Map-Versions, noted (RFC 9302, section 7).
+ghost use Rattle.std.specs.Prelude.{◌≡◌, ◌<◌, ◌≤◌, ◌^◌, ◌&&◌, ◌+◌, length, is_some, All, IsTrue, IfOk, OnErr};
+ghost use Rattle.router_log.specs.declared.notice.Notice.TheVariants.{Refresh, Solicit};
+ghost use Rattle.router_model.specs.Changes.{may_ask, unchanged};
+ghost use Rattle.router_model.specs.Mappings.{exact};
+ghost use Rattle.router_model.specs.Note.{is_learnt, noted};
+ghost use Rattle.router_model.specs.Parts.{table, view_in};
+ghost use Rattle.router_model.specs.Site.{ours};
+ghost use Rattle.router_core.specs.Sendable.{IsSendable};
+ghost use Rattle.router_core.specs.Table.{changed_seen};
+
+use crate::changed::only;
+use crate::site::ours;
+use crate::{Changed, Table};
+use ip_headers::Addr;
+use lisp_settings::{Settings, nonce_at};
+use mapping_records::Eid;
+use octets::NoMemory;
+use router_log::{Emit, Entry};
+
+impl Table {
+    /// Notes that the mapping of an EID is older than the other side's: if it was learnt, it is asked
+    /// for again.
+    #[tactic(auto, unfolding(router_model::specs::Note::noted))]
+    pub(crate) fn note_old(
+        &mut self,
+        settings: &Settings,
+        m: u64,
+        eid: &Eid,
+    ) -> Result<Changed, NoMemory>
+        requires later { self.old.parts.now ≤ m }
+        requires count { self.old.parts.count < 2 ^ 61 }
+        ensures parts { IfOk result (λ changed. changed_seen self.new.parts changed
+            ≡ noted table settings.now m (Refresh eid.now) (unchanged self.old.parts)) }
+        ensures sendable { IfOk result (λ changed. All (IsSendable settings.now) changed.emits) }
+        ensures few { IfOk result (λ changed. length changed.emits ≤ 1) }
+        ensures count { IfOk result (λ changed.
+            self.new.parts.count ≤ self.old.parts.count + 1) }
+        ensures now { IfOk result (λ changed. self.new.parts.now ≤ m) }
+        ensures err { OnErr result (self.new.parts ≡ self.old.parts) }
+    {
+        if !self.may_renew(settings, m, eid) {
+            return Ok(self.nothing());
+        }
+        self.make_request(settings, m, *eid, None, false)
+    }
+
+    // The EID has a learnt mapping of its own, and may be asked for.
+    fn may_renew(&self, settings: &Settings, m: u64, eid: &Eid) -> bool
+        ensures { result ≡ (is_learnt (exact (view_in self.now.parts m).mappings eid.now)
+            && may_ask settings.now (view_in self.now.parts m) eid.now) }
+    {
+        self.is_learnt(m, eid) && self.may_ask(settings, m, eid)
+    }
+
+    fn is_learnt(&self, m: u64, eid: &Eid) -> bool
+        ensures { result ≡ is_learnt (exact (view_in self.now.parts m).mappings eid.now) }
+    {
+        match self.exact(m, eid) {
+            None => false,
+            Some(mapping) => !mapping.fixed,
+        }
+    }
+
+    /// Notes that a locator knows an old version of the mapping of an EID of the site: it is solicited,
+    /// with the next nonce.
+    #[tactic(auto, unfolding(router_model::specs::Note::noted))]
+    pub(crate) fn note_solicit(
+        &mut self,
+        settings: &Settings,
+        m: u64,
+        rloc: Addr,
+        eid: Eid,
+    ) -> Result<Changed, NoMemory>
+        requires later { self.old.parts.now ≤ m }
+        requires count { self.old.parts.count < 2 ^ 61 }
+        ensures parts { IfOk result (λ changed. changed_seen self.new.parts changed
+            ≡ noted table settings.now m (Solicit rloc eid) (unchanged self.old.parts)) }
+        ensures sendable { IfOk result (λ changed. All (IsSendable settings.now) changed.emits) }
+        ensures few { IfOk result (λ changed. length changed.emits ≤ 1) }
+        ensures count { IfOk result (λ changed.
+            self.new.parts.count ≤ self.old.parts.count + 1) }
+        ensures now { IfOk result (λ changed. self.new.parts.now ≤ m) }
+        ensures err { OnErr result (self.new.parts ≡ self.old.parts) }
+    {
+        if !self.may_solicit(settings, m, &rloc, &eid) {
+            return Ok(self.nothing());
+        }
+        let nonce = nonce_at(settings, self.drawn);
+        let entries = only(
+            self.alloc,
+            Entry::Solicited {
+                moment: m,
+                rloc,
+                eid,
+                nonce,
+            },
+        )?;
+        let emits = only(
+            self.alloc,
+            Emit::Solicit {
+                to: rloc,
+                eid,
+                nonce,
+            },
+        )?;
+        self.reserve_others()?;
+        self.solicit(m, rloc, eid, nonce);
+        Ok(Changed { entries, emits })
+    }
+
+    // An own locator of its family is up, and it may be solicited for the EID.
+    #[tactic(auto, unfolding(router_model::specs::Parts::view_in))]
+    fn may_solicit(&self, settings: &Settings, m: u64, rloc: &Addr, eid: &Eid) -> bool
+        ensures { result ≡ (is_some (ours settings.now.locators rloc.now)
+            && (view_in self.now.parts m).may_solicit rloc.now eid.now) }
+    {
+        ours(settings.locators.as_slice(), *rloc).is_some()
+            && self.locators.may_solicit(self.moment_at(m), rloc, eid)
+    }
+}

@@ -1,0 +1,148 @@
+// What a delivered packet tells of its sender: status bits, echoes, versions (RFC 9300, section 10; RFC 9302).
+ghost use Rattle.std.specs.Prelude.{◌≡◌, ◌++◌, IfOk, OnOk, option_and_then, option_map, option_to_list};
+ghost use Rattle.std.specs.Option.{option_copied};
+ghost use Rattle.lisp_header.specs.Header.{InRange};
+ghost use Rattle.router_model.specs.Cache.{held_of};
+ghost use Rattle.router_model.specs.Decide.{bits_notice, bits_width, delivery_notices, given, nonce_notices, refresh_notice, solicit_notice};
+ghost use Rattle.router_model.specs.Lifting.{AreSound};
+
+use crate::versions::{is_newer, is_version};
+use ip_headers::Addr;
+use lisp_header::{LispHeader, newer};
+use lisp_settings::Database;
+use map_cache::Mapping;
+use octets::{Items, NoMemory};
+use router_log::{Notice, Notices};
+use std::alloc::Global;
+
+/// What a delivered packet from a locator tells, by the prefix of the site that it is for and the
+/// mapping in force for its source.
+pub(crate) fn notices(
+    alloc: Global,
+    rloc: Addr,
+    header: &LispHeader,
+    home: &Database,
+    mapping: Option<&Mapping>,
+) -> Result<Notices, NoMemory>
+    requires { InRange header.now }
+    ensures notices { IfOk result (λ notices. notices ≡ delivery_notices rloc header.now home.now
+        (option_map held_of (option_copied mapping.entry))) }
+    ensures sound { IfOk result AreSound }
+{
+    let mut notices = Items::new(alloc);
+    push_bits(rloc, header, mapping, &mut notices)?;
+    push_nonce(rloc, header.echo, header.nonce, &mut notices)?;
+    push_solicit(rloc, header, home, &mut notices)?;
+    push_refresh(header, mapping, &mut notices)?;
+    Ok(notices)
+}
+
+// What its status bits tell of that mapping.
+fn push_bits(
+    rloc: Addr,
+    header: &LispHeader,
+    mapping: Option<&Mapping>,
+    notices: &mut Notices,
+) -> Result<(), NoMemory>
+    ensures { OnOk result (notices.new ≡ notices.old ++ option_to_list
+        (option_and_then (λ bits. bits_notice rloc header.now bits
+        (option_map held_of (option_copied mapping.entry))) header.now.status)) }
+{
+    match bits_notice(rloc, header, mapping) {
+        None => Ok(()),
+        Some(notice) => notices.push(notice),
+    }
+}
+
+fn bits_notice(rloc: Addr, header: &LispHeader, mapping: Option<&Mapping>) -> Option<Notice>
+    ensures { result ≡ option_and_then (λ bits. bits_notice rloc header.now bits
+        (option_map held_of (option_copied mapping.entry))) header.now.status }
+{
+    let bits = header.status?;
+    let mapping = mapping?;
+    Some(Notice::Bits {
+        eid: mapping.eid,
+        rloc,
+        bits,
+        width: bits_width(header),
+    })
+}
+
+// How many status bits a header has: beside an instance 8.
+fn bits_width(header: &LispHeader) -> u8
+    ensures { result ≡ bits_width header.now }
+{
+    if header.instance.is_some() { 8 } else { 32 }
+}
+
+// What its nonce tells: it is to be echoed, or it is an echo. Only a packet that asks for one doesn't
+// count as data.
+fn push_nonce(
+    rloc: Addr,
+    asks: bool,
+    nonce: Option<u32>,
+    notices: &mut Notices,
+) -> Result<(), NoMemory>
+    ensures { OnOk result (notices.new ≡ notices.old ++ nonce_notices rloc asks nonce) }
+{
+    match nonce {
+        None => notices.push(Notice::DataFrom { rloc }),
+        Some(nonce) => {
+            if asks {
+                return notices.push(Notice::EchoWanted { rloc, nonce });
+            }
+            notices.push(Notice::EchoHeard { rloc, nonce })?;
+            notices.push(Notice::DataFrom { rloc })
+        }
+    }
+}
+
+// A notice that is given where a test holds.
+fn push_given(test: bool, notice: Notice, notices: &mut Notices) -> Result<(), NoMemory>
+    ensures { OnOk result (notices.new ≡ notices.old ++ given test notice) }
+{
+    if test {
+        return notices.push(notice);
+    }
+    Ok(())
+}
+
+// The sender knows an old version of the site's mapping.
+fn push_solicit(
+    rloc: Addr,
+    header: &LispHeader,
+    home: &Database,
+    notices: &mut Notices,
+) -> Result<(), NoMemory>
+    ensures { OnOk result (notices.new ≡ notices.old ++ solicit_notice rloc header.now home.now) }
+{
+    let (_, dest) = header.versions.unwrap_or((0, 0));
+    let is_old = is_version(dest) && newer(home.version, dest);
+    push_given(
+        is_old,
+        Notice::Solicit {
+            rloc,
+            eid: home.eid,
+        },
+        notices,
+    )
+}
+
+// The sender has a newer version of its own mapping than was learnt.
+fn push_refresh(
+    header: &LispHeader,
+    mapping: Option<&Mapping>,
+    notices: &mut Notices,
+) -> Result<(), NoMemory>
+    ensures { OnOk result (notices.new ≡ notices.old ++ refresh_notice header.now
+        (option_map held_of (option_copied mapping.entry))) }
+{
+    let (source, _) = header.versions.unwrap_or((0, 0));
+    match mapping {
+        None => Ok(()),
+        Some(mapping) => {
+            let is_old = !mapping.fixed && is_newer(source, mapping.details.version);
+            push_given(is_old, Notice::Refresh { eid: mapping.eid }, notices)
+        }
+    }
+}

@@ -1,0 +1,123 @@
+// The LISP headers of the packets that this router sends (RFC 9300, section 5.3).
+ghost use Rattle.std.specs.Prelude.{◌≡◌, ◌≢◌, ◌<◌, ◌≤◌, ◌%◌, ◌^◌, ◌==◌, None, Some, if◌then◌else◌};
+ghost use Rattle.ip_headers.specs.Ip.{source_of};
+ghost use Rattle.lisp_header.specs.Header.{InRange};
+ghost use Rattle.lisp_settings.specs.Home.{home_of};
+ghost use Rattle.lisp_settings.specs.Lawful.{IsLawful};
+ghost use Rattle.router_model.specs.Decide.{asks_echo, echo_nonce, home_version, lisp_header, versions_of};
+ghost use Rattle.router_model.specs.Parts.{view_in};
+ghost use Rattle.router_model.specs.Site.{own_bits};
+ghost use Rattle.router_core.specs.Bounded.{IsShortOut};
+
+use crate::Table;
+use crate::site::own_bits;
+use crate::versions::is_version;
+use ip_headers::{Addr, IpPacket};
+use lisp_header::LispHeader;
+use lisp_settings::{Settings, home};
+use router_log::EchoOut;
+
+/// The version of the prefix of the site that a packet comes from, 0 without one.
+pub(crate) fn home_version(settings: &Settings, iid: u32, packet: &IpPacket) -> u16
+    requires { IsLawful settings.now }
+    ensures version { result
+        ≡ home_version (home_of settings.now.databases iid (source_of packet.now.header)) }
+    ensures bits { result ≤ 4095 }
+{
+    match home(settings, iid, &packet.header.source()) {
+        None => 0,
+        Some(database) => database.version,
+    }
+}
+
+/// The header of a packet of an instance to a locator, with the versions of its source and its
+/// destination.
+pub(crate) fn header_to(
+    table: &Table,
+    settings: &Settings,
+    m: u64,
+    iid: u32,
+    to: Addr,
+    versions: (u16, u16),
+) -> LispHeader
+    requires lawful { IsLawful settings.now }
+    requires instance { iid < 2 ^ 24 }
+    requires source { versions.0 ≤ 4095 }
+    requires dest { versions.1 ≤ 4095 }
+    ensures header { result ≡ lisp_header settings.now iid
+        ((view_in table.now.parts m).echo_out to) versions.0 versions.1 }
+    ensures range { InRange result }
+{
+    lisp_header(settings, iid, table.echo_out(m, &to), versions)
+}
+
+// The header that does that about echoes: an echo, or else versions, and the own status bits.
+fn lisp_header(settings: &Settings, iid: u32, out: EchoOut, versions: (u16, u16)) -> LispHeader
+    requires lawful { IsLawful settings.now }
+    requires instance { iid < 2 ^ 24 }
+    requires short { IsShortOut out }
+    requires source { versions.0 ≤ 4095 }
+    requires dest { versions.1 ≤ 4095 }
+    ensures header { result ≡ lisp_header settings.now iid out versions.0 versions.1 }
+    ensures range { InRange result }
+{
+    LispHeader {
+        nonce: echo_nonce(out),
+        echo: asks_echo(out),
+        versions: versions_of(out, versions.0, versions.1),
+        status: Some(own_status(settings, iid)),
+        instance: told_instance(iid),
+        key: 0,
+    }
+}
+
+fn echo_nonce(out: EchoOut) -> Option<u32>
+    ensures { result ≡ echo_nonce out }
+{
+    match out {
+        EchoOut::Plain => None,
+        EchoOut::Answer(nonce) | EchoOut::Ask(nonce) => Some(nonce),
+    }
+}
+
+fn asks_echo(out: EchoOut) -> bool
+    ensures { result ≡ asks_echo out }
+{
+    match out {
+        EchoOut::Ask(_) => true,
+        EchoOut::Plain | EchoOut::Answer(_) => false,
+    }
+}
+
+// The versions of a header without nonce, where either is there.
+fn versions_of(out: EchoOut, source: u16, dest: u16) -> Option<(u16, u16)>
+    ensures { result ≡ versions_of out source dest }
+{
+    match out {
+        EchoOut::Plain => {
+            if is_version(source) || is_version(dest) {
+                return Some((source, dest));
+            }
+            None
+        }
+        EchoOut::Answer(_) | EchoOut::Ask(_) => None,
+    }
+}
+
+// The status bits of the own locators, beside an instance the lowest 8.
+fn own_status(settings: &Settings, iid: u32) -> u32
+    requires { IsLawful settings.now }
+    ensures bits { result ≡ if iid == 0 then own_bits settings.now.locators
+        else own_bits settings.now.locators % 256 }
+    ensures short { iid ≢ 0 → result < 2 ^ 8 }
+{
+    let bits = own_bits(settings.locators.as_slice()) as u32;
+    if iid == 0 { bits } else { bits % 256 }
+}
+
+// The instance, where it is not 0.
+fn told_instance(iid: u32) -> Option<u32>
+    ensures { result ≡ if iid == 0 then None else Some iid }
+{
+    if iid == 0 { None } else { Some(iid) }
+}
