@@ -1,8 +1,8 @@
 -- What a frame adds to a replay.
-use Rattle.std.proofs.Common.{get_or, drop, take, ◌≡◌, ◌+◌, ◌*◌, ◌/◌, ◌-◌, ◌^◌, ◌≤◌, ◌<◌, ◌∙◌, ℕ, List, [], ◌∷◌, ◌++◌, length, Option, Some, None, Result, Ok, Err, false, append_assoc, arith, ap, ap₂, refl, sym}
+use Rattle.std.proofs.Common.{get_or, drop, take, ◌≡◌, ◌+◌, ◌*◌, ◌/◌, ◌-◌, ◌^◌, ◌≤◌, ◌<◌, ◌∙◌, ℕ, List, [], ◌∷◌, ◌++◌, length, Option, Some, None, Result, Ok, Err, false, append_assoc, arith, ap, ap₂, refl, subst, sym}
 use Rattle.std.specs.Result.{OnOk}
 use Rattle.std.proofs.lemmas.Grind.{flat_map-append}
-use Rattle.std.proofs.lemmas.List.{append-nil, length-append, length-map, take_all}
+use Rattle.std.proofs.lemmas.List.{append-nil, length-append, length-map, map-append, take_all}
 use Rattle.capture_io.specs.Frame.{Frame}
 use Rattle.capture_io.specs.Output.{packet_record}
 use Rattle.lisp_settings.specs.Lawful.{IsLawful}
@@ -11,8 +11,10 @@ use Rattle.playback.specs.Events.{Arrival, Packet, records_of, second_of}
 use Rattle.playback.specs.Playing.{Gathers}
 use Rattle.playback.specs.declared.output.Output.{Output}
 use Rattle.router_log.specs.Lines.{frame_line}
+use Rattle.router_log.specs.declared.emit.Emit.{Emit}
 use Rattle.router_log.specs.declared.verdict.Verdict.{Verdict}
 use Rattle.router_model.specs.Changes.{Change}
+use Rattle.router_model.specs.Emits.{emit_packet}
 use Rattle.router_model.specs.Hear.{Heard}
 use Rattle.router_model.specs.Journal.{statics}
 use Rattle.router_model.specs.Parts.{Parts, parts_in, table, view_in}
@@ -55,6 +57,26 @@ sends-more packet packets old mid new first others =
       written = omega (arith, a, b);
     }
 
+-- packets, then others
+sends-both : (first others : List Packet) (old mid new : Output) → Sends first old mid → Sends others mid new → Sends (first ++ others) old new
+sends-both first others old mid new a b =
+    let m = a.written in
+    let n = b.written in
+    let both = length-append first others in
+    record {
+      lines = b.lines ∙ a.lines;
+      records = b.records ∙ ap (λ (r : List ℕ). r ++ records_of others) a.records
+          ∙ append_assoc old.records (records_of first) (records_of others)
+          ∙ ap (λ (r : List ℕ). old.records ++ r) (sym (flat_map-append (λ (p : Packet). packet_record p.moment p.octets) first others));
+      written = omega (arith, m, n, both);
+    }
+
+-- the packets of emits, then those of others
+pub emits-more : (settings : Settings) (moment : ℕ) (first others : List Emit) (old mid new : Output) → Sends (emit_packets settings moment first) old mid → Sends (emit_packets settings moment others) mid new → Sends (emit_packets settings moment (first ++ others)) old new
+emits-more settings moment first others old mid new a b =
+    subst (λ (packets : List Packet). Sends packets old new) (sym (map-append (λ (emit : Emit). record { moment = moment; octets = emit_packet settings emit }) first others))
+    (sends-both (emit_packets settings moment first) (emit_packets settings moment others) old mid new a b)
+
 -- a line and the packets of emits are what a message gives
 pub message-gathers : (router : Router Parts) (frame : Frame) (heard : Heard Parts) (old first new : Output)
     → first.lines ≡ old.lines ++ frame_line frame.number frame.moment router.memory.count heard.verdict → first.records ≡ old.records → first.written ≡ old.written
@@ -74,7 +96,7 @@ message-gathers router frame heard old first new lines records written sent few 
 -- a line, the packet of a verdict and those of emits are what a frame gives
 pub data-gathers : (router : Router Parts) (frame : Frame) (verdict : Verdict) (change : Change Parts) (old first mid new : Output)
     → first.lines ≡ old.lines ++ frame_line frame.number frame.moment router.memory.count verdict → first.records ≡ old.records → first.written ≡ old.written
-    → Sends (packets_of frame.moment (packet_of verdict)) first mid → Sends (emit_packets router.settings frame.moment change.emits) mid new → length change.emits ≤ 1
+    → Sends (packets_of frame.moment (packet_of verdict)) first mid → Sends (emit_packets router.settings frame.moment change.emits) mid new → length change.emits ≤ 5
     → Gathers (after_data table router frame verdict change) old new
 data-gathers router frame verdict change old first mid new lines records written sent emitted few =
     let packets = packets_of frame.moment (packet_of verdict) in
@@ -136,7 +158,7 @@ ready-later frames before after earlier second later few more =
     rw same (omega (arith, past, few, more))
 
 -- there is room for more
-pub room-left : (frames count moment : ℕ) → frames ≤ 1000000000 → moment < 2 ^ 32 * 1000000000 → count ≤ 65536 + 256 * frames + 1040 * second_of moment → count < 2 ^ 61
+pub room-left : (frames count moment : ℕ) → frames ≤ 1000000000 → moment < 2 ^ 32 * 1000000000 → count ≤ 65536 + 256 * frames + 1040 * second_of moment → count < 2 ^ 60
 room-left frames count moment most early few =
     let past = second-later moment (2 ^ 32) early in
     omega (arith, past, most, few)

@@ -20,7 +20,7 @@ use lisp_settings::Settings;
 use octets::{NoMemory, Octets};
 use playback::Output;
 use router_core::{Course, Decision, Table, course_of, emit_octets};
-use router_log::{Emit, Notices, Verdict, push_frame_line};
+use router_log::{Emit, Notice, Verdict, push_frame_line};
 use std::alloc::Global;
 
 /// Lets a second begin, and gathers the packets that are sent at it.
@@ -58,7 +58,7 @@ pub(crate) fn take_frame(
 ) -> Result<(), NoMemory>
     requires lawful { IsLawful settings.now }
     requires later { memory.old.parts.now ≤ frame.now.moment }
-    requires count { memory.old.parts.count < 2 ^ 61 }
+    requires count { memory.old.parts.count < 2 ^ 60 }
     requires moment { frame.now.moment < 2 ^ 32 * 1000000000 }
     requires room { output.old.written < 2 ^ 48 }
     ensures gathers { OnOk result (Gathers
@@ -133,7 +133,7 @@ fn decide(
     requires instance { IfLeaving course (λ iid. iid < 2 ^ 24) }
     requires quiet { IfSettled course (λ verdict. packet_of verdict ≡ None) }
     requires later { memory.old.parts.now ≤ frame.now.moment }
-    requires count { memory.old.parts.count < 2 ^ 61 }
+    requires count { memory.old.parts.count < 2 ^ 60 }
     requires moment { frame.now.moment < 2 ^ 32 * 1000000000 }
     requires room { output.old.written < 2 ^ 48 }
     ensures gathers { OnOk result (Gathers
@@ -145,7 +145,7 @@ fn decide(
         (decide_course settings.now (view_in memory.old.parts frame.now.moment)
         (course_seen course.entry))).after) }
     ensures now { OnOk result (memory.new.parts.now ≤ frame.now.moment) }
-    ensures count { OnOk result (memory.new.parts.count ≤ memory.old.parts.count + 1) }
+    ensures count { OnOk result (memory.new.parts.count ≤ memory.old.parts.count + 5) }
 {
     let entries = memory.count();
     let Decision { verdict, notices } = memory.decide_course(settings, frame.moment, course)?;
@@ -157,7 +157,14 @@ fn decide(
         &mut output.lines,
     )?;
     push_sent(verdict, frame.moment, output)?;
-    note_all(alloc, settings, memory, frame.moment, &notices, output)
+    note_all(
+        alloc,
+        settings,
+        memory,
+        frame.moment,
+        notices.as_slice(),
+        output,
+    )
 }
 
 // Gathers the packet that a verdict sends.
@@ -185,37 +192,38 @@ fn sent_packet(verdict: Verdict) -> Option<Octets>
     }
 }
 
-// Notes what a decision noticed, which is one notice at most, and gathers the packets that are sent.
+// Notes what a decision noticed, one notice after another, and gathers the packets that are sent.
 fn note_all(
     alloc: Global,
     settings: &Settings,
     memory: &mut Table,
     moment: u64,
-    notices: &Notices,
+    notices: &[Notice],
     output: &mut Output,
 ) -> Result<(), NoMemory>
     requires lawful { IsLawful settings.now }
-    requires few { length notices.now ≤ 1 }
     requires sound { list_all is_sound notices.now ≡ true }
     requires later { memory.old.parts.now ≤ moment }
-    requires count { memory.old.parts.count < 2 ^ 61 }
+    requires count { memory.old.parts.count + length notices.now ≤ 2 ^ 61 }
     requires moment { moment < 2 ^ 32 * 1000000000 }
-    requires room { output.old.written < 2 ^ 49 }
+    requires room { output.old.written + length notices.now < 2 ^ 50 }
     ensures sends { OnOk result (Sends (emit_packets settings.now moment
         (each (noted table settings.now moment) notices.now (unchanged memory.old.parts)).emits)
         output.old output.new) }
     ensures state { OnOk result (memory.new.parts
         ≡ (each (noted table settings.now moment) notices.now (unchanged memory.old.parts)).after) }
     ensures few { OnOk result (length (each (noted table settings.now moment) notices.now
-        (unchanged memory.old.parts)).emits ≤ 1) }
+        (unchanged memory.old.parts)).emits ≤ length notices.now) }
     ensures now { OnOk result (memory.new.parts.now ≤ moment) }
-    ensures count { OnOk result (memory.new.parts.count ≤ memory.old.parts.count + 1) }
+    ensures count { OnOk result (memory.new.parts.count
+        ≤ memory.old.parts.count + length notices.now) }
 {
-    let [notice, ..] = notices.as_slice() else {
+    let [notice, others @ ..] = notices else {
         return Ok(());
     };
     let changed = memory.note(settings, moment, notice)?;
-    push_emits(alloc, settings, moment, changed.emits.as_slice(), output)
+    push_emits(alloc, settings, moment, changed.emits.as_slice(), output)?;
+    note_all(alloc, settings, memory, moment, others, output)
 }
 
 // Gathers the packets of emits.

@@ -1,0 +1,56 @@
+use Rattle.std.proofs.Common.{◌≡◌, ◌∙◌, ◌-◌, ◌≤◌, ℕ, List, drop, length, take, ap, arith, sym, subst}
+use Rattle.std.proofs.lemmas.List.{length-append}
+use Rattle.std.proofs.lemmas.Result.{on_ok_weaker}
+use Rattle.router_log.specs.declared.emit.Emit.{Emit}
+use Rattle.router_log.specs.declared.notice.Notice.{Notice}
+use Rattle.router_model.specs.Changes.{Change, each, unchanged}
+use Rattle.router_model.specs.Note.{noted}
+use Rattle.router_model.specs.Parts.{Parts, table}
+use Rattle.router_model.specs.Plain.{emit_packets}
+use Rattle.replay.specs.Taking.{Sends}
+use Rattle.replay.proofs.NotingLemmas.{all-from, behind}
+use Rattle.replay.proofs.ReplayLemmas.{emits-more, first-left}
+use Rattle.replay.proofs.taking.+note_all.Goals as goal
+
+-- all notices by the first of them, and those left
+noted-first : (t : ℕ) (c : goal.After-drop-changed-3 t) → each (noted table c.args.settings.now c.args.moment) c.args.notices.now (unchanged c.args.memory.now.parts)
+    ≡ behind c.in_ok-changed.changed.entries c.in_ok-changed.changed.emits (each (noted table c.args.settings.now c.args.moment) (take (length c.args.notices.now - 1) (drop 1 c.args.notices.now)) (unchanged c.note.new.self.parts))
+noted-first t c =
+    let settings = c.args.settings.now in
+    let notices = c.args.notices.now in
+    let notice = c.notice-item.result in
+    let left : List Notice = take (length notices - 1) (drop 1 notices) in
+    ap (λ (l : List Notice). each (noted table settings c.args.moment) l (unchanged c.args.memory.now.parts)) (first-left notices notice c.in-len1-up.len_at_least c.notice-item.is)
+    ∙ all-from settings c.args.moment notice left c.args.memory.now.parts c.note.new.self.parts c.in_ok-changed.changed.entries c.in_ok-changed.changed.emits c.in_ok-changed.ensures.parts
+
+pub returns-clause-sends : goal.returns-clause-sends
+returns-clause-sends t c =
+    let settings = c.args.settings.now in
+    let moment = c.args.moment in
+    let notices = c.args.notices.now in
+    let old = c.args.output.now in
+    let mid = c.push_emits.new.output in
+    let new = c.note_all.new.output in
+    let emits = c.in_ok-changed.changed.emits in
+    let left : Change Parts = each (noted table settings moment) (take (length notices - 1) (drop 1 notices)) (unchanged c.note.new.self.parts) in
+    let first : Sends (emit_packets settings moment emits) old mid =
+    subst (λ (l : List Emit). Sends (emit_packets settings moment l) old mid) c.as_slice.ensures c.in_ok-push_emits.ensures in
+    on_ok_weaker c.note_all.result (λ others.
+    subst (λ (change : Change Parts). Sends (emit_packets settings moment change.emits) old new) (sym (noted-first t c))
+    (emits-more settings moment emits left.emits old mid new first others)) c.note_all.ensures.sends
+
+pub returns-clause-state : goal.returns-clause-state
+returns-clause-state t c =
+    on_ok_weaker c.note_all.result (λ is. is ∙ ap (λ (change : Change Parts). change.after) (sym (noted-first t c))) c.note_all.ensures.state
+
+pub returns-clause-few : goal.returns-clause-few
+returns-clause-few t c =
+    let notices = c.args.notices.now in
+    let emits = c.in_ok-changed.changed.emits in
+    let left : Change Parts = each (noted table c.args.settings.now c.args.moment) (take (length notices - 1) (drop 1 notices)) (unchanged c.note.new.self.parts) in
+    let one = c.in_ok-changed.ensures.few in
+    let some = c.in-len1-up.len_at_least in
+    let split = ap (λ (l : List Notice). length l) (first-left notices c.notice-item.result some c.notice-item.is) in
+    let both = length-append emits left.emits in
+    on_ok_weaker c.note_all.result (λ few.
+    subst (λ (change : Change Parts). length change.emits ≤ length notices) (sym (noted-first t c)) (omega (arith, few, one, split, both))) c.note_all.ensures.few
