@@ -1,5 +1,5 @@
 -- The packets of the examples, and frames of them.
-use Rattle.std.specs.Prelude.{ℕ, ◌+◌, ◌*◌, ◌-◌, List, [], ◌++◌, codes, replicate, unwrap_or}
+use Rattle.std.specs.Prelude.{ℕ, ◌+◌, ◌*◌, ◌-◌, ◌/◌, ◌%◌, List, [], ◌∷◌, ◌++◌, codes, replicate, unwrap_or}
 use Rattle.capture_io.specs.Frame.{Frame}
 use Rattle.capture_io.specs.declared.link.Link.TheVariants.{Ethernet, Raw}
 use Rattle.lisp_settings.specs.Hex.{octets_in}
@@ -14,6 +14,10 @@ seconds n = 1700000000000000000 + n * 1000000000
 -- a nanosecond before a moment
 abbrev pub just_before : ℕ → ℕ
 just_before moment = moment - 1
+
+-- a nanosecond before so many seconds, and at them
+abbrev pub around : ℕ → List ℕ
+around n = just_before (seconds n) ∷ seconds n ∷ []
 
 -- octets of hexadecimal digits
 abbrev pub hex : List ℕ → List ℕ
@@ -78,6 +82,11 @@ encapsulated_in_100 = hex (codes "45000040000040003f114f71c0000201c6336407fc0710
 abbrev pub encapsulated_last : List ℕ
 encapsulated_last = hex (codes "450000400000400001118d71c0000201c6336407fc0710f5002c000040000000000000014500001c000000000111a5c10a0100050a02000903e807d000080000")
 
+-- the packet, with a LISP header of these digits
+abbrev pub outward : List ℕ → List ℕ
+outward header =
+    hex (codes "45000040000040003f114f71c0000201c6336407fc0710f5002c0000") ++ (hex header ++ forwarded)
+
 -- ### in a tunnel to the site
 
 -- 10.2.0.9 to 10.1.0.5, outer TTL 10 and DSCP 46 with ECT(1), inner TTL 64 and ECT(0); and how it leaves the tunnel
@@ -87,9 +96,41 @@ marked = hex (codes "45b90040000000000a11c3b8c6336407c0000201c35010f5002c0000000
 abbrev pub delivered : List ℕ
 delivered = hex (codes "45b9001c0000000009119d080a0200090a01000503e807d000080000")
 
--- the same with the bits of a nonce and of versions
-abbrev pub marked_with_nonce : List ℕ
-marked_with_nonce = hex (codes "45b90040000000000a11c3b8c6336407c0000201c35010f5002c00009000002a000000004502001c00000000401166bf0a0200090a01000503e807d000080000")
+-- the same behind a LISP header, of octets and of digits, and with versions of source and destination
+abbrev pub behind : List ℕ → List ℕ
+behind header =
+    hex (codes "45b90040000000000a11c3b8c6336407c0000201fc0710f5002c0000")
+    ++ (header ++ hex (codes "4502001c00000000401166bf0a0200090a01000503e807d000080000"))
+
+abbrev pub inward : List ℕ → List ℕ
+inward header = behind (hex header)
+
+abbrev pub with_versions : ℕ → ℕ → List ℕ
+with_versions source dest =
+    behind (0x10 ∷ (source / 16) ∷ ((source % 16) * 16 + dest / 256) ∷ (dest % 256) ∷ replicate 4 0)
+
+-- the same from 198.51.100.8, with a LISP header of these digits
+abbrev pub inward_of_another : List ℕ → List ℕ
+inward_of_another header =
+    hex (codes "45b90040000000000a11c3b7c6336408c0000201fc0710f5002c0000")
+    ++ (hex header ++ hex (codes "4502001c00000000401166bf0a0200090a01000503e807d000080000"))
+
+-- with versions, outer CE and inner Not-ECT; and with outer TTL 1
+abbrev pub congested_with : List ℕ → List ℕ
+congested_with header =
+    hex (codes "45bb0040000000000a11c3b6c6336407c0000201fc0710f5002c0000")
+    ++ (hex header ++ hex (codes "4500001c00000000401166c10a0200090a01000503e807d000080000"))
+
+abbrev pub at_its_end_with : List ℕ → List ℕ
+at_its_end_with header =
+    hex (codes "45b90040000000000111ccb8c6336407c0000201fc0710f5002c0000")
+    ++ (hex header ++ hex (codes "4502001c00000000401166bf0a0200090a01000503e807d000080000"))
+
+-- for 10.9.0.1, with a LISP header of these digits
+abbrev pub for_another_with : List ℕ → List ℕ
+for_another_with header =
+    hex (codes "45b90040000000000a11c3b8c6336407c0000201fc0710f5002c0000")
+    ++ (hex header ++ hex (codes "4502001c00000000401166bb0a0200090a09000103e807d000080000"))
 
 -- with the key bits 01
 abbrev pub encrypted : List ℕ

@@ -1,5 +1,5 @@
 -- What the plain router makes of captures.
-use Rattle.std.specs.Prelude.{ℕ, ◌+◌, Bool, true, false, List, [], ◌∷◌, ◌++◌, filter_map, flat_map, map, Option, Some, None}
+use Rattle.std.specs.Prelude.{ℕ, ◌+◌, Bool, true, false, List, [], ◌∷◌, ◌++◌, codes, filter_map, flat_map, map, replicate, Option, Some, None}
 use Rattle.ip_headers.specs.declared.addr.Addr.{Addr}
 use Rattle.ip_headers.specs.declared.addr.Addr.TheVariants.{V4}
 use Rattle.capture_io.specs.Frame.{Frame}
@@ -12,7 +12,11 @@ use Rattle.playback.specs.Events.{Outcome, Packet, events, played}
 use Rattle.request_queue.specs.Queue.{due}
 use Rattle.router_log.specs.Lines.{verdict_text}
 use Rattle.router_log.specs.declared.entry.Entry.{Entry}
-use Rattle.router_log.specs.declared.entry.Entry.TheVariants.{Asked, Learned, Probed, ProbeAnswered, Retried}
+use Rattle.router_log.specs.declared.entry.Entry.TheVariants.{Asked, DataFrom, EchoHeard, EchoStarted, EchoWanted, Learned, Probed, ProbeAnswered, Retried, Solicited}
+use Rattle.router_log.specs.declared.kept.EchoStart.{EchoStart}
+use Rattle.router_log.specs.declared.kept.EchoWish.{EchoWish}
+use Rattle.router_log.specs.declared.kept.Solicitation.{Solicitation}
+use Rattle.router_log.specs.declared.notice.Notice.{Notice}
 use Rattle.router_model.specs.Changes.{Change}
 use Rattle.router_model.specs.Decide.{decide}
 use Rattle.router_model.specs.Hear.{hear}
@@ -21,9 +25,9 @@ use Rattle.router_model.specs.Observed.{observed}
 use Rattle.router_model.specs.Plain.{Router, plain, started}
 use Rattle.router_model.specs.Tick.{tick}
 use Rattle.router_model.specs.View.{view}
-use Rattle.router_examples.specs.Frames.{arp, encapsulated_in_100, framed, inbound, inbound_delivered, packet, raw, seconds, tenths, wired}
-use Rattle.router_examples.specs.Messages.{asked, first_answer, reply, second_answer}
-use Rattle.router_examples.specs.Sites.{asking_site, far, far_off, host, locator, mapping, narrow_of_0, next_of_0, probing_site, site_probing, wide, wide_of_0}
+use Rattle.router_examples.specs.Frames.{arp, encapsulated_in_100, framed, inbound, inbound_delivered, inward, just_before, packet, raw, seconds, tenths, wired, with_versions}
+use Rattle.router_examples.specs.Messages.{asked, first_answer, reply, reply_of_version_7, second_answer}
+use Rattle.router_examples.specs.Sites.{asking_site, echoing_site, far, far_off, home_of_0, host, locator, mapping, narrow_of_0, next_of_0, probing_site, site_of_versions, site_probing, wide, wide_of_0}
 
 -- the outcome of a capture
 abbrev pub replayed : Settings → List Frame → Outcome (Router Journal)
@@ -61,6 +65,21 @@ frames packets = frames_from 0 packets
 abbrev pub verdict_on : List ℕ → Settings → List ℕ
 verdict_on octets settings =
     verdict_text (decide settings (statics settings) (tenths 0) (raw 1 (tenths 0) octets)).verdict
+
+-- what a packet in a tunnel with a LISP header of these digits tells, and what one from the site does
+abbrev pub told_by : Settings → List ℕ → List Notice
+told_by settings header = (decide settings (statics settings) (tenths 0) (raw 1 (tenths 0) (inward header))).notices
+
+abbrev pub told_by_packet : Settings → Journal → List Notice
+told_by_packet settings before = (decide settings before (tenths 0) (raw 1 (tenths 0) packet)).notices
+
+-- what becomes of a packet to a version of the site's EIDs, beside the one that they have
+abbrev pub to_version : ℕ × ℕ → List ℕ
+to_version versions = verdict_on (with_versions 0 versions.0) (site_of_versions versions.1 0)
+
+-- what becomes of a packet from a version of another site's EIDs, beside that of the mapping
+abbrev pub from_version : ℕ × ℕ → List ℕ
+from_version versions = verdict_on (with_versions versions.0 0) (site_of_versions 0 versions.1)
 
 -- a journal with a Map-Request; it was sent again after one second, and after three
 abbrev pub asked_once : Journal
@@ -139,6 +158,42 @@ answered_once = ProbeAnswered (seconds 1) 0x0102030405060708 ∷ probed_once
 abbrev pub probed_again : Journal
 probed_again = Probed (seconds 60) far 0x1112131415161718 ∷ answered_once
 
+-- a journal with an echo that is asked for; then packets without it came, or the echo, or one that wants an echo
+abbrev pub echo_asked : Journal
+echo_asked = EchoStarted (seconds 0) far 0xaa ∷ []
+
+abbrev pub data_came : Journal
+data_came = DataFrom (seconds 2) far ∷ echo_asked
+
+abbrev pub echo_came : Journal
+echo_came = EchoHeard (seconds 2) far ∷ echo_asked
+
+abbrev pub echo_asked_and_wanted : Journal
+echo_asked_and_wanted = EchoWanted (seconds 1) far 0x2a ∷ echo_asked
+
+-- the journal of a site that asks for echoes, after a packet for which it asks for one, and another one at a moment
+abbrev pub after_asking : ℕ → List ℕ → Journal
+after_asking moment octets = kept echoing_site (raw 1 (seconds 0) packet ∷ raw 2 moment octets ∷ [])
+
+-- a journal with an echo that is wanted
+abbrev pub echo_wanted : Journal
+echo_wanted = EchoWanted (seconds 0) far 0x2a ∷ []
+
+-- a journal with a solicitation
+abbrev pub solicited_once : Journal
+solicited_once = Solicited (seconds 0) far home_of_0 1 ∷ []
+
+-- so many echoes that are asked for, that are wanted, and so many solicitations
+abbrev pub starts_of : ℕ → List EchoStart
+starts_of n =
+    replicate n (record { moment = seconds 0; rloc = far; nonce = 0xaa; heard = false; came = false })
+
+abbrev pub wishes_of : ℕ → List EchoWish
+wishes_of n = replicate n (record { moment = seconds 0; rloc = far; nonce = 0x2a })
+
+abbrev pub solicits_of : ℕ → List Solicitation
+solicits_of n = replicate n (record { moment = seconds 0; rloc = far; eid = home_of_0 })
+
 -- no probe of a journal speaks against that locator at a moment
 abbrev pub up_at : Journal → ℕ → Bool
 up_at before moment = probe_up moment (observed before).probes far
@@ -182,6 +237,41 @@ around_probes =
 -- a packet before a probe, an answer to it, and a packet three seconds after it
 abbrev pub around_answer : List ℕ → List Frame
 around_answer answer = raw 1 (tenths 5) packet ∷ raw 2 (tenths 15) answer ∷ raw 3 (seconds 4) packet ∷ []
+
+-- packets from the site for a minute, and one to it two seconds after the first
+abbrev pub around_echo : List ℕ → List Frame
+around_echo header =
+    raw 1 (seconds 0) packet ∷ raw 2 (seconds 1) packet ∷ raw 3 (seconds 2) (inward header)
+    ∷ raw 4 (seconds 10) packet ∷ raw 5 (seconds 60) packet ∷ []
+
+-- a packet that wants an echo, and packets to its locator
+abbrev pub around_wish : List Frame
+around_wish =
+    raw 1 (seconds 0) (inward (codes "a000002a00000000")) ∷ raw 2 (seconds 1) packet
+    ∷ raw 3 (just_before (seconds 2)) packet ∷ raw 4 (seconds 2) packet ∷ []
+
+-- packets while an echo is asked for, and one that wants another
+abbrev pub around_both : List Frame
+around_both =
+    raw 1 (seconds 0) packet ∷ raw 2 (seconds 1) packet ∷ raw 3 (tenths 15) (inward (codes "a000002a00000000"))
+    ∷ raw 4 (tenths 16) packet ∷ raw 5 (tenths 35) packet ∷ raw 6 (seconds 10) packet ∷ []
+
+-- packets to version 6 of the site's EIDs, twice to version 4, and to none
+abbrev pub to_versions : List Frame
+to_versions =
+    raw 1 (seconds 0) (with_versions 0 6) ∷ raw 2 (seconds 1) (with_versions 0 4)
+    ∷ raw 3 (seconds 2) (with_versions 0 4) ∷ raw 4 (seconds 3) (with_versions 0 0) ∷ []
+
+-- packets to version 4 of the site's EIDs, for ten seconds
+abbrev pub to_version_4 : List Frame
+to_version_4 =
+    raw 1 (seconds 0) (with_versions 0 4) ∷ raw 2 (just_before (seconds 10)) (with_versions 0 4)
+    ∷ raw 3 (seconds 10) (with_versions 0 4) ∷ []
+
+-- a mapping of version 7 is learnt, then packets of instance 100 come from its versions 8 and 6
+abbrev pub from_versions : List (List ℕ)
+from_versions =
+    packet ∷ reply_of_version_7 ∷ inward (codes "1800800000006400") ∷ inward (codes "1800600000006400") ∷ []
 
 -- a mapping for a minute from 0.1 s on, and packets a nanosecond before its end, and at it
 abbrev pub at_the_end_of : List ℕ → List Frame

@@ -37,6 +37,13 @@ narrow_of_0 = eid 0 (V4 0x0a020000) 24 refl refl
 abbrev pub next_of_0 : Eid
 next_of_0 = eid 0 (V4 0x0a030000) 16 refl refl
 
+-- 10.1.0.0/16 and 10.1.0.0/24 of instance 0
+abbrev pub home_of_0 : Eid
+home_of_0 = eid 0 (V4 0x0a010000) 16 refl refl
+
+abbrev pub part_of_0 : Eid
+part_of_0 = eid 0 (V4 0x0a010000) 24 refl refl
+
 -- the site's own locator 192.0.2.1, and 198.51.100.7 of another site
 abbrev pub near : Addr
 near = V4 0xc0000201
@@ -87,9 +94,23 @@ static_site = record {
   mappings = mapping 1440 wide_of_0 (locator far ∷ []) ∷ [];
 }
 
--- that site, its EIDs with version 5
-abbrev pub site_of_version_5 : Settings
-site_of_version_5 = record static_site { databases = record { eid = eid 0 (V4 0x0a010000) 16 refl refl; version = 5 } ∷ [] }
+-- that site, its EIDs and its mapping with versions
+abbrev pub site_of_versions : ℕ → ℕ → Settings
+site_of_versions home other = record static_site {
+  nonces = 0x0102030405060708 ∷ 0x1112131415161718 ∷ [];
+  databases = record (database home_of_0) { version = home } ∷ [];
+  mappings = record (mapping 1440 wide_of_0 (locator far ∷ [])) { version = other } ∷ [];
+}
+
+-- that site with the versions 5 and 7, and with version 9 for 10.1.0.0/24 alone
+abbrev pub site_of_two_versions : Settings
+site_of_two_versions = record (site_of_versions 5 7) {
+  databases = record (database home_of_0) { version = 5 } ∷ record (database part_of_0) { version = 9 } ∷ [];
+}
+
+-- that site, its mapping alone with a version, and with a resolver
+abbrev pub site_that_may_ask : Settings
+site_that_may_ask = record (site_of_versions 0 7) { resolver = Some (V4 0xcb007109) }
 
 -- that site, its mapping to other locators
 abbrev pub site_with : List Locator → Settings
@@ -140,6 +161,13 @@ nested_site = record static_site {
 -- the first site, which probes locators
 abbrev pub probing_site : Settings
 probing_site = record static_site { probe = true; nonces = 0x0102030405060708 ∷ 0x1112131415161718 ∷ [] }
+
+-- the first site, which asks for echoes; its versions are 5 and 7
+abbrev pub echoing_site : Settings
+echoing_site = record static_site { echo = true; nonces = 0xaa ∷ 0x1112131415161718 ∷ [] }
+
+abbrev pub echoing_site_of_versions : Settings
+echoing_site_of_versions = record (site_of_versions 5 7) { echo = true; nonces = 0xaa ∷ [] }
 
 -- a site with own locators that probes those of its mapping, with the nonces 1 to 20
 abbrev pub site_probing : List OwnLocator → List Locator → Settings

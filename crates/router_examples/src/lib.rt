@@ -3,11 +3,13 @@
 
 mod answers;
 mod cases;
+mod echoes;
 mod locators;
 mod probes;
 mod requests;
 mod ticks;
 mod tunnels;
+mod versions;
 
 pub use answers::{
     a_probe_is_answered, a_reply_has_a_path, a_request_for_another_site_is_dropped,
@@ -15,6 +17,13 @@ pub use answers::{
     what_is_encapsulated_is_no_probe,
 };
 pub use cases::{an_action_settles_a_packet, own_packets_are_passed_over};
+pub use echoes::{
+    a_header_tells_of_echoes, a_locator_owes_its_echo, a_locator_without_its_echo_is_down,
+    a_wanted_echo_is_given, an_echo_has_24_bits, an_echo_is_asked_for_once_a_minute,
+    an_echo_is_asked_for_ten_seconds, an_echo_is_wanted_for_two_seconds,
+    an_echo_keeps_a_locator_in_use, answering_goes_before_asking, echoes_have_room_for_4096,
+    not_each_nonce_is_the_echo,
+};
 pub use locators::{
     eight_bits_are_told_of_nine_locators, hashes_fall_to_shares, priorities_come_before_weights,
 };
@@ -39,4 +48,10 @@ pub use tunnels::{
     a_hop_is_taken_into_a_tunnel, a_nonce_comes_before_versions, a_packet_goes_into_its_tunnel,
     a_packet_leaves_its_tunnel, a_packet_may_stay_in_its_tunnel, a_tunnel_has_1500_octets,
     padding_stays_out_of_the_tunnel,
+};
+pub use versions::{
+    a_header_tells_both_versions, a_header_tells_of_versions, a_newer_destination_is_dropped,
+    a_peer_is_solicited_once_in_ten_seconds, a_peer_with_an_old_version_is_solicited,
+    a_static_mapping_stays_as_it_is, a_version_of_0_drops_nothing,
+    an_older_mapping_is_asked_for_again, an_older_source_is_dropped, versions_are_judged_in_order,
 };

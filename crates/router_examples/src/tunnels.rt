@@ -5,9 +5,9 @@ ghost use Rattle.std.specs.Prelude.{◌≡◌, [], ◌∷◌, ◌++◌, codes};
 ghost use Rattle.router_model.specs.Course.{frame_packet};
 ghost use Rattle.router_model.specs.Decide.{hash_of};
 ghost use Rattle.router_examples.specs.Frames as frame;
-ghost use Rattle.router_examples.specs.Frames.{hex, packet, raw, tenths};
+ghost use Rattle.router_examples.specs.Frames.{packet, raw, tenths};
 ghost use Rattle.router_examples.specs.Replays.{frames, packet_at, report, said, sent, verdict_on};
-ghost use Rattle.router_examples.specs.Sites.{site_of_version_5, site_over_ipv6, static_site};
+ghost use Rattle.router_examples.specs.Sites.{site_of_versions, site_over_ipv6, static_site};
 
 /// A packet for a static mapping goes into a tunnel to its locator.
 pub fn a_packet_goes_into_its_tunnel()
@@ -44,7 +44,7 @@ pub fn a_packet_leaves_its_tunnel()
 
 /// A header with the bits of both is read as one with a nonce, and names no versions.
 pub fn a_nonce_comes_before_versions()
-    ensures { sent site_of_version_5 (frames (frame.marked_with_nonce ∷ []))
+    ensures { sent (site_of_versions 5 0) (frames (frame.inward (codes "9000002a00000000") ∷ []))
         ≡ packet_at (tenths 0) frame.delivered ∷ [] }
 {}
 
