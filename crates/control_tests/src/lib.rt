@@ -14,6 +14,8 @@ mod map_requests;
 #[cfg(test)]
 mod nested_solicits;
 #[cfg(test)]
+mod old_mappings;
+#[cfg(test)]
 mod open_requests;
 #[cfg(test)]
 mod probed_locators;
@@ -25,6 +27,8 @@ mod replies;
 mod reply_paths;
 #[cfg(test)]
 mod resolvers;
+#[cfg(test)]
+mod solicited_peers;
 #[cfg(test)]
 mod solicits;
 #[cfg(test)]

@@ -10,6 +10,8 @@ mod choice;
 #[cfg(test)]
 mod control;
 #[cfg(test)]
+mod echoes;
+#[cfg(test)]
 mod failures;
 #[cfg(test)]
 mod families;
@@ -25,5 +27,7 @@ mod site;
 mod status_bits;
 #[cfg(test)]
 mod tunnels;
+#[cfg(test)]
+mod versions;
 #[cfg(test)]
 mod whole_runs;
