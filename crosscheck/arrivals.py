@@ -1,7 +1,6 @@
 """Frames from outside that regard what a router has: Map-Requests, and packets in tunnels."""
-import struct
-
 from fitting import away, longer, named, plain_ip, randomly, record, shorter, summed
+from headers import Headers
 from makers import OTHERS, OWN, between, raw, spoiled, udp
 from messages import Eid
 from sending import located
@@ -12,7 +11,7 @@ PROBE, SOLICIT, ANY_FLAGS = 2, 1, [0] * 6 + [8, 4, 12]
 
 class Arrivals:
     def __init__(self, r, site, journal):
-        self.r, self.site, self.journal = r, site, journal
+        self.r, self.site, self.journal, self.headers = r, site, journal, Headers(r, site, journal)
 
     def mapped(self, now):
         return list(self.journal.live(now).values())[-60:]
@@ -107,24 +106,28 @@ class Arrivals:
         differing = bits ^ 1 << r.randrange(max(1, len(up)))
         return r.choice([bits, bits | 0xFF << 24, differing, differing, 2**32 - 1, 2**32 - 1, 0, r.getrandbits(32)])
 
-    def lisp_header(self, eid):
-        """A header in the EID's instance, mostly with status bits; nonces and versions say nothing yet."""
-        r, bits = self.r, self.status(eid)
-        flags = 0x40 * (r.random() < 0.9) | r.choice([0] * 8 + [0x80, 0x10, 0xA0, 0x04, 0x01])
-        if r.random() < (0.3 if eid.iid == 0 else 0.95):
-            return struct.pack(">II", (flags | 8) << 24 | r.getrandbits(24), eid.iid << 8 | bits & 0xFF)
-        return struct.pack(">II", flags << 24 | r.getrandbits(24), bits)
-
-    def arriving(self, mapping):
-        """A packet in a tunnel from a site that the router has a mapping of."""
+    def arriving(self, mapping, way=None, outer=None, homes=()):
+        """A packet in a tunnel from a site that the router has a mapping of, with a header in some way."""
         r, eid = self.r, mapping.eid
-        homes = [own for own in self.site.databases if (own.iid, own.width) == (eid.iid, eid.width)]
+        homes = homes or [own for own in self.site.databases if (own.iid, own.width) == (eid.iid, eid.width)]
         source = randomly(r, eid)
         dest = randomly(r, r.choice(homes)) if homes else away(r, 0).octets()
         if len(source) != len(dest):
             source = dest
         ports = r.randrange(65536), r.randrange(65536)
         inner = plain_ip(r, source, dest, udp(r, source, dest, bytes(r.choice([0, 4, 40])), ports))
-        outer = self.outside(mapping)
-        datagram = udp(r, *outer, self.lisp_header(eid) + inner, (50000, 4341))
-        return spoiled(r, plain_ip(r, *outer, datagram), 0.03)
+        outer = outer or self.outside(mapping)
+        way, home = way or self.headers.way(outer[0]), self.site.home(Eid.host(eid.iid, dest))
+        header = self.headers.made(way, outer[0], mapping, home, self.status(eid))
+        return spoiled(r, plain_ip(r, *outer, udp(r, *outer, header + inner, (50000, 4341))), 0.03)
+
+    def arriving_from(self, now, peer, way, home=None):
+        """A packet in a tunnel from a locator, mostly of a mapping that names it, to a prefix of the site; or None."""
+        r = self.r
+        dests = [own.address for own in self.site.locators if len(own.address) == len(peer)]
+        mapped = [entry.mapping for entry in self.mapped(now)
+                  if home is None or (entry.mapping.eid.iid, entry.mapping.eid.width) == (home.iid, home.width)]
+        naming = [mapping for mapping in mapped if any(locator.address == peer for locator in mapping.locators)]
+        if not dests or not mapped:
+            return None
+        return self.arriving(r.choice(naming or mapped), way, (peer, r.choice(dests)), home and [home])

@@ -3,9 +3,10 @@
 
 usage: compare.py PROGRAM [ROUNDS [SEED]]
 Each round makes settings and a capture of 300 frames, at times 2,000: packets of the site, packets in tunnels that
-tell status bits, replies to what the router asked and probed, Map-Requests of all kinds and other control messages,
-in both families and mostly in several instances, many of them spoiled or late, some a minute or ten behind the frame
-before; and then 40 settings files with spoiled values. It ends with status 1 at the first difference.
+tell status bits, nonces and versions, replies to what the router asked and probed, Map-Requests of all kinds and
+other control messages, in both families and mostly in several instances, many of them spoiled or late, some a minute
+or ten behind the frame before; and then 40 settings files with spoiled values. It ends with status 1 at the first
+difference.
 """
 import contextlib
 import io

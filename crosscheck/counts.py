@@ -2,6 +2,7 @@
 """Counts what the captures that compare.py makes reach in the plain router: verdicts, entries and packets.
 
 usage: counts.py [ROUNDS [SEED]]
+It ends with status 1 where one of the kinds that are to come doesn't.
 """
 import collections
 import os
@@ -13,10 +14,22 @@ import tempfile
 import settings as rules
 from compare import capture
 from journal import Probed
+from lisp import ECHO, NONCE, VERSIONS
 from makers import settings
 from router import Router
 from sites import Site
 from wire import frames_of, number
+
+
+NOTICES = "Ask", "Refresh", "ToldBits", "WantedEcho", "HeardEcho", "HeardData", "Solicit", "EchoDue"
+ENTRIES = ("Learned", "Asked", "Retried", "Answered", "Probed", "ProbeAnswered", "Bits", "EchoStarted", "EchoHeard",
+           "DataFrom", "EchoWanted", "Solicited")
+TO_COME = [
+    *(f"notice {name} kept" for name in NOTICES), *(f"notice {name} without effect" for name in NOTICES[:-1]),
+    *(f"entry {name}" for name in ENTRIES), "verdict drop 6 dest-version-newer", "verdict drop 7 source-version-older",
+    "packet into a tunnel", "packet into a tunnel with versions", "packet into a tunnel that asks for an echo",
+    "packet into a tunnel with an echo", "packet for a mapping with a deaf locator", "request",
+    "request for a solicitation", "request to refresh a mapping", "solicitation", "probe", "reply", "reply to a probe"]
 
 
 def verdict_kind(verdict):
@@ -29,41 +42,80 @@ def verdict_kind(verdict):
     return re.sub(r"=(\d{2,}|[2-9])", "=many", verdict)
 
 
+def tunnel_kind(header):
+    """What is told in a header of the router's own."""
+    if header[0] & NONCE:
+        return "packet into a tunnel that asks for an echo" if header[0] & ECHO else "packet into a tunnel with an echo"
+    return "packet into a tunnel with versions" if header[0] & VERSIONS else "packet into a tunnel"
+
+
+def request_kind(octets):
+    """What asks for a mapping, by its flag and its Source EID."""
+    if octets[1] & 0x40:
+        return "request for a solicitation"
+    return "request" if number(octets, 12, 2) else "request to refresh a mapping"
+
+
+def packet_kinds(verdict, packets):
+    """The kinds of what is sent for a frame: the packet of its verdict, and what is noticed or answered."""
+    is_plain = verdict.split()[0] in ("delivered", "native")
+    return ["packet out of a tunnel, or native"] * is_plain + [packet_kind(packet) for packet in packets[is_plain:]]
+
+
 def packet_kind(packet):
+    """The kind of a packet that the router makes."""
     at = 40 if packet[0] >> 4 == 6 else 20
     ports = number(packet, at, 2), number(packet, at + 2, 2)
-    if ports[1] == 4341 and ports[0] >= 0xC000 and not packet[at + 8] & 0xB7:
-        return "packet into a tunnel"
-    if ports[0] != 4342:
-        return "packet out of a tunnel, or native"
+    if ports[1] == 4341:
+        return tunnel_kind(packet[at + 8:])
     message = at + 8
     if packet[message] >> 4 == 2:
         return "reply to a probe" if packet[message] & 8 else "reply"
     if packet[message] >> 4 == 1:
-        return "probe"
-    inner = message + 4 + (40 if packet[message + 4] >> 4 == 6 else 20) + 8
-    return "request for a solicitation" if packet[inner + 1] & 0x40 else "request"
+        return "solicitation" if packet[message] & 1 else "probe"
+    return request_kind(packet[message + 4 + (40 if packet[message + 4] >> 4 == 6 else 20) + 8:])
+
+
+class Counted(Router):
+    """A router that counts what is noticed, and for how many packets a locator without an echo is passed over."""
+
+    def __init__(self, site, counts):
+        super().__init__(site)
+        self.counts = counts
+
+    def note(self, moment, notice):
+        known = len(self.journal)
+        packets = super().note(moment, notice)
+        effect = "kept" if len(self.journal) > known else "without effect"
+        self.counts[f"notice {type(notice).__name__} {effect}"] += 1
+        return packets
+
+    def usable(self, moment, mapping):
+        deaf = self.journal.deaf(moment)
+        self.counts["packet for a mapping with a deaf locator"] += any(
+            locator.address in deaf for locator in mapping.locators)
+        return super().usable(moment, mapping)
 
 
 def counted(r, folder, counts):
     text, path = settings(r), os.path.join(folder, "capture.pcap")
     capture(r, text, path)
     try:
-        router = Router(Site(text.encode()))
+        router = Counted(Site(text.encode()), counts)
     except rules.Fault:
         counts["settings at fault"] += 1
         return
     for moment, link, frame in frames_of(path):
-        sent = [packet for _, packet in router.until(moment)]
+        counts.update(packet_kind(packet) for _, packet in router.until(moment))
         verdict, packets = router.take(moment, link, frame)
-        counts.update(["verdict " + verdict_kind(verdict), *(packet_kind(packet) for packet in sent + packets)])
+        counts.update(["verdict " + verdict_kind(verdict), *packet_kinds(verdict, packets)])
     counts.update("entry " + type(entry).__name__ for entry in router.journal)
     at_once = collections.Counter(entry.moment for entry in router.journal if type(entry) is Probed)
     counts["second with sixteen probes"] += sum(count == 16 for count in at_once.values())
 
 
 def main():
-    rounds = int(sys.argv[1]) if len(sys.argv) > 1 else 20
+    rounds = int(sys.argv[1]) if len(sys.argv) > 1 else 100
     seed = int(sys.argv[2]) if len(sys.argv) > 2 else 1
     counts = collections.Counter()
     with tempfile.TemporaryDirectory() as folder:
@@ -71,6 +123,9 @@ def main():
             counted(random.Random(f"{seed} {i}"), folder, counts)
     for kind, count in sorted(counts.items()):
         print(f"{count:8} {kind}")
+    missing = [kind for kind in TO_COME if not counts[kind]]
+    print(*(f"   never {kind}" for kind in missing), sep="\n", end="\n" * bool(missing))
+    sys.exit(bool(missing))
 
 
 if __name__ == "__main__":

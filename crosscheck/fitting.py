@@ -52,7 +52,8 @@ def record(r, eid):
     if eid.width - eid.length > 16:
         ttl = r.choice([0, 0, 1])
     count, octets = locators(r)
-    front = struct.pack(">IBBH", ttl, count, eid.length, r.randrange(1 << 16)) + r.randbytes(2)
+    version = r.choice([0] * 7 + [1, 2, 3, 2048, 2049, 4095, r.randrange(4096)])
+    front = struct.pack(">IBBHH", ttl, count, eid.length, r.randrange(1 << 16), r.randrange(16) << 12 | version)
     return front + named(r, eid) + octets
 
 

@@ -8,7 +8,12 @@ SECOND = 10**9
 # its locator is probed again, and how long it counts.
 OPEN, AGAIN = 7 * SECOND, (SECOND, 3 * SECOND)
 PROBE_OPEN, PROBE_AGAIN, PROBE_COUNTS = 3 * SECOND, 60 * SECOND, 600 * SECOND
+# How long an echo is asked for, and how long that counts; how long one that a peer wants is given; how long a
+# solicitation isn't made again.
+ECHO_ON, ECHO_COUNTS, WANTED, SOLICITED = 10 * SECOND, 60 * SECOND, 2 * SECOND, 10 * SECOND
 MOST_REQUESTS, MOST_MAPPINGS, MOST_PROBES = 1024, 65536, 9600
+# Echoes asked for, echoes wanted, and solicitations, each.
+MOST_ECHOES = 4096
 
 
 class Learned(NamedTuple):
@@ -51,6 +56,42 @@ class Bits(NamedTuple):
     eid: Eid
     bits: int
     width: int
+
+
+class EchoStarted(NamedTuple):
+    moment: int
+    address: bytes
+    nonce: int
+
+
+class EchoHeard(NamedTuple):
+    moment: int
+    address: bytes
+
+
+class DataFrom(NamedTuple):
+    moment: int
+    address: bytes
+
+
+class EchoWanted(NamedTuple):
+    moment: int
+    address: bytes
+    nonce: int
+
+
+class Solicited(NamedTuple):
+    moment: int
+    address: bytes
+    eid: Eid
+    nonce: int
+
+
+class Echo(NamedTuple):
+    """An echo request, and what came from its locator since."""
+    start: EchoStarted
+    heard: bool
+    data: bool
 
 
 def ends(entry):
@@ -115,7 +156,12 @@ class Journal(list):
 
     def drawn(self):
         kinds = list(map(type, self))
-        return kinds.count(Asked) + kinds.count(Probed)
+        return sum(map(kinds.count, (Asked, Probed, EchoStarted, Solicited)))
+
+    def younger(self, kind, age, moment):
+        """The entries of a kind that are younger than an age."""
+        now = self.now(moment)
+        return [entry for entry in self if type(entry) is kind and now - entry.moment < age]
 
     def may_ask(self, moment, eid):
         """Whether no open request covers the EID, and there is room for one more."""
@@ -164,8 +210,49 @@ class Journal(list):
 
     def may_probe(self, moment):
         """How many probes more can count."""
+        return MOST_PROBES - len(self.younger(Probed, PROBE_COUNTS, moment))
+
+    def echoes(self):
+        """The last echo request of each locator."""
+        last = {}
+        for entry in self:
+            if type(entry) is EchoStarted:
+                last[entry.address] = Echo(entry, False, False)
+            elif type(entry) is EchoHeard:
+                last[entry.address] = last[entry.address]._replace(heard=True)
+            elif type(entry) is DataFrom:
+                last[entry.address] = last[entry.address]._replace(data=True)
+        return last
+
+    def echo_on(self, moment, address):
+        """The locator's echo request where it is on, or None."""
+        echo = self.echoes().get(address)
+        is_on = echo and not echo.heard and self.now(moment) - echo.start.moment < ECHO_ON
+        return echo if is_on else None
+
+    def deaf(self, moment):
+        """The locators that sent data and no echo while one was asked for, as long as that counts."""
         now = self.now(moment)
-        return MOST_PROBES - sum(type(entry) is Probed and now - entry.moment < PROBE_COUNTS for entry in self)
+        return {address for address, echo in self.echoes().items()
+                if echo.data and not echo.heard and ECHO_ON <= now - echo.start.moment < ECHO_COUNTS}
+
+    def wanted(self, moment, address):
+        """The nonce that a locator wants to see, or None."""
+        last = [entry for entry in self if type(entry) is EchoWanted and entry.address == address][-1:]
+        return next((entry.nonce for entry in last if self.now(moment) - entry.moment < WANTED), None)
+
+    def may_start(self, moment, address):
+        starts = self.younger(EchoStarted, ECHO_COUNTS, moment)
+        return (len(starts) < MOST_ECHOES and all(entry.address != address for entry in starts)
+                and self.wanted(moment, address) is None)
+
+    def may_want(self, moment, address, nonce):
+        return (len(self.younger(EchoWanted, WANTED, moment)) < MOST_ECHOES
+                and self.wanted(moment, address) != nonce)
+
+    def may_solicit(self, moment, address, eid):
+        made = self.younger(Solicited, SOLICITED, moment)
+        return len(made) < MOST_ECHOES and all((entry.address, entry.eid) != (address, eid) for entry in made)
 
     def next_second(self, second):
         """Behind a second in which nothing was to be done: the first one in which something may be, or None.

@@ -35,7 +35,14 @@ def first_keys(r, up):
         lines.append(f"nonces = [{', '.join(nonces)}]")
     if r.random() < 0.6:
         lines.append(f"probe = {r.choice(['true'] * 5 + ['false'])}")
+    if r.random() < 0.6:
+        lines.append(f"echo = {r.choice(['true'] * 5 + ['false'])}")
     return lines
+
+
+def version(r):
+    """A line with a version, in about half."""
+    return r.choice([[], [f"version = {r.choice([0, 1, 2, 2047, 2048, 2049, 4094, 4095, r.randrange(4096)])}"]])
 
 
 def shares(r, count):
@@ -54,6 +61,7 @@ def attachments(r, iids):
 
 def mapping(r, iid, prefix, pool):
     yield from ["[[mapping]]", f"iid = {iid}", f'prefix = "{prefix}"', f"action = {r.choice([2, *range(8)])}"]
+    yield from version(r)
     addresses = r.sample(pool + OWN[:1], min(len(pool) + 1, r.choice([0, 0, 1, 2, 3, 4, 6, 24])))
     for address, (priority, weight) in zip(addresses, shares(r, len(addresses))):
         yield from ["[[mapping.locator]]", f'address = "{address}"', f"priority = {priority}", f"weight = {weight}",
@@ -74,7 +82,7 @@ def settings(r):
     lines += attachments(r, iids)
     for iid in iids:
         for prefix in r.sample(HOMES, r.choice([0, 3, 4, 4, 5, 5, 6, 6, 6, 6])):
-            lines += ["[[database]]", f"iid = {iid}", f'prefix = "{prefix}"']
+            lines += ["[[database]]", f"iid = {iid}", f'prefix = "{prefix}"', *version(r)]
         for prefix in r.sample(AWAY, r.randint(0, most)):
             lines += mapping(r, iid, prefix, pool)
     return "\n".join(lines) + "\n"

@@ -53,7 +53,7 @@ def main():
     with tempfile.TemporaryDirectory() as folder:
         shim, output = os.path.join(folder, "refuse.so"), os.path.join(folder, "out.pcap")
         subprocess.run(["cc", "-shared", "-fPIC", "-o", shim, os.path.join(HERE, "refuse.c"), "-ldl"], check=True)
-        for name in "site", "ticks":
+        for name in "site", "ticks", "echoes":
             settings, capture = (os.path.join(EXAMPLES, name, file) for file in ("settings.toml", "capture.pcap"))
             words = ["replay", "--settings", settings, "--in", capture, "--out", output]
             Trial(shim, program, words, output).refuse_each()

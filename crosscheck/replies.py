@@ -67,7 +67,7 @@ def faults(site, row, packet, port, message):
         "TTL": numbers(row, MAPPING + "ttl") == [site.ttl] * count,
         "action": numbers(row, MAPPING + "act") == [0] * count,
         "A": numbers(row, MAPPING + "auth") == [1] * count,
-        "version": numbers(row, MAPPING + "ver") == [0] * count,
+        "version": numbers(row, MAPPING + "ver") == [site.versions.get(eid) for eid in eids],
         "reserved": reserved(row, UNUSED),
     }
     found = [name for name, good in tests.items() if not good]

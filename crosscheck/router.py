@@ -1,10 +1,11 @@
 """A plain router: what it decides of each frame and does at each second, by the whole journal as it then stands."""
 from choice import chosen, flow_hash
-from journal import PROBE_AGAIN, SECOND, Answered, Asked, Bits, Journal, Learned, ProbeAnswered, Probed, Retried
+from journal import PROBE_AGAIN, SECOND, Answered, Learned, ProbeAnswered, Probed, Retried
+from lisp import ECHO, NONCE, VERSIONS, header_of, is_ahead
 from messages import Eid, Request, message_of
-from nonces import nonce_at
+from noting import Ask, EchoDue, Noting, of_delivered
 from sending import probe_packet, reply_packet, request_packet, wrapped
-from wire import Packet, Refused, link_payload, need, number, text_of
+from wire import Packet, Refused, link_payload, need, text_of
 
 ACTIONS = {0: "14 no-action", 2: "15 send-request", 4: "17 drop-policy", 5: "18 drop-auth"}
 ECN = {(0, 0): 0, (0, 2): 0, (0, 1): 0, (2, 0): 2, (2, 2): 2, (2, 1): 1, (2, 3): 3,
@@ -18,12 +19,12 @@ def is_group(address):
     return address[0] == 0xFF
 
 
-class Router:
+class Router(Noting):
     """A site and its journal."""
 
     def __init__(self, site):
-        self.site, self.latest = site, None
-        self.journal = Journal(Learned(0, mapping, True) for mapping in site.mappings)
+        super().__init__(site)
+        self.latest = None
 
     # Seconds.
 
@@ -72,120 +73,120 @@ class Router:
     # Frames.
 
     def take(self, moment, link, frame):
-        """The verdict of a frame, and the packets that are sent for it."""
+        """The verdict of a frame, and the packets that are sent for it: its own, then those of what is noticed."""
+        verdict, packets, notices = self.judged(moment, link, frame)
+        return verdict, packets + [sent for notice in notices for sent in self.note(moment, notice)]
+
+    def judged(self, moment, link, frame):
+        """The verdict of a frame, its packets, and what is noticed."""
         try:
             vlan, place, octets = link_payload(link, frame)
             packet = Packet(octets, place)
             if self.site.is_own(packet.source):
-                return "own", []
+                return "own", [], []
             if self.site.is_own(packet.dest):
                 return self.arrived(moment, packet)
             if vlan not in self.site.attachments:
-                return "drop 10 no-attachment", []
+                return "drop 10 no-attachment", [], []
             return self.departed(moment, self.site.attachments[vlan], packet)
         except Refused as refused:
-            return f"drop 1 refused {refused}", []
+            return f"drop 1 refused {refused}", [], []
 
     # Packets out of tunnels.
 
     def arrived(self, moment, packet):
         if packet.fragment:
-            return "drop 3 fragment", []
+            return "drop 3 fragment", [], []
         if packet.protocol != 17:
-            return "drop 2 not-tunnel", []
+            return "drop 2 not-tunnel", [], []
         source, dest, checksum, datagram = packet.udp()
         if dest == 4341:
             packet.check(checksum, datagram, True)
             return self.opened(moment, packet, datagram[8:], packet.base + packet.at + 8)
         if 4342 not in (source, dest):
-            return "drop 2 not-tunnel", []
+            return "drop 2 not-tunnel", [], []
         packet.check(checksum, datagram, False)
-        return self.heard(moment, packet, source, message_of(datagram[8:], packet.base + packet.at + 8))
+        return *self.heard(moment, packet, source, message_of(datagram[8:], packet.base + packet.at + 8)), []
 
     def opened(self, moment, packet, payload, place):
         need(len(payload) >= 8, "lisp", place, "short")
         if payload[0] & 3:
-            return "drop 4 encrypted", []
-        inner = Packet(payload[8:], place + 8)
-        iid = number(payload, 4, 3) if payload[0] & 8 else 0
-        if not self.site.has_home(iid, inner.dest):
-            return "drop 5 not-ours", []
+            return "drop 4 encrypted", [], []
+        inner, header = Packet(payload[8:], place + 8), header_of(payload)
+        home = self.site.home(Eid.host(header.iid, inner.dest))
+        if home is None:
+            return "drop 5 not-ours", [], []
+        if is_ahead(header.dest_version, self.site.versions[home]):
+            return "drop 6 dest-version-newer", [], []
+        known = self.journal.in_force(moment, Eid.host(header.iid, inner.source))
+        if known and is_ahead(known.mapping.version, header.source_version):
+            return "drop 7 source-version-older", [], []
         ecn = ECN.get((inner.tos & 3, packet.tos & 3))
         if ecn is None:
-            return "drop 8 congestion-mark", []
+            return "drop 8 congestion-mark", [], []
         ttl = min(inner.ttl, packet.ttl)
         if ttl <= 1:
-            return "drop 9 ttl-expired", []
-        if payload[0] & 0x40:
-            bits, width = (payload[7], 8) if payload[0] & 8 else (number(payload, 4, 4), 32)
-            self.told(moment, Eid.host(iid, inner.source), packet.source, bits, width)
-        return f"delivered {iid}", [inner.marked(packet.tos & 0xFC | ecn, ttl - 1)]
-
-    def told(self, moment, source, teller, bits, width):
-        """Keeps status bits that one of a mapping's locators tells, where they say anything new."""
-        entry = self.journal.in_force(moment, source)
-        if entry is None or all(locator.address != teller for locator in entry.mapping.locators):
-            return
-        up = self.journal.status(entry.mapping.eid)[:width]
-        if any(is_up != (bits >> i & 1 == 1) for i, is_up in enumerate(up)):
-            self.journal.append(Bits(moment, entry.mapping.eid, bits, width))
+            return "drop 9 ttl-expired", [], []
+        notices = list(of_delivered(self.site, header, home, known, packet.source))
+        return f"delivered {header.iid}", [inner.marked(packet.tos & 0xFC | ecn, ttl - 1)], notices
 
     # Packets of the site.
 
     def departed(self, moment, iid, packet):
         if is_group(packet.dest):
-            return "drop 11 multicast", []
+            return "drop 11 multicast", [], []
         if self.site.has_home(iid, packet.dest):
-            return "local", []
-        if not self.site.has_home(iid, packet.source):
-            return "drop 12 not-site", []
+            return "local", [], []
+        home = self.site.home(Eid.host(iid, packet.source))
+        if home is None:
+            return "drop 12 not-site", [], []
         eid = Eid.host(iid, packet.dest)
         entry = self.journal.in_force(moment, eid)
         if entry is None:
-            return "drop 13 miss", self.asked(moment, eid, packet.source)
+            return "drop 13 miss", [], [Ask(eid, packet.source)]
         if not entry.mapping.locators:
-            return self.acted(moment, entry.mapping.action, eid, packet)
+            return self.acted(entry.mapping.action, eid, packet)
         value = flow_hash(packet)
         locator = chosen(self.usable(moment, entry.mapping), value)
         if locator is None:
-            return "drop 19 no-locator", []
-        return self.tunnelled(iid, packet, 0xC000 + value % 0x4000, locator.address)
+            return "drop 19 no-locator", [], []
+        told = self.told_to(moment, locator.address, self.site.versions[home], entry.mapping.version)
+        return self.tunnelled(moment, iid, packet, 0xC000 + value % 0x4000, locator.address, told)
 
-    def acted(self, moment, action, eid, packet):
+    def acted(self, action, eid, packet):
         if action == 1 and packet.ttl <= 1:
-            return "drop 9 ttl-expired", []
+            return "drop 9 ttl-expired", [], []
         if action == 1:
-            return "native", [packet.marked(packet.tos, packet.ttl - 1)]
-        sent = self.asked(moment, eid, packet.source) if action == 2 else []
-        return "drop " + ACTIONS.get(action, "16 drop-no-reason"), sent
+            return "native", [packet.marked(packet.tos, packet.ttl - 1)], []
+        notices = [Ask(eid, packet.source)] if action == 2 else []
+        return "drop " + ACTIONS.get(action, "16 drop-no-reason"), [], notices
 
     def usable(self, moment, mapping):
         """The locators of a live mapping that packets can be sent to."""
-        down = self.journal.down(moment)
+        down = self.journal.down(moment) | self.journal.deaf(moment)
         return [
             locator for locator, up in zip(mapping.locators, self.journal.status(mapping.eid))
             if up and locator.priority != 255 and self.is_reached(locator.address) and locator.address not in down]
 
-    def tunnelled(self, iid, packet, port, to):
+    def told_to(self, moment, to, source_version, dest_version):
+        """Flags and a field of a header: the echo that is wanted, else one that is asked for, else versions."""
+        wanted, echo = self.journal.wanted(moment, to), self.journal.echo_on(moment, to)
+        if wanted is not None:
+            return NONCE, wanted
+        if echo:
+            return NONCE | ECHO, echo.start.nonce
+        field = source_version << 12 | dest_version
+        return VERSIONS if field else 0, field
+
+    def tunnelled(self, moment, iid, packet, port, to, told):
         if packet.ttl <= 1:
-            return "drop 9 ttl-expired", []
+            return "drop 9 ttl-expired", [], []
         if (20 if len(to) == 4 else 40) + 16 + len(packet.octets) > 1500:
-            return "drop 20 too-big", []
+            return "drop 20 too-big", [], []
         ours = self.site.ours(len(to))
-        sent = wrapped(self.site, iid, packet, port, ours, to)
-        return f"encapsulated {text_of(ours)} {text_of(to)} {port}", [sent]
-
-    # Requests of the router's own.
-
-    def asked(self, moment, eid, source, invoked=False):
-        """Asks for an EID, where no open request covers it."""
-        if self.site.resolver is None or not self.journal.may_ask(moment, eid):
-            return []
-        self.journal.append(Asked(moment, eid, source, invoked, self.nonce()))
-        return [request_packet(self.site, self.journal[-1])]
-
-    def nonce(self):
-        return nonce_at(self.site.nonces, self.site.seed, self.journal.drawn())
+        sent = wrapped(self.site, iid, packet, port, ours, to, told)
+        is_due = self.site.echo and self.journal.may_start(moment, to)
+        return f"encapsulated {text_of(ours)} {text_of(to)} {port}", [sent], [EchoDue(to)] * is_due
 
     # Control messages.
 
@@ -200,16 +201,16 @@ class Router:
         if inner_port is not None:
             port, message = inner_port, message._replace(probe=False)
         if message.solicit and not message.probe:
-            return self.solicited(moment, message)
+            return self.asked_again(moment, message)
         return self.answered(message, packet.dest, port)
 
-    def solicited(self, moment, request):
+    def asked_again(self, moment, request):
         """Asks again for what was learned of the EIDs of a solicitation, that of its source first."""
         sent = []
         for eid in [*filter(None, [request.source]), *request.eids]:
             entry = self.journal.in_force(moment, eid)
             if entry and not entry.fixed:
-                sent += self.asked(moment, entry.mapping.eid, None, True)
+                sent += self.asked(moment, entry.mapping.eid, invoked=True)
         return f"control solicit asked={len(sent)}", sent
 
     def answered(self, request, dest, port):

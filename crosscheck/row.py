@@ -120,6 +120,15 @@ class Row:
             octets += struct.pack("<IIII", *head) + frame
         return octets
 
+    def text(self):
+        """The row to be read and copied: moments in seconds after the start, octets in hexadecimal."""
+        link, unit = "raw" if self.link == RAW else "Ethernet", "nanoseconds" if self.unit == 1 else "microseconds"
+        frames, packets = ("".join(
+            f"{moment // SECOND}.{moment % SECOND:09} {octets.hex()}\n" for moment, octets in pairs)
+            for pairs in (self.frames, self.packets))
+        return (f"== {self.name} ==\n-- settings\n{self.settings}-- frames, {link}, in {unit}\n{frames}"
+                f"-- report\n{self.report}-- packets\n{packets}")
+
     def output(self):
         return output_header() + b"".join(output_record(START + moment, packet) for moment, packet in self.packets)
 

@@ -1,20 +1,22 @@
 #!/usr/bin/env python3
-"""Replays rows with known answers, octet by octet, through the plain router or a program.
+"""Replays rows with known answers, octet by octet, through the plain router or a program; or prints rows.
 
-usage: rows.py [PROGRAM]
-It prints one line a row, and ends with status 1 where one differs.
+usage: rows.py [PROGRAM] | rows.py --print PART ..
+It prints one line a row, and ends with status 1 where one differs. A part is the name of a module of rows; its rows
+are printed whole: settings, frames, and the report and packets that they must give.
 """
+import importlib
 import os
 import subprocess
 import sys
 import tempfile
 
-import cache_rows
-import choice_rows
-import request_rows
-import tick_rows
-
+PARTS = "cache_rows", "request_rows", "choice_rows", "tick_rows", "echo_rows", "version_rows", "flood_rows"
 HERE = os.path.dirname(os.path.abspath(__file__))
+
+
+def rows_of(parts):
+    return [row for part in parts for row in importlib.import_module(part).rows()]
 
 
 def replayed(command, row, folder):
@@ -30,6 +32,9 @@ def replayed(command, row, folder):
 
 
 def main():
+    if sys.argv[1:2] == ["--print"]:
+        print("\n".join(row.text() for row in rows_of(sys.argv[2:])), end="")
+        return
     if len(sys.argv) > 1:
         program = os.path.abspath(sys.argv[1])
         command = lambda s, i, o: [program, "replay", "--settings", s, "--in", i, "--out", o]
@@ -37,7 +42,7 @@ def main():
         command = lambda s, i, o: [sys.executable, os.path.join(HERE, "plain.py"), "replay", s, i, o]
     failed = False
     with tempfile.TemporaryDirectory() as folder:
-        for row in [*cache_rows.rows(), *request_rows.rows(), *choice_rows.rows(), *tick_rows.rows()]:
+        for row in rows_of(PARTS):
             report, output = replayed(command, row, folder)
             good = report == row.report and output == row.output()
             print(f"{'ok     ' if good else 'DIFFERS'} {row.name}")

@@ -1,22 +1,19 @@
 """The packets that the router makes: into tunnels, and with control messages (RFC 9300, RFC 9301)."""
 import struct
 
+from lisp import header_to
 from wire import control_packet, ip_header
 
 # Flags of a Map-Request, of a record, and of a locator.
-PROBE, INVOKED = 0x200, 0x40
+PROBE, SOLICIT, INVOKED = 0x200, 0x100, 0x40
 A_BIT, L_BIT, P_BIT, R_BIT = 0x1000, 4, 2, 1
 
 
-def wrapped(site, iid, packet, port, ours, to):
-    """The packet in its tunnel."""
+def wrapped(site, iid, packet, port, ours, to, told):
+    """The packet in its tunnel; what its header tells are flags, and a nonce or versions."""
     bits = sum(1 << i for i, own in enumerate(site.locators) if own.reachable)
-    if iid:
-        lisp = struct.pack(">II", 0x48 << 24, iid << 8 | bits & 0xFF)
-    else:
-        lisp = struct.pack(">II", 0x40 << 24, bits)
     inner = packet.marked(packet.tos, packet.ttl - 1)
-    udp = struct.pack(">HHHH", port, 4341, 16 + len(inner), 0) + lisp + inner
+    udp = struct.pack(">HHHH", port, 4341, 16 + len(inner), 0) + header_to(*told, bits, iid) + inner
     return ip_header(ours, to, len(udp), packet.ttl - 1, packet.tos) + udp
 
 
@@ -46,6 +43,13 @@ def probe_packet(site, address, nonce, eid):
     return control_packet(site.ours(len(address)), address, message)
 
 
+def solicit_packet(site, solicited):
+    """The packet that tells a locator to ask for a prefix of the site again."""
+    eid = solicited.eid
+    message = map_request(SOLICIT, solicited.nonce, eid, eid.octets(), site.up())
+    return control_packet(site.ours(len(solicited.address)), solicited.address, message)
+
+
 def request_packet(site, asked):
     """The packet that asks the resolver for an EID, encapsulated."""
     eid, size = asked.eid, asked.eid.width // 8
@@ -58,7 +62,7 @@ def request_packet(site, asked):
 
 def own_record(site, eid, probed):
     """What the site says of one of its EIDs, with the locator that was probed, or None."""
-    octets = struct.pack(">IBBHH", site.ttl, len(site.locators), eid.length, A_BIT, 0)
+    octets = struct.pack(">IBBHH", site.ttl, len(site.locators), eid.length, A_BIT, site.versions[eid])
     octets += eid_octets(eid.iid, eid.octets())
     for own in site.locators:
         flags = L_BIT | P_BIT * (own.address == probed) | R_BIT * own.reachable

@@ -122,7 +122,7 @@ def attachment(table, path):
 def eid(table, path):
     iid = required(table, "iid", whole(2**24 - 1), path)
     network = required(table, "prefix", prefix, path)
-    optional(table, "version", number(0, 0), path)
+    optional(table, "version", number(0, 4095), path)
     return iid, network
 
 
@@ -160,7 +160,7 @@ def check(top):
     optional(top, "resolver", lambda value: address(value) is not None, [])
     optional(top, "ttl", number(1, 2**32 - 2), [])
     optional(top, "probe", truth, [])
-    optional(top, "echo", lambda value: value is False, [])
+    optional(top, "echo", truth, [])
     items(top, "locator", 32, locator, [], 1)
     items(top, "attachment", 4096, attachment, [])
     items(top, "database", 64, database, [])

@@ -22,7 +22,7 @@ def locators_of(table):
 
 
 def mapping_of(table):
-    return Record(eid_of(table), 1440, table.get("action", 0), 0, locators_of(table))
+    return Record(eid_of(table), 1440, table.get("action", 0), table.get("version", 0), locators_of(table))
 
 
 class Site:
@@ -31,12 +31,13 @@ class Site:
         rules.check(top)
         self.locators = sorted(locators_of(top), key=lambda own: (len(own.address), own.address))
         self.attachments = {table["vlan"]: table["iid"] for table in top.get("attachment", [])}
-        self.databases = sorted(map(eid_of, top.get("database", [])))
+        self.versions = {eid_of(table): table.get("version", 0) for table in top.get("database", [])}
+        self.databases = sorted(self.versions)
         self.mappings = sorted(map(mapping_of, top.get("mapping", [])), key=lambda mapping: mapping.eid)
         self.static = {mapping.eid for mapping in self.mappings}
         self.resolver = raw(top["resolver"]) if "resolver" in top else None
         self.ttl = top.get("ttl", 1440)
-        self.probe = top.get("probe", False)
+        self.probe, self.echo = top.get("probe", False), top.get("echo", False)
         self.nonces = [int(text, 16) for text in top.get("nonces", [])]
         self.seed = bytes.fromhex(top.get("seed", 64 * "0"))
 

@@ -3,14 +3,14 @@ import struct
 
 from arrivals import Arrivals
 from fitting import away, longer, plain_ip, randomly, record, shorter, summed
-from journal import (AGAIN, MOST_REQUESTS, OPEN, PROBE_AGAIN, PROBE_COUNTS, PROBE_OPEN, SECOND, Asked, Bits, Learned,
-                     ends)
+from journal import (AGAIN, ECHO_COUNTS, ECHO_ON, MOST_REQUESTS, OPEN, PROBE_AGAIN, PROBE_COUNTS, PROBE_OPEN, SECOND,
+                     SOLICITED, WANTED, Asked, Bits, EchoStarted, EchoWanted, Learned, Solicited, ends)
 from makers import AWAY, HOMES, OTHERS, between, framed, host, inside, packet, raw, spoiled, udp
 from messages import Eid
 from router import Router
 
 MILLI, DAY = 10**6, 86_400 * SECOND
-# Long pauses between frames, in seconds: of requests and probes, of probes that come again, of those that count.
+# Long pauses between frames, in seconds: of requests, probes and echoes, of those that come again, of those that count.
 LONG = [(3, 10)] * 10 + [(55, 65)] * 5 + [(590, 610), (0, 700)]
 
 
@@ -24,6 +24,7 @@ class Talk:
         self.now = 1_700_000_000 * SECOND + self.rounded(r.choice([0, r.randrange(SECOND)]))
         self.replies, self.iid, self.filled = [], None, False
         self.slow, self.answering = r.choice([0.01, 0.04, 0.12]), r.choice([0.1, 0.5, 0.8])
+        self.echoing = r.choice([0.1, 0.3, 0.6])
 
     # Moments.
 
@@ -177,6 +178,14 @@ class Talk:
         make = self.r.choice([self.leaving, self.leaving, self.arrivals.solicitation, None])
         return make(mapping.eid) if make else self.arrivals.arriving(mapping)
 
+    def renewed(self):
+        """Where a mapping is asked for again because of its version, a moment later once more; or not any more."""
+        fresh = self.arrivals.headers.fresh
+        for mapping in self.mapped()[-20:]:
+            if mapping.version and mapping.eid not in self.site.static:
+                yield from ((self.now + age, lambda one: self.arrivals.arriving(one, fresh), mapping)
+                            for age in (0, MILLI, OPEN))
+
     def to_locator(self, address):
         """A packet whose mapping names the locator, where there is one."""
         named = [entry.mapping.eid for entry in self.router.journal.live(self.now).values()
@@ -202,10 +211,45 @@ class Talk:
             make = self.r.choice([self.probe_reply, lambda probe: self.to_locator(probe.address)])
             yield from ((entry.moment + age, make, entry) for age in [PROBE_OPEN] * 9 + [PROBE_AGAIN, PROBE_COUNTS])
 
+    def from_locator(self, address, *ways, home=None):
+        """A packet from the locator, with a header in one of the ways; or one to it."""
+        octets = self.arrivals.arriving_from(self.now, address, self.r.choice(ways), home)
+        return octets or self.to_locator(address)
+
+    def with_peer(self):
+        """With a locator of which an echo is asked, or that wants one: a packet from it or to it; or None."""
+        r, headers = self.r, self.arrivals.headers
+        asked = [entry.address for entry in self.recent(EchoStarted) if self.now - entry.moment < ECHO_ON]
+        wanting = [entry.address for entry in self.recent(EchoWanted) if self.now - entry.moment < WANTED]
+        pool = r.choice([asked, wanting])
+        if not pool:
+            return None
+        address = r.choice(pool)
+        if r.random() < 0.5:
+            return self.to_locator(address)
+        return self.from_locator(address, headers.way(address), headers.echo, headers.nothing, headers.wanted)
+
+    def recent(self, kind):
+        return [entry for entry in self.router.journal[-400:] if type(entry) is kind][-40:]
+
+    def echo_ends(self):
+        """Where an echo request ends or counts no more, where an echo isn't wanted any more, or a peer is old again."""
+        headers, to_it = self.arrivals.headers, lambda entry: self.to_locator(entry.address)
+        heard = lambda entry: self.from_locator(entry.address, headers.echo, headers.nothing)
+        again = lambda entry: self.from_locator(entry.address, headers.wanted)
+        old = lambda entry: self.from_locator(entry.address, headers.old, home=entry.eid)
+        started, wanted, solicited = map(self.recent, (EchoStarted, EchoWanted, Solicited))
+        deaf = [echo.start for echo in self.router.journal.echoes().values() if echo.data and not echo.heard]
+        entries, age, make = self.r.choice([
+            (started, ECHO_ON, heard), (started, ECHO_ON, to_it), (started, ECHO_COUNTS, to_it),
+            (wanted, WANTED, again), (wanted, WANTED, to_it), *[(solicited, SOLICITED, old)] * 2,
+            (deaf, ECHO_ON, to_it), (deaf, ECHO_COUNTS, to_it)])
+        yield from ((entry.moment + age, make, entry) for entry in entries)
+
     def aimed(self):
         """The end of something, or one unit before, and what makes a frame then; or None."""
         r, early = self.r, self.r.choice([0, self.unit])
-        for find in r.sample([self.request_ends, self.mapping_ends, self.probe_ends], 3):
+        for find in r.sample([self.request_ends, self.mapping_ends, self.probe_ends, self.echo_ends, self.renewed], 5):
             found = [one for one in find() if one[0] - early >= self.now]
             if found:
                 moment, make, regarded = r.choice(found)
@@ -217,7 +261,7 @@ class Talk:
     def shares(self):
         """How often a frame is at an end; else a reply; else comes from outside in another way; else is any."""
         if not self.hurried:
-            return 0.1, 0.3, 0.3, 0.1
+            return 0.15, 0.3, 0.35, 0.1
         self.filled = self.filled or len(self.router.journal.open_requests(self.now)) >= MOST_REQUESTS
         return (0.001, 0.15, 0.4, 0.1) if self.filled else (0, 0.005, 0.01, 0.01)
 
@@ -236,6 +280,8 @@ class Talk:
         _, reply, outside, other = self.shares()
         if not self.hurried and r.random() < self.answering and (probe := self.probe()):
             return self.probe_reply(probe)
+        if not self.hurried and r.random() < self.echoing and (octets := self.with_peer()):
+            return octets
         if r.random() < reply and (asked := self.request()):
             return self.reply(asked)
         if self.replies and r.random() < other / 3:

@@ -1,4 +1,4 @@
-"""What tshark reads of the control messages in a capture, and what all of them must keep to."""
+"""What tshark reads of the messages and tunnel packets in a capture, and what all messages must keep to."""
 import ipaddress
 import subprocess
 import sys
@@ -13,16 +13,20 @@ RESERVED = ["lisp.lcaf.res1", "lisp.lcaf.flags", "lisp.lcaf.res2"]
 GOOD, WARNING = "1", 0x400000
 
 
-def read_by_tshark(path, fields):
-    """The fields of each frame that has a control message, each a list of texts."""
-    fields = HEADERS + RESERVED + fields
-    command = ["tshark", "-r", path, "-n", "-Y", "udp.port == 4342", "-T", "fields", "-E", "separator=|",
-               "-d", "udp.port==0-4340,lisp", "-o", "ip.check_checksum:TRUE", "-o", "udp.check_checksum:TRUE"]
+def fields_read(path, shown, fields, *options):
+    """The fields of each frame that is shown, each a list of texts; the first field is the frame's number."""
+    command = ["tshark", "-r", path, "-n", "-Y", shown, "-T", "fields", "-E", "separator=|", *options]
     for field in fields:
         command += ["-e", field]
     lines = subprocess.run(command, capture_output=True, text=True, check=True).stdout.splitlines()
     rows = [dict(zip(fields, (value.split(",") if value else [] for value in line.split("|")))) for line in lines]
     return {int(row["frame.number"][0]): row for row in rows}
+
+
+def read_by_tshark(path, fields):
+    """The fields of each frame that has a control message."""
+    return fields_read(path, "udp.port == 4342", HEADERS + RESERVED + fields, "-d", "udp.port==0-4340,lisp",
+                       "-o", "ip.check_checksum:TRUE", "-o", "udp.check_checksum:TRUE")
 
 
 def kept(row, packets):

@@ -1,0 +1,139 @@
+"""What is noticed of a packet, and what each notice makes of the journal and sends."""
+from typing import NamedTuple
+
+from journal import Asked, Bits, DataFrom, EchoHeard, EchoStarted, EchoWanted, Journal, Learned, Solicited
+from lisp import is_ahead, newer
+from messages import Eid
+from nonces import nonce_at
+from sending import request_packet, solicit_packet
+
+
+class Ask(NamedTuple):
+    """A packet's destination has no mapping."""
+    eid: Eid
+    source: bytes
+
+
+class ToldBits(NamedTuple):
+    """A locator told status bits of a mapping."""
+    eid: Eid
+    address: bytes
+    bits: int
+    width: int
+
+
+class WantedEcho(NamedTuple):
+    address: bytes
+    nonce: int
+
+
+class HeardEcho(NamedTuple):
+    address: bytes
+    nonce: int
+
+
+class HeardData(NamedTuple):
+    address: bytes
+
+
+class Solicit(NamedTuple):
+    """A locator knows an old version of a prefix of the site."""
+    address: bytes
+    eid: Eid
+
+
+class Refresh(NamedTuple):
+    """A learned mapping is older than what its site says."""
+    eid: Eid
+
+
+class EchoDue(NamedTuple):
+    """A packet went to a locator that no echo is asked of."""
+    address: bytes
+
+
+def of_delivered(site, header, home, known, address):
+    """What is noticed of a packet that came out of a tunnel, in order; known is what is in force for its source."""
+    if header.status is not None and known:
+        yield ToldBits(known.mapping.eid, address, header.status, header.width)
+    if header.echo:
+        yield WantedEcho(address, header.nonce)
+    else:
+        if header.nonce is not None:
+            yield HeardEcho(address, header.nonce)
+        yield HeardData(address)
+    if header.dest_version != 0 and newer(site.versions[home], header.dest_version):
+        yield Solicit(address, home)
+    if known and not known.fixed and is_ahead(header.source_version, known.mapping.version):
+        yield Refresh(known.mapping.eid)
+
+
+class Noting:
+    """A site and its journal, which each notice is judged by as it then stands."""
+
+    def __init__(self, site):
+        self.site = site
+        self.journal = Journal(Learned(0, mapping, True) for mapping in site.mappings)
+        self.notes = {
+            Ask: self.missed, Refresh: self.refreshed, ToldBits: self.told, WantedEcho: self.wanted,
+            HeardEcho: self.heard_echo, HeardData: self.heard_data, Solicit: self.solicited, EchoDue: self.started}
+
+    def note(self, moment, notice):
+        """What is sent for a notice."""
+        return self.notes[type(notice)](moment, *notice) or []
+
+    def nonce(self):
+        return nonce_at(self.site.nonces, self.site.seed, self.journal.drawn())
+
+    # Requests.
+
+    def asked(self, moment, eid, source=None, invoked=False):
+        """Asks for an EID, where no open request covers it."""
+        if self.site.resolver is None or not self.journal.may_ask(moment, eid):
+            return []
+        self.journal.append(Asked(moment, eid, source, invoked, self.nonce()))
+        return [request_packet(self.site, self.journal[-1])]
+
+    def missed(self, moment, eid, source):
+        entry = self.journal.in_force(moment, eid)
+        if entry is None or not entry.mapping.locators and entry.mapping.action == 2:
+            return self.asked(moment, eid, source)
+
+    def refreshed(self, moment, eid):
+        entry = self.journal.live(moment).get(eid)
+        if entry and not entry.fixed:
+            return self.asked(moment, eid)
+
+    def solicited(self, moment, address, eid):
+        if self.site.ours(len(address)) and self.journal.may_solicit(moment, address, eid):
+            self.journal.append(Solicited(moment, address, eid, self.nonce()))
+            return [solicit_packet(self.site, self.journal[-1])]
+
+    # What is known of locators.
+
+    def told(self, moment, eid, address, bits, width):
+        """Keeps status bits that one of a mapping's locators tells, where they say anything new."""
+        entry = self.journal.live(moment).get(eid)
+        if entry is None or all(locator.address != address for locator in entry.mapping.locators):
+            return
+        up = self.journal.status(eid)[:width]
+        if any(is_up != (bits >> i & 1 == 1) for i, is_up in enumerate(up)):
+            self.journal.append(Bits(moment, eid, bits, width))
+
+    def wanted(self, moment, address, nonce):
+        if self.journal.may_want(moment, address, nonce):
+            self.journal.append(EchoWanted(moment, address, nonce))
+
+    def heard_echo(self, moment, address, nonce):
+        echo = self.journal.echo_on(moment, address)
+        if echo and echo.start.nonce == nonce:
+            self.journal.append(EchoHeard(moment, address))
+
+    def heard_data(self, moment, address):
+        echo = self.journal.echo_on(moment, address)
+        if echo and not echo.data:
+            self.journal.append(DataFrom(moment, address))
+
+    def started(self, moment, address):
+        if self.site.echo and self.journal.may_start(moment, address):
+            self.journal.append(EchoStarted(moment, address, self.nonce() & 0xFFFFFF))
