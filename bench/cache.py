@@ -1,13 +1,14 @@
 #!/usr/bin/env python3
 """Writes settings and captures of frames to destinations that the router must ask for.
 
-usage: cache.py FOLDER FRAMES SEED [WRITTEN]
-Without WRITTEN it makes, from a number: asking.toml (a resolver, no mappings), static.toml (the mappings, of eight
-locators each), single.toml (the same with the first locator alone), frames.pcap
-(packets of 80 to 1,400 octets to 1,000 destinations, 10,000 a second) and first.pcap (its frames up to the first one
-to the last destination). WRITTEN is what a replay of first.pcap by asking.toml wrote: its requests tell the
-nonces. It then makes answered.pcap, the frames with the reply to each request right after the frame that caused it;
-each has eight locators, of two priorities and several weights.
+usage: cache.py FOLDER FRAMES SEED
+It makes, from a number: frames.pcap (packets of 80 to 1,400 octets to 1,000 destinations, 10,000 a second);
+answered.pcap (the same with the reply to each request right after the frame that causes it, of eight locators of two
+priorities and several weights, and after each tenth frame a packet from one of these); and echoed.pcap (as
+answered.pcap, but replies tell versions, and packets from locators echo a nonce, want an echo, or tell versions). With
+them asking.toml (a resolver, no mappings), echoing.toml (the same with echoes and a version), static.toml (the
+mappings) and single.toml (the mappings with the first locator alone). All listed nonces are alike, so that replies
+don't depend on what else draws one. It prints the number of frames of answered.pcap, and of echoed.pcap.
 """
 import random
 import struct
@@ -15,13 +16,15 @@ import sys
 
 from packets import udp_packet
 
-DESTINATIONS = 1_000
+DESTINATIONS, NONCE = 1_000, 0x0102030405060708
 OWN, OTHER = bytes([192, 0, 2, 1]), bytes([198, 51, 100, 7])
 # The last octet of each locator of a mapping, its priority and its weight.
 LOCATORS = [(7 + i, 1 + i // 4, 10 * (1 + i % 4)) for i in range(8)]
 HEADER = struct.pack("<IHHIIII", 0xA1B2C3D4, 2, 4, 0, 0, 262144, 101)
+OWN_VERSION, OTHER_VERSION = 5, 7
 SITE = ('[[locator]]\naddress = "192.0.2.1"\n[[attachment]]\nvlan = 0\niid = 0\n'
         '[[database]]\niid = 0\nprefix = "10.1.0.0/16"\n')
+ASKING = 'resolver = "203.0.113.9"\nnonces = [' + ", ".join([f'"{NONCE:016x}"'] * 4096) + "]\n"
 
 
 def address(i):
@@ -34,9 +37,9 @@ def mapping(i, locators):
         for last, priority, weight in locators)
 
 
-def record(i, half, octets):
-    """A record of a capture, in the first or the second half of the time of the frame."""
-    fraction = i % 10_000 * 100 + 50 * half
+def record(i, part, octets):
+    """A record of a capture, in a third of the time of the frame."""
+    fraction = i % 10_000 * 100 + 30 * part
     return struct.pack("<IIII", 1_700_000_000 + i // 10_000, fraction, len(octets), len(octets)) + octets
 
 
@@ -50,62 +53,66 @@ def frames(count, seed):
         yield dest, udp_packet(source, address(dest), (port, 2000), zeros[:size - 28], False)
 
 
-def reply(dest, nonce):
-    front = struct.pack(">IQ", 0x20000001, nonce)
-    eid = struct.pack(">IBBHHH", 1440, len(LOCATORS), 32, 0x1000, 0, 1) + dest
+def reply(dest, version):
+    front = struct.pack(">IQ", 0x20000001, NONCE)
+    eid = struct.pack(">IBBHHH", 1440, len(LOCATORS), 32, 0x1000, version, 1) + dest
     locators = b"".join(
         struct.pack(">BBBBHH", priority, weight, 255, 0, 1, 1) + OTHER[:3] + bytes([last])
         for last, priority, weight in LOCATORS)
     return udp_packet(OTHER, OWN, (4342, 4342), front + eid + locators, True)
 
 
-def nonces(path):
-    """The nonce with which each address was asked for first."""
-    with open(path, "rb") as file:
-        octets = file.read()
-    found, at = {}, 24
-    while at < len(octets):
-        size = struct.unpack("<I", octets[at + 8:at + 12])[0]
-        sent = octets[at + 16:at + 16 + size]
-        found.setdefault(sent[-4:], struct.unpack(">Q", sent[64:72])[0])
-        at += 16 + size
-    return found
+def told(i):
+    """The first half of a header: an echo, a nonce to be echoed that is another each second, versions, or nothing."""
+    field = [NONCE & 0xFFFFFF, i // 10_000, OTHER_VERSION << 12 | OWN_VERSION, 0][i // 10 % 4]
+    return (0x80, 0xA0, 0x10, 0)[i // 10 % 4] << 24 | field
+
+
+def arriving(i, dest, field):
+    """A packet from the frame's destination, in a tunnel from one of its locators."""
+    inner = udp_packet(address(dest), bytes([10, 1, 0, 5]), (2000, 1000), bytes(172), False)
+    source = OTHER[:3] + bytes([LOCATORS[i // 40 % 4][0]])
+    return udp_packet(source, OWN, (50000, 4341), struct.pack(">II", field, 0) + inner, False)
+
+
+def write_settings(folder):
+    for name, text in (
+            ("asking", ASKING + SITE), ("echoing", "echo = true\n" + ASKING + SITE + f"version = {OWN_VERSION}\n"),
+            ("static", SITE + "".join(mapping(i, LOCATORS) for i in range(DESTINATIONS))),
+            ("single", SITE + "".join(mapping(i, LOCATORS[:1]) for i in range(DESTINATIONS)))):
+        with open(f"{folder}/{name}.toml", "w") as file:
+            file.write(text)
 
 
 def write_frames(folder, count, seed):
-    with open(f"{folder}/asking.toml", "w") as file:
-        file.write('resolver = "203.0.113.9"\n' + SITE)
-    for name, locators in ("static", LOCATORS), ("single", LOCATORS[:1]):
-        with open(f"{folder}/{name}.toml", "w") as file:
-            file.write(SITE + "".join(mapping(i, locators) for i in range(DESTINATIONS)))
-    seen = set()
-    with open(f"{folder}/frames.pcap", "wb") as file, open(f"{folder}/first.pcap", "wb") as first:
+    with open(f"{folder}/frames.pcap", "wb") as file:
         file.write(HEADER)
-        first.write(HEADER)
-        for i, (dest, octets) in enumerate(frames(count, seed)):
+        for i, (_, octets) in enumerate(frames(count, seed)):
             file.write(record(i, 0, octets))
-            if len(seen) < DESTINATIONS:
-                first.write(record(i, 0, octets))
-            seen.add(dest)
 
 
-def write_answered(folder, count, seed, written):
-    asked = nonces(written)
-    with open(f"{folder}/answered.pcap", "wb") as file:
+def write_answered(path, count, seed, has_echoes):
+    """Tells how many frames the capture has."""
+    asked, arrived = set(), 0
+    with open(path, "wb") as file:
         file.write(HEADER)
         for i, (dest, octets) in enumerate(frames(count, seed)):
             file.write(record(i, 0, octets))
-            nonce = asked.pop(address(dest), None)
-            if nonce is not None:
-                file.write(record(i, 1, reply(address(dest), nonce)))
+            if dest not in asked:
+                file.write(record(i, 1, reply(address(dest), OTHER_VERSION * has_echoes)))
+            asked.add(dest)
+            if i % 10 == 9:
+                file.write(record(i, 2, arriving(i, dest, told(i) if has_echoes else 0)))
+                arrived += 1
+    return count + len(asked) + arrived
 
 
 def main():
     folder, count, seed = sys.argv[1], int(sys.argv[2]), int(sys.argv[3])
-    if len(sys.argv) > 4:
-        write_answered(folder, count, seed, sys.argv[4])
-    else:
-        write_frames(folder, count, seed)
+    write_settings(folder)
+    write_frames(folder, count, seed)
+    write_answered(f"{folder}/answered.pcap", count, seed, False)
+    print(write_answered(f"{folder}/echoed.pcap", count, seed, True))
 
 
 main()

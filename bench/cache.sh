@@ -1,7 +1,8 @@
 #!/usr/bin/env bash
 # Replays frames to 1,000 destinations that the router must ask for, with the replies to its requests, each of eight
-# locators, and prints frames a second, user and system time and the greatest memory; beside it the same frames
-# with the mappings in the settings, then with the first locator of each alone, and `cat` of the file to a new one.
+# locators, and after each tenth frame a packet from a locator, and prints frames a second, user and system time and the
+# greatest memory; then the same with echoes and Map-Versions; beside it the frames alone with the mappings in the
+# settings, then with the first locator of each alone, and `cat` of the file to a new one.
 # usage: bench/cache.sh [FRAMES [SEED]]
 set -eu
 frames=${1:-1000000}
@@ -13,18 +14,19 @@ words() {
     words=(replay --settings "$folder/$1" --in "$folder/$2" --out "$folder/out.pcap")
 }
 
-python3 "$top/bench/cache.py" "$folder" "$frames" "$seed"
-words asking.toml first.pcap
-"$program" "${words[@]}" >"$folder/report"
-python3 "$top/bench/cache.py" "$folder" "$frames" "$seed" "$folder/out.pcap"
-echo "$frames frames, $(stat -c %s "$folder/frames.pcap") octets"
+exchanged=$(python3 "$top/bench/cache.py" "$folder" "$frames" "$seed")
+echo "$frames frames, $(stat -c %s "$folder/frames.pcap") octets, and $exchanged with what comes"
 
-words asking.toml answered.pcap
-measured "  learned" "$frames" "$folder/report" "$program" "${words[@]}"
-echo "  $(grep -c ' drop 13 miss$' "$folder/report") misses," \
-    "$(grep -c ' control reply learned=1 ' "$folder/report") replies learned," \
-    "$(grep -c ' encapsulated ' "$folder/report") encapsulated"
-tail -n 1 "$folder/report" | sed 's/^/  /'
+for kind in "learned asking answered" "echoes echoing echoed"; do
+    read -r name settings capture <<<"$kind"
+    words "$settings.toml" "$capture.pcap"
+    measured "  $(printf %-7s "$name")" "$exchanged" "$folder/report" "$program" "${words[@]}"
+    echo "  $(grep -c ' drop 13 miss$' "$folder/report") misses," \
+        "$(grep -c ' control reply learned=1 ' "$folder/report") replies learned," \
+        "$(grep -c ' encapsulated ' "$folder/report") encapsulated," \
+        "$(grep -c ' delivered ' "$folder/report") delivered"
+    tail -n 1 "$folder/report" | sed 's/^/  /'
+done
 for kind in static single; do
     words $kind.toml frames.pcap
     measured "  $kind " "$frames" "$folder/report" "$program" "${words[@]}"
