@@ -16,7 +16,8 @@ mod record;
 mod writing;
 
 pub use desk::{
-    Calls, Desk, DeskFault, FileId, Files, HostDesk, HostFile, MemoryDesk, NamedFile, read_full,
+    Calls, Desk, DeskFault, FileId, Files, HostDesk, HostFile, MemoryDesk, NamedFile, SteadyDesk,
+    read_full,
 };
 pub use fault::CaptureFault;
 pub use frame::{Frame, MOST_FRAME_OCTETS};

@@ -1,7 +1,8 @@
 // A capture that is read record by record.
-ghost use Rattle.std.specs.Prelude.{◌≡◌, ◌⊎◌, ◌≤◌, option_map, Some, Err, IfOk, IfErr, IfSome, IfNone, OnOk, IsErrOf, MatchOption};
+ghost use Rattle.std.specs.Prelude.{◌≡◌, ◌≢◌, ◌⊎◌, ◌≤◌, option_map, Some, Err, IfOk, IfErr, IfSome, IfNone, OnOk, IsErrOf, MatchOption};
 ghost use Rattle.octets.specs.Causes.{Rose};
-ghost use Rattle.desk.specs.World.{left_of, after_read, shown};
+ghost use Rattle.desk.specs.Causes.{StaysSteady};
+ghost use Rattle.desk.specs.World.{left_of, after_read, to_read, shown, IsGiven};
 ghost use Rattle.capture_io.specs.declared.fault.CaptureFault.TheVariants.{Host};
 ghost use Rattle.capture_io.specs.Answers.{IsAnswer};
 ghost use Rattle.capture_io.specs.Calls.{answered, after_answer};
@@ -56,6 +57,8 @@ impl CaptureReader {
         ensures given { D.given desk.new ≡ D.given desk.old }
         ensures later { D.faults desk.old ≤ D.faults desk.new }
         ensures host { IsErrOf result Host → Rose (D.faults desk.old) (D.faults desk.new) }
+        ensures steady { StaysSteady (D.steady desk.old) (D.steady desk.new)
+            (IsGiven id.number to_read (D.given desk.old)) (IsErrOf result Host) }
     {
         let mut header = [0u8; 24];
         let n = read_full(alloc, desk, id, &mut header)?;
@@ -96,6 +99,9 @@ impl CaptureReader {
         ensures later { D.faults desk.old ≤ D.faults desk.new }
         ensures host { IsErrOf result Host →
             (self.old.fault ≡ Some Host) ⊎ Rose (D.faults desk.old) (D.faults desk.new) }
+        ensures steady { StaysSteady (D.steady desk.old) (D.steady desk.new)
+            (IsGiven self.old.id to_read (D.given desk.old))
+            (IsErrOf result Host × (self.old.fault ≢ Some Host)) }
     {
         if let Some(fault) = self.fault {
             return Err(fault);

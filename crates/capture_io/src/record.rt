@@ -3,8 +3,9 @@ ghost use Rattle.std.specs.List.{All};
 ghost use Rattle.std.specs.Prelude.{◌≡◌, ◌≤◌, ◌<◌, List, false, length, take, option_map, None, Result, Ok, Err, IfOk, IfErr, IfSome, IsErrOf, IsTrue};
 ghost use Rattle.octets.specs.Rules.{first_failing};
 ghost use Rattle.octets.specs.Causes.{Rose};
-ghost use Rattle.desk.specs.Causes.{HasCause};
-ghost use Rattle.desk.specs.World.{left_of, after_read, shown};
+ghost use Rattle.desk.specs.declared.fault.DeskFault.TheVariants.{Failed};
+ghost use Rattle.desk.specs.Causes.{HasCause, StaysSteady};
+ghost use Rattle.desk.specs.World.{left_of, after_read, to_read, shown, IsGiven};
 ghost use Rattle.capture_io.specs.declared.fault.CaptureFault.TheVariants.{Host};
 ghost use Rattle.capture_io.specs.Answers.{IsAnswer, is_outside_fault, unless};
 ghost use Rattle.capture_io.specs.Capture.{outcome, taken, head_rules, body_rules, frame, kept};
@@ -36,6 +37,8 @@ pub fn read_record<D: Desk>(
     ensures given { D.given desk.new ≡ D.given desk.old }
     ensures later { D.faults desk.old ≤ D.faults desk.new }
     ensures host { IsErrOf result Host → Rose (D.faults desk.old) (D.faults desk.new) }
+    ensures steady { StaysSteady (D.steady desk.old) (D.steady desk.new)
+        (IsGiven id.number to_read (D.given desk.old)) (IsErrOf result Host) }
 {
     let mut head = [0u8; 16];
     let n = read_full(alloc, desk, id, &mut head)?;
@@ -65,6 +68,8 @@ fn read_body<D: Desk>(
     ensures shown { shown (D.told desk.new) ≡ shown (D.told desk.old) }
     ensures given { D.given desk.new ≡ D.given desk.old }
     ensures cause { HasCause (D.faults desk.old) (D.faults desk.new) result }
+    ensures steady { StaysSteady (D.steady desk.old) (D.steady desk.new)
+        (IsGiven id.number to_read (D.given desk.old)) (IsErrOf result Failed) }
 {
     let mut body = vec![in alloc; 0u8; size as usize]?;
     let n = read_full(alloc, desk, id, &mut body)?;

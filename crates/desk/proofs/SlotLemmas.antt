@@ -1,16 +1,18 @@
 -- What slots have by id, and what a change of one, or one more, does to that.
-use Rattle.std.proofs.Common.{◌≡◌, ℕ, zero, suc, ◌+◌, ◌<◌, ◌≤◌, List, [], ◌∷◌, ◌++◌, length, true, false, eqb, Option, Some, None, get_or, refl, sym, ap, ◌∙◌, append_assoc, arith, slice_get}
+use Rattle.std.proofs.Common.{◌≡◌, ℕ, eqb-true, zero, suc, ◌+◌, ◌<◌, ◌≤◌, List, [], ◌∷◌, ◌++◌, drop, length, true, false, eqb, Option, Some, None, is_some, get_or, refl, sym, ap, ◌∙◌, append_assoc, arith, slice_get, inl, inr}
 use Rattle.std.specs.Option.{option_map}
 use Rattle.std.proofs.Math.ListN.{set}
+use Rattle.std.proofs.lemmas.Bool.{cases_Bool}
 use Rattle.std.proofs.lemmas.Grind.{common_steps}
 use Rattle.std.proofs.lemmas.List.{append-nil}
 use Rattle.std.proofs.lemmas.Option.{slice_get-get_or}
 use Rattle.desk.specs.declared.file.NamedFile.{NamedFile}
 use Rattle.desk.specs.declared.slots.Slot.{Slot}
-use Rattle.desk.specs.World.{found_at, changed_at, extended, IsFresh}
-use Rattle.desk.specs.Memory.{Memory, wrote}
-use Rattle.desk.specs.Slots.{entry, entries_from, entries, reader_in, writer_in, direction_in, memory_of, with_slot}
-use Rattle.desk.proofs.Entries.{changed_at-same}
+use Rattle.desk.specs.declared.slots.Slot.TheVariants.{Reading, Writing}
+use Rattle.desk.specs.Shelf.{Shelf, moved, wrote}
+use Rattle.desk.specs.World.{Direction, to_read, to_write, found_at, changed_at, extended, IsFresh, IsGiven}
+use Rattle.desk.specs.Slots.{entry, entries_from, entries, reader_in, writer_in, direction_in, shelf_of, with_slot}
+use Rattle.desk.proofs.Entries.{changed_at-same, changed_at-missing, same_id}
 
 here : (k : ℕ) → eqb k (k + zero) ≡ true
 here k = grind (arith, common_steps)
@@ -104,10 +106,10 @@ entries-changed part f slots i old new lt is change = changed_from part f 0 i i 
 pub entries-same : {X : Type 0} (part : Slot → Option X) (slots : List Slot) (i : ℕ) (old new : Slot) → i < length slots → old ≡ get_or slots i old → part new ≡ part old → entries part (set slots i new) ≡ entries part slots
 entries-same part slots i old new lt is same = same_from part 0 i old new slots (slot_at slots i old lt is) same
 
--- a desk with a slot more
-pub more-slot : (files : List NamedFile) (slots : List Slot) (said fails : List ℕ) (calls faults id : ℕ) (slot : Slot) → id ≡ length slots
-    → memory_of files (slots ++ slot ∷ []) said fails calls faults ≡ with_slot id slot (memory_of files slots said fails calls faults)
-more-slot files slots said fails calls faults id slot is =
+-- a shelf with a slot more
+pub more-slot : (files : List NamedFile) (slots : List Slot) (said : List ℕ) (id : ℕ) (slot : Slot) → id ≡ length slots
+    → shelf_of files (slots ++ slot ∷ []) said ≡ with_slot id slot (shelf_of files slots said)
+more-slot files slots said id slot is =
     let from : id ≡ 0 + length slots = omega arith in
     rw (more_from reader_in 0 id slot slots from, more_from writer_in 0 id slot slots from, more_from direction_in 0 id slot slots from) refl
 
@@ -119,14 +121,71 @@ fresh-slot files slots said id is = record {
   writer = found_at-past writer_in 0 id slots (omega arith);
 }
 
--- nothing was written
-pub wrote-nothing : (id : ℕ) (d : Memory) → d ≡ wrote id [] d
-wrote-nothing id d =
-    let write : List (ℕ × NamedFile) → Memory = λ writers. record d { world = record d.world { writers = writers } } in
-    ap write (sym (changed_at-same id (extended []) d.world.writers (λ file. ap (λ (o : List ℕ). record file { octets = o }) (append-nil file.octets))))
-
 -- a piece was written
-pub wrote-slots : (files : List NamedFile) (slots slots' : List Slot) (said fails : List ℕ) (calls faults id : ℕ) (piece : List ℕ) → entries reader_in slots' ≡ entries reader_in slots
+pub wrote-slots : (files : List NamedFile) (slots slots' : List Slot) (said : List ℕ) (id : ℕ) (piece : List ℕ) → entries reader_in slots' ≡ entries reader_in slots
     → entries writer_in slots' ≡ changed_at id (extended piece) (entries writer_in slots) → entries direction_in slots' ≡ entries direction_in slots
-    → memory_of files slots' said fails calls faults ≡ wrote id piece (memory_of files slots said fails calls faults)
-wrote-slots files slots slots' said fails calls faults id piece readers writers given = rw (readers, writers, given) refl
+    → shelf_of files slots' said ≡ wrote id piece (shelf_of files slots said)
+wrote-slots files slots slots' said id piece readers writers given = rw (readers, writers, given) refl
+
+-- nothing was read
+pub moved-nothing : (id : ℕ) (s : Shelf) → s ≡ moved id 0 s
+moved-nothing id s =
+    let read : List (ℕ × List ℕ) → Shelf = λ readers. record s { world = record s.world { readers = readers } } in
+    ap read (sym (changed_at-same id (drop 0) s.world.readers (λ left. refl)))
+
+-- nothing was written
+pub wrote-nothing : (id : ℕ) (s : Shelf) → s ≡ wrote id [] s
+wrote-nothing id s =
+    let write : List (ℕ × NamedFile) → Shelf = λ writers. record s { world = record s.world { writers = writers } } in
+    ap write (sym (changed_at-same id (extended []) s.world.writers (λ file. ap (λ (o : List ℕ). record file { octets = o }) (append-nil file.octets))))
+
+-- nothing is written where the id isn't one to write
+pub wrote-missing : (id : ℕ) (piece other : List ℕ) (s : Shelf) → false ≡ is_some (found_at id s.world.writers) → wrote id piece s ≡ wrote id other s
+wrote-missing id piece other s none =
+    let write : List (ℕ × NamedFile) → Shelf = λ writers. record s { world = record s.world { writers = writers } } in
+    ap write (changed_at-missing id (extended piece) s.world.writers (sym none) ∙ sym (changed_at-missing id (extended other) s.world.writers (sym none)))
+
+undirected : (slot : Slot) → direction_in slot ≡ None → ⊥
+undirected (Reading source) is = cc
+undirected (Writing file) is = cc
+
+-- the direction of the slot under its own id
+same-direction : (id : ℕ) (o : Option Direction) (direction : Direction) (rest : List (ℕ × Direction)) → (o ≡ None → ⊥) → found_at id (entry id o ++ rest) ≡ Some direction → o ≡ Some direction
+same-direction id None direction rest some given = absurd (some refl)
+same-direction id (Some d) direction rest some given = rw (same_id id) at given
+
+here-found : {X : Type 0} (id : ℕ) (o : Option X) (rest : List (ℕ × X)) → true ≡ is_some o → true ≡ is_some (found_at id (entry id o ++ rest))
+here-found id None rest some = cc
+here-found id (Some x) rest some = rw (same_id id) refl
+
+found-first : {X : Type 0} (part : Slot → Option X) (direction : Direction) → ((slot : Slot) → direction_in slot ≡ Some direction → true ≡ is_some (part slot))
+    → (k id : ℕ) (slot : Slot) (slots : List Slot) → k ≡ id → found_at id (entries_from direction_in k (slot ∷ slots)) ≡ Some direction → true ≡ is_some (found_at id (entries_from part k (slot ∷ slots)))
+found-first part direction has k id slot slots is given =
+    let at = rw is at given in
+    rw is (here-found id (part slot) (entries_from part (suc id) slots) (has slot (same-direction id (direction_in slot) direction (entries_from direction_in (suc id) slots) (undirected slot) at)))
+
+-- an id that was given in a direction has what its direction has
+found-entry : {X : Type 0} (part : Slot → Option X) (direction : Direction) → ((slot : Slot) → direction_in slot ≡ Some direction → true ≡ is_some (part slot))
+    → (k id : ℕ) (slots : List Slot) → found_at id (entries_from direction_in k slots) ≡ Some direction → true ≡ is_some (found_at id (entries_from part k slots))
+found-entry part direction has k id [] given = cc
+found-entry part direction has k id (slot ∷ slots) given =
+    elim (cases_Bool (eqb k id)) [
+      | inl same ↦ found-first part direction has k id slot slots (eqb-true k id same) given
+      | inr other ↦
+          found-entry part direction has (suc k) id slots (rw (found_at-entry k id (direction_in slot) (entries_from direction_in (suc k) slots) other) at given)
+          ∙ ap is_some (sym (found_at-entry k id (part slot) (entries_from part (suc k) slots) other))
+    ]
+
+reads : (slot : Slot) → direction_in slot ≡ Some to_read → true ≡ is_some (reader_in slot)
+reads (Reading source) is = refl
+reads (Writing file) is = cc
+
+writes : (slot : Slot) → direction_in slot ≡ Some to_write → true ≡ is_some (writer_in slot)
+writes (Reading source) is = cc
+writes (Writing file) is = refl
+
+pub given-reads : (slots : List Slot) (id : ℕ) → IsGiven id to_read (entries direction_in slots) → true ≡ is_some (found_at id (entries reader_in slots))
+given-reads slots id given = found-entry reader_in to_read reads 0 id slots given
+
+pub given-writes : (slots : List Slot) (id : ℕ) → IsGiven id to_write (entries direction_in slots) → true ≡ is_some (found_at id (entries writer_in slots))
+given-writes slots id given = found-entry writer_in to_write writes 0 id slots given

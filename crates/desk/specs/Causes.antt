@@ -1,5 +1,5 @@
--- The cause of a fault: the desk's count of faults.
-use Rattle.std.specs.Prelude.{ℕ, ◌≤◌, Result, IsErrOf}
+-- The cause of a fault: the desk's count of faults; and a steady desk, which has none.
+use Rattle.std.specs.Prelude.{ℕ, ◌≤◌, Bool, IsTrue, Result, IsErrOf}
 use Rattle.octets.specs.Causes.{Rose}
 use Rattle.desk.specs.declared.fault.DeskFault.{DeskFault}
 use Rattle.desk.specs.declared.fault.DeskFault.TheVariants.{Failed}
@@ -8,3 +8,8 @@ use Rattle.desk.specs.declared.fault.DeskFault.TheVariants.{Failed}
 pub record HasCause {T : Type 0} (before now : ℕ) (result : Result T DeskFault) : Type 0 where
   pub later : before ≤ now
   pub failed : IsErrOf result Failed → Rose before now
+
+-- a steady desk stays one, and on it a call that it owes doesn't fail
+pub record StaysSteady (was is : Bool) (owed failed : Type 0) : Type 0 where
+  pub stays : IsTrue was → IsTrue is
+  pub done : IsTrue was → owed → failed → ⊥

@@ -1,9 +1,9 @@
--- What the slots of a desk in memory have, by their ids.
+-- What the slots of a shelf have, by their ids.
 use Rattle.std.specs.Prelude.{ℕ, suc, List, [], ◌∷◌, ◌++◌, drop, Option, Some, None}
 use Rattle.desk.specs.declared.file.NamedFile.{NamedFile}
 use Rattle.desk.specs.declared.slots.Slot.{Slot}
 use Rattle.desk.specs.declared.slots.Slot.TheVariants.{Reading, Writing}
-use Rattle.desk.specs.Memory.{Memory}
+use Rattle.desk.specs.Shelf.{Shelf}
 use Rattle.desk.specs.World.{Direction, to_read, to_write}
 
 -- what a slot to read has left of its file
@@ -35,9 +35,9 @@ entries_from part k (slot ∷ slots) = entry k (part slot) ++ entries_from part 
 abbrev pub entries : {X : Type 0} → (Slot → Option X) → List Slot → List (ℕ × X)
 entries part slots = entries_from part 0 slots
 
--- a desk of these files, slots, report, calls that are to fail, and counts
-abbrev pub memory_of : List NamedFile → List Slot → List ℕ → List ℕ → ℕ → ℕ → Memory
-memory_of files slots said fails calls faults = record {
+-- a shelf of these files, slots and report
+abbrev pub shelf_of : List NamedFile → List Slot → List ℕ → Shelf
+shelf_of files slots said = record {
   world = record {
     files = files;
     readers = entries reader_in slots;
@@ -45,17 +45,14 @@ memory_of files slots said fails calls faults = record {
     said = said;
   };
   given = entries direction_in slots;
-  fails = fails;
-  calls = calls;
-  faults = faults;
 }
 
--- the desk with one slot more
-abbrev pub with_slot : ℕ → Slot → Memory → Memory
-with_slot id slot d = record d {
-  world = record d.world {
-    readers = d.world.readers ++ entry id (reader_in slot);
-    writers = d.world.writers ++ entry id (writer_in slot);
+-- the shelf with one slot more
+abbrev pub with_slot : ℕ → Slot → Shelf → Shelf
+with_slot id slot s = record {
+  world = record s.world {
+    readers = s.world.readers ++ entry id (reader_in slot);
+    writers = s.world.writers ++ entry id (writer_in slot);
   };
-  given = d.given ++ entry id (direction_in slot);
+  given = s.given ++ entry id (direction_in slot);
 }

@@ -1,5 +1,5 @@
 -- What a desk that tells its octets holds, and what each call does to that.
-use Rattle.std.specs.Prelude.{◌≡◌, ◌≤◌, ◌<◌, ℕ, ◌==◌, if◌then◌else◌, List, [], ◌∷◌, ◌++◌, length, take, drop, min, Option, Some, None, IfSome, option_map, unwrap_or}
+use Rattle.std.specs.Prelude.{◌≡◌, ◌≤◌, ◌<◌, ℕ, ◌==◌, if◌then◌else◌, List, [], ◌∷◌, ◌++◌, length, take, drop, min, Option, Some, None, IfSome, IsSomeAnd, IsTrue, is_some, option_map, unwrap_or}
 use Rattle.std.specs.Str.{bytes_eq}
 use Rattle.desk.specs.declared.file.NamedFile.{NamedFile}
 
@@ -35,6 +35,14 @@ there name (file ∷ files) = if bytes_eq file.name name then Some file.octets e
 -- the same, where a name that isn't there counts as an empty file
 abbrev pub content : List ℕ → List NamedFile → List ℕ
 content name files = unwrap_or (there name files) []
+
+-- the desk tells its files, and one of them has that name
+abbrev pub IsThere : List ℕ → Option World → Type 0
+IsThere name told = IsSomeAnd told (λ w. IsTrue (is_some (there name w.files)))
+
+-- the id was given in that direction
+abbrev pub IsGiven : ℕ → Direction → List (ℕ × Direction) → Type 0
+IsGiven id direction given = found_at id given ≡ Some direction
 
 -- what is left to read of an id
 abbrev pub left_of : ℕ → World → List ℕ

@@ -1,7 +1,8 @@
 // The five calls by which a run reaches the outside.
-ghost use Rattle.std.specs.Prelude.{◌≡◌, ◌≤◌, ◌<◌, ◌++◌, ◌∷◌, [], List, ℕ, length, take, Option, IfOk, OnOk, OnErr, IfSome, option_map};
-ghost use Rattle.desk.specs.Causes.{HasCause};
-ghost use Rattle.desk.specs.World.{World, Direction, to_read, to_write, IsFresh, left_of, Gives, after_open, after_make, after_read, after_write, after_say};
+ghost use Rattle.std.specs.Prelude.{◌≡◌, ◌≤◌, ◌<◌, ◌++◌, ◌∷◌, [], Bool, List, ℕ, length, take, Option, IfOk, OnOk, OnErr, IfSome, IsErrOf, option_map};
+ghost use Rattle.desk.specs.Causes.{HasCause, StaysSteady};
+ghost use Rattle.desk.specs.declared.fault.DeskFault.TheVariants.{Failed};
+ghost use Rattle.desk.specs.World.{World, Direction, to_read, to_write, IsFresh, IsGiven, IsThere, left_of, Gives, after_open, after_make, after_read, after_write, after_say};
 
 use crate::DeskFault;
 use std::alloc::Global;
@@ -12,8 +13,9 @@ pub struct FileId {
     pub number: u32,
 }
 
-/// The outside. Contracts see the ids that it gave, what it holds where it tells that, and a count
-/// of faults that never falls.
+/// The outside. Contracts see the ids that it gave, what it holds where it tells that, a count of
+/// faults that never falls, and whether it is steady: then no call fails on a file that is told to
+/// be there, or on an id that was given in that direction.
 pub trait Desk {
     /// The ids that were given, in order, each to read or to write.
     ghost given: { Self → List (ℕ × Direction) };
@@ -23,6 +25,9 @@ pub trait Desk {
 
     /// How often a call has failed.
     ghost faults: { Self → ℕ };
+
+    /// Whether it is steady.
+    ghost steady: { Self → Bool };
 
     /// An id that reads the file of that name from its start. A name that isn't there may be
     /// `Failed`, or read as an empty file.
@@ -34,7 +39,9 @@ pub trait Desk {
         ensures fresh { IfOk result (λ id. IsFresh id.number (given self.old) (told self.old)) }
         ensures err { OnErr result
             ((given self.new ≡ given self.old) × (told self.new ≡ told self.old)) }
-        ensures cause { HasCause (faults self.old) (faults self.new) result };
+        ensures cause { HasCause (faults self.old) (faults self.new) result }
+        ensures steady { StaysSteady (steady self.old) (steady self.new)
+            (IsThere name.now (told self.old)) (IsErrOf result Failed) };
 
     /// An id that writes a new, empty file of that name. After a fault no file was made.
     fn make_file(&mut self, alloc: Global, name: &str) -> Result<FileId, DeskFault>
@@ -45,7 +52,9 @@ pub trait Desk {
         ensures fresh { IfOk result (λ id. IsFresh id.number (given self.old) (told self.old)) }
         ensures err { OnErr result
             ((given self.new ≡ given self.old) × (told self.new ≡ told self.old)) }
-        ensures cause { HasCause (faults self.old) (faults self.new) result };
+        ensures cause { HasCause (faults self.old) (faults self.new) result }
+        ensures steady { StaysSteady (steady self.old) (steady self.new)
+            Unit (IsErrOf result Failed) };
 
     /// The next octets of the file, in the front of `buf`, and how many; 0 is the file's end.
     fn read_file(&mut self, alloc: Global, id: FileId, buf: &mut [u8]) -> Result<usize, DeskFault>
@@ -57,7 +66,9 @@ pub trait Desk {
             told self.new ≡ option_map (after_read id.number n) (told self.old)) }
         ensures given { given self.new ≡ given self.old }
         ensures err { OnErr result (told self.new ≡ told self.old) }
-        ensures cause { HasCause (faults self.old) (faults self.new) result };
+        ensures cause { HasCause (faults self.old) (faults self.new) result }
+        ensures steady { StaysSteady (steady self.old) (steady self.new)
+            (IsGiven id.number to_read (given self.old)) (IsErrOf result Failed) };
 
     /// Appends the piece to the file. After a fault a prefix of it was appended.
     fn write_file(&mut self, alloc: Global, id: FileId, piece: &[u8]) -> Result<(), DeskFault>
@@ -67,7 +78,9 @@ pub trait Desk {
         ensures err { OnErr result ((k : ℕ) ×
             (told self.new
             ≡ option_map (after_write id.number (take k piece.now)) (told self.old))) }
-        ensures cause { HasCause (faults self.old) (faults self.new) result };
+        ensures cause { HasCause (faults self.old) (faults self.new) result }
+        ensures steady { StaysSteady (steady self.old) (steady self.new)
+            (IsGiven id.number to_write (given self.old)) (IsErrOf result Failed) };
 
     /// Appends the piece to the report. After a fault a prefix of it was appended.
     fn say(&mut self, alloc: Global, piece: &[u8]) -> Result<(), DeskFault>
@@ -76,5 +89,7 @@ pub trait Desk {
         ensures given { given self.new ≡ given self.old }
         ensures err { OnErr result ((k : ℕ) ×
             (told self.new ≡ option_map (after_say (take k piece.now)) (told self.old))) }
-        ensures cause { HasCause (faults self.old) (faults self.new) result };
+        ensures cause { HasCause (faults self.old) (faults self.new) result }
+        ensures steady { StaysSteady (steady self.old) (steady self.new)
+            Unit (IsErrOf result Failed) };
 }

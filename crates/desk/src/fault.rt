@@ -4,13 +4,16 @@ ghost use Rattle.desk.specs.declared.fault.DeskFault.TheVariants.{Memory};
 
 use octets::NoMemory;
 use std::alloc::{AllocError, AllocFailed};
+use thiserror::Error;
 
 /// A call of the desk that failed. Derived texts are not for a report.
-#[derive(Clone, Copy, Debug, PartialEq, Eq)]
+#[derive(Clone, Copy, Debug, PartialEq, Eq, Error)]
 pub enum DeskFault {
     /// The outside failed; the desk's count of faults rose.
+    #[error("the outside failed")]
     Failed,
     /// An allocation was refused.
+    #[error("memory was refused")]
     Memory,
 }
 

@@ -1,7 +1,8 @@
 // Reading until a buffer is full.
-ghost use Rattle.std.specs.Prelude.{◌≡◌, ◌≤◌, ◌<◌, ℕ, length, option_map, IfOk, IfSome, OnErr};
-ghost use Rattle.desk.specs.Causes.{HasCause};
-ghost use Rattle.desk.specs.World.{left_of, after_read, Fills, shown};
+ghost use Rattle.std.specs.Prelude.{◌≡◌, ◌≤◌, ◌<◌, ℕ, length, option_map, IfOk, IfSome, IsErrOf, OnErr};
+ghost use Rattle.desk.specs.declared.fault.DeskFault.TheVariants.{Failed};
+ghost use Rattle.desk.specs.Causes.{HasCause, StaysSteady};
+ghost use Rattle.desk.specs.World.{left_of, after_read, to_read, Fills, IsGiven, shown};
 
 use crate::{Desk, DeskFault, FileId};
 use std::alloc::Global;
@@ -24,6 +25,8 @@ pub fn read_full<D: Desk>(
     // On any exit only the place in the file has moved.
     ensures shown { shown (D.told desk.new) ≡ shown (D.told desk.old) }
     ensures cause { HasCause (D.faults desk.old) (D.faults desk.new) result }
+    ensures steady { StaysSteady (D.steady desk.old) (D.steady desk.new)
+        (IsGiven id.number to_read (D.given desk.old)) (IsErrOf result Failed) }
 {
     let mut filled = 0usize;
     while filled < buf.len() {

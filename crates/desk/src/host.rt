@@ -1,5 +1,5 @@
 // A desk over the host's files and its standard output. It tells nothing of what they hold.
-ghost use Rattle.std.specs.Prelude.{◌≡◌, ◌≤◌, ◌++◌, ◌∷◌, [], length, None, IfOk, IfSome, OnErr};
+ghost use Rattle.std.specs.Prelude.{◌≡◌, ◌≤◌, ◌++◌, ◌∷◌, [], length, false, None, IfOk, IfSome, OnErr};
 ghost use Rattle.desk.specs.declared.fault.DeskFault.TheVariants.{Failed};
 ghost use Rattle.octets.specs.Causes.{Rose};
 ghost use Rattle.desk.specs.Causes.{HasCause};
@@ -22,7 +22,8 @@ pub enum HostFile<I, O> {
     Output(O),
 }
 
-/// The trusted edge: std's files, read through a buffer of 65,536 octets, and standard output.
+/// The trusted edge: std's files, read through a buffer of 65,536 octets, and standard output. It
+/// is never steady.
 #[derive(Drop)]
 pub struct HostDesk<'r, R: Files + Print> {
     rt: &'r R,
@@ -79,6 +80,8 @@ impl<'r, R: Files + Print> Desk for HostDesk<'r, R> {
     ghost told = { λ desk. None };
 
     ghost faults = { λ desk. desk.faults };
+
+    ghost steady = { λ desk. false };
 
     fn open_file(&mut self, alloc: Global, name: &str) -> Result<FileId, DeskFault> {
         match fs::open(self.rt, name) {

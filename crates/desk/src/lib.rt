@@ -7,8 +7,10 @@ mod file;
 mod full;
 mod host;
 mod memory;
+mod shelf;
 mod slots;
 mod source;
+mod steady;
 
 pub use desk::{Desk, FileId};
 pub use fault::DeskFault;
@@ -16,3 +18,4 @@ pub use file::{Files, NamedFile};
 pub use full::read_full;
 pub use host::{HostDesk, HostFile};
 pub use memory::{Calls, MemoryDesk};
+pub use steady::SteadyDesk;

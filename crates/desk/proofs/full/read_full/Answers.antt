@@ -3,13 +3,14 @@ use Rattle.std.proofs.Common.{arith, ◌∙◌, refl}
 use Rattle.desk.proofs.full.read_full.Goals as goal
 
 pub loop-filled-init : goal.loop-filled-init
-loop-filled-init g c = record { so_far = started c.args.id.number (g.D.Desk.told c.args.desk.now) c.args.buf.now; given = refl; faults = omega arith }
+loop-filled-init g c = record { so_far = started c.args.id.number (g.D.Desk.told c.args.desk.now) c.args.buf.now; given = refl; steady = λ steady. steady; faults = omega arith }
 
 pub loop-filled-preserved : goal.loop-filled-preserved
 loop-filled-preserved g c = record {
   so_far = goes_on c.args.id.number c.loop-filled.filled c.in_ok-n.n (g.D.Desk.told c.args.desk.now) (g.D.Desk.told c.loop-filled.desk) (g.D.Desk.told c.read_file.new.self) c.loop-filled.buf c.read_file.new.buf
       c.loop-filled.invariant.so_far c.in_ok-n.ensures.bound (omega arith) c.in_ok-n.ensures.octets c.in_ok-n.ensures.told;
   given = c.in_ok-n.ensures.given ∙ c.loop-filled.invariant.given;
+  steady = λ steady. c.in_ok-n.ensures.steady.stays (c.loop-filled.invariant.steady steady);
   faults = omega (arith, c.loop-filled.invariant.faults, c.in_ok-n.ensures.cause.later);
 }
 

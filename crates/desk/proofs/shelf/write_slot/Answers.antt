@@ -4,7 +4,7 @@ use Rattle.desk.specs.World.{extended}
 use Rattle.desk.specs.Slots.{entries, reader_in, writer_in, direction_in}
 use Rattle.desk.proofs.Entries.{changed_at-missing}
 use Rattle.desk.proofs.SlotLemmas.{found_at-missing, found_at-slot, entries-changed, entries-same}
-use Rattle.desk.proofs.memory.write_slot.Goals as goal
+use Rattle.desk.proofs.shelf.write_slot.Goals as goal
 
 pub returns-in-Some-clause-known : goal.returns-in-Some-clause-known
 returns-in-Some-clause-known c =

@@ -2,7 +2,7 @@ use Rattle.std.proofs.Common.{◌∙◌, ap, sym, refl, drop, is_some}
 use Rattle.std.proofs.lemmas.Option.{IfSome_then}
 use Rattle.desk.specs.Slots.{reader_in, writer_in, direction_in}
 use Rattle.desk.proofs.SlotLemmas.{found_at-missing, found_at-slot, entries-changed, entries-same}
-use Rattle.desk.proofs.memory.read_slot.Goals as goal
+use Rattle.desk.proofs.shelf.read_slot.Goals as goal
 
 pub returns-in_err-slot-clause-known : goal.returns-in_err-slot-clause-known
 returns-in_err-slot-clause-known c = rw (c.from_residual.ensures, found_at-missing reader_in c.args.slots.now.items c.args.number c.in_err-slot.ensures.item.3) refl
