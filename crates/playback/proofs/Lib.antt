@@ -1,2 +1,3 @@
 pub mod EventLemmas
 pub mod PlayLemmas
+pub mod WrittenLemmas

@@ -2,7 +2,7 @@
 use Rattle.std.specs.Prelude.{◌≡◌, ℕ, ◌+◌, ◌*◌, ◌^◌, ◌≤◌, ◌<◌, List, ◌++◌, length, Option, Some, None, option_map, unwrap_or, Result, Ok, Err}
 use Rattle.std.specs.List.{All}
 use Rattle.desk.specs.declared.file.NamedFile.{NamedFile}
-use Rattle.desk.specs.World.{World, Shown, changed_at, extended}
+use Rattle.desk.specs.World.{World, Direction, Shown, changed_at, extended, to_write, IsGiven}
 use Rattle.capture_io.specs.Frame.{Frame}
 use Rattle.capture_io.specs.Frames.{Run}
 use Rattle.capture_io.specs.declared.fault.CaptureFault.{CaptureFault}
@@ -17,6 +17,11 @@ use Rattle.playback.specs.declared.reading.Next.TheVariants as next
 abbrev pub written : Option ℕ → List ℕ → List (ℕ × NamedFile) → List (ℕ × NamedFile)
 written None octets writers = writers
 written (Some id) octets writers = changed_at id (extended octets) writers
+
+-- the file, if there is one, was given to write
+abbrev pub MayWrite : Option ℕ → List (ℕ × Direction) → Type 0
+MayWrite None given = Unit {0}
+MayWrite (Some id) given = IsGiven id to_write given
 
 -- a desk's world after lines were said and octets written
 abbrev pub after_output : Option ℕ → List ℕ → List ℕ → World → World

@@ -12,7 +12,7 @@ mod seconds;
 pub use capture_io::{
     CaptureFault, CaptureReader, Desk, DeskFault, FileId, Frame, NoMemory, Octets,
 };
-pub use laws::events_keep_the_frames;
+pub use laws::{events_keep_the_frames, what_is_written_is_read};
 pub use machine::{Machine, Progress};
 pub use output::Output;
 pub use playing::{Ending, play};

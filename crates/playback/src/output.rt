@@ -1,9 +1,10 @@
 // What is said and written, gathered and handed on in pieces.
-ghost use Rattle.std.specs.Prelude.{◌≡◌, ◌<◌, ◌≤◌, ◌+◌, ◌*◌, ◌-◌, ◌^◌, ◌++◌, [], length, option_map, OnOk};
-ghost use Rattle.desk.specs.Causes.{HasCause};
+ghost use Rattle.std.specs.Prelude.{◌≡◌, ◌<◌, ◌≤◌, ◌+◌, ◌*◌, ◌-◌, ◌^◌, ◌++◌, [], length, option_map, IsErrOf, OnOk};
+ghost use Rattle.desk.specs.declared.fault.DeskFault.TheVariants.{Failed};
+ghost use Rattle.desk.specs.Causes.{HasCause, StaysSteady};
 ghost use Rattle.desk.specs.World.{after_say, after_write};
 ghost use Rattle.capture_io.specs.Output.{packet_record};
-ghost use Rattle.playback.specs.Playing.{after_output, handed_on};
+ghost use Rattle.playback.specs.Playing.{after_output, handed_on, MayWrite};
 
 use capture_io::{MOST_FRAME_OCTETS, write_packet};
 use desk::{Desk, DeskFault, FileId};
@@ -67,6 +68,9 @@ pub(crate) fn hand_on_full<D: Desk>(
         ≡ handed_on (option_map (λ id. id.number) file) output.old (D.told desk.old)) }
     ensures written { output.new.written ≡ output.old.written }
     ensures cause { HasCause (D.faults desk.old) (D.faults desk.new) result }
+    ensures given { D.given desk.new ≡ D.given desk.old }
+    ensures steady { StaysSteady (D.steady desk.old) (D.steady desk.new)
+        (MayWrite (option_map (λ id. id.number) file) (D.given desk.old)) (IsErrOf result Failed) }
 {
     if output.is_full() {
         hand_on(alloc, desk, file, output)?;
@@ -87,6 +91,9 @@ pub(crate) fn hand_on<D: Desk>(
     ensures records { OnOk result (output.new.records ≡ []) }
     ensures written { output.new.written ≡ output.old.written }
     ensures cause { HasCause (D.faults desk.old) (D.faults desk.new) result }
+    ensures given { D.given desk.new ≡ D.given desk.old }
+    ensures steady { StaysSteady (D.steady desk.old) (D.steady desk.new)
+        (MayWrite (option_map (λ id. id.number) file) (D.given desk.old)) (IsErrOf result Failed) }
 {
     desk.say(alloc, output.lines.as_slice())?;
     if let Some(id) = file {

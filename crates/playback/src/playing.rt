@@ -1,13 +1,14 @@
 // The frames of a capture, one after another, through a machine.
-ghost use Rattle.std.specs.Prelude.{◌≡◌, ◌<◌, ◌≤◌, ◌+◌, ◌*◌, ◌^◌, None, Some, IfOk, IfSome, OnOk, length, option_map, unwrap_or};
+ghost use Rattle.std.specs.Prelude.{◌≡◌, ◌<◌, ◌≤◌, ◌+◌, ◌*◌, ◌^◌, None, Some, IfOk, IfSome, IsErrOf, OnOk, length, option_map, unwrap_or};
 ghost use Rattle.std.specs.List.{All};
-ghost use Rattle.desk.specs.Causes.{HasCause};
-ghost use Rattle.desk.specs.World.{left_of, shown, shown_of};
+ghost use Rattle.desk.specs.declared.fault.DeskFault.TheVariants.{Failed};
+ghost use Rattle.desk.specs.Causes.{HasCause, StaysSteady};
+ghost use Rattle.desk.specs.World.{left_of, to_read, shown, shown_of, IsGiven};
 ghost use Rattle.capture_io.specs.Capture.{begin};
 ghost use Rattle.capture_io.specs.Frames.{read_on};
 ghost use Rattle.capture_io.specs.Reading.{beginning};
 ghost use Rattle.playback.specs.Events.{events_of, played};
-ghost use Rattle.playback.specs.Playing.{most_packets, outcome_of, with_outcome, Ends, IsRead, Plays};
+ghost use Rattle.playback.specs.Playing.{most_packets, outcome_of, with_outcome, Ends, IsRead, MayWrite, Plays};
 
 use crate::machine::{Machine, Progress};
 use crate::output::{Output, hand_on, hand_on_full};
@@ -50,6 +51,10 @@ pub fn play<D: Desk, M: Machine>(
         let run = read_on reader.format begin (left_of reader.id w) in
         M.state machine.new ≡ (outcome_of M.step (M.state machine.old) run).after)) }
     ensures cause { HasCause (D.faults desk.old) (D.faults desk.new) result }
+    ensures given { D.given desk.new ≡ D.given desk.old }
+    ensures steady { StaysSteady (D.steady desk.old) (D.steady desk.new)
+        (IsGiven reader.id to_read (D.given desk.old)
+        × MayWrite (option_map (λ id. id.number) file) (D.given desk.old)) (IsErrOf result Failed) }
 {
     let mut output = Output::new(alloc);
     let mut reader = reader;
@@ -113,6 +118,9 @@ fn play_frame<D: Desk, M: Machine>(
     ensures room { OnOk result (output.new.written ≤ most_packets
         (record { frames = frame.now.number; moment = Some frame.now.moment })) }
     ensures cause { HasCause (D.faults desk.old) (D.faults desk.new) result }
+    ensures given { D.given desk.new ≡ D.given desk.old }
+    ensures steady { StaysSteady (D.steady desk.old) (D.steady desk.new)
+        (MayWrite (option_map (λ id. id.number) file) (D.given desk.old)) (IsErrOf result Failed) }
 {
     let reached = play_seconds(alloc, desk, machine, file, progress, frame.moment, output)?;
     machine.take(alloc, reached, frame, output)?;

@@ -1,7 +1,8 @@
 // What is next in a capture.
-ghost use Rattle.std.specs.Prelude.{◌≡◌, ◌+◌, ◌*◌, None, IfOk, IfSome, option_map, length};
-ghost use Rattle.desk.specs.Causes.{HasCause};
-ghost use Rattle.desk.specs.World.{left_of, after_read, shown};
+ghost use Rattle.std.specs.Prelude.{◌≡◌, ◌+◌, ◌*◌, None, IfOk, IfSome, IsErrOf, option_map, length};
+ghost use Rattle.desk.specs.declared.fault.DeskFault.TheVariants.{Failed};
+ghost use Rattle.desk.specs.Causes.{HasCause, StaysSteady};
+ghost use Rattle.desk.specs.World.{left_of, after_read, to_read, shown, IsGiven};
 ghost use Rattle.capture_io.specs.Capture.{outcome};
 ghost use Rattle.capture_io.specs.Reading.{after_frame, IsNext};
 ghost use Rattle.playback.specs.Playing.{answer_of, IfFrame};
@@ -33,6 +34,9 @@ pub(crate) fn next_frame<D: Desk>(
         ≡ option_map (after_read reader.old.id (16 + length f.octets)) (D.told desk.old))) }
     ensures shown { shown (D.told desk.new) ≡ shown (D.told desk.old) }
     ensures cause { HasCause (D.faults desk.old) (D.faults desk.new) result }
+    ensures given { D.given desk.new ≡ D.given desk.old }
+    ensures steady { StaysSteady (D.steady desk.old) (D.steady desk.new)
+        (IsGiven reader.old.id to_read (D.given desk.old)) (IsErrOf result Failed) }
 {
     match reader.next(alloc, desk) {
         Ok(Some(frame)) => Ok(Next::Frame(frame)),

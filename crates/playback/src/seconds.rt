@@ -1,8 +1,9 @@
 // The seconds between the frames of a capture, one after another, through a machine.
-ghost use Rattle.std.specs.Prelude.{◌≡◌, ◌<◌, ◌≤◌, ◌+◌, ◌*◌, ◌^◌, Some, IfOk, OnOk, option_map, unwrap_or};
-ghost use Rattle.desk.specs.Causes.{HasCause};
+ghost use Rattle.std.specs.Prelude.{◌≡◌, ◌<◌, ◌≤◌, ◌+◌, ◌*◌, ◌^◌, Some, IfOk, IsErrOf, OnOk, option_map, unwrap_or};
+ghost use Rattle.desk.specs.declared.fault.DeskFault.TheVariants.{Failed};
+ghost use Rattle.desk.specs.Causes.{HasCause, StaysSteady};
 ghost use Rattle.playback.specs.Events.{played, second_of, ticks, Tick};
-ghost use Rattle.playback.specs.Playing.{most_packets, Plays};
+ghost use Rattle.playback.specs.Playing.{most_packets, MayWrite, Plays};
 
 use crate::machine::{Machine, Progress};
 use crate::output::{Output, hand_on_full};
@@ -35,6 +36,9 @@ pub(crate) fn play_seconds<D: Desk, M: Machine>(
         ≡ (played M.step (M.state machine.old) (ticks progress.moment moment)).after) }
     ensures room { IfOk result (λ reached. output.new.written ≤ most_packets reached) }
     ensures cause { HasCause (D.faults desk.old) (D.faults desk.new) result }
+    ensures given { D.given desk.new ≡ D.given desk.old }
+    ensures steady { StaysSteady (D.steady desk.old) (D.steady desk.new)
+        (MayWrite (option_map (λ id. id.number) file) (D.given desk.old)) (IsErrOf result Failed) }
 {
     let Some(from) = progress.moment else {
         return Ok(progress);
@@ -72,6 +76,9 @@ fn play_second<D: Desk, M: Machine>(
         ≡ (M.step (M.state machine.old) (Tick second)).after) }
     ensures few { OnOk result (output.new.written ≤ output.old.written + 2048) }
     ensures cause { HasCause (D.faults desk.old) (D.faults desk.new) result }
+    ensures given { D.given desk.new ≡ D.given desk.old }
+    ensures steady { StaysSteady (D.steady desk.old) (D.steady desk.new)
+        (MayWrite (option_map (λ id. id.number) file) (D.given desk.old)) (IsErrOf result Failed) }
 {
     machine.tick(alloc, progress, second, output)?;
     hand_on_full(alloc, desk, file, output)

@@ -1,4 +1,4 @@
-use Rattle.std.proofs.Common.{◌≡◌, ◌∙◌, Some, None, ap, sym, arith}
+use Rattle.std.proofs.Common.{◌≡◌, ◌∙◌, Some, None, ap, refl, sym, arith}
 use Rattle.std.specs.Option.{option_map}
 use Rattle.std.proofs.lemmas.Option.{IfSome_then}
 use Rattle.capture_io.specs.Frame.{Frame}
@@ -22,6 +22,8 @@ loop-output-init g c =
       few = rw new.written (omega arith);
       ready = c.requires.ready;
       going = rw new.written (begins g.M.Machine.step c.args.reader.id (option_map (λ id. id.number) c.args.file) c.args.reader.format (g.M.Machine.state c.args.machine.now) c.args.reader.position c.new-output.result (g.D.Desk.told c.args.desk.now) position new.lines new.records);
+      given = refl;
+      steady = λ steady. steady;
       faults = omega arith;
     }
 
@@ -50,6 +52,8 @@ loop-output-preserved g c =
       few = rw (number, moment) done.room;
       ready = rw (number, moment) done.ready;
       going = rw (position, state) going;
+      given = done.given ∙ c.in_ok-frame.ensures.given ∙ inv.given;
+      steady = λ steady. done.steady.stays (c.in_ok-frame.ensures.steady.stays (inv.steady steady));
       faults = omega (arith, inv.faults, c.in_ok-frame.ensures.cause.later, done.cause.later);
     }
 

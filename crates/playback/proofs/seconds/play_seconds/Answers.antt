@@ -1,4 +1,4 @@
-use Rattle.std.proofs.Common.{◌≡◌, ◌-◌, ◌+◌, ap, arith, map, refl, unwrap_or}
+use Rattle.std.proofs.Common.{◌≡◌, ◌∙◌, ◌-◌, ◌+◌, ap, arith, map, refl, unwrap_or}
 use Rattle.std.specs.List.{range_with_len}
 use Rattle.std.specs.Option.{option_map}
 use Rattle.desk.specs.declared.desk.FileId.{FileId}
@@ -25,6 +25,8 @@ loop-second-init g c =
       ready = c.requires.ready;
       plays = rw none (plays-idle (option_map (λ id. id.number) c.args.file) (g.M.Machine.state c.args.machine.now) c.args.output.now (g.D.Desk.told c.args.desk.now));
       state = rw none refl;
+      given = refl;
+      steady = λ steady. steady;
       faults = omega arith;
     }
 
@@ -57,5 +59,7 @@ loop-second-preserved g c =
       ready = done.ready;
       plays = rw (more, one) (plays-followed file passed (step passed.after (Tick second)) c.args.output.now c.loop-second.output c.play_second.new.output (g.D.Desk.told c.args.desk.now) (g.D.Desk.told c.loop-second.desk) (g.D.Desk.told c.play_second.new.desk) inv.plays plays);
       state = rw (more, one) state;
+      given = done.given ∙ inv.given;
+      steady = λ steady. done.steady.stays (inv.steady steady);
       faults = omega (arith, inv.faults, done.cause.later);
     }

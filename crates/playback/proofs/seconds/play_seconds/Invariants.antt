@@ -1,4 +1,4 @@
-use Rattle.std.proofs.Common.{◌≡◌, ◌<◌, ◌≤◌, ◌*◌, ◌-◌, map, unwrap_or}
+use Rattle.std.proofs.Common.{◌≡◌, ◌<◌, ◌≤◌, ◌*◌, ◌-◌, map, unwrap_or, IsTrue}
 use Rattle.std.specs.List.{range_with_len}
 use Rattle.std.specs.Option.{option_map}
 use Rattle.playback.specs.Events.{Tick, played}
@@ -15,5 +15,7 @@ invariant-loop-second g l = record {
   ready : g.M.Machine.IsReady l.reached l.machine;
   plays : Plays (option_map (λ id. id.number) l.file) (played g.M.Machine.step (g.M.Machine.state l.fn.machine) (map Tick (range_with_len l.first (l.second - l.first)))) l.fn.output (g.D.Desk.told l.fn.desk) l.output (g.D.Desk.told l.desk);
   state : g.M.Machine.state l.machine ≡ (played g.M.Machine.step (g.M.Machine.state l.fn.machine) (map Tick (range_with_len l.first (l.second - l.first)))).after;
+  given : g.D.Desk.given l.desk ≡ g.D.Desk.given l.fn.desk;
+  steady : IsTrue (g.D.Desk.steady l.fn.desk) → IsTrue (g.D.Desk.steady l.desk);
   faults : g.D.Desk.faults l.fn.desk ≤ g.D.Desk.faults l.desk;
 }
