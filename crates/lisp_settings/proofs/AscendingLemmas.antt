@@ -1,5 +1,5 @@
 -- Items in ascending order of their keys.
-use Rattle.std.proofs.Common.{◌≡◌, suc, ◌+◌, ◌≤◌, List, [], ◌∷◌, length, map, fold, All, Ordering, Less, Equal, Greater, refl, sym, ap, ◌∙◌, arith}
+use Rattle.std.proofs.Common.{◌≡◌, suc, ◌+◌, ◌≤◌, List, [], ◌∷◌, ◌++◌, length, map, fold, All, Ordering, Less, Equal, Greater, refl, sym, ap, subst, ◌∙◌, arith, append_assoc, append-nil}
 use Rattle.std.proofs.lemmas.Cmp.{alike_right, tied_back, tied_itself}
 use Rattle.std.proofs.lemmas.List.Elements.{All-nil, All-head, All-tail, All-weaker, All-from_recursion, recursion_from_All}
 use Rattle.std.proofs.lemmas.Map.Entries.{length-values_of}
@@ -94,3 +94,35 @@ module _ {A K : Type 0} (key : A → K) (order : K → K → Ordering) where
     pub ascending-sorted : (items : List A) → IsStrictlySortedBy order (map key (ascending key order items))
     unfolding IsStrictlySortedBy
     ascending-sorted items = entered-sorted [] items tt tt
+
+    -- each item under its own key
+    abbrev paired : List A → List (K × A)
+    paired items = map (λ item. (key item, item)) items
+
+    values_of-paired : (items : List A) → values_of (paired items) ≡ items
+    values_of-paired [] = refl
+    values_of-paired (item ∷ items) = ap (λ l. item ∷ l) (values_of-paired items)
+
+    below_middle : (k : K) (done : List A) (next : A) (more : List A) → AllByRecursion (λ y. order k y ≡ Less) (map key (done ++ next ∷ more)) → order k (key next) ≡ Less
+    below_middle k [] next more below = below.0
+    below_middle k (first ∷ done) next more below = below_middle k done next more below.1
+
+    -- a key above all others goes last
+    entered_last : (done : List A) (next : A) (more : List A) → IsStrictlySortedBy order (map key (done ++ next ∷ more)) → entered (paired done) next ≡ paired (done ++ next ∷ [])
+    unfolding IsStrictlySortedBy
+    entered_last [] next more sorted = refl
+    entered_last (first ∷ done) next more sorted =
+        let above : order (key next) (key first) ≡ Greater = total.antisymm (key next) (key first) ∙ ap ordering_reverse (below_middle (key first) done next more sorted.0) in
+        rw above (ap (λ l. (key first, first) ∷ l) (entered_last done next more sorted.1))
+
+    entered-kept : (done items : List A) → IsStrictlySortedBy order (map key (done ++ items)) → fold entered (paired done) items ≡ paired (done ++ items)
+    entered-kept done [] sorted = ap paired (sym (append-nil done))
+    entered-kept done (next ∷ more) sorted =
+        let moved : (done ++ next ∷ []) ++ more ≡ done ++ next ∷ more = append_assoc done (next ∷ []) more in
+        ap (λ es. fold entered es more) (entered_last done next more sorted)
+        ∙ entered-kept (done ++ next ∷ []) more (subst (λ l. IsStrictlySortedBy order (map key l)) (sym moved) sorted)
+        ∙ ap paired moved
+
+    -- items whose keys ascend stay
+    pub ascending-of_sorted : (items : List A) → IsStrictlySortedBy order (map key items) → ascending key order items ≡ items
+    ascending-of_sorted items sorted = ap values_of (entered-kept [] items sorted) ∙ values_of-paired items

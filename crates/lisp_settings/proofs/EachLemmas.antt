@@ -52,7 +52,7 @@ within-holds : {A : Type 0} (P : A → Type 0) (list : List ℕ) (position : ℕ
 within-holds P list position (Ok value) holds = holds
 within-holds P list position (Err fault) holds = tt
 
-few_items-few : (list : List ℕ) (most : ℕ) (items : Items) → IfOk (few_items list most items) (λ few. (few ≡ items) × (count few ≤ most))
+pub few_items-few : (list : List ℕ) (most : ℕ) (items : Items) → IfOk (few_items list most items) (λ few. (few ≡ items) × (count few ≤ most))
 few_items-few list most items =
     cond_both (nat_le (count items) most) (Ok items) (Err (TooMany list)) (λ r. IfOk r (λ few. (few ≡ items) × (count few ≤ most))) (λ few. (refl, leb-true (count items) most few)) (λ many. tt)
 

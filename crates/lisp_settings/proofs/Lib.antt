@@ -1,10 +1,16 @@
+pub mod AddressLemmas
+pub mod ArrayLemmas
 pub mod AscendingLemmas
 pub mod EachLemmas
 pub mod EidLemmas
 pub mod FieldLemmas
 pub mod HexLemmas
+pub mod ItemLemmas
 pub mod LawfulLemmas
 pub mod ListLemmas
+pub mod NonceLemmas
 pub mod PrefixLemmas
 pub mod ReadingLemmas
+pub mod TableLemmas
 pub mod TextLemmas
+pub mod TopLemmas

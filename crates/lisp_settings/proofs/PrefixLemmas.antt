@@ -21,7 +21,7 @@ some_if-false true make fails = cc
 some_if-false false make fails = refl
 
 -- the parts of a prefix make that prefix
-lawful_prefix-parts : (p : Prefix) → lawful_prefix p.addr p.len ≡ Some p
+pub lawful_prefix-parts : (p : Prefix) → lawful_prefix p.addr p.len ≡ Some p
 lawful_prefix-parts p = some_if-true (is_prefix p.addr p.len) _ p.lawful
 
 -- a length past the address's bits

@@ -50,7 +50,7 @@ ipv6_address-refused text refused =
     refused (record { segments = segments }) (subst (λ t. IsIpv6Text t (record { segments = segments })) (sym (split ∙ append-nil front)) spells)))
 
 -- the decimal text of a number below 256 is a length
-length_of-decimal : (n : ℕ) → n < 256 → length_of (decimal n) ≡ Some n
+pub length_of-decimal : (n : ℕ) → n < 256 → length_of (decimal n) ≡ Some n
 unfolding length_of
 length_of-decimal n small = ap whole_value (rw append-nil at (read_octet_complete n [] small (lit≤ tt)))
 

@@ -9,3 +9,4 @@ pub mod Places
 pub mod Resolver
 pub mod Settings
 pub mod Values
+pub mod Writing

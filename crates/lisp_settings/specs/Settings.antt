@@ -166,9 +166,10 @@ abbrev pub settings_from : Option Members → Result Settings SettingsFault
 settings_from (Some top) = settings_in top
 settings_from None = Err NotToml
 
+-- the settings in a text of any length, or its first fault
+unfoldable pub settings_in_text : List ℕ → Result Settings SettingsFault
+settings_in_text text = settings_from (if is_utf8 text then parse_document text else None)
+
 -- the settings in a text, or its first fault
 unfoldable pub settings_of : List ℕ → Result Settings SettingsFault
-settings_of text =
-    if nat_le (length text) 16777216
-    then settings_from (if is_utf8 text then parse_document text else None)
-    else Err TooLong
+settings_of text = if nat_le (length text) 16777216 then settings_in_text text else Err TooLong

@@ -1,8 +1,12 @@
-// Addresses and prefixes from text.
-ghost use Rattle.std.specs.Prelude.{◌≡◌, ◌<◌, ◌⊎◌, ◌↔◌, IsTrue, length, slice_index};
-ghost use Rattle.lisp_settings.specs.AddressText.{ipv4_address, ipv6_address, address_of, length_of, prefix_of};
+// Addresses and prefixes, from text and as text.
+ghost use Rattle.std.specs.Prelude.{◌≡◌, ◌<◌, ◌⊎◌, ◌↔◌, false, IsTrue, IfOk, Some, length, slice_index, string_bytes};
+ghost use Rattle.std.specs.List.{list_any};
+ghost use Rattle.ip_headers.specs.declared.addr.Addr.TheVariants.{V4, V6};
+ghost use Rattle.lisp_settings.specs.AddressText.{ipv4_address, ipv6_address, is_slash, address_of, length_of, prefix_of};
 
 use ip_headers::{Addr, Prefix};
+use octets::NoMemory;
+use std::alloc::Global;
 use std::net::{Ipv4Addr, Ipv6Addr};
 
 /// The address in a text. Only an IPv4 address has dots.
@@ -62,4 +66,41 @@ fn is_padded(octets: &[u8]) -> bool
         × ((slice_index octets.now 0 ≡ 48) ⊎ (slice_index octets.now 0 ≡ 43)) }
 {
     octets.len() > 1 && (octets[0] == b'0' || octets[0] == b'+')
+}
+
+/// The text of an address, which reads as it. It has no slash.
+pub fn address_text(alloc: Global, addr: Addr) -> Result<String, NoMemory>
+    ensures reads { IfOk result (λ text. address_of (string_bytes text) ≡ Some addr) }
+    ensures whole { IfOk result (λ text. list_any is_slash (string_bytes text) ≡ false) }
+{
+    match addr {
+        Addr::V4(bits) => ipv4_text(alloc, bits),
+        Addr::V6(bits) => ipv6_text(alloc, bits),
+    }
+}
+
+fn ipv4_text(alloc: Global, bits: u32) -> Result<String, NoMemory>
+    ensures reads { IfOk result (λ text. address_of (string_bytes text) ≡ Some (V4 bits)) }
+    ensures whole { IfOk result (λ text. list_any is_slash (string_bytes text) ≡ false) }
+{
+    let address = Ipv4Addr::from_bits(bits);
+    Ok(format!(in alloc; "{address}")?)
+}
+
+/// Groups of hexadecimal digits alone: an address that holds an IPv4 address has no dots either.
+fn ipv6_text(alloc: Global, bits: u128) -> Result<String, NoMemory>
+    ensures reads { IfOk result (λ text. address_of (string_bytes text) ≡ Some (V6 bits)) }
+    ensures whole { IfOk result (λ text. list_any is_slash (string_bytes text) ≡ false) }
+{
+    let groups = Ipv6Addr::from_bits(bits).hex_groups();
+    Ok(format!(in alloc; "{groups}")?)
+}
+
+/// The text of a prefix, which reads as it: its address, `/` and its length.
+pub fn prefix_text(alloc: Global, prefix: Prefix) -> Result<String, NoMemory>
+    ensures { IfOk result (λ text. prefix_of (string_bytes text) ≡ Some prefix) }
+{
+    let address = address_text(alloc, prefix.addr)?;
+    let length = prefix.len;
+    Ok(format!(in alloc; "{address}/{length}")?)
 }

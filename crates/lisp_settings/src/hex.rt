@@ -1,6 +1,9 @@
-// Hexadecimal digits of either case.
-ghost use Rattle.std.specs.Prelude.{◌≡◌};
-ghost use Rattle.lisp_settings.specs.Hex.{digit, hex_octets, octet_of};
+// Hexadecimal digits: read in either case, written in lower case.
+ghost use Rattle.std.specs.Prelude.{◌≡◌, ◌<◌, ◌++◌, ◌∷◌, [], Some, IfOk, OnOk, length, string_bytes};
+ghost use Rattle.lisp_settings.specs.Hex.{digit, hex_number, hex_octets, octet_of, octets_in};
+
+use octets::NoMemory;
+use std::alloc::Global;
 
 /// The octets in a text of twice as many digits.
 pub fn hex_octets<const N: usize>(text: &[u8]) -> Option<[u8; N]>
@@ -31,5 +34,47 @@ fn digit(octet: u8) -> Option<u8>
         b'A'..=b'F' => Some(octet - (b'A' - 10)),
         b'a'..=b'f' => Some(octet - (b'a' - 10)),
         _ => None,
+    }
+}
+
+/// The text of a number: 16 digits.
+pub fn number_text(alloc: Global, number: u64) -> Result<String, NoMemory>
+    ensures { IfOk result (λ text. hex_number (string_bytes text) ≡ Some number) }
+{
+    octets_text(alloc, &number.to_be_bytes())
+}
+
+/// The text of octets: two digits for each.
+pub fn octets_text(alloc: Global, octets: &[u8]) -> Result<String, NoMemory>
+    ensures { IfOk result (λ text.
+        hex_octets (length octets.now) (string_bytes text) ≡ Some octets.now) }
+{
+    let mut text = String::new(alloc);
+    for octet in octets {
+        push_octet(&mut text, *octet)?;
+    }
+    Ok(text)
+}
+
+/// Adds the two digits of an octet at the end.
+fn push_octet(text: &mut String, octet: u8) -> Result<(), NoMemory>
+    ensures { OnOk result ((known : _) → octets_in (string_bytes text.old) ≡ Some known
+        → octets_in (string_bytes text.new) ≡ Some (known ++ octet ∷ [])) }
+{
+    text.push(digit_of(octet / 16))?;
+    text.push(digit_of(octet % 16))?;
+    Ok(())
+}
+
+/// The digit of a value.
+fn digit_of(value: u8) -> char
+    requires { value < 16 }
+    ensures ascii { result < 128 }
+    ensures value { digit result ≡ Some value }
+{
+    if value < 10 {
+        char::from(b'0' + value)
+    } else {
+        char::from(b'a' - 10 + value)
     }
 }

@@ -4,16 +4,20 @@ ghost use Rattle.std.proofs.Common.{rules};
 ghost use Rattle.std.specs.Ordering.{nat_cmp};
 ghost use Rattle.toml.specs.View.{table_view};
 ghost use Rattle.mapping_records.specs.Orders.{addr_order, eid_order};
-ghost use Rattle.lisp_settings.specs.Settings.{attachment_in, database_in, eid_in, locator_in, mapped_in, mapped_locators, mapping_in, version_in};
+ghost use Rattle.lisp_settings.specs.Lawful.{IsLawfulAttachment, IsLawfulDatabase};
+ghost use Rattle.lisp_settings.specs.Settings.{attachment_in, database_in, eid_in, locator_in, version_in};
+ghost use Rattle.lisp_settings.specs.Writing.{IsEidTable};
 ghost use Rattle.lisp_settings.specs.declared.fault.SettingsFault.TheVariants as fault;
 
+use crate::addresses::{address_text, prefix_text};
 use crate::fault::SettingsFault;
 use crate::fields::{address_at, flag_or, number_at, number_or, only_keys, prefix_at};
-use crate::lists::{Item, any_number};
+use crate::lists::Item;
+use crate::members::{put_flag, put_number, put_octet, put_text};
 use crate::settings::{Attachment, Database, OwnLocator};
 use ip_headers::Addr;
-use mapping_records::{Eid, Locator, Locators, Record};
-use octets::Items;
+use mapping_records::Eid;
+use octets::NoMemory;
 use std::alloc::Global;
 use toml::Table;
 
@@ -32,6 +36,10 @@ impl Item for OwnLocator {
 
     ghost order = { addr_order };
 
+    ghost lawful = { λ own. Unit {0} };
+
+    ghost nested = { 0 };
+
     fn read(alloc: Global, table: &Table) -> Result<Self, SettingsFault> {
         only_keys(alloc, table, &["address", "priority", "weight", "up"])?;
         let addr = address_at(alloc, table, "address")?;
@@ -44,6 +52,20 @@ impl Item for OwnLocator {
             weight,
             up,
         })
+    }
+
+    fn write(&self, alloc: Global) -> Result<Table, NoMemory> {
+        let mut table = Table::new(alloc);
+        put_text(
+            alloc,
+            &mut table,
+            "address",
+            address_text(alloc, self.addr)?,
+        )?;
+        put_octet(alloc, &mut table, "priority", self.priority)?;
+        put_octet(alloc, &mut table, "weight", self.weight)?;
+        put_flag(alloc, &mut table, "up", self.up)?;
+        Ok(table)
     }
 
     fn key(&self) -> Addr {
@@ -62,11 +84,22 @@ impl Item for Attachment {
 
     ghost order = { nat_cmp };
 
+    ghost lawful = { IsLawfulAttachment };
+
+    ghost nested = { 0 };
+
     fn read(alloc: Global, table: &Table) -> Result<Self, SettingsFault> {
         only_keys(alloc, table, &["vlan", "iid"])?;
         let vlan = number_at(alloc, table, "vlan", 4095)? as u16;
         let iid = number_at(alloc, table, "iid", GREATEST_INSTANCE)?;
         Ok(Attachment { vlan, iid })
+    }
+
+    fn write(&self, alloc: Global) -> Result<Table, NoMemory> {
+        let mut table = Table::new(alloc);
+        put_number(alloc, &mut table, "vlan", u32::from(self.vlan))?;
+        put_number(alloc, &mut table, "iid", self.iid)?;
+        Ok(table)
     }
 
     fn key(&self) -> u16 {
@@ -85,6 +118,10 @@ impl Item for Database {
 
     ghost order = { eid_order };
 
+    ghost lawful = { IsLawfulDatabase };
+
+    ghost nested = { 0 };
+
     fn read(alloc: Global, table: &Table) -> Result<Self, SettingsFault> {
         only_keys(alloc, table, &["iid", "prefix", "version"])?;
         let eid = eid_at(alloc, table)?;
@@ -92,72 +129,10 @@ impl Item for Database {
         Ok(Database { eid, version })
     }
 
-    fn key(&self) -> Eid {
-        self.eid
-    }
-
-    ghost orders = { λ a b. Prim.search rules };
-}
-
-/// The locator of another site.
-impl Item for Locator {
-    type Key = Addr;
-
-    ghost reads = { mapped_in };
-
-    ghost key = { λ locator. locator.addr };
-
-    ghost order = { addr_order };
-
-    fn read(alloc: Global, table: &Table) -> Result<Self, SettingsFault> {
-        let own = OwnLocator::read(alloc, table)?;
-        Ok(Locator {
-            addr: own.addr,
-            priority: own.priority,
-            weight: own.weight,
-            m_priority: 255,
-            m_weight: 0,
-            local: false,
-            probed: false,
-            reachable: own.up,
-        })
-    }
-
-    fn key(&self) -> Addr {
-        self.addr
-    }
-
-    ghost orders = { λ a b. Prim.search rules };
-}
-
-/// A static mapping.
-impl Item for Record {
-    type Key = Eid;
-
-    ghost reads = { mapping_in };
-
-    ghost key = { λ mapping. mapping.eid };
-
-    ghost order = { eid_order };
-
-    fn read(alloc: Global, table: &Table) -> Result<Self, SettingsFault> {
-        only_keys(
-            alloc,
-            table,
-            &["iid", "prefix", "version", "action", "locator"],
-        )?;
-        let eid = eid_at(alloc, table)?;
-        let version = version_at(alloc, table)?;
-        let action = number_or(alloc, table, "action", (0, 7), 0)? as u8;
-        let locators = mapped_locators(alloc, table)?;
-        Ok(Record {
-            ttl: 1440,
-            action,
-            authoritative: true,
-            version,
-            eid,
-            locators,
-        })
+    fn write(&self, alloc: Global) -> Result<Table, NoMemory> {
+        let mut table = eid_table(alloc, self.eid)?;
+        put_number(alloc, &mut table, "version", u32::from(self.version))?;
+        Ok(table)
     }
 
     fn key(&self) -> Eid {
@@ -165,20 +140,10 @@ impl Item for Record {
     }
 
     ghost orders = { λ a b. Prim.search rules };
-}
-
-/// The locators of a mapping, in the order of the file.
-fn mapped_locators(alloc: Global, table: &Table) -> Result<Locators, SettingsFault>
-    ensures ok { IfOk result (λ locators. mapped_locators (table_view table.now) ≡ Ok locators) }
-    ensures err { IfErr result (λ e. e ≢ fault.Memory
-        → mapped_locators (table_view table.now) ≡ Err e) }
-{
-    let locators = any_number(alloc, table, "locator", MOST_LOCATORS)?;
-    Ok(Items::from_vec(locators))
 }
 
 /// The EID at the keys `iid` and `prefix`.
-fn eid_at(alloc: Global, table: &Table) -> Result<Eid, SettingsFault>
+pub fn eid_at(alloc: Global, table: &Table) -> Result<Eid, SettingsFault>
     ensures ok { IfOk result (λ eid. eid_in (table_view table.now) ≡ Ok eid) }
     ensures err { IfErr result (λ e. e ≢ fault.Memory → eid_in (table_view table.now) ≡ Err e) }
 {
@@ -188,9 +153,19 @@ fn eid_at(alloc: Global, table: &Table) -> Result<Eid, SettingsFault>
 }
 
 /// The Map-Version at the key `version`, which has 12 bits (RFC 9302, section 6).
-fn version_at(alloc: Global, table: &Table) -> Result<u16, SettingsFault>
+pub fn version_at(alloc: Global, table: &Table) -> Result<u16, SettingsFault>
     ensures ok { IfOk result (λ version. version_in (table_view table.now) ≡ Ok version) }
     ensures err { IfErr result (λ e. e ≢ fault.Memory → version_in (table_view table.now) ≡ Err e) }
 {
     Ok(number_or(alloc, table, "version", (0, 4095), 0)? as u16)
+}
+
+/// A table with the EID at the keys `iid` and `prefix`.
+pub fn eid_table(alloc: Global, eid: Eid) -> Result<Table, NoMemory>
+    ensures { IfOk result (λ table. IsEidTable eid (table_view table)) }
+{
+    let mut table = Table::new(alloc);
+    put_number(alloc, &mut table, "iid", eid.iid)?;
+    put_text(alloc, &mut table, "prefix", prefix_text(alloc, eid.prefix)?)?;
+    Ok(table)
 }

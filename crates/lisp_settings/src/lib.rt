@@ -1,5 +1,5 @@
-//! The settings of a router: its TOML file read exactly, or refused by its first fault; its site
-//! and its nonces.
+//! The settings of a router: its TOML file read exactly, or refused by its first fault, and written
+//! back; its site and its nonces.
 #![tactic(auto)]
 
 mod addresses;
@@ -9,12 +9,15 @@ mod hex;
 mod homes;
 mod items;
 mod lists;
+mod mappings;
+mod members;
 mod nonces;
 mod places;
 mod reading;
 mod resolver;
 mod settings;
 mod values;
+mod writing;
 
 pub use fault::{Key, SettingsFault};
 pub use homes::home;
@@ -27,3 +30,4 @@ pub use settings::{
     Attachment, Attachments, Database, Databases, Nonces, OwnLocator, OwnLocators, Records,
     Settings,
 };
+pub use writing::write_settings;

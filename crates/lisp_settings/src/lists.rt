@@ -1,19 +1,22 @@
 // Lists of tables at the keys of a table.
-ghost use Rattle.std.specs.Prelude.{◌≡◌, ◌≢◌, ℕ, IfOk, IfErr, OnOk, Result, Ok, Err, option_map, [], map};
+ghost use Rattle.std.specs.Prelude.{◌≡◌, ◌≢◌, ℕ, suc, IfOk, IfErr, OnOk, Result, Ok, Err, option_map, [], map};
 ghost use Rattle.std.specs.BTreeMap.{insert_entry};
+ghost use Rattle.std.specs.List.{All, IsDistinct};
+ghost use Rattle.std.specs.Ordering.{eq_by_cmp};
 ghost use Rattle.std.specs.declared.cmp.Ordering.{Ordering};
 ghost use Rattle.toml.specs.Data.{Members, as_table, get_member, no_items};
-ghost use Rattle.toml.specs.View.{view, items_view, table_view};
+ghost use Rattle.toml.specs.View.{view, array_view, items_view, table_view};
 ghost use Rattle.lisp_settings.specs.Fields.{if_ok, taken, value_or};
 ghost use Rattle.lisp_settings.specs.Lists.{any_ascending, any_number, ascending, each, few_items, one_or_more, some_items};
 ghost use Rattle.lisp_settings.specs.Places.{within};
 ghost use Rattle.lisp_settings.specs.Values.{tables};
+ghost use Rattle.lisp_settings.specs.Writing.{IsArrayOf, IsPlain};
 ghost use Rattle.lisp_settings.specs.declared.fault.SettingsFault.{SettingsFault};
 ghost use Rattle.lisp_settings.specs.declared.fault.SettingsFault.TheVariants as fault;
 
 use crate::fault::{Key, SettingsFault};
 use crate::{fields, places, values};
-use octets::Items;
+use octets::{Items, NoMemory};
 use std::alloc::{AllocError, Global};
 use std::collections::{BTreeMap, BTreeSet};
 use toml::{Table, Value};
@@ -28,10 +31,22 @@ pub trait Item: Drop {
 
     ghost order: { Self.Key → Self.Key → Ordering };
 
+    // What an item keeps to where it can be written.
+    ghost lawful: { Self → Type 0 };
+
+    // How deep arrays and tables nest in an item's table.
+    ghost nested: { ℕ };
+
     /// The item in a table, or the first fault.
     fn read(alloc: Global, table: &Table) -> Result<Self, SettingsFault>
         ensures ok { IfOk result (λ item. reads (table_view table.now) ≡ Ok item) }
         ensures err { IfErr result (λ e. e ≢ fault.Memory → reads (table_view table.now) ≡ Err e) };
+
+    /// The table that reads as the item.
+    fn write(&self, alloc: Global) -> Result<Table, NoMemory>
+        requires { lawful self.now }
+        ensures reads { IfOk result (λ table. reads (table_view table) ≡ Ok self.now) }
+        ensures plain { IfOk result (λ table. IsPlain nested (table_view table)) };
 
     fn key(&self) -> Self::Key
         ensures { result ≡ key self.now };
@@ -197,4 +212,18 @@ pub fn any_ascending<T: Item>(
 {
     let items = any_number(alloc, table, list, most)?;
     ascending(alloc, items)
+}
+
+/// The array of tables that reads as items of different keys.
+pub fn write_items<T: Item>(alloc: Global, items: &[T]) -> Result<Vec<Value>, NoMemory>
+    requires lawful { All T.lawful items.now }
+    requires distinct { IsDistinct (eq_by_cmp T.order) (map T.key items.now) }
+    ensures { IfOk result (λ array.
+        IsArrayOf T.reads T.key T.order (suc T.nested) items.now (array_view array)) }
+{
+    let mut array = Vec::new(alloc);
+    for item in items {
+        array.push(Value::Table(item.write(alloc)?))?;
+    }
+    Ok(array)
 }

@@ -1,17 +1,19 @@
 // Nonces: those that the settings list, then the words of a ChaCha8 stream.
 ghost use Rattle.std.specs.Prelude.{◌≡◌, ◌≢◌, ◌<◌, ◌-◌, ◌+◌, ◌*◌, ◌^◌, length, codes, IfOk, IfErr, Ok, Err, [], option_map};
 ghost use Rattle.toml.specs.Data.{as_array, get_member, no_items};
-ghost use Rattle.toml.specs.View.{items_view, table_view};
+ghost use Rattle.toml.specs.View.{array_view, items_view, table_view};
 ghost use Rattle.lisp_settings.specs.Fields.{value_or};
 ghost use Rattle.lisp_settings.specs.Lists.{each_nonce, nonces_at};
 ghost use Rattle.lisp_settings.specs.Nonces.{drawn, nonce_of};
+ghost use Rattle.lisp_settings.specs.Writing.{IsNonceArray};
 ghost use Rattle.lisp_settings.specs.declared.fault.SettingsFault.TheVariants as fault;
 
 use crate::fault::SettingsFault;
+use crate::hex::number_text;
 use crate::lists::few_items;
 use crate::settings::{Nonces, Settings};
 use crate::{fields, places, values};
-use octets::Items;
+use octets::{Items, NoMemory};
 use rand_chacha::ChaCha8Rng;
 use rand_core::SeedableRng;
 use rand_core::utils::NextWord;
@@ -90,4 +92,15 @@ fn read_nonces(alloc: Global, items: &[Value]) -> Result<Nonces, SettingsFault>
         nonces.push(nonce)?;
     }
     Ok(nonces)
+}
+
+/// The array of texts that reads as the nonces.
+pub fn write_nonces(alloc: Global, nonces: &[u64]) -> Result<Vec<Value>, NoMemory>
+    ensures { IfOk result (λ array. IsNonceArray nonces.now (array_view array)) }
+{
+    let mut array = Vec::new(alloc);
+    for nonce in nonces {
+        array.push(Value::String(number_text(alloc, *nonce)?))?;
+    }
+    Ok(array)
 }

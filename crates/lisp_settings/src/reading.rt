@@ -1,5 +1,5 @@
 // The settings in a text.
-ghost use Rattle.std.specs.Prelude.{◌≡◌, ◌≢◌, IfOk, IfErr, Ok, Err, codes, replicate};
+ghost use Rattle.std.specs.Prelude.{◌≡◌, ◌≢◌, ◌≤◌, IfOk, IfErr, Ok, Err, codes, length, replicate};
 ghost use Rattle.toml.specs.View.{table_view};
 ghost use Rattle.lisp_settings.specs.Fields.{optional};
 ghost use Rattle.lisp_settings.specs.Lawful.{IsLawful};
@@ -32,6 +32,7 @@ pub fn read_settings(alloc: Global, text: &[u8]) -> Result<Settings, SettingsFau
     ensures ok { IfOk result (λ settings. settings_of text.now ≡ Ok settings) }
     ensures err { IfErr result (λ e. e ≢ fault.Memory → settings_of text.now ≡ Err e) }
     ensures lawful { IfOk result (λ settings. IsLawful settings) }
+    ensures few { IfOk result (λ settings. length settings.nonces ≤ 4096) }
 {
     if text.len() > MOST_OCTETS {
         return Err(SettingsFault::TooLong);

@@ -2,13 +2,17 @@
 ghost use Rattle.std.specs.Prelude.{◌≡◌, ◌≢◌, IfOk, IfErr, OnOk, Ok, Err};
 ghost use Rattle.toml.specs.View.{table_view};
 ghost use Rattle.lisp_settings.specs.Resolver.{is_reachable, only_reachable, resolver_in};
+ghost use Rattle.lisp_settings.specs.Writing.{IsResolverTable};
 ghost use Rattle.lisp_settings.specs.declared.fault.SettingsFault.TheVariants as fault;
 
+use crate::addresses::address_text;
 use crate::fault::{Key, SettingsFault};
 use crate::fields::{taken, value_at};
+use crate::members::put_text;
 use crate::settings::OwnLocator;
 use crate::values;
 use ip_headers::Addr;
+use octets::NoMemory;
 use std::alloc::Global;
 use toml::Table;
 
@@ -21,6 +25,17 @@ pub fn resolver_at(alloc: Global, top: &Table) -> Result<Option<Addr>, SettingsF
         Some(value) => Ok(Some(taken(alloc, "resolver", values::address(value))?)),
         None => Ok(None),
     }
+}
+
+/// A table with the address of the resolver alone, and without one an empty table.
+pub fn resolver_table(alloc: Global, resolver: Option<Addr>) -> Result<Table, NoMemory>
+    ensures { IfOk result (λ table. IsResolverTable resolver (table_view table)) }
+{
+    let mut table = Table::new(alloc);
+    if let Some(addr) = resolver {
+        put_text(alloc, &mut table, "resolver", address_text(alloc, addr)?)?;
+    }
+    Ok(table)
 }
 
 /// Refuses a resolver of whose family no own locator is up.

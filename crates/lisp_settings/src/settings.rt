@@ -51,6 +51,7 @@ pub struct Database {
 pub struct Settings {
     /// The key of the ChaCha8 stream that gives the nonces past the listed ones.
     pub seed: [u8; 32],
+    /// The nonces to use first; no text lists more than 4,096.
     pub nonces: Nonces,
     /// The Map-Resolver that Map-Requests go to; an own locator of its family is up.
     pub resolver: Option<Addr>,

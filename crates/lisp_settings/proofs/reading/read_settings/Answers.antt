@@ -1,8 +1,9 @@
-use Rattle.std.proofs.Common.{◌∙◌, arith}
+use Rattle.std.proofs.Common.{◌∙◌, ◌≤◌, arith, length}
 use Rattle.toml.specs.View.{table_view}
 use Rattle.std.proofs.lemmas.Result.{IfOk-at_ok, IfOk-weaker, MatchResult-weaker}
 use Rattle.lisp_settings.specs.Lawful.{IsLawful}
 use Rattle.lisp_settings.proofs.LawfulLemmas.{settings_in-lawful}
+use Rattle.lisp_settings.proofs.NonceLemmas.{settings_in-few}
 use Rattle.lisp_settings.proofs.ReadingLemmas.{settings_of-long, settings_of-document, settings_of-none}
 use Rattle.lisp_settings.proofs.reading.read_settings.Goals as goal
 
@@ -25,3 +26,6 @@ returns-in-Err-2-clause-err c other =
 
 pub returns-in-Ok-clause-lawful : goal.returns-in-Ok-clause-lawful
 returns-in-Ok-clause-lawful c = IfOk-weaker c.read_top.result _ _ (λ settings is. IfOk-at_ok IsLawful is (settings_in-lawful (table_view c.in-Ok.top))) c.read_top.ensures.ok
+
+pub returns-in-Ok-clause-few : goal.returns-in-Ok-clause-few
+returns-in-Ok-clause-few c = IfOk-weaker c.read_top.result _ _ (λ settings is. IfOk-at_ok (λ s. length s.nonces ≤ 4096) is (settings_in-few (table_view c.in-Ok.top))) c.read_top.ensures.ok
