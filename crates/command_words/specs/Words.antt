@@ -1,0 +1,125 @@
+-- The words of the commands (this router's choice): `replay` and `show` with options, and `trial N`.
+use Rattle.std.specs.Prelude.{ℕ, ◌≤◌, Bool, true, false, ◌&&◌, ◌||◌, ◌==◌, not, nat_le, List, [], ◌∷◌, codes, length, Option, Some, None, is_none, option_and_then, if◌then◌else◌}
+use Rattle.std.specs.List.{list_all, list_any}
+use Rattle.std.specs.Str.{bytes_eq}
+use Rattle.std.specs.Str.Parse.{digits_value}
+use Rattle.command_words.specs.declared.words.Words.{Words}
+use Rattle.command_words.specs.declared.words.Words.TheVariants.{Replay, Show, Trial}
+
+infixl 10 ◌>>=◌
+-- what comes next, where there is a value
+abbrev pub ◌>>=◌ : {A B : Type 0} → Option A → (A → Option B) → Option B
+o >>= next = option_and_then next o
+
+-- ### options
+
+-- a value isn't empty and doesn't begin with a dash
+abbrev pub is_value : List ℕ → Bool
+is_value [] = false
+is_value (first ∷ rest) = not (first == 45)
+
+-- the value behind an option's name
+abbrev pub value_of : List ℕ → List (List ℕ) → Option (List ℕ)
+value_of name [] = None
+value_of name (other ∷ []) = None
+value_of name (other ∷ (value ∷ more)) = if bytes_eq other name then Some value else value_of name more
+
+-- a name that is one of these, with a value, before words in which it doesn't come again
+abbrev pub is_option : List (List ℕ) → List ℕ → List ℕ → List (List ℕ) → Bool
+is_option names name value more =
+    (list_any (λ known. bytes_eq known name) names && is_value value)
+    && is_none (value_of name more)
+
+-- names, each with a value behind it; each is one of these, and none comes twice
+abbrev pub are_options : List (List ℕ) → List (List ℕ) → Bool
+are_options names [] = true
+are_options names (name ∷ []) = false
+are_options names (name ∷ (value ∷ more)) =
+    is_option names name value more && are_options names more
+
+-- ### numbers
+
+-- the octet is a decimal digit
+abbrev pub is_digit : ℕ → Bool
+is_digit octet = nat_le 48 octet && nat_le octet 57
+
+-- decimal digits, of which the first is 0 only where it stands alone
+abbrev pub is_decimal : List ℕ → Bool
+is_decimal [] = false
+is_decimal (first ∷ rest) =
+    (is_digit first && list_all is_digit rest) && (not (first == 48) || (length rest == 0))
+
+-- the number, where it lies between the two
+abbrev pub number_in : ℕ → ℕ → List ℕ → Option ℕ
+number_in least greatest text =
+    if is_decimal text && (nat_le least (digits_value 10 text) && nat_le (digits_value 10 text) greatest)
+    then Some (digits_value 10 text) else None
+
+-- the number behind an option's name, and without the option the default
+abbrev pub number_or : ℕ → ℕ → ℕ → Option (List ℕ) → Option ℕ
+number_or least greatest default (Some text) = number_in least greatest text
+number_or least greatest default None = Some default
+
+-- ### commands
+
+-- the names of the options of a replay, and of a show
+abbrev pub replay_names : List (List ℕ)
+replay_names =
+    codes "--settings" ∷ codes "--in" ∷ codes "--out" ∷ codes "--workers" ∷ codes "--round" ∷ []
+
+abbrev pub show_names : List (List ℕ)
+show_names = codes "--in" ∷ []
+
+-- the words, where they are options of these names
+abbrev pub options_of : List (List ℕ) → List (List ℕ) → Option (List (List ℕ))
+options_of names words = if are_options names words then Some words else None
+
+-- the replay of these words, unless the output is one of the other files
+abbrev pub unless_over : List ℕ → List ℕ → List ℕ → ℕ → ℕ → Option Words
+unless_over settings input output workers round =
+    if bytes_eq output input || bytes_eq output settings then None
+    else Some (Replay settings input output workers round)
+
+-- `--settings F --in F --out F [--workers N] [--round N]`; there are no workers yet
+abbrev pub replay_of : List (List ℕ) → Option Words
+replay_of words = do
+  options ← options_of replay_names words
+  settings ← value_of (codes "--settings") options
+  input ← value_of (codes "--in") options
+  output ← value_of (codes "--out") options
+  workers ← number_or 0 0 0 (value_of (codes "--workers") options)
+  round ← number_or 1 4096 256 (value_of (codes "--round") options)
+  unless_over settings input output workers round
+
+-- `--in F`
+abbrev pub show_of : List (List ℕ) → Option Words
+show_of words = do
+  options ← options_of show_names words
+  input ← value_of (codes "--in") options
+  Some (Show input)
+
+-- `N`
+abbrev pub trial_of : List (List ℕ) → Option Words
+trial_of [] = None
+trial_of (number ∷ []) = do
+  n ← number_in 1 50000 number
+  Some (Trial n)
+trial_of (number ∷ (other ∷ more)) = None
+
+-- a trial is of so many mappings at most
+abbrev pub HasFewMappings : Words → Type 0
+HasFewMappings (Trial n) = n ≤ 50000
+HasFewMappings _ = Unit {0}
+
+-- what the words behind a command say
+abbrev pub command_of : List ℕ → List (List ℕ) → Option Words
+command_of command words =
+    if bytes_eq command (codes "replay") then replay_of words
+    else if bytes_eq command (codes "show") then show_of words
+    else if bytes_eq command (codes "trial") then trial_of words
+    else None
+
+-- what the words after the program's name say; none where they are of no form
+abbrev pub words_of : List (List ℕ) → Option Words
+words_of [] = None
+words_of (command ∷ words) = command_of command words

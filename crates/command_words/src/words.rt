@@ -1,0 +1,156 @@
+// The words after the program's name.
+ghost use Rattle.std.specs.Prelude.{◌≡◌, ◌≤◌, Err, None, Some, map, string_bytes, IfOk, option_map};
+ghost use Rattle.command_words.specs.Words.{replay_of, show_of, trial_of, words_of, HasFewMappings};
+ghost use Rattle.command_words.specs.declared.words.WordsFault.TheVariants.{Usage, Memory};
+
+use crate::options::{are_options, number_in, number_or, value_of};
+use octets::NoMemory;
+use std::alloc::{AllocError, Global};
+use std::marker::Model;
+use thiserror::Error;
+
+/// A word after the program's name.
+pub type Word = String;
+
+/// One word, which contracts see as its octets.
+#[derive(Debug, Drop)]
+pub struct Text {
+    word: String,
+}
+
+impl Model for Text {
+    ghost use Rattle.std.specs.Prelude.{List, ℕ, string_bytes};
+
+    ghost Value = { List ℕ };
+
+    ghost view = { λ text. string_bytes text.word };
+}
+
+impl Text {
+    /// The word.
+    pub fn as_str(&self) -> &str
+        ensures { result.now ≡ self.now }
+    {
+        self.word.as_str()
+    }
+
+    fn copied(alloc: Global, word: &str) -> Result<Text, AllocError>
+        ensures { IfOk result (λ text. text ≡ word.now) }
+    {
+        Ok(Text {
+            word: String::from_str(alloc, word)?,
+        })
+    }
+}
+
+/// What the words say.
+#[derive(Debug, Drop)]
+pub enum Words {
+    /// A capture is replayed by settings, into an output: names of files. `workers` and `round`
+    /// count forwarder threads, and frames handed to them at once.
+    Replay {
+        settings: Text,
+        input: Text,
+        output: Text,
+        workers: u8,
+        round: u16,
+    },
+    /// The messages of a capture are shown.
+    Show {
+        input: Text,
+    },
+    /// An input of so many mappings is made and replayed, 1 to 50,000.
+    Trial {
+        n: u32,
+    },
+}
+
+/// Why words say nothing.
+#[derive(Clone, Copy, Debug, PartialEq, Eq, Error)]
+pub enum WordsFault {
+    /// They are of no form.
+    #[error("the words are of no form")]
+    Usage,
+    /// An allocation was refused.
+    #[error("memory was refused")]
+    Memory,
+}
+
+impl From<AllocError> for WordsFault {
+    ghost from_gives = { λ _ fault. fault ≡ Memory };
+
+    fn from(_: AllocError) -> Self {
+        WordsFault::Memory
+    }
+}
+
+/// What the words say, or that they are of no form.
+pub fn read_words(alloc: Global, words: &[Word]) -> Result<Words, WordsFault>
+    ensures ok { IfOk result (λ read. words_of (map string_bytes words.now) ≡ Some read) }
+    ensures usage { result ≡ Err Usage → words_of (map string_bytes words.now) ≡ None }
+    ensures few { IfOk result HasFewMappings }
+{
+    let [command, rest @ ..] = words else {
+        return Err(WordsFault::Usage);
+    };
+    match command.as_str() {
+        "replay" => read_replay(alloc, rest),
+        "show" => read_show(alloc, rest),
+        "trial" => read_trial(rest),
+        _ => Err(WordsFault::Usage),
+    }
+}
+
+fn read_replay(alloc: Global, words: &[Word]) -> Result<Words, WordsFault>
+    ensures ok { IfOk result (λ read. replay_of (map string_bytes words.now) ≡ Some read) }
+    ensures usage { result ≡ Err Usage → replay_of (map string_bytes words.now) ≡ None }
+    ensures few { IfOk result HasFewMappings }
+{
+    let names = ["--settings", "--in", "--out", "--workers", "--round"];
+    if !are_options(&names, words) {
+        return Err(WordsFault::Usage);
+    }
+    let settings = value_of("--settings", words).ok_or(WordsFault::Usage)?;
+    let input = value_of("--in", words).ok_or(WordsFault::Usage)?;
+    let output = value_of("--out", words).ok_or(WordsFault::Usage)?;
+    let workers = number_or(words, "--workers", (0, 0), 0).ok_or(WordsFault::Usage)?;
+    let round = number_or(words, "--round", (1, 4096), 256).ok_or(WordsFault::Usage)?;
+    if output == input || output == settings {
+        return Err(WordsFault::Usage);
+    }
+    Ok(Words::Replay {
+        settings: Text::copied(alloc, settings)?,
+        input: Text::copied(alloc, input)?,
+        output: Text::copied(alloc, output)?,
+        workers: workers as u8,
+        round: round as u16,
+    })
+}
+
+fn read_show(alloc: Global, words: &[Word]) -> Result<Words, WordsFault>
+    ensures ok { IfOk result (λ read. show_of (map string_bytes words.now) ≡ Some read) }
+    ensures usage { result ≡ Err Usage → show_of (map string_bytes words.now) ≡ None }
+    ensures few { IfOk result HasFewMappings }
+{
+    if !are_options(&["--in"], words) {
+        return Err(WordsFault::Usage);
+    }
+    let input = value_of("--in", words).ok_or(WordsFault::Usage)?;
+    Ok(Words::Show {
+        input: Text::copied(alloc, input)?,
+    })
+}
+
+fn read_trial(words: &[Word]) -> Result<Words, WordsFault>
+    ensures ok { IfOk result (λ read. trial_of (map string_bytes words.now) ≡ Some read) }
+    ensures usage { result ≡ Err Usage → trial_of (map string_bytes words.now) ≡ None }
+    ensures few { IfOk result HasFewMappings }
+{
+    match words {
+        [number] => match number_in(number.as_str(), 1, 50_000) {
+            Some(n) => Ok(Words::Trial { n }),
+            None => Err(WordsFault::Usage),
+        },
+        _ => Err(WordsFault::Usage),
+    }
+}
