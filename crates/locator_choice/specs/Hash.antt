@@ -1,4 +1,4 @@
--- The hash of a flow, FNV-1a of 32 bits, and the source port that it gives.
+-- FNV-1a of 32 bits: the hash of octets and that of a flow, and the source port that this gives.
 use Rattle.std.specs.Prelude.{ℕ, ◌+◌, ◌*◌, ◌%◌, ◌^◌, List, ◌∷◌, ◌++◌, fold, bit_xor}
 use Rattle.octets.specs.Numbers.{big_octets}
 use Rattle.ip_headers.specs.Udp.{addr_octets}
@@ -7,6 +7,10 @@ use Rattle.ip_headers.specs.declared.tuple.FiveTuple.{FiveTuple}
 -- the hash with one octet more
 abbrev pub hashed : ℕ → ℕ → ℕ
 hashed hash octet = bit_xor hash octet * 0x01000193 % 2 ^ 32
+
+-- the hash of octets
+abbrev pub octets_hash : List ℕ → ℕ
+octets_hash octets = fold hashed 0x811c9dc5 octets
 
 -- addresses, protocol and ports of a flow
 abbrev pub flow_octets : FiveTuple → List ℕ
@@ -17,7 +21,7 @@ flow_octets tuple =
 
 -- the hash of a flow (this router's choice)
 abbrev pub flow_hash : FiveTuple → ℕ
-flow_hash tuple = fold hashed 0x811c9dc5 (flow_octets tuple)
+flow_hash tuple = octets_hash (flow_octets tuple)
 
 -- the ports from 0xc000 on (this router's choice)
 abbrev pub source_port : ℕ → ℕ

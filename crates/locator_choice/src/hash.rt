@@ -1,15 +1,25 @@
-// The hash of a flow, and the source port that it gives.
+// The hash of octets and that of a flow, and the source port that this gives.
 ghost use Rattle.std.specs.Prelude.{◌≡◌, fold};
 ghost use Rattle.ip_headers.specs.Udp.{addr_octets};
-ghost use Rattle.locator_choice.specs.Hash.{flow_hash, hashed, source_port};
+ghost use Rattle.locator_choice.specs.Hash.{flow_hash, hashed, octets_hash, source_port};
 
 use ip_headers::{Addr, FiveTuple};
+
+// What the hash is before the first octet.
+const BASIS: u32 = 0x811c_9dc5;
+
+/// FNV-1a of 32 bits over octets.
+pub fn octets_hash(octets: &[u8]) -> u32
+    ensures { result ≡ octets_hash octets.now }
+{
+    hash_octets(BASIS, octets)
+}
 
 /// FNV-1a of 32 bits over source and destination address, protocol, and both ports.
 pub fn flow_hash(tuple: &FiveTuple) -> u32
     ensures { result ≡ flow_hash tuple.now }
 {
-    let hash = hash_address(0x811c_9dc5, tuple.source);
+    let hash = hash_address(BASIS, tuple.source);
     let hash = hash_address(hash, tuple.dest);
     let hash = hash_octets(hash, &[tuple.protocol]);
     let hash = hash_octets(hash, &tuple.source_port.to_be_bytes());

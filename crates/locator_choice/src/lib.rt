@@ -7,6 +7,6 @@ mod hash;
 mod laws;
 
 pub use choice::{Candidate, MOST_CANDIDATES, choose};
-pub use hash::{flow_hash, source_port};
+pub use hash::{flow_hash, octets_hash, source_port};
 pub use ip_headers::{Addr, FiveTuple};
 pub use laws::each_candidate_gets_its_share;
