@@ -1,50 +1,42 @@
 -- The answer, case by case, and how steps of a run make it.
 use Rattle.octets.specs.Rules.{first_failing}
+use Rattle.command_words.specs.Words.{words_of}
+use Rattle.command_words.specs.declared.words.Words.{Words}
 use Rattle.std.proofs.Common.{◌≡◌, ℕ, List, [], ◌∷◌, ◌++◌, length, Option, Some, None, Result, Ok, Err, append_assoc, refl, sym, ap, subst, ◌∙◌}
 use Rattle.std.specs.List.{All}
 use Rattle.std.specs.Option.{option_map, IfSome}
-use Rattle.std.specs.Prelude.{codes}
 use Rattle.std.specs.Result.{IfOk, OnOk}
 use Rattle.std.proofs.lemmas.List.{append-nil, map-append}
 use Rattle.desk.specs.declared.file.NamedFile.{NamedFile}
 use Rattle.desk.specs.World.{World, Shown, content, left_of, found_at, extended, after_say, after_make, after_write, shown, shown_of}
 use Rattle.desk.proofs.Entries.{changed_at-more}
 use Rattle.capture_io.specs.Capture.{begin, header_rules}
-use Rattle.capture_io.specs.Frames.{Run, read_on}
+use Rattle.capture_io.specs.Frames.{Run, capture, read_on}
+use Rattle.capture_io.specs.declared.fault.CaptureFault.{CaptureFault}
 use Rattle.capture_io.specs.Output.{out_header}
 use Rattle.capture_io.specs.declared.format.Format.{Format}
 use Rattle.lisp_settings.specs.Lawful.{IsLawful}
-use Rattle.lisp_settings.specs.Settings.{settings_of}
 use Rattle.lisp_settings.specs.declared.settings.Settings.{Settings}
 use Rattle.playback.specs.Events.{Outcome, records_of}
 use Rattle.playback.specs.Playing.{outcome_of, with_outcome, Ends, IsRead}
 use Rattle.playback.specs.declared.playing.Ending.{Ending}
-use Rattle.router_model.specs.Journal.{Journal, statics}
+use Rattle.router_model.specs.Journal.{statics}
 use Rattle.router_model.specs.Lifting.{outcome_tabled, WereRead}
 use Rattle.router_model.specs.Parts.{Parts, parts_in, table}
-use Rattle.router_model.specs.Plain.{Router, after_event, plain, started}
+use Rattle.router_model.specs.Plain.{Router, after_event}
 use Rattle.router_model.proofs.RunLemmas.{run-replays}
-use Rattle.replay.specs.Answer.{Answer, answer, after_words, after_settings, closing, replayed, told_off, status_of, made_files, Gives, after_header, messages_shown}
-use Rattle.replay.specs.Lines.{count_line, end_line}
+use Rattle.replay.specs.Answer.{Answer, answer, after_words, closing, replayed, told_off, status_of, made_files, Gives, after_header, messages_shown}
+use Rattle.replay.specs.Readings.{replay_of, HasReplayed, HasReplayedFile}
+use Rattle.replay.specs.declared.replaying.Counts.{Counts}
+use Rattle.replay.specs.Lines.{count_line, end_line, fault_line}
 use Rattle.replay.specs.Show.{showing}
 use Rattle.replay.specs.Taking.{router_of}
-use Rattle.replay.specs.Words.{Names, Replay, Show, command_of}
 use Rattle.replay.specs.declared.status.Status.{Status}
 use Rattle.replay.specs.declared.status.Status.TheVariants as status
 
-pub answer-usage : (words : List (List ℕ)) (files : List NamedFile) → command_of words ≡ None → answer words files ≡ told_off status.Usage (codes "usage\n")
+pub answer-of : (words : List (List ℕ)) (files : List NamedFile) (said : Option Words) → words_of words ≡ said → answer words files ≡ after_words files said
 unfolding answer
-answer-usage words files none = ap (after_words files) none
-
-pub answer-replay : (words : List (List ℕ)) (files : List NamedFile) (n : Names) → command_of words ≡ Some (Replay n)
-    → answer words files ≡ after_settings n.output (content n.input files) (settings_of (content n.settings files))
-unfolding answer
-answer-replay words files n is = ap (after_words files) is
-
-pub answer-show : (words : List (List ℕ)) (files : List NamedFile) (input : List ℕ) → command_of words ≡ Some (Show input)
-    → answer words files ≡ after_header messages_shown (content input files) (first_failing (header_rules (content input files)))
-unfolding answer
-answer-show words files input is = ap (after_words files) is
+answer-of words files said is = ap (after_words files) is
 
 -- the same answer by another name
 pub gives_as : (a b : Answer) (s : Status) (old : Shown) (new : Option Shown) → a ≡ b → Gives a s old new → Gives b s old new
@@ -75,47 +67,45 @@ outcome_shown outcome id name w fresh =
     ap (with_outcome (Some id) outcome) (output_made id name w fresh)
     ∙ ap (λ (writers : List (ℕ × NamedFile)). record (shown_of w) { said = w.said ++ outcome.lines; writers = writers }) (changed_at-more id (extended (records_of outcome.packets)) (record { name = name; octets = out_header }) w.writers fresh)
 
--- the outcome of a replay
-abbrev replay_of : Settings → Run → Outcome (Router Journal)
-replay_of settings run = outcome_of plain (started settings) run
+-- the counts of a play and of the journal
+abbrev pub counts_of : Ending → ℕ → Counts
+counts_of ending entries =
+    record { fault = ending.fault; frames = ending.frames; written = ending.written; entries = entries }
 
--- what the steps of a replay leave is its answer
-gives_replayed : (settings : Settings) (id : ℕ) (name : List ℕ) (run : Run) (w : World) (mid new : Option World) (ending : Ending) (entries : ℕ) (s : Status)
+-- what the steps of a replay leave, before its last line
+has_replayed : (settings : Settings) (id : ℕ) (name : List ℕ) (run : Run) (w : World) (new : Option World) (ending : Ending) (entries : ℕ)
     → found_at id w.writers ≡ None → Ends (replay_of settings run) run ending
-    → shown mid ≡ Some (with_outcome (Some id) (replay_of settings run) (shown_of (after_write id out_header (after_make id name w))))
+    → shown new ≡ Some (with_outcome (Some id) (replay_of settings run) (shown_of (after_write id out_header (after_make id name w))))
     → entries ≡ length (replay_of settings run).after.memory
-    → new ≡ option_map (after_say (closing ending.fault (end_line ending.frames ending.written entries))) mid → s ≡ status_of ending.fault
-    → Gives (replayed settings name run) s (shown_of w) (shown new)
-unfolding replayed
-gives_replayed settings id name run w None new ending entries s fresh ends frames count said is = cc
-gives_replayed settings id name run w (Some v) new ending entries s fresh ends frames count said is =
+    → HasReplayed settings name run (counts_of ending entries) (shown_of w) (shown new)
+has_replayed settings id name run w None ending entries fresh ends frames count = cc
+has_replayed settings id name run w (Some v) ending entries fresh ends frames count =
     let outcome = replay_of settings run in
     let file : NamedFile = record { name = name; octets = out_header ++ records_of outcome.packets } in
     let aim : Shown = record (shown_of w) { said = w.said ++ outcome.lines; writers = w.writers ++ (id, file) ∷ [] } in
     let is_aim : shown_of v ≡ aim = cc (frames, outcome_shown outcome id name w fresh) in
-    let last = closing ending.fault (end_line ending.frames ending.written entries) in
-    let line : last ≡ closing run.fault (end_line (length run.frames) (length outcome.packets) (length outcome.after.memory)) = rw (ends.fault, ends.frames, ends.written, count) refl in
-    let status : s ≡ status_of run.fault = is ∙ ap status_of ends.fault in
-    rw said (record {
-      status = status;
+    record {
+      fault = ends.fault;
+      frames = ends.frames;
+      written = ends.written;
+      entries = count;
       left = record {
         files = ap (λ (x : Shown). x.files) is_aim;
-        said = ap (λ (x : Shown). x.said ++ last) is_aim ∙ append_assoc w.said outcome.lines last ∙ ap (λ (l : List ℕ). w.said ++ (outcome.lines ++ l)) line;
+        said = ap (λ (x : Shown). x.said) is_aim;
         made = ap (λ (x : Shown). made_files x.writers) is_aim ∙ map-append (λ (x : ℕ × NamedFile). x.1) w.writers ((id, file) ∷ []);
       };
-    })
+    }
 
 -- the same, over what the desk tells
-pub frames_answered : (settings : Settings) (id reader : ℕ) (format : Format) (name : List ℕ) (old made now new : Option World) (ending : Ending) (entries : ℕ) (s : Status)
+frames_replayed : (settings : Settings) (id reader : ℕ) (format : Format) (name : List ℕ) (old made new : Option World) (ending : Ending) (entries : ℕ)
     → IfSome old (λ w. found_at id w.writers ≡ None) → made ≡ option_map (λ w. after_write id out_header (after_make id name w)) old
     → IfSome made (λ w. Ends (replay_of settings (read_on format begin (left_of reader w))) (read_on format begin (left_of reader w)) ending)
-    → IfSome made (λ w. shown now ≡ Some (with_outcome (Some id) (replay_of settings (read_on format begin (left_of reader w))) (shown_of w)))
+    → IfSome made (λ w. shown new ≡ Some (with_outcome (Some id) (replay_of settings (read_on format begin (left_of reader w))) (shown_of w)))
     → IfSome made (λ w. entries ≡ length (replay_of settings (read_on format begin (left_of reader w))).after.memory)
-    → new ≡ option_map (after_say (closing ending.fault (end_line ending.frames ending.written entries))) now → s ≡ status_of ending.fault
-    → IfSome old (λ w. Gives (replayed settings name (read_on format begin (left_of reader w))) s (shown_of w) (shown new))
-frames_answered settings id reader format name None made now new ending entries s fresh makes ends frames count said is = tt
-frames_answered settings id reader format name (Some w) made now new ending entries s fresh makes ends frames count said is =
-    gives_replayed settings id name (read_on format begin (left_of reader w)) w now new ending entries s fresh (rw makes at ends) (rw makes at frames) (rw makes at count) said is
+    → IfSome old (λ w. HasReplayed settings name (read_on format begin (left_of reader w)) (counts_of ending entries) (shown_of w) (shown new))
+frames_replayed settings id reader format name None made new ending entries fresh makes ends frames count = tt
+frames_replayed settings id reader format name (Some w) made new ending entries fresh makes ends frames count =
+    has_replayed settings id name (read_on format begin (left_of reader w)) w new ending entries fresh (rw makes at ends) (rw makes at frames) (rw makes at count)
 
 -- the frames of a file, by a table
 abbrev table_of : Settings → Parts → Run → Outcome (Router Parts)
@@ -126,27 +116,67 @@ as_plain : (settings : Settings) (format : Format) (octets : List ℕ) (parts : 
     → table_of settings parts (read_on format begin octets) ≡ outcome_tabled (replay_of settings (read_on format begin octets))
 as_plain settings format octets parts lawful begins read = rw begins (run-replays settings format octets lawful read).0
 
--- what a table leaves is the answer of the plain router
-pub table_answered : (settings : Settings) (id reader : ℕ) (format : Format) (name : List ℕ) (old made now new : Option World) (ending : Ending) (entries : ℕ) (s : Status) (parts after : Parts) (kept : Settings)
+-- what a table leaves is what the plain router does
+pub table_replayed : (settings : Settings) (id reader : ℕ) (format : Format) (name : List ℕ) (old made new : Option World) (ending : Ending) (entries : ℕ) (parts after : Parts) (kept : Settings)
     → IsLawful settings → parts ≡ parts_in (statics settings)
     → IfSome old (λ w. found_at id w.writers ≡ None) → made ≡ option_map (λ w. after_write id out_header (after_make id name w)) old
     → IfSome made (λ w. All IsRead (read_on format begin (left_of reader w)).frames)
     → IfSome made (λ w. Ends (table_of settings parts (read_on format begin (left_of reader w))) (read_on format begin (left_of reader w)) ending)
-    → IfSome made (λ w. shown now ≡ Some (with_outcome (Some id) (table_of settings parts (read_on format begin (left_of reader w))) (shown_of w)))
+    → IfSome made (λ w. shown new ≡ Some (with_outcome (Some id) (table_of settings parts (read_on format begin (left_of reader w))) (shown_of w)))
     → IfSome made (λ w. router_of kept after ≡ (table_of settings parts (read_on format begin (left_of reader w))).after)
     → entries ≡ after.count
-    → new ≡ option_map (after_say (closing ending.fault (end_line ending.frames ending.written entries))) now → s ≡ status_of ending.fault
-    → IfSome old (λ w. Gives (replayed settings name (read_on format begin (left_of reader w))) s (shown_of w) (shown new))
-table_answered settings id reader format name old None now new ending entries s parts after kept lawful begins fresh makes read ends frames left count said is =
-    frames_answered settings id reader format name old None now new ending entries s fresh makes tt tt tt said is
-table_answered settings id reader format name old (Some w) now new ending entries s parts after kept lawful begins fresh makes read ends frames left count said is =
+    → IfSome old (λ w. HasReplayed settings name (read_on format begin (left_of reader w)) (counts_of ending entries) (shown_of w) (shown new))
+table_replayed settings id reader format name old None new ending entries parts after kept lawful begins fresh makes read ends frames left count =
+    frames_replayed settings id reader format name old None new ending entries fresh makes tt tt tt
+table_replayed settings id reader format name old (Some w) new ending entries parts after kept lawful begins fresh makes read ends frames left count =
     let run = read_on format begin (left_of reader w) in
     let same : table_of settings parts run ≡ outcome_tabled (replay_of settings run) = as_plain settings format (left_of reader w) parts lawful begins read in
     let goes : Ends (outcome_tabled (replay_of settings run)) run ending = subst (λ (o : Outcome (Router Parts)). Ends o run ending) same ends in
-    frames_answered settings id reader format name old (Some w) now new ending entries s fresh makes
+    frames_replayed settings id reader format name old (Some w) new ending entries fresh makes
     (record { fault = goes.fault; frames = goes.frames; written = goes.written })
-    (subst (λ (o : Outcome (Router Parts)). shown now ≡ Some (with_outcome (Some id) o (shown_of w))) same frames)
-    (count ∙ ap (λ (r : Router Parts). r.memory.count) (left ∙ ap (λ (o : Outcome (Router Parts)). o.after) same)) said is
+    (subst (λ (o : Outcome (Router Parts)). shown new ≡ Some (with_outcome (Some id) o (shown_of w))) same frames)
+    (count ∙ ap (λ (r : Router Parts). r.memory.count) (left ∙ ap (λ (o : Outcome (Router Parts)). o.after) same))
+
+-- the last line makes of that the answer
+closed : (settings : Settings) (output : List ℕ) (run : Run) (counts : Counts) (old : Shown) (mid new : Option World) (s : Status) → HasReplayed settings output run counts old (shown mid)
+    → new ≡ option_map (after_say (closing counts.fault (end_line counts.frames counts.written counts.entries))) mid → s ≡ status_of counts.fault → Gives (replayed settings output run) s old (shown new)
+unfolding replayed
+closed settings output run counts old None new s has said is = absurd has.left
+closed settings output run counts old (Some v) new s has said is =
+    let outcome = replay_of settings run in
+    let last = closing counts.fault (end_line counts.frames counts.written counts.entries) in
+    let line : last ≡ closing run.fault (end_line (length run.frames) (length outcome.packets) (length outcome.after.memory)) = rw (has.fault, has.frames, has.written, has.entries) refl in
+    rw said (record {
+      status = is ∙ ap status_of has.fault;
+      left = record {
+        files = has.left.files;
+        said = ap (λ (l : List ℕ). l ++ last) has.left.said ∙ append_assoc old.said outcome.lines last ∙ ap (λ (l : List ℕ). old.said ++ (outcome.lines ++ l)) line;
+        made = has.left.made;
+      };
+    })
+
+-- the answer to a file that was replayed
+pub file_closed : (settings : Settings) (output input : List ℕ) (counts : Counts) (old mid new : Option World) (s : Status)
+    → IfSome old (λ w. HasReplayedFile settings output (content input w.files) (Ok counts) (shown_of w) (shown mid))
+    → new ≡ option_map (after_say (closing counts.fault (end_line counts.frames counts.written counts.entries))) mid → s ≡ status_of counts.fault
+    → IfSome old (λ w. Gives (after_header (replayed settings output) (content input w.files) (first_failing (header_rules (content input w.files)))) s (shown_of w) (shown new))
+file_closed settings output input counts None mid new s has said is = tt
+file_closed settings output input counts (Some w) mid new s has said is =
+    let file = content input w.files in
+    gives_as (replayed settings output (capture file)) (after_header (replayed settings output) file (first_failing (header_rules file))) s (shown_of w) (shown new)
+    (ap (after_header (replayed settings output) file) (sym has.0)) (closed settings output (capture file) counts (shown_of w) mid new s has.1 said is)
+
+-- the answer to a file whose header has a fault
+pub file_refused : (settings : Settings) (output input : List ℕ) (fault : CaptureFault) (old mid new : Option World) (s : Status)
+    → IfSome old (λ w. HasReplayedFile settings output (content input w.files) (Err fault) (shown_of w) (shown mid))
+    → new ≡ option_map (after_say (fault_line fault)) mid → s ≡ status.Capture
+    → IfSome old (λ w. Gives (after_header (replayed settings output) (content input w.files) (first_failing (header_rules (content input w.files)))) s (shown_of w) (shown new))
+file_refused settings output input fault None mid new s has said is = tt
+file_refused settings output input fault (Some w) mid new s has said is =
+    let file = content input w.files in
+    let line = shown_stays (λ (o : Shown). Gives (told_off status.Capture (fault_line fault)) status.Capture o (shown new)) (Some w) mid has.1 (said_line status.Capture (fault_line fault) mid new said) in
+    rw is (gives_as (told_off status.Capture (fault_line fault)) (after_header (replayed settings output) file (first_failing (header_rules file))) status.Capture (shown_of w) (shown new)
+    (ap (after_header (replayed settings output) file) (sym has.0)) line)
 
 -- two facts of a value make a third
 pub ok_both : {T E : Type 0} (r : Result T E) {P R : T → Type 0} {Q : Type 0} → IfOk r P → OnOk r Q → ((x : T) → P x → Q → R x) → IfOk r R

@@ -5,3 +5,5 @@ pub mod NotingLemmas
 pub mod PieceLemmas
 pub mod ReplayLemmas
 pub mod ShowLemmas
+pub mod SteadyLemmas
+pub mod TrialLemmas

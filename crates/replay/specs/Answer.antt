@@ -1,8 +1,12 @@
 -- What a run answers, by its words and the files.
 use Rattle.std.specs.Prelude.{◌≡◌, ℕ, Bool, true, false, List, [], ◌∷◌, ◌++◌, codes, length, map, Option, Some, None, Result, Ok, Err, IsSomeAnd}
+use Rattle.std.specs.List.{All}
 use Rattle.octets.specs.Rules.{first_failing}
+use Rattle.command_words.specs.Words.{words_of}
+use Rattle.command_words.specs.declared.words.Words.{Words}
+use Rattle.command_words.specs.declared.words.Words.TheVariants.{Replay, Show, Trial}
 use Rattle.desk.specs.declared.file.NamedFile.{NamedFile}
-use Rattle.desk.specs.World.{Shown, content}
+use Rattle.desk.specs.World.{World, Shown, content, IsThere}
 use Rattle.capture_io.specs.Frames.{Run, capture}
 use Rattle.capture_io.specs.Capture.{header_rules}
 use Rattle.capture_io.specs.Output.{out_header}
@@ -14,7 +18,7 @@ use Rattle.playback.specs.Events.{events, played, records_of}
 use Rattle.router_model.specs.Plain.{plain, started}
 use Rattle.replay.specs.Lines.{count_line, end_line, fault_line, settings_line}
 use Rattle.replay.specs.Show.{showing}
-use Rattle.replay.specs.Words.{Command, Replay, Show, command_of}
+use Rattle.replay.specs.Trial.{trial_text}
 use Rattle.replay.specs.declared.status.Status.{Status}
 use Rattle.replay.specs.declared.status.Status.TheVariants.{Done, Usage, Settings as BadSettings, Capture, Host, Memory}
 
@@ -71,19 +75,29 @@ after_settings output file (Err fault) = told_off BadSettings (settings_line fau
 after_settings output file (Ok settings) =
     after_header (replayed settings output) file (first_failing (header_rules file))
 
--- the answer to a command
-abbrev pub after_words : List NamedFile → Option Command → Answer
+-- the answer to what words say
+abbrev pub after_words : List NamedFile → Option Words → Answer
 after_words files None = told_off Usage (codes "usage\n")
-after_words files (Some (Replay names)) =
-    after_settings names.output (content names.input files)
-    (settings_of (content names.settings files))
+after_words files (Some (Replay settings input output workers round)) =
+    after_settings output (content input files) (settings_of (content settings files))
 after_words files (Some (Show input)) =
     let file = content input files in
     after_header messages_shown file (first_failing (header_rules file))
+after_words files (Some (Trial n)) = told_off Done (trial_text n)
 
 -- the answer to words, where these files are there
 unfoldable pub answer : List (List ℕ) → List NamedFile → Answer
-answer words files = after_words files (command_of words)
+answer words files = after_words files (words_of words)
+
+-- the files that words name to be read
+abbrev pub names_read : Option Words → List (List ℕ)
+names_read (Some (Replay settings input output workers round)) = settings ∷ input ∷ []
+names_read (Some (Show input)) = input ∷ []
+names_read _ = []
+
+-- the desk tells its files, and these are among them
+abbrev pub AreThere : List (List ℕ) → Option World → Type 0
+AreThere names told = All (λ name. IsThere name told) names
 
 -- the status tells of the desk or of memory, and not of words and files
 abbrev pub is_outside : Status → Bool

@@ -4,4 +4,4 @@ pub mod Messages
 pub mod Readings
 pub mod Show
 pub mod Taking
-pub mod Words
+pub mod Trial

@@ -1,20 +1,51 @@
--- What is read of words and files: for the contracts of parts alone, no clause of `run` needs it.
-use Rattle.std.specs.Prelude.{◌≡◌, ◌<◌, ◌⊎◌, ℕ, List, length}
-use Rattle.replay.specs.Words.{Command, Names, Replay, Show}
-use Rattle.replay.specs.declared.words.Command.{Command as CommandWords}
-use Rattle.replay.specs.declared.words.Command.TheVariants as command
-use Rattle.replay.specs.declared.words.FileNames.{FileNames}
-
--- the names of three files that were read
-abbrev pub names_in : FileNames → Names
-names_in names =
-    record { settings = names.settings.now; input = names.input.now; output = names.output.now }
-
--- the command that was read
-abbrev pub command_in : CommandWords → Command
-command_in (command.Replay names) = Replay (names_in names)
-command_in (command.Show input) = Show input.now
+-- What is read of files, and what is left before a last line: for contracts of parts alone, no clause of `run` needs it.
+use Rattle.std.specs.Prelude.{◌≡◌, ◌<◌, ◌⊎◌, ◌++◌, ◌∷◌, [], ℕ, List, length, Option, Some, None, Result, Ok, Err, IsSomeAnd}
+use Rattle.octets.specs.Rules.{first_failing}
+use Rattle.desk.specs.World.{Shown}
+use Rattle.capture_io.specs.Capture.{header_rules}
+use Rattle.capture_io.specs.Frames.{Run, capture}
+use Rattle.capture_io.specs.Output.{out_header}
+use Rattle.capture_io.specs.declared.fault.CaptureFault.{CaptureFault}
+use Rattle.lisp_settings.specs.declared.settings.Settings.{Settings}
+use Rattle.playback.specs.Events.{Outcome, records_of}
+use Rattle.playback.specs.Playing.{outcome_of}
+use Rattle.router_model.specs.Journal.{Journal}
+use Rattle.router_model.specs.Plain.{Router, plain, started}
+use Rattle.replay.specs.Answer.{Answer, Leaves, status_of}
+use Rattle.replay.specs.declared.replaying.Counts.{Counts}
 
 -- the octets are the text, or both are longer than settings may be
 abbrev pub ReadsAs : List ℕ → List ℕ → Type 0
 ReadsAs octets text = (octets ≡ text) ⊎ ((16777216 < length octets) × (16777216 < length text))
+
+-- the outcome of a replay
+abbrev pub replay_of : Settings → Run → Outcome (Router Journal)
+replay_of settings run = outcome_of plain (started settings) run
+
+-- the answer to a replay into a file of that name, but for its last line
+abbrev pub unclosed : Settings → List ℕ → Run → Answer
+unclosed settings output run =
+    let outcome = replay_of settings run in
+    record {
+      status = status_of run.fault;
+      said = outcome.lines;
+      made = record { name = output; octets = out_header ++ records_of outcome.packets } ∷ [];
+    }
+
+-- a run was replayed, but for its last line, which has these counts
+pub record HasReplayed (settings : Settings) (output : List ℕ) (run : Run) (counts : Counts)
+    (old : Shown) (new : Option Shown) : Type 0 where
+  pub fault : counts.fault ≡ run.fault
+  pub frames : counts.frames ≡ length run.frames
+  pub written : counts.written ≡ length (replay_of settings run).packets
+  pub entries : counts.entries ≡ length (replay_of settings run).after.memory
+  pub left : IsSomeAnd new (Leaves (unclosed settings output run) old)
+
+-- the same of a file, unless its header has a fault
+abbrev pub HasReplayedFile : Settings → List ℕ → List ℕ → Result Counts CaptureFault → Shown → Option Shown
+    → Type 0
+HasReplayedFile settings output file (Ok counts) old new =
+    (first_failing (header_rules file) ≡ None)
+    × HasReplayed settings output (capture file) counts old new
+HasReplayedFile settings output file (Err fault) old new =
+    (first_failing (header_rules file) ≡ Some fault) × (new ≡ Some old)

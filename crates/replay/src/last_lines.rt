@@ -1,6 +1,7 @@
 // The last lines of runs, and what is said at their end.
-ghost use Rattle.std.specs.Prelude.{◌≡◌, ◌++◌, ◌∷◌, [], codes, IfOk, OnOk, option_map};
-ghost use Rattle.desk.specs.Causes.{HasCause};
+ghost use Rattle.std.specs.Prelude.{◌≡◌, ◌++◌, ◌∷◌, [], codes, IfOk, IsErrOf, OnOk, option_map};
+ghost use Rattle.desk.specs.declared.fault.DeskFault.TheVariants.{Failed};
+ghost use Rattle.desk.specs.Causes.{HasCause, StaysSteady};
 ghost use Rattle.desk.specs.World.{after_say};
 ghost use Rattle.replay.specs.Answer.{closing, status_of};
 ghost use Rattle.replay.specs.Lines.{count_line, end_line, fault_line, fault_text, settings_line, settings_text};
@@ -20,6 +21,8 @@ pub(crate) fn refuse_words<D: Desk>(alloc: Global, desk: &mut D) -> Result<Statu
     ensures told { OnOk result (D.told desk.new
         ≡ option_map (after_say (codes "usage\n")) (D.told desk.old)) }
     ensures cause { HasCause (D.faults desk.old) (D.faults desk.new) result }
+    ensures steady { StaysSteady (D.steady desk.old) (D.steady desk.new)
+        Unit (IsErrOf result Failed) }
 {
     desk.say(alloc, b"usage\n")?;
     Ok(Status::Usage)
@@ -35,6 +38,8 @@ pub(crate) fn refuse_settings<D: Desk>(
     ensures told { OnOk result (D.told desk.new
         ≡ option_map (after_say (settings_line fault.now)) (D.told desk.old)) }
     ensures cause { HasCause (D.faults desk.old) (D.faults desk.new) result }
+    ensures steady { StaysSteady (D.steady desk.old) (D.steady desk.new)
+        Unit (IsErrOf result Failed) }
 {
     let line = settings_line(alloc, fault)?;
     desk.say(alloc, line.as_slice())?;
@@ -52,6 +57,8 @@ pub(crate) fn close<D: Desk>(
     ensures told { OnOk result (D.told desk.new
         ≡ option_map (after_say (closing fault line.now)) (D.told desk.old)) }
     ensures cause { HasCause (D.faults desk.old) (D.faults desk.new) result }
+    ensures steady { StaysSteady (D.steady desk.old) (D.steady desk.new)
+        Unit (IsErrOf result Failed) }
 {
     match fault {
         Some(fault) => refuse_capture(alloc, desk, fault),
@@ -72,6 +79,8 @@ pub(crate) fn refuse_capture<D: Desk>(
     ensures told { OnOk result (D.told desk.new
         ≡ option_map (after_say (fault_line fault)) (D.told desk.old)) }
     ensures cause { HasCause (D.faults desk.old) (D.faults desk.new) result }
+    ensures steady { StaysSteady (D.steady desk.old) (D.steady desk.new)
+        Unit (IsErrOf result Failed) }
 {
     let line = fault_line(alloc, fault)?;
     desk.say(alloc, line.as_slice())?;

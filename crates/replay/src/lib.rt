@@ -11,9 +11,9 @@ mod settings_file;
 mod showing;
 mod status;
 mod taking;
-mod words;
+mod trying;
 
+pub use command_words::{Text, Word, Words, WordsFault, read_words};
 pub use router_log::{Reason, Verdict};
 pub use running::run;
 pub use status::Status;
-pub use words::Word;

@@ -1,7 +1,8 @@
 // The output file, made with its header.
-ghost use Rattle.std.specs.Prelude.{◌≡◌, option_map, None, IfOk, IfSome};
-ghost use Rattle.desk.specs.Causes.{HasCause};
-ghost use Rattle.desk.specs.World.{found_at, after_make, after_write};
+ghost use Rattle.std.specs.Prelude.{◌≡◌, ◌++◌, ◌∷◌, [], option_map, None, IfOk, IfSome, IsErrOf};
+ghost use Rattle.desk.specs.declared.fault.DeskFault.TheVariants.{Failed};
+ghost use Rattle.desk.specs.Causes.{HasCause, StaysSteady};
+ghost use Rattle.desk.specs.World.{found_at, after_make, after_write, to_write};
 ghost use Rattle.capture_io.specs.Output.{out_header};
 
 use capture_io::write_header;
@@ -19,7 +20,12 @@ pub(crate) fn make_output<D: Desk>(
         after_write id.number out_header (after_make id.number name.now w)) (D.told desk.old)) }
     ensures fresh { IfOk result (λ id. IfSome (D.told desk.old) (λ w.
         found_at id.number w.writers ≡ None)) }
+    ensures given { IfOk result (λ id. D.given desk.new ≡ D.given desk.old
+        ++ (id.number, to_write) ∷ []) }
+    ensures given_fresh { IfOk result (λ id. found_at id.number (D.given desk.old) ≡ None) }
     ensures cause { HasCause (D.faults desk.old) (D.faults desk.new) result }
+    ensures steady { StaysSteady (D.steady desk.old) (D.steady desk.new)
+        Unit (IsErrOf result Failed) }
 {
     let header = capture_header(alloc)?;
     let id = desk.make_file(alloc, name)?;

@@ -1,8 +1,9 @@
 // A capture, replayed by the settings.
-ghost use Rattle.std.specs.Prelude.{◌≡◌, ◌≤◌, ◌+◌, ◌*◌, unwrap_or, IfOk, IfSome, IsTrue};
+ghost use Rattle.std.specs.Prelude.{◌≡◌, ◌≤◌, ◌+◌, ◌*◌, unwrap_or, IfOk, IfSome, IsErrOf, IsTrue};
 ghost use Rattle.octets.specs.Rules.{first_failing};
-ghost use Rattle.desk.specs.Causes.{HasCause};
-ghost use Rattle.desk.specs.World.{content, left_of, shown, shown_of};
+ghost use Rattle.desk.specs.declared.fault.DeskFault.TheVariants.{Failed};
+ghost use Rattle.desk.specs.Causes.{HasCause, StaysSteady};
+ghost use Rattle.desk.specs.World.{content, left_of, to_read, shown, shown_of, IsGiven, IsThere};
 ghost use Rattle.capture_io.specs.Capture.{begin, header_rules};
 ghost use Rattle.capture_io.specs.Frames.{read_on};
 ghost use Rattle.capture_io.specs.Reading.{beginning};
@@ -13,13 +14,13 @@ ghost use Rattle.router_model.specs.Parts.{Parts, table};
 ghost use Rattle.router_model.specs.Plain.{Router, after_event};
 ghost use Rattle.replay.specs.Taking.{router_of};
 ghost use Rattle.replay.specs.Answer.{after_header, after_settings, is_end, is_of_form, replayed, Gives};
+ghost use Rattle.replay.specs.Readings.{HasReplayed, HasReplayedFile};
 
 use crate::Status;
 use crate::last_lines::{close, end_line, refuse_capture, refuse_settings};
 use crate::output_file::make_output;
 use crate::settings_file::load_settings;
 use crate::taking::{take_frame, take_second};
-use crate::words::FileNames;
 use capture_io::{CaptureFault, CaptureReader, Frame};
 use desk::{Desk, DeskFault};
 use lisp_settings::Settings;
@@ -27,6 +28,16 @@ use octets::NoMemory;
 use playback::{Machine, Output, Progress, play};
 use router_core::Table;
 use std::alloc::Global;
+
+/// How a replay ended: the capture's fault, if it has one, the frames before that, the packets
+/// written, and the length of the journal.
+#[derive(Clone, Copy)]
+pub struct Counts {
+    pub fault: Option<CaptureFault>,
+    pub frames: u32,
+    pub written: u64,
+    pub entries: u64,
+}
 
 /// A router that is replayed.
 #[derive(Drop)]
@@ -69,21 +80,24 @@ impl<'a> Machine for Replay<'a> {
     }
 }
 
-/// Replays the capture of that name by the settings, into the output.
+/// Replays the capture of that name by the settings in a file, into the output.
 pub(crate) fn replay_capture<D: Desk>(
     alloc: Global,
     desk: &mut D,
-    names: FileNames,
+    settings: &str,
+    input: &str,
+    output: &str,
 ) -> Result<Status, DeskFault>
     ensures answer { IfOk result (λ s. IfSome (D.told desk.old) (λ w.
-        let settings = settings_of (content names.entry.settings.now w.files) in
-        Gives (after_settings names.entry.output.now (content names.entry.input.now w.files)
-        settings) s (shown_of w) (shown (D.told desk.new)))) }
+        Gives (after_settings output.now (content input.now w.files)
+        (settings_of (content settings.now w.files))) s (shown_of w) (shown (D.told desk.new)))) }
     ensures form { IfOk result (λ s. IsTrue (is_of_form s)) }
     ensures cause { HasCause (D.faults desk.old) (D.faults desk.new) result }
+    ensures steady { StaysSteady (D.steady desk.old) (D.steady desk.new)
+        (IsThere settings.now (D.told desk.old) × IsThere input.now (D.told desk.old)) (IsErrOf result Failed) }
 {
-    match load_settings(alloc, desk, names.settings)? {
-        Ok(settings) => replay_by(alloc, desk, &settings, names.input, names.output),
+    match load_settings(alloc, desk, settings)? {
+        Ok(settings) => replay_by(alloc, desk, &settings, input, output),
         Err(fault) => refuse_settings(alloc, desk, &fault),
     }
 }
@@ -102,14 +116,42 @@ fn replay_by<D: Desk>(
         (first_failing (header_rules file))) s (shown_of w) (shown (D.told desk.new)))) }
     ensures end { IfOk result (λ s. IsTrue (is_end s)) }
     ensures cause { HasCause (D.faults desk.old) (D.faults desk.new) result }
+    ensures steady { StaysSteady (D.steady desk.old) (D.steady desk.new)
+        (IsThere input.now (D.told desk.old)) (IsErrOf result Failed) }
+{
+    match replay_file(alloc, desk, settings, input, output)? {
+        Ok(counts) => {
+            let line = end_line(alloc, counts.frames, counts.written, counts.entries)?;
+            close(alloc, desk, counts.fault, line.as_slice())
+        }
+        Err(fault) => refuse_capture(alloc, desk, fault),
+    }
+}
+
+/// Replays the capture of that name into the output, but for the last line; or answers the fault
+/// of its header.
+pub(crate) fn replay_file<D: Desk>(
+    alloc: Global,
+    desk: &mut D,
+    settings: &Settings,
+    input: &str,
+    output: &str,
+) -> Result<Result<Counts, CaptureFault>, DeskFault>
+    requires { IsLawful settings.now }
+    ensures answer { IfOk result (λ counts. IfSome (D.told desk.old) (λ w.
+        HasReplayedFile settings.now output.now (content input.now w.files) counts
+        (shown_of w) (shown (D.told desk.new)))) }
+    ensures cause { HasCause (D.faults desk.old) (D.faults desk.new) result }
+    ensures steady { StaysSteady (D.steady desk.old) (D.steady desk.new)
+        (IsThere input.now (D.told desk.old)) (IsErrOf result Failed) }
 {
     let id = desk.open_file(alloc, input)?;
     match CaptureReader::start(alloc, desk, id) {
-        Ok(reader) => replay_frames(alloc, desk, settings, reader, output),
+        Ok(reader) => Ok(Ok(replay_frames(alloc, desk, settings, reader, output)?)),
         Err(fault) => match fault {
             CaptureFault::Host => Err(DeskFault::Failed),
             CaptureFault::Memory => Err(DeskFault::Memory),
-            own => refuse_capture(alloc, desk, own),
+            own => Ok(Err(own)),
         },
     }
 }
@@ -120,20 +162,25 @@ fn replay_frames<D: Desk>(
     settings: &Settings,
     reader: CaptureReader,
     output: &str,
-) -> Result<Status, DeskFault>
+) -> Result<Counts, DeskFault>
     requires begins { reader ≡ beginning reader.id reader.format }
     requires lawful { IsLawful settings.now }
-    ensures answer { IfOk result (λ s. IfSome (D.told desk.old) (λ w.
-        Gives (replayed settings.now output.now (read_on reader.format begin (left_of reader.id
-        w))) s (shown_of w) (shown (D.told desk.new)))) }
-    ensures end { IfOk result (λ s. IsTrue (is_end s)) }
+    ensures answer { IfOk result (λ counts. IfSome (D.told desk.old) (λ w.
+        HasReplayed settings.now output.now
+        (read_on reader.format begin (left_of reader.id w)) counts
+        (shown_of w) (shown (D.told desk.new)))) }
     ensures cause { HasCause (D.faults desk.old) (D.faults desk.new) result }
+    ensures steady { StaysSteady (D.steady desk.old) (D.steady desk.new)
+        (IsGiven reader.id to_read (D.given desk.old)) (IsErrOf result Failed) }
 {
     let file = make_output(alloc, desk, output)?;
     let table = Table::new(alloc, settings)?;
     let mut router = Replay { settings, table };
     let ending = play(alloc, desk, &mut router, reader, Some(file))?;
-    let entries = router.table.count();
-    let line = end_line(alloc, ending.frames, ending.written, entries)?;
-    close(alloc, desk, ending.fault, line.as_slice())
+    Ok(Counts {
+        fault: ending.fault,
+        frames: ending.frames,
+        written: ending.written,
+        entries: router.table.count(),
+    })
 }

@@ -1,17 +1,19 @@
 // The run: the top call.
-ghost use Rattle.std.specs.Prelude.{◌≡◌, ◌↔◌, ◌⊎◌, None, false, map, string_bytes, IfOk, IfSome, IsSomeAnd};
+ghost use Rattle.std.specs.Prelude.{◌≡◌, ◌↔◌, ◌⊎◌, None, Some, false, map, string_bytes, IfOk, IfSome, IsErrOf, IsSomeAnd, IsTrue};
 ghost use Rattle.octets.specs.Causes.{Rose};
-ghost use Rattle.desk.specs.Causes.{HasCause};
+ghost use Rattle.desk.specs.declared.fault.DeskFault.TheVariants.{Failed};
+ghost use Rattle.desk.specs.Causes.{HasCause, StaysSteady};
 ghost use Rattle.desk.specs.World.{shown, shown_of};
 ghost use Rattle.replay.specs.declared.status.Status.TheVariants.{Done, Usage, Host, Memory};
-ghost use Rattle.replay.specs.Answer.{answer, is_outside, Gives, Leaves};
-ghost use Rattle.replay.specs.Words.{command_of};
+ghost use Rattle.command_words.specs.Words.{words_of, HasFewMappings};
+ghost use Rattle.replay.specs.Answer.{after_words, answer, is_of_form, is_outside, names_read, AreThere, Gives, Leaves};
 
 use crate::last_lines::refuse_words;
 use crate::replaying::replay_capture;
 use crate::showing::show_capture;
-use crate::words::{Command, read_words};
+use crate::trying::try_number;
 use crate::{Status, Word};
+use command_words::{Words, WordsFault, read_words};
 use desk::{Desk, DeskFault};
 use std::alloc::Global;
 
@@ -27,13 +29,22 @@ pub fn run<D: Desk>(alloc: Global, words: &[Word], desk: &mut D) -> Status
 
     // The causes, also where the desk tells nothing.
     ensures usage { is_outside result ≡ false
-        → ((result ≡ Usage) ↔ (command_of (map string_bytes words.now) ≡ None)) }
+        → ((result ≡ Usage) ↔ (words_of (map string_bytes words.now) ≡ None)) }
     ensures host { result ≡ Host → Rose (D.faults desk.old) (D.faults desk.new) }
 
-    // Where words, settings and capture are lawful and no call fails, only memory can be wanting.
+    // A steady desk stays one, and where the files to be read are there it is no cause of `Host`.
+    ensures steady { StaysSteady (D.steady desk.old) (D.steady desk.new)
+        (AreThere (names_read (words_of (map string_bytes words.now))) (D.told desk.old))
+        (result ≡ Host) }
+
+    // Where words, settings and capture are lawful, and no call fails or none can, only memory can
+    // be wanting.
     ensures complete { IfSome (D.told desk.old) (λ w.
         (answer (map string_bytes words.now) w.files).status ≡ Done
-        → ¬ Rose (D.faults desk.old) (D.faults desk.new) → (result ≡ Done) ⊎ (result ≡ Memory)) }
+        → ((¬ Rose (D.faults desk.old) (D.faults desk.new))
+        ⊎ (IsTrue (D.steady desk.old)
+        × AreThere (names_read (words_of (map string_bytes words.now))) (D.told desk.old)))
+        → (result ≡ Done) ⊎ (result ≡ Memory)) }
 {
     match answer_words(alloc, words, desk) {
         Ok(status) => status,
@@ -48,12 +59,42 @@ fn answer_words<D: Desk>(alloc: Global, words: &[Word], desk: &mut D) -> Result<
         (shown (D.told desk.new)))) }
     ensures inside { IfOk result (λ s. is_outside s ≡ false) }
     ensures usage { IfOk result (λ s.
-        (s ≡ Usage) ↔ (command_of (map string_bytes words.now) ≡ None)) }
+        (s ≡ Usage) ↔ (words_of (map string_bytes words.now) ≡ None)) }
     ensures cause { HasCause (D.faults desk.old) (D.faults desk.new) result }
+    ensures steady { StaysSteady (D.steady desk.old) (D.steady desk.new)
+        (AreThere (names_read (words_of (map string_bytes words.now))) (D.told desk.old)) (IsErrOf result Failed) }
 {
-    match read_words(words) {
-        Some(Command::Replay(names)) => replay_capture(alloc, desk, names),
-        Some(Command::Show(input)) => show_capture(alloc, desk, input),
-        None => refuse_words(alloc, desk),
+    match read_words(alloc, words) {
+        Ok(words) => do_words(alloc, desk, &words),
+        Err(WordsFault::Usage) => refuse_words(alloc, desk),
+        Err(WordsFault::Memory) => Err(DeskFault::Memory),
+    }
+}
+
+// Does what the words say.
+fn do_words<D: Desk>(alloc: Global, desk: &mut D, words: &Words) -> Result<Status, DeskFault>
+    requires { HasFewMappings words.now }
+    ensures answer { IfOk result (λ s. IfSome (D.told desk.old) (λ w.
+        Gives (after_words w.files (Some words.now)) s (shown_of w) (shown (D.told desk.new)))) }
+    ensures form { IfOk result (λ s. IsTrue (is_of_form s)) }
+    ensures cause { HasCause (D.faults desk.old) (D.faults desk.new) result }
+    ensures steady { StaysSteady (D.steady desk.old) (D.steady desk.new)
+        (AreThere (names_read (Some words.now)) (D.told desk.old)) (IsErrOf result Failed) }
+{
+    match words {
+        Words::Replay {
+            settings,
+            input,
+            output,
+            ..
+        } => replay_capture(
+            alloc,
+            desk,
+            settings.as_str(),
+            input.as_str(),
+            output.as_str(),
+        ),
+        Words::Show { input } => show_capture(alloc, desk, input.as_str()),
+        Words::Trial { n } => try_number(alloc, desk, *n),
     }
 }

@@ -1,7 +1,8 @@
 // The settings file, read piece by piece.
-ghost use Rattle.std.specs.Prelude.{◌≡◌, length, IfOk, IfSome};
-ghost use Rattle.desk.specs.Causes.{HasCause};
-ghost use Rattle.desk.specs.World.{content, left_of, shown};
+ghost use Rattle.std.specs.Prelude.{◌≡◌, length, IfOk, IfSome, IsErrOf};
+ghost use Rattle.desk.specs.declared.fault.DeskFault.TheVariants.{Failed};
+ghost use Rattle.desk.specs.Causes.{HasCause, StaysSteady};
+ghost use Rattle.desk.specs.World.{content, left_of, to_read, shown, IsGiven, IsThere};
 ghost use Rattle.lisp_settings.specs.Lawful.{IsLawful};
 ghost use Rattle.lisp_settings.specs.Settings.{settings_of};
 ghost use Rattle.replay.specs.Readings.{ReadsAs};
@@ -28,6 +29,8 @@ pub(crate) fn load_settings<D: Desk>(
     ensures lawful { IfOk result (λ settings. IfOk settings IsLawful) }
     ensures shown { shown (D.told desk.new) ≡ shown (D.told desk.old) }
     ensures cause { HasCause (D.faults desk.old) (D.faults desk.new) result }
+    ensures steady { StaysSteady (D.steady desk.old) (D.steady desk.new)
+        (IsThere name.now (D.told desk.old)) (IsErrOf result Failed) }
 {
     let text = read_text(alloc, desk, name)?;
     match read_settings(alloc, text.as_slice()) {
@@ -45,6 +48,8 @@ fn read_text<D: Desk>(alloc: Global, desk: &mut D, name: &str) -> Result<Octets,
         ReadsAs text (content name.now w.files))) }
     ensures shown { shown (D.told desk.new) ≡ shown (D.told desk.old) }
     ensures cause { HasCause (D.faults desk.old) (D.faults desk.new) result }
+    ensures steady { StaysSteady (D.steady desk.old) (D.steady desk.new)
+        (IsThere name.now (D.told desk.old)) (IsErrOf result Failed) }
 {
     let id = desk.open_file(alloc, name)?;
     read_pieces(alloc, desk, id)
@@ -55,6 +60,8 @@ fn read_pieces<D: Desk>(alloc: Global, desk: &mut D, id: FileId) -> Result<Octet
         ReadsAs text (left_of id.number w))) }
     ensures shown { shown (D.told desk.new) ≡ shown (D.told desk.old) }
     ensures cause { HasCause (D.faults desk.old) (D.faults desk.new) result }
+    ensures steady { StaysSteady (D.steady desk.old) (D.steady desk.new)
+        (IsGiven id.number to_read (D.given desk.old)) (IsErrOf result Failed) }
 {
     let mut piece = zeroed(alloc, PIECE)?;
     let mut text = Octets::new(alloc);

@@ -1,8 +1,9 @@
 // The messages of a capture, shown.
-ghost use Rattle.std.specs.Prelude.{◌≡◌, IfOk, IfSome, IsTrue};
+ghost use Rattle.std.specs.Prelude.{◌≡◌, IfOk, IfSome, IsErrOf, IsTrue};
 ghost use Rattle.octets.specs.Rules.{first_failing};
-ghost use Rattle.desk.specs.Causes.{HasCause};
-ghost use Rattle.desk.specs.World.{content, left_of, shown, shown_of};
+ghost use Rattle.desk.specs.declared.fault.DeskFault.TheVariants.{Failed};
+ghost use Rattle.desk.specs.Causes.{HasCause, StaysSteady};
+ghost use Rattle.desk.specs.World.{content, left_of, to_read, shown, shown_of, IsGiven, IsThere};
 ghost use Rattle.capture_io.specs.Capture.{begin, header_rules};
 ghost use Rattle.capture_io.specs.Frames.{read_on};
 ghost use Rattle.capture_io.specs.Reading.{beginning};
@@ -64,6 +65,8 @@ pub(crate) fn show_capture<D: Desk>(
         (first_failing (header_rules file))) s (shown_of w) (shown (D.told desk.new)))) }
     ensures end { IfOk result (λ s. IsTrue (is_end s)) }
     ensures cause { HasCause (D.faults desk.old) (D.faults desk.new) result }
+    ensures steady { StaysSteady (D.steady desk.old) (D.steady desk.new)
+        (IsThere input.now (D.told desk.old)) (IsErrOf result Failed) }
 {
     let id = desk.open_file(alloc, input)?;
     match CaptureReader::start(alloc, desk, id) {
@@ -87,6 +90,8 @@ fn show_frames<D: Desk>(
         (shown (D.told desk.new)))) }
     ensures end { IfOk result (λ s. IsTrue (is_end s)) }
     ensures cause { HasCause (D.faults desk.old) (D.faults desk.new) result }
+    ensures steady { StaysSteady (D.steady desk.old) (D.steady desk.new)
+        (IsGiven reader.id to_read (D.given desk.old)) (IsErrOf result Failed) }
 {
     let ending = play(alloc, desk, &mut Show {}, reader, None)?;
     let line = count_line(alloc, ending.frames)?;

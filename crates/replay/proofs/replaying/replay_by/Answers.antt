@@ -1,22 +1,20 @@
-use Rattle.std.proofs.Common.{refl}
-use Rattle.std.proofs.lemmas.Option.{IfSome_then}
-use Rattle.std.proofs.lemmas.Result.{IfOk-weaker}
-use Rattle.replay.specs.Answer.{replayed}
-use Rattle.replay.proofs.AnswerCases.{ok_both}
-use Rattle.replay.proofs.CaptureAnswers.{capture_answered, capture_refused, own_fault}
+use Rattle.std.proofs.Common.{◌∙◌, List, ℕ, ap}
+use Rattle.std.specs.Option.{option_map}
+use Rattle.desk.specs.World.{after_say}
+use Rattle.replay.specs.Answer.{closing}
+use Rattle.replay.proofs.AnswerCases.{file_closed, file_refused, ok_both}
 use Rattle.replay.proofs.replaying.replay_by.Goals as goal
 
-pub returns-in-Ok-clause-answer : goal.returns-in-Ok-clause-answer
-returns-in-Ok-clause-answer g c =
-    let is = IfSome_then (g.D.Desk.told c.open_file.new.self) c.in-Ok.ensures.answer (λ w h. h refl) in
-    IfOk-weaker c.replay_frames.result _ _ (λ s gives.
-    capture_answered (replayed c.args.settings.now c.args.output.now) c.in_ok-id.id.number c.args.input.now (g.D.Desk.told c.args.desk.now) (g.D.Desk.told c.open_file.new.self) (g.D.Desk.told c.start.new.desk) (g.D.Desk.told c.replay_frames.new.desk)
-    c.in-Ok.reader s c.in_ok-id.ensures.fresh.reader c.in_ok-id.ensures.told is c.in-Ok.ensures.told c.in-Ok.ensures.fresh gives) c.replay_frames.ensures.answer
+pub returns-in_ok-line-in-Ok-clause-answer : goal.returns-in_ok-line-in-Ok-clause-answer
+returns-in_ok-line-in-Ok-clause-answer g c =
+    let counts = c.in-Ok.counts in
+    let played = g.D.Desk.told c.replay_file.new.desk in
+    ok_both c.close.result c.close.ensures.status c.close.ensures.told (λ s is said.
+    let line = said ∙ ap (λ (l : List ℕ). option_map (after_say (closing counts.fault l)) played) (c.as_slice.ensures ∙ c.in_ok-line-in-Ok.ensures) in
+    file_closed c.args.settings.now c.args.output.now c.args.input.now counts (g.D.Desk.told c.args.desk.now) played (g.D.Desk.told c.close.new.desk) s (rw c.in-Ok.is at c.in_ok-counts.ensures.answer) line is)
 
-pub returns-in_default-clause-answer : goal.returns-in_default-clause-answer
-returns-in_default-clause-answer g c =
-    let own = own_fault c.in-Err.fault c.in_default.not-Host c.in_default.not-Memory in
-    let is = IfSome_then (g.D.Desk.told c.open_file.new.self) c.in-Err.ensures.answer (λ w h. h own) in
-    ok_both c.refuse_capture.result c.refuse_capture.ensures.status c.refuse_capture.ensures.told (λ s status said.
-    capture_refused (replayed c.args.settings.now c.args.output.now) c.in_ok-id.id.number c.args.input.now (g.D.Desk.told c.args.desk.now) (g.D.Desk.told c.open_file.new.self) (g.D.Desk.told c.start.new.desk) (g.D.Desk.told c.refuse_capture.new.desk)
-    c.in-Err.fault s c.in_ok-id.ensures.fresh.reader c.in_ok-id.ensures.told is c.in-Err.ensures.shown said status)
+pub returns-in-Err-clause-answer : goal.returns-in-Err-clause-answer
+returns-in-Err-clause-answer g c =
+    ok_both c.refuse_capture.result c.refuse_capture.ensures.status c.refuse_capture.ensures.told (λ s is said.
+    file_refused c.args.settings.now c.args.output.now c.args.input.now c.in-Err.fault (g.D.Desk.told c.args.desk.now) (g.D.Desk.told c.replay_file.new.desk) (g.D.Desk.told c.refuse_capture.new.desk) s
+    (rw c.in-Err.is at c.in_ok-counts.ensures.answer) said is)

@@ -14,7 +14,6 @@ use Rattle.replay.proofs.replaying.replay_capture.Goals as goal
 
 pub returns-in-Err-clause-answer : goal.returns-in-Err-clause-answer
 returns-in-Err-clause-answer g c =
-    let n = c.args.names in
     let old = g.D.Desk.told c.args.desk.now in
     let loaded = g.D.Desk.told c.load_settings.new.desk in
     let new = g.D.Desk.told c.refuse_settings.new.desk in
@@ -22,17 +21,16 @@ returns-in-Err-clause-answer g c =
     ok_both c.refuse_settings.result c.refuse_settings.ensures.status c.refuse_settings.ensures.told (λ s is said.
     let gives = shown_stays (λ (o : Shown). Gives (told_off status.Settings refused) status.Settings o (shown new)) old loaded c.in_ok-settings.ensures.shown (said_line status.Settings refused loaded new said) in
     IfSome_both old c.in_ok-settings.ensures.value gives (λ w value given.
-    let answered = after_settings n.output.now (content n.input.now w.files) in
-    subst (λ (x : Status). Gives (answered (settings_of (content n.settings.now w.files))) x (shown_of w) (shown new)) (sym is)
-    (gives_as (answered (Err c.in-Err.fault)) (answered (settings_of (content n.settings.now w.files))) status.Settings (shown_of w) (shown new) (ap answered (sym c.in-Err.is ∙ value)) given)))
+    let answered = after_settings c.args.output.now (content c.args.input.now w.files) in
+    subst (λ (x : Status). Gives (answered (settings_of (content c.args.settings.now w.files))) x (shown_of w) (shown new)) (sym is)
+    (gives_as (answered (Err c.in-Err.fault)) (answered (settings_of (content c.args.settings.now w.files))) status.Settings (shown_of w) (shown new) (ap answered (sym c.in-Err.is ∙ value)) given)))
 
 pub returns-in-Ok-clause-answer : goal.returns-in-Ok-clause-answer
 returns-in-Ok-clause-answer g c =
-    let n = c.args.names in
     let old = g.D.Desk.told c.args.desk.now in
     let new = g.D.Desk.told c.replay_by.new.desk in
     IfOk-weaker c.replay_by.result _ _ (λ s answered.
-    let gives = shown_stays (λ (o : Shown). Gives (after_header (replayed c.in-Ok.settings n.output.now) (content n.input.now o.files) (first_failing (header_rules (content n.input.now o.files)))) s o (shown new)) old (g.D.Desk.told c.load_settings.new.desk) c.in_ok-settings.ensures.shown answered in
+    let gives = shown_stays (λ (o : Shown). Gives (after_header (replayed c.in-Ok.settings c.args.output.now) (content c.args.input.now o.files) (first_failing (header_rules (content c.args.input.now o.files)))) s o (shown new)) old (g.D.Desk.told c.load_settings.new.desk) c.in_ok-settings.ensures.shown answered in
     IfSome_both old c.in_ok-settings.ensures.value gives (λ w value given.
-    let after = after_settings n.output.now (content n.input.now w.files) in
-    gives_as (after (Ok c.in-Ok.settings)) (after (settings_of (content n.settings.now w.files))) s (shown_of w) (shown new) (ap after (sym c.in-Ok.is ∙ value)) given)) c.replay_by.ensures.answer
+    let after = after_settings c.args.output.now (content c.args.input.now w.files) in
+    gives_as (after (Ok c.in-Ok.settings)) (after (settings_of (content c.args.settings.now w.files))) s (shown_of w) (shown new) (ap after (sym c.in-Ok.is ∙ value)) given)) c.replay_by.ensures.answer

@@ -1,9 +1,8 @@
-use Rattle.std.proofs.Common.{◌∙◌, List, ℕ, ap}
-use Rattle.std.specs.Option.{option_map}
-use Rattle.desk.specs.World.{after_say}
-use Rattle.replay.specs.Answer.{closing}
-use Rattle.replay.proofs.AnswerCases.{ok_both, table_answered}
+use Rattle.std.proofs.Common.{rules, ◌∷◌, []}
+use Rattle.desk.specs.World.{to_read, to_write}
+use Rattle.replay.proofs.AnswerCases.{table_replayed}
 use Rattle.replay.proofs.ReplayLemmas.{ready-first}
+use Rattle.replay.proofs.SteadyLemmas.{given-kept, given-new}
 use Rattle.replay.proofs.replaying.replay_frames.Goals as goal
 
 pub play-requires-clause-ready : goal.play-requires-clause-ready
@@ -11,11 +10,13 @@ play-requires-clause-ready g c = ready-first c.args.settings.now c.in_ok-table.t
 
 pub returns-clause-answer : goal.returns-clause-answer
 returns-clause-answer g c =
-    let ending = c.in_ok-ending.ending in
-    let made = g.D.Desk.told c.make_output.new.desk in
-    let played = g.D.Desk.told c.play.new.desk in
-    ok_both c.close.result c.close.ensures.status c.close.ensures.told (λ s is said.
-    let line = said ∙ ap (λ (l : List ℕ). option_map (after_say (closing ending.fault l)) played) (c.as_slice.ensures ∙ c.in_ok-line.ensures) in
-    table_answered c.args.settings.now c.in_ok-file.file.number c.args.reader.id c.args.reader.format c.args.output.now (g.D.Desk.told c.args.desk.now) made played (g.D.Desk.told c.close.new.desk)
-    ending c.count-entries.result s c.in_ok-table.table.parts c.play.new.machine.table.parts c.play.new.machine.settings.now c.requires.lawful c.in_ok-table.ensures.parts c.in_ok-file.ensures.fresh c.in_ok-file.ensures.told
-    c.in_ok-ending.ensures.read c.in_ok-ending.ensures.ends c.in_ok-ending.ensures.shown c.in_ok-ending.ensures.state c.count-entries.ensures line is)
+    table_replayed c.args.settings.now c.in_ok-file.file.number c.args.reader.id c.args.reader.format c.args.output.now (g.D.Desk.told c.args.desk.now) (g.D.Desk.told c.make_output.new.desk) (g.D.Desk.told c.play.new.desk)
+    c.in_ok-ending.ending c.count.result c.in_ok-table.table.parts c.play.new.machine.table.parts c.play.new.machine.settings.now c.requires.lawful c.in_ok-table.ensures.parts c.in_ok-file.ensures.fresh c.in_ok-file.ensures.told
+    c.in_ok-ending.ensures.read c.in_ok-ending.ensures.ends c.in_ok-ending.ensures.shown c.in_ok-ending.ensures.state c.count.ensures
+
+pub returns-in_err-ending-clause-steady : goal.returns-in_err-ending-clause-steady
+returns-in_err-ending-clause-steady g c =
+    let old = g.D.Desk.given c.args.desk.now in
+    let made = c.in_ok-file.ensures in
+    let file = given-new c.in_ok-file.file.number to_write old (g.D.Desk.given c.make_output.new.desk) made.given_fresh made.given in
+    search (rules, file, made.given, given-kept c.args.reader.id to_read old ((c.in_ok-file.file.number, to_write) ∷ []))

@@ -14,5 +14,7 @@ loop-text-preserved g c =
       came = subst (λ (text : List ℕ). Came c.args.id.number text (g.D.Desk.told c.args.desk.now) (g.D.Desk.told c.read_full.new.desk)) (sym front)
           (came-more c.args.id.number c.in_ok-n.n c.loop-text.text c.read_full.new.buf (g.D.Desk.told c.args.desk.now) (g.D.Desk.told c.loop-text.desk) (g.D.Desk.told c.read_full.new.desk) inv.came c.in_ok-n.ensures.octets c.in_ok-n.ensures.told);
       shown = c.in_ok-n.ensures.shown ∙ inv.shown;
+      given = c.in_ok-n.ensures.given ∙ inv.given;
+      steady = λ steady. c.in_ok-n.ensures.steady.stays (inv.steady steady);
       faults = omega (arith, inv.faults, c.in_ok-n.ensures.cause.later);
     }

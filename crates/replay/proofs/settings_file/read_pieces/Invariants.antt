@@ -1,4 +1,4 @@
-use Rattle.std.proofs.Common.{◌≡◌, ◌≤◌, ◌-◌, length}
+use Rattle.std.proofs.Common.{◌≡◌, ◌≤◌, ◌-◌, length, IsTrue}
 use Rattle.desk.specs.World.{shown}
 use Rattle.replay.proofs.PieceLemmas.{Came}
 use Rattle.replay.proofs.settings_file.read_pieces.Given as goal
@@ -9,6 +9,8 @@ invariant-loop-text g l = record {
   short : length l.text ≤ 16777216;
   came : Came l.id.number l.text (g.D.Desk.told l.fn.desk) (g.D.Desk.told l.desk);
   shown : shown (g.D.Desk.told l.desk) ≡ shown (g.D.Desk.told l.fn.desk);
+  given : g.D.Desk.given l.desk ≡ g.D.Desk.given l.fn.desk;
+  steady : IsTrue (g.D.Desk.steady l.fn.desk) → IsTrue (g.D.Desk.steady l.desk);
   faults : g.D.Desk.faults l.fn.desk ≤ g.D.Desk.faults l.desk;
 }
 

@@ -1,0 +1,119 @@
+// An input that is made from a number, replayed.
+ghost use Rattle.std.specs.Prelude.{◌≡◌, ◌≤◌, ◌++◌, ◌∷◌, [], None, OnOk, IfOk, IsErrOf, codes, option_map};
+ghost use Rattle.desk.specs.declared.fault.DeskFault.TheVariants.{Failed};
+ghost use Rattle.desk.specs.Causes.{HasCause, StaysSteady};
+ghost use Rattle.desk.specs.World.{after_say};
+ghost use Rattle.replay.specs.declared.status.Status.TheVariants.{Done};
+ghost use Rattle.octets.specs.Rules.{first_failing};
+ghost use Rattle.desk.specs.Shelf.{untouched};
+ghost use Rattle.capture_io.specs.Capture.{header_rules};
+ghost use Rattle.capture_io.specs.Frames.{capture};
+ghost use Rattle.playback.specs.Written.{frames_of};
+ghost use Rattle.trial_input.specs.Trial.{trial_packets};
+ghost use Rattle.replay.specs.Trial.{hash_text, trial_file, trial_line, trial_text};
+ghost use Rattle.trial_input.specs.declared.settings.TheConstants.{MOST_MAPPINGS};
+
+use crate::Status;
+use crate::replaying::replay_file;
+use desk::{Desk, DeskFault, Files, NamedFile, SteadyDesk};
+use lisp_settings::Settings;
+use locator_choice::octets_hash;
+use octets::{NoMemory, Octets};
+use router_log::{push_named, push_octets};
+use std::alloc::Global;
+use trial_input::{trial_capture, trial_settings};
+
+// The names of the files at the desk of a trial.
+const INPUT: &str = "in";
+
+const OUTPUT: &str = "out";
+
+/// Replays the input that the number makes, over a desk of its own, and says its line.
+pub(crate) fn try_number<D: Desk>(alloc: Global, desk: &mut D, n: u32) -> Result<Status, DeskFault>
+    requires { n ≤ MOST_MAPPINGS }
+    ensures status { IfOk result (λ s. s ≡ Done) }
+    ensures told { OnOk result (D.told desk.new
+        ≡ option_map (after_say (trial_text n)) (D.told desk.old)) }
+    ensures cause { HasCause (D.faults desk.old) (D.faults desk.new) result }
+    ensures steady { StaysSteady (D.steady desk.old) (D.steady desk.new)
+        Unit (IsErrOf result Failed) }
+{
+    let line = replay_trial(alloc, n)?;
+    desk.say(alloc, line.as_slice())?;
+    Ok(Status::Done)
+}
+
+// The line of the input that the number makes.
+fn replay_trial(alloc: Global, n: u32) -> Result<Octets, NoMemory>
+    requires { n ≤ MOST_MAPPINGS }
+    ensures { IfOk result (λ line. line ≡ trial_text n) }
+{
+    let settings = trial_settings(alloc, n)?;
+    let mut desk = trial_desk(alloc, n)?;
+    match replay_file(alloc, &mut desk, &settings, INPUT, OUTPUT) {
+        Ok(Ok(counts)) => {
+            let Some(output) = desk.file(OUTPUT) else {
+                unreachable!()
+            };
+            trial_line(
+                alloc,
+                n,
+                counts.frames,
+                counts.written,
+                counts.entries,
+                output,
+            )
+        }
+        Ok(Err(_)) => unreachable!(),
+        Err(fault) => match fault {
+            DeskFault::Memory => Err(NoMemory),
+            DeskFault::Failed => unreachable!(),
+        },
+    }
+}
+
+// A desk that has the capture of a trial.
+fn trial_desk(alloc: Global, n: u32) -> Result<SteadyDesk, NoMemory>
+    requires { n ≤ MOST_MAPPINGS }
+    ensures desk { IfOk result (λ desk. desk
+        ≡ untouched (record { name = codes "in"; octets = trial_file n } ∷ [])) }
+    ensures read { IfOk result (λ _. capture (trial_file n)
+        ≡ record { frames = frames_of (trial_packets n); fault = None }) }
+    ensures header { IfOk result (λ _. first_failing (header_rules (trial_file n)) ≡ None) }
+{
+    let mut files = Files::new(alloc);
+    files.push(NamedFile {
+        name: Octets::copied(alloc, INPUT.as_bytes())?,
+        octets: trial_capture(alloc, n)?,
+    })?;
+    Ok(SteadyDesk::new(alloc, files))
+}
+
+// The line of a trial: its counts, and the hash of its output.
+fn trial_line(
+    alloc: Global,
+    n: u32,
+    frames: u32,
+    written: u64,
+    entries: u64,
+    output: &[u8],
+) -> Result<Octets, NoMemory>
+    ensures { IfOk result (λ line. line ≡ trial_line n frames written entries output.now) }
+{
+    let mut line = Octets::new(alloc);
+    push_named(b"trial ", u64::from(n), &mut line)?;
+    push_named(b" frames=", u64::from(frames), &mut line)?;
+    push_named(b" written=", written, &mut line)?;
+    push_named(b" entries=", entries, &mut line)?;
+    line.append(b" hash=")?;
+    push_hash(output, &mut line)?;
+    line.push(b'\n')?;
+    Ok(line)
+}
+
+fn push_hash(file: &[u8], out: &mut Octets) -> Result<(), NoMemory>
+    ensures { OnOk result (out.new ≡ out.old ++ hash_text file.now) }
+{
+    let hash = octets_hash(file).to_be_bytes();
+    push_octets(&hash, out)
+}
