@@ -1,6 +1,6 @@
 // Runs over a desk in memory, and what they end with.
 use crate::packets::{Row, changed, one_frame};
-use desk::{Calls, Files, MemoryDesk, NamedFile};
+use desk::{Calls, Desk, Files, MemoryDesk, NamedFile};
 use octets::Octets;
 use replay::{Status, Word, run};
 use std::alloc::Global;
@@ -45,6 +45,15 @@ fn named(alloc: Global, name: &str, octets: Octets) -> Result<NamedFile, Fail> {
     })
 }
 
+/// Files by name, and what they hold.
+pub fn files_of(alloc: Global, rows: &[(&str, &[u8])]) -> Result<Files, Fail> {
+    let mut files = Files::new(alloc);
+    for (name, octets) in rows {
+        files.push(named(alloc, name, Octets::copied(alloc, octets)?)?)?;
+    }
+    Ok(files)
+}
+
 /// A desk with a settings file and a capture, whose calls of these numbers fail.
 pub fn desk_with(
     alloc: Global,
@@ -60,7 +69,7 @@ pub fn desk_with(
 }
 
 /// Runs the words over the desk.
-pub fn run_words(alloc: Global, words: &[&str], desk: &mut MemoryDesk) -> Result<Status, Fail> {
+pub fn run_words<D: Desk>(alloc: Global, words: &[&str], desk: &mut D) -> Result<Status, Fail> {
     let mut owned: Vec<Word> = Vec::new(alloc);
     for word in words {
         owned.push(String::from_str(alloc, word)?)?;
@@ -86,9 +95,14 @@ pub fn shown(alloc: Global, capture: Octets) -> Result<(Status, MemoryDesk), Fai
     Ok((status, desk))
 }
 
+/// A report as text.
+pub fn text(report: &[u8]) -> Result<&str, Fail> {
+    Ok(str::from_utf8(report)?)
+}
+
 /// The report.
 pub fn said(desk: &MemoryDesk) -> Result<&str, Fail> {
-    Ok(str::from_utf8(desk.said())?)
+    text(desk.said())
 }
 
 /// The report of one frame at 1,700,000,000 s, for which so many packets are sent.

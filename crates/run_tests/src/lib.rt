@@ -26,8 +26,14 @@ mod site;
 #[cfg(test)]
 mod status_bits;
 #[cfg(test)]
+mod steady_desks;
+#[cfg(test)]
+mod trials;
+#[cfg(test)]
 mod tunnels;
 #[cfg(test)]
 mod versions;
 #[cfg(test)]
 mod whole_runs;
+#[cfg(test)]
+mod words;

@@ -105,16 +105,6 @@ fn a_failed_call_says_nothing_more(rt: HostRuntime) -> Result<(), Fail> {
 }
 
 #[test]
-fn no_words_are_of_no_form(rt: HostRuntime) -> Result<(), Fail> {
-    let alloc = rt.alloc();
-    let mut desk = desk_with(alloc, SITE, Octets::copied(alloc, &RAW)?, Calls::new(alloc))?;
-    let status = run_words(alloc, &[], &mut desk)?;
-    assert_eq!(rt; said(&desk)?, "usage\n");
-    assert_eq!(rt; status, Status::Usage);
-    Ok(())
-}
-
-#[test]
 fn a_capture_of_another_format_makes_no_output(rt: HostRuntime) -> Result<(), Fail> {
     let alloc = rt.alloc();
     let capture = Octets::copied(alloc, &[0x0a, 0x0d, 0x0d, 0x0a])?;

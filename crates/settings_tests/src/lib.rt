@@ -8,6 +8,10 @@ mod faults;
 #[cfg(test)]
 mod limits;
 #[cfg(test)]
+mod sameness;
+#[cfg(test)]
 mod texts;
 #[cfg(test)]
 mod values;
+#[cfg(test)]
+mod written;

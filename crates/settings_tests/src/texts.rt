@@ -6,6 +6,23 @@ use std::test::Fail;
 /// One own locator, which each settings file has.
 pub const LOCATOR: &str = "[[locator]]\naddress = '192.0.2.1'\n";
 
+/// A site with one EID prefix, one mapping and one locator on each side.
+pub const SITE: &str = r#"
+[[locator]]
+address = "192.0.2.1"
+[[attachment]]
+vlan = 0
+iid = 0
+[[database]]
+iid = 0
+prefix = "10.1.0.0/16"
+[[mapping]]
+iid = 0
+prefix = "10.2.0.0/16"
+[[mapping.locator]]
+address = "198.51.100.7"
+"#;
+
 /// The settings of a text that has no fault.
 pub fn read(alloc: Global, text: &str) -> Result<Settings, Fail> {
     let settings = read_settings(alloc, text.as_bytes())?;

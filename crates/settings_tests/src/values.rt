@@ -1,28 +1,11 @@
 // Settings as their format has them.
-use crate::texts::{LOCATOR, read};
+use crate::texts::{LOCATOR, SITE, read};
 use lisp_settings::{Addr, Locator, OwnLocator, home, nonce_at};
 use std::test::Fail;
 
 #[test]
 fn settings_have_their_values_and_defaults(rt: HostRuntime) -> Result<(), Fail> {
-    let settings = read(
-        rt.alloc(),
-        r#"
-[[locator]]
-address = "192.0.2.1"
-[[attachment]]
-vlan = 0
-iid = 0
-[[database]]
-iid = 0
-prefix = "10.1.0.0/16"
-[[mapping]]
-iid = 0
-prefix = "10.2.0.0/16"
-[[mapping.locator]]
-address = "198.51.100.7"
-"#,
-    )?;
+    let settings = read(rt.alloc(), SITE)?;
     assert_eq!(rt; settings.seed, [0; 32]);
     assert_eq!(rt; settings.nonces.len(), 0);
     assert_eq!(rt; settings.resolver, None);

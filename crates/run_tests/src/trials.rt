@@ -1,0 +1,108 @@
+// Trials: an input that a number makes, and the line that is said of it.
+use desk::{Calls, Files, MemoryDesk, SteadyDesk};
+use octets::Octets;
+use replay::Status;
+use run_rows::packets::{RAW, changed, push_record};
+use run_rows::runs::{REPLAY, files_of, run_words, said, text};
+use std::test::Fail;
+
+/// The settings of a trial of three mappings.
+const THREE: &str = r#"
+[[locator]]
+address = "198.51.100.1"
+[[attachment]]
+vlan = 0
+iid = 0
+[[database]]
+iid = 0
+prefix = "192.168.0.0/16"
+[[mapping]]
+iid = 0
+prefix = "20.0.0.0/24"
+locator = [{address = "203.0.113.1", priority = 1, weight = 1}]
+[[mapping]]
+iid = 0
+prefix = "20.0.1.0/24"
+locator = [{address = "203.0.113.2", priority = 1, weight = 1}]
+[[mapping]]
+iid = 0
+prefix = "20.0.2.0/24"
+locator = [{address = "203.0.113.3", priority = 1, weight = 1}]
+"#;
+
+/// UDP 1000 to 2000 from 192.168.0.1 to 20.0.0.1, TTL 64.
+const FIRST: [u8; 28] = [
+    0x45, 0x00, 0x00, 0x1c, 0x00, 0x00, 0x00, 0x00, 0x40, 0x11, 0xa6, 0x27, 0xc0, 0xa8, 0x00, 0x01,
+    0x14, 0x00, 0x00, 0x01, 0x03, 0xe8, 0x07, 0xd0, 0x00, 0x08, 0x00, 0x00,
+];
+
+// FNV-1a of 32 bits.
+fn hash_of(octets: &[u8]) -> u32 {
+    let mut hash = 0x811c_9dc5u32;
+    for octet in octets {
+        hash = (hash ^ u32::from(*octet)).wrapping_mul(0x0100_0193);
+    }
+    hash
+}
+
+#[test]
+fn a_trial_says_one_line_and_makes_no_file(rt: HostRuntime) -> Result<(), Fail> {
+    let alloc = rt.alloc();
+    for (number, line) in [
+        ("1", "trial 1 frames=2 written=1 entries=1 hash=f5e3f57a\n"),
+        ("3", "trial 3 frames=4 written=3 entries=3 hash=8e6dbc18\n"),
+        (
+            "254",
+            "trial 254 frames=255 written=254 entries=254 hash=98a3e980\n",
+        ),
+        (
+            "255",
+            "trial 255 frames=256 written=255 entries=255 hash=8c1f535f\n",
+        ),
+        (
+            "2000",
+            "trial 2000 frames=2001 written=2000 entries=2000 hash=00cf778b\n",
+        ),
+    ] {
+        let mut desk = MemoryDesk::new(alloc, Files::new(alloc), Calls::new(alloc));
+        let status = run_words(alloc, &["trial", number], &mut desk)?;
+        assert_eq!(rt; said(&desk)?, line);
+        assert_eq!(rt; status, Status::Done);
+        assert_eq!(rt; desk.file("in"), None);
+        assert_eq!(rt; desk.file("out"), None);
+    }
+    Ok(())
+}
+
+#[test]
+fn the_hash_of_a_trial_is_that_of_the_output_of_its_replay(rt: HostRuntime) -> Result<(), Fail> {
+    let alloc = rt.alloc();
+    // Frame j of three goes to mapping 7 j modulo 3, so each to its own; the last goes elsewhere.
+    let rows: [(u32, &[(usize, u8)]); 4] = [
+        (0, &[]),
+        (1, &[(10, 0xa5), (18, 1)]),
+        (2, &[(10, 0xa4), (18, 2)]),
+        (3, &[(10, 0xa5), (16, 0x15)]),
+    ];
+    let mut capture = Octets::copied(alloc, &RAW)?;
+    for (microsecond, edits) in rows {
+        let frame = changed(alloc, &FIRST, 28, edits)?;
+        push_record(1_700_000_000, microsecond, &frame, &mut capture)?;
+    }
+    let files = files_of(
+        alloc,
+        &[("settings", THREE.as_bytes()), ("in", capture.as_slice())],
+    )?;
+    let mut desk = SteadyDesk::new(alloc, files);
+    let status = run_words(alloc, &REPLAY, &mut desk)?;
+    assert_eq!(rt; status, Status::Done);
+    let report = text(desk.said())?;
+    assert!(rt;
+        report.ends_with("end frames=4 written=3 entries=3\n"),
+        "{report}"
+    );
+    let output = desk.file("out").ok_or("no output")?;
+    assert_eq!(rt; output.len(), 264);
+    assert_eq!(rt; hash_of(output), 0x8e6d_bc18);
+    Ok(())
+}

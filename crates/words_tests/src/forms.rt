@@ -1,0 +1,67 @@
+// Lists of words that are of a form.
+use crate::word_lists::{said, words_in};
+use std::test::Fail;
+
+#[test]
+fn options_stand_in_any_order_and_some_may_be_left_out(rt: HostRuntime) -> Result<(), Fail> {
+    let alloc = rt.alloc();
+    for (text, says) in [
+        ("replay --settings s --in i --out o", "replay s i o 0 256"),
+        ("replay --settings s --out o --in i", "replay s i o 0 256"),
+        ("replay --in i --settings s --out o", "replay s i o 0 256"),
+        ("replay --in i --out o --settings s", "replay s i o 0 256"),
+        ("replay --out o --settings s --in i", "replay s i o 0 256"),
+        ("replay --out o --in i --settings s", "replay s i o 0 256"),
+        (
+            "replay --workers 0 --settings s --in i --out o",
+            "replay s i o 0 256",
+        ),
+        (
+            "replay --settings s --in i --out o --workers 0",
+            "replay s i o 0 256",
+        ),
+        (
+            "replay --settings s --in i --out o --round 1",
+            "replay s i o 0 1",
+        ),
+        (
+            "replay --settings s --round 256 --in i --out o",
+            "replay s i o 0 256",
+        ),
+        (
+            "replay --round 4096 --settings s --in i --out o",
+            "replay s i o 0 4096",
+        ),
+        (
+            "replay --out o --round 4095 --workers 0 --in i --settings s",
+            "replay s i o 0 4095",
+        ),
+        (
+            "replay --workers 0 --in i --out o --settings s --round 10",
+            "replay s i o 0 10",
+        ),
+        ("replay --settings a --in a --out b", "replay a a b 0 256"),
+        (
+            "replay --settings i --in I --out ./I",
+            "replay i I ./I 0 256",
+        ),
+        (
+            "replay --settings 0 --in replay --out o--",
+            "replay 0 replay o-- 0 256",
+        ),
+        (
+            "replay --settings s=s --in ö --out oo",
+            "replay s=s ö oo 0 256",
+        ),
+        ("show --in x", "show x"),
+        ("show --in show", "show show"),
+        ("trial 1", "trial 1"),
+        ("trial 10", "trial 10"),
+        ("trial 49999", "trial 49999"),
+        ("trial 50000", "trial 50000"),
+    ] {
+        let words = words_in(alloc, text)?;
+        assert_eq!(rt; said(alloc, &words)?.as_str(), says, "{text}");
+    }
+    Ok(())
+}

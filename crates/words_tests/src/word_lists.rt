@@ -1,0 +1,39 @@
+// Lists of words, and what they say.
+use command_words::{Word, Words, WordsFault, read_words};
+use std::alloc::Global;
+use std::test::Fail;
+
+/// The words of a replay of three files.
+pub const REPLAY: &str = "replay --settings s --in i --out o";
+
+/// The words between the spaces of a text; two spaces in a row have an empty word between them.
+pub fn words_in(alloc: Global, text: &str) -> Result<Vec<Word>, Fail> {
+    let mut words: Vec<Word> = Vec::new(alloc);
+    for word in text.split(' ') {
+        words.push(String::from_str(alloc, word)?)?;
+    }
+    Ok(words)
+}
+
+/// What the words say: the command, the files, and the numbers of workers and of a round's frames.
+pub fn said(alloc: Global, words: &[Word]) -> Result<String, Fail> {
+    let text = match read_words(alloc, words) {
+        Ok(
+            Words::Replay {
+                settings,
+                input,
+                output,
+                workers,
+                round,
+            },
+        ) => {
+            let (settings, input, output) = (settings.as_str(), input.as_str(), output.as_str());
+            format!(in alloc; "replay {settings} {input} {output} {workers} {round}")?
+        }
+        Ok(Words::Show { input }) => format!(in alloc; "show {}", input.as_str())?,
+        Ok(Words::Trial { n }) => format!(in alloc; "trial {n}")?,
+        Err(WordsFault::Usage) => String::from_str(alloc, "usage")?,
+        Err(WordsFault::Memory) => String::from_str(alloc, "memory")?,
+    };
+    Ok(text)
+}
