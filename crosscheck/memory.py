@@ -1,5 +1,5 @@
 #!/usr/bin/env python3
-"""Refuses each allocation of the program once, in runs over the examples, with a C compiler's help.
+"""Refuses each allocation of the program once, in runs over the examples and a trial, with a C compiler's help.
 
 usage: memory.py PROGRAM
 A run must end with status 5, and what it said and wrote must be a front of the right report and file;
@@ -16,7 +16,7 @@ HERE = os.path.dirname(os.path.abspath(__file__))
 EXAMPLES = os.path.join(os.path.dirname(HERE), "examples")
 
 
-class Trial:
+class Refusals:
     """A command of the program, its output, and what both are where nothing is refused."""
 
     def __init__(self, shim, program, words, output):
@@ -56,8 +56,9 @@ def main():
         for name in "site", "ticks", "echoes":
             settings, capture = (os.path.join(EXAMPLES, name, file) for file in ("settings.toml", "capture.pcap"))
             words = ["replay", "--settings", settings, "--in", capture, "--out", output]
-            Trial(shim, program, words, output).refuse_each()
-            Trial(shim, program, ["show", "--in", capture], output).refuse_each()
+            Refusals(shim, program, words, output).refuse_each()
+            Refusals(shim, program, ["show", "--in", capture], output).refuse_each()
+        Refusals(shim, program, ["trial", "3"], output).refuse_each()
 
 
 main()

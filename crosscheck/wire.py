@@ -148,3 +148,14 @@ def control_packet(source, dest, payload, port=4342):
     front = struct.pack(">HHH", 4342, port, size)
     checksum = 0xFFFF - ones_sum(pseudo + front + bytes(2) + payload)
     return ip_header(source, dest, size, 64) + front + struct.pack(">H", checksum or 0xFFFF) + payload
+
+
+def udp_packet(source, dest, ports, payload, summed):
+    """An IPv4 packet with a UDP datagram, with a checksum where it is summed, else 0."""
+    size = 8 + len(payload)
+    udp = struct.pack(">HHHH", *ports, size, 0) + payload
+    if summed:
+        total = ones_sum(source + dest + struct.pack(">HH", 17, size) + udp)
+        udp = udp[:6] + struct.pack(">H", (0xFFFF - total) or 0xFFFF) + payload
+    front = struct.pack(">BBHHHBBH", 0x45, 0, 20 + size, 0, 0, 64, 17, 0) + source + dest
+    return front[:10] + struct.pack(">H", 0xFFFF - ones_sum(front)) + front[12:] + udp

@@ -1,0 +1,68 @@
+"""A reader of the words behind the program's name, of its own: the command that they give, or None."""
+import re
+from typing import NamedTuple
+
+NUMBER = re.compile(r"0|[1-9][0-9]*")
+# More workers than none are of no form until there are forwarders.
+MOST_WORKERS, MOST_ROUND, MOST_MAPPINGS = 0, 4096, 50_000
+
+
+class Replay(NamedTuple):
+    settings: str
+    input: str
+    output: str
+    workers: int = 0
+    round: int = 256
+
+
+class Show(NamedTuple):
+    input: str
+
+
+class Trial(NamedTuple):
+    count: int
+
+
+def number(word, least, most):
+    """The number that a word spells, or None where it spells none within the limits."""
+    is_within = NUMBER.fullmatch(word) and least <= int(word) <= most
+    return int(word) if is_within else None
+
+
+def is_value(word):
+    return word != "" and word[0] != "-"
+
+
+def pairs(words):
+    """The values by their names, or None where the words aren't pairs of a name and its value, each name once."""
+    names, values = words[::2], words[1::2]
+    are_pairs = len(names) == len(values) and len(set(names)) == len(names) and all(map(is_value, values))
+    return dict(zip(names, values)) if are_pairs else None
+
+
+def replay_of(words):
+    match pairs(words):
+        case {"--settings": settings, "--in": source, "--out": output, **others}:
+            workers = number(others.pop("--workers", "0"), 0, MOST_WORKERS)
+            size = number(others.pop("--round", "256"), 1, MOST_ROUND)
+            if not others and None not in (workers, size) and output not in (settings, source):
+                return Replay(settings, source, output, workers, size)
+    return None
+
+
+def show_of(words):
+    match pairs(words):
+        case {"--in": source, **others} if not others:
+            return Show(source)
+    return None
+
+
+def trial_of(words):
+    count = number(words[0], 1, MOST_MAPPINGS) if len(words) == 1 else None
+    return None if count is None else Trial(count)
+
+
+def command_of(words):
+    """The command that the words give, or None where they are of no form."""
+    readers = {"replay": replay_of, "show": show_of, "trial": trial_of}
+    return readers[words[0]](words[1:]) if words[:1] and words[0] in readers else None

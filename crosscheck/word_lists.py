@@ -1,0 +1,171 @@
+"""Lists of words with the command that each gives, or None; and lists made from a number by changing lawful ones."""
+from commands import Replay, Show, Trial
+
+# The names of a settings file, a capture and an output.
+FILES = "s", "i", "o"
+WHOLE = Replay(*FILES)
+# What spells no number; the last are digits, but not those of ASCII.
+NO_NUMBERS = ["", "00", "01", "+1", "-1", "-0", " 1", "1 ", "1\n", "1e3", "1.0", "1_0", "1,0", "0x1", "=1", "one",
+              "٣", "1٣", "１", "²"]
+# These are 1 modulo 2^16, 2^32 and 2^64, and a number of 30 digits.
+TOO_LARGE = ["65537", "4294967297", "18446744073709551617", "1" + 29 * "0"]
+NO_NAMES = ["", "-", "--", "---in", "-in", "in", "—in", "--i", "--In", "--IN", "--in ", " --in", "--in=", "--in=i",
+            "--input", "--speed", "--help"]
+NAMES, VALUES = ["--settings", "--in", "--out", "--workers", "--round"], [*FILES, "x", "0", "1", "20", "in"]
+NUMBERS = [*NO_NUMBERS, *TOO_LARGE, "0", "1", "16", "17", "4096", "4097", "50001"]
+WORDS = [*NUMBERS, *NO_NAMES, *NAMES, *VALUES, "replay", "show", "trial"]
+LETTERS = "-= 019siI٣"
+MOST_TRIED = 20
+
+# The table.
+
+
+def replay(*more, settings="s", source="i", output="o"):
+    return ["replay", "--settings", settings, "--in", source, "--out", output, *more]
+
+
+def lawful():
+    """Word lists, and the command that each gives."""
+    yield replay(), WHOLE
+    yield "replay --out o --in i --settings s".split(), WHOLE
+    yield "replay --in i --settings s --out o".split(), WHOLE
+    yield "replay --in i --out o --settings s".split(), WHOLE
+    yield replay("--workers", "0"), WHOLE
+    for size in 1, 2, 9, 10, 256, 999, 4095, 4096:
+        yield replay("--round", str(size)), WHOLE._replace(round=size)
+    yield replay("--round", "7", "--workers", "0"), WHOLE._replace(round=7)
+    yield "replay --workers 0 --out o --round 10 --in i --settings s".split(), WHOLE._replace(round=10)
+    yield replay(settings="i"), Replay("i", "i", "o")
+    yield replay(settings="./o", source="x y"), Replay("./o", "x y", "o")
+    for output in "I", "S", "O", "./o", "./i", "i ", "ii", "s=s", "o--", "=", " ", "replay", "out", "0", "٣", "ö":
+        yield replay(output=output), Replay("s", "i", output)
+    for source in "i", "s", "show", "x y", "i=i", "i-", "ö":
+        yield ["show", "--in", source], Show(source)
+    for count in 1, 9, 10, MOST_TRIED, 49_999, 50_000:
+        yield ["trial", str(count)], Trial(count)
+
+
+def of_no_command():
+    yield from ([], [""], ["-"], ["--"], ["usage"], ["help"], ["--help"], ["-h"], ["--version"], [*FILES])
+    for name in "REPLAY", "Replay", "replays", "repla", " replay", "replay ", "--replay", "show", "trial", "play", "":
+        yield [name, *replay()[1:]]
+    yield from ([name, "--in", "i"] for name in ("SHOW", "Show", "shows", "sho", "show ", "--show", "replay"))
+    yield from ([name, "5"] for name in ("TRIAL", "Trial", "trials", "trail", " trial", "--trial", "replay", "show"))
+    yield replay()[1:]
+    yield ["replay", *replay()]
+    yield ["replay", *1000 * ["--in", "i"]]
+
+
+def of_no_replay():
+    words = replay()
+    yield from (words[:size] for size in range(1, len(words)))
+    for place in 1, 3, 5:
+        front, (name, value), rest = words[:place], words[place:place + 2], words[place + 2:]
+        put = [], [name], [value], [value, name], [f"{name}={value}"], [f"{name}=", value], [name, "=", value]
+        yield from ([*front, *some, *rest] for some in put)
+        yield from ([*front, name, wrong, *rest] for wrong in ("", "-", "--", "-x", "-1", name, f"-{value}"))
+        yield from ([*words, name, again] for again in (value, "x"))
+    for name, value in ("--workers", "0"), ("--round", "1"):
+        for some in [name], [name, value, name, value], [f"{name}={value}"], [value, name], [name + "s", value]:
+            yield [*words, *some]
+            yield [*words[:1], *some, *words[1:]]
+    for name in [*NO_NAMES, "--settings", "--n", "--format"]:
+        yield [*words, name, "1"]
+        yield [*words[:3], name, *words[4:]]
+        yield [*words, "--workers", "0", "--round", "1", name, "1"]
+    for more in "", "x", "-", "--", "0", "--help":
+        yield [*words, more]
+        yield [*words[:1], more, *words[1:]]
+    yield from (replay(output="i"), replay(output="s"), replay(source="o"), replay(settings="o"))
+    yield from (replay(source="s", output="s"), replay(source="ö", output="ö"))
+    yield "replay --out i --in i --settings s".split()
+
+
+def of_no_number():
+    for value in [*NO_NUMBERS, *TOO_LARGE, "0", "4097", "5000", "10000"]:
+        yield replay("--round", value)
+    for value in [*NO_NUMBERS, *TOO_LARGE, *(str(int(value) - 1) for value in TOO_LARGE), "٠", "000", "1", "2", "15",
+                  "16", "17", "256"]:
+        yield replay("--workers", value)
+    for value in [*NO_NUMBERS, *TOO_LARGE, "0", "50001", "99999", "100000", "-", "--", "--in"]:
+        yield ["trial", value]
+
+
+def of_no_show_or_trial():
+    for words in ([], ["i"], ["--in"], ["i", "--in"], ["--in", "i", "x"], ["--in", "i", "--in", "i"],
+                  ["--in", "i", "--in", "x"], ["--", "--in", "i"]):
+        yield ["show", *words]
+    yield from (["show", "--in", value] for value in ("", "-", "--", "-i", "-1", "--in"))
+    yield from (["show", name, "i"] for name in [*NO_NAMES, "--out", "--settings"])
+    for name, value in ("--settings", "s"), ("--out", "o"), ("--workers", "0"), ("--round", "1"), ("--n", "5"):
+        yield ["show", "--in", "i", name, value]
+        yield ["show", name, value, "--in", "i"]
+    for words in ([], ["trial"], ["i"], ["5", "5"], ["5", ""], ["", "5"], ["--", "5"], ["--n", "5"], ["--n=5"], ["n=5"],
+                  ["5", "--in", "i"], ["--in", "i"], ["5", "--round", "1"], ["--workers", "0", "5"], ["trial", "5"]):
+        yield ["trial", *words]
+
+
+def table():
+    """Each word list, and what it gives."""
+    yield from lawful()
+    for part in of_no_command, of_no_replay, of_no_number, of_no_show_or_trial:
+        yield from ((words, None) for words in part())
+
+
+# Words that are no UTF-8.
+
+
+def no_texts():
+    for octets in b"\xff", b"\x80", b"\xd9", b"\xc0\xae", b"\xed\xa0\x80", b"\xf5\x80\x80\x80":
+        yield [octets]
+        yield replay(output=octets)
+        yield replay(output=b"o" + octets)
+        yield replay("--round", b"1" + octets)
+        yield replay(b"--round" + octets, "1")
+        yield ["show", "--in", octets]
+        yield [b"show" + octets, "--in", "i"]
+        yield ["trial", b"5" + octets]
+
+
+# Lists from a number.
+
+
+def started(r):
+    """A lawful list; one of a replay mostly names the files that are there."""
+    kind = r.random()
+    if kind < 0.2:
+        return ["trial", str(r.randint(1, MOST_TRIED))]
+    if kind < 0.35:
+        return ["show", "--in", r.choice(VALUES)]
+    found = [["--settings", "s"], ["--in", "i"], ["--out", r.choice("ooox")]]
+    found += [["--workers", "0"]] * (r.random() < 0.4)
+    found += [["--round", str(r.choice([1, 9, 10, 256, 4096, r.randint(1, 4096)]))]] * (r.random() < 0.4)
+    r.shuffle(found)
+    return ["replay", *(word for pair in found for word in pair)]
+
+
+def respelled(r, word):
+    """The word with one letter more, less or changed, or in the other case."""
+    at = r.randrange(len(word) + 1)
+    return r.choice([word[:at] + r.choice(LETTERS) + word[at:], word[:at] + r.choice(LETTERS) + word[at + 1:],
+                     word[:at] + word[at + 1:], word.swapcase()])
+
+
+def changed(r, words):
+    """The words with one more, fewer, in the place of another, respelled or joined; or pairs turned round, or added."""
+    at, other, pair = r.randrange(len(words)), r.randrange(len(words)), 1 + r.randrange(len(words)) // 2 * 2
+    front, word, rest = words[:at], words[at], words[at + 1:]
+    return r.choice([
+        front + rest, front, [*front, respelled(r, word), *rest], [*front, "=".join([word, *rest[:1]]), *rest[1:]],
+        [*front, r.choice(WORDS), *rest], [*front, r.choice(WORDS), word, *rest], [*front, words[other], *rest],
+        [*front, words[other], word, *rest], words[:1] + words[pair:] + words[1:pair],
+        [*words[:-1], r.choice(NUMBERS)], [*words, r.choice(NAMES), r.choice(VALUES)],
+        [*words, r.choice(NO_NAMES), r.choice(VALUES)]])
+
+
+def made(r):
+    """A lawful list with up to three changes."""
+    words = started(r)
+    for _ in range(r.choice([0, 1, 1, 1, 1, 2, 3])):
+        words = changed(r, words) if words else words
+    return words
