@@ -139,7 +139,4 @@ def larger_rows():
         TENANT + "".join(f'[[mapping]]\niid = 100\nprefix = "20.0.{i // 256}.{i % 256}/32"\n' for i in range(65536)))
 
 
-def rows():
-    yield from small_rows()
-    yield from family_rows()
-    yield from larger_rows()
+KINDS = small_rows, family_rows, larger_rows

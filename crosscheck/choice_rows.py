@@ -120,7 +120,4 @@ def static_bits_rows():
          (3 * MILLI, tunnel(1, 2, STATIC_HEADER)), (4 * MILLI, DELIVERED)], 3, settings)
 
 
-def rows():
-    yield from share_rows()
-    yield from bits_rows()
-    yield from static_bits_rows()
+KINDS = share_rows, bits_rows, static_bits_rows

@@ -215,9 +215,4 @@ def family_rows():
          (60 * SECOND, tunnel_v6("4000000000000003"))], 5, settings)
 
 
-def rows():
-    yield from asked_rows()
-    yield from heard_rows()
-    yield from wanted_rows()
-    yield from tenant_rows()
-    yield from family_rows()
+KINDS = asked_rows, heard_rows, wanted_rows, tenant_rows, family_rows

@@ -20,29 +20,29 @@ def from_numbered(i, octets):
     return inbound(octets, numbered(i).hex())
 
 
-def wanted_row():
+def wanted_rows():
     """Different nonces from one locator; the first is no more wanted at 2 s, so that one more may be then."""
     frames = [(i * MICRO, inbound(f"a0{i:06x}00000000"), f"n={1 + i} {TAKEN}") for i in range(MOST)]
     late = inbound("a0ffffff00000000")
-    return Row("an echo more than may be wanted", [
+    yield Row("an echo more than may be wanted", [
         *frames, (2 * SECOND - 1, late, f"n={1 + MOST} {TAKEN}"), (2 * SECOND, late, f"n={1 + MOST} {TAKEN}"),
         (2 * SECOND, late, f"n={2 + MOST} {TAKEN}")],
         [(i * MICRO, DELIVERED) for i in range(MOST)]
         + [(2 * SECOND - 1, DELIVERED), (2 * SECOND, DELIVERED), (2 * SECOND, DELIVERED)], 2 + MOST, home_of(0))
 
 
-def solicited_row():
+def solicited_rows():
     frames = [(i * MICRO, from_numbered(i, header(0, 4)), f"n={1 + i} {TAKEN}") for i in range(MOST)]
     packets = [part for i in range(MOST) for part in (
         (i * MICRO, DELIVERED), (i * MICRO, solicit(drawn(i), numbered(i).hex())))]
     late = from_numbered(MOST, header(0, 4))
-    return Row("a peer more than may be solicited", [
+    yield Row("a peer more than may be solicited", [
         *frames, (10 * SECOND - 1, late, f"n={1 + MOST} {TAKEN}"), (10 * SECOND, late, f"n={1 + MOST} {TAKEN}")],
         [*packets, (10 * SECOND - 1, DELIVERED), (10 * SECOND, DELIVERED),
          (10 * SECOND, solicit(drawn(MOST), numbered(MOST).hex()))], 2 + MOST, home_of(5))
 
 
-def started_row():
+def started_rows():
     """One locator for each of as many mappings, and one more."""
     settings = "echo = true\n" + FIXED[:FIXED.index("[[mapping]]")] + "".join(
         f'[[mapping]]\niid = 0\nprefix = "10.2.{i // 256}.{i % 256}/32"\n'
@@ -51,7 +51,7 @@ def started_row():
     frames = [(i * MICRO, to_numbered(i), f"n={first + i} {said(i)}") for i in range(MOST)]
     packets = [(i * MICRO, tunnelled(i, PLAIN)) for i in range(MOST)]
     end, last = 60 * SECOND, first + MOST
-    return Row("a locator more than may be asked for an echo", [
+    yield Row("a locator more than may be asked for an echo", [
         *frames, (end - 1, to_numbered(MOST), f"n={last} {said(MOST)}"),
         (end, to_numbered(MOST), f"n={last} {said(MOST)}"), (end + 1, to_numbered(MOST), f"n={last + 1} {said(MOST)}")],
         [*packets, (end - 1, tunnelled(MOST, PLAIN)), (end, tunnelled(MOST, PLAIN)),
@@ -86,7 +86,4 @@ def tunnelled(i, octets):
     return packet.hex()
 
 
-def rows():
-    yield wanted_row()
-    yield solicited_row()
-    yield started_row()
+KINDS = wanted_rows, solicited_rows, started_rows

@@ -119,7 +119,4 @@ def solicit_rows():
         [*WRITTEN, (SECOND, again("0a020000", 16))], 4)
 
 
-def rows():
-    yield from answered_rows()
-    yield from probe_rows()
-    yield from solicit_rows()
+KINDS = answered_rows, probe_rows, solicit_rows

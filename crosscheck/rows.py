@@ -2,8 +2,9 @@
 """Replays rows with known answers, octet by octet, through the plain router or a program; or prints rows.
 
 usage: rows.py [PROGRAM] | rows.py --print PART ..
-It prints one line a row, and ends with status 1 where one differs. A part is the name of a module of rows; its rows
-are printed whole: settings, frames, and the report and packets that they must give.
+It prints one line a row, and ends with status 1 where one differs. A part is the name of a module of rows, whose
+`KINDS` are the functions that give them; its rows are printed whole: settings, frames, and the report and packets that
+they must give.
 """
 import importlib
 import os
@@ -16,7 +17,7 @@ HERE = os.path.dirname(os.path.abspath(__file__))
 
 
 def rows_of(parts):
-    return [row for part in parts for row in importlib.import_module(part).rows()]
+    return [row for part in parts for rows in importlib.import_module(part).KINDS for row in rows()]
 
 
 def replayed(command, row, folder):

@@ -225,10 +225,4 @@ def later_probed(raw):
     return frames, packets, 42, PROBE + TENANT + mapping
 
 
-def rows():
-    yield from asked_rows()
-    yield from probed_rows()
-    yield from forgotten_rows()
-    yield from refreshed_rows()
-    yield from several_rows()
-    yield from order_rows()
+KINDS = asked_rows, probed_rows, forgotten_rows, refreshed_rows, several_rows, order_rows

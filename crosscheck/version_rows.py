@@ -192,10 +192,4 @@ def changed(octets, changes):
     return packet.hex()
 
 
-def rows():
-    yield from told_rows()
-    yield from compared_rows()
-    yield from zero_rows()
-    yield from solicit_rows()
-    yield from refresh_rows()
-    yield from order_rows()
+KINDS = told_rows, compared_rows, zero_rows, solicit_rows, refresh_rows, order_rows
