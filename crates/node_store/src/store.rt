@@ -72,8 +72,8 @@ impl<T> NodeStore<T> {
         }
         let more = n as usize - rooms;
         let all = self.slots.len() + more;
-        self.slots.reserve_exact(more)?;
-        self.free.reserve_exact(all - rooms)?;
+        self.slots.reserve(more)?;
+        self.free.reserve(all - rooms)?;
         add_slots(&mut self.slots, &mut self.free, all);
         Ok(())
     }

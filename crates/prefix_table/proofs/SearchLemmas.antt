@@ -65,6 +65,7 @@ module _ {V : Type 0} (answers : V → Bool → Type 0) (eid : Eid) (store : Sto
     pub trie : IsTrie eid.iid (key_width eid) bits len rest
     pub within : len ≤ 129
     pub counted : reads ≤ start + len
+    pub rises : start ≤ reads
     pub goes_on : (result : Option (Eid × V)) → Answers answers eid rest best result → Answers answers eid whole None result
 
   pub init : (root : Option ℕ) (reads : ℕ) → name_of whole ≡ root → Spells store whole → IsTrie eid.iid (key_width eid) 0 0 whole → Searching root None reads reads
@@ -77,6 +78,7 @@ module _ {V : Type 0} (answers : V → Bool → Type 0) (eid : Eid) (store : Sto
     trie = trie;
     within = omega arith;
     counted = omega arith;
+    rises = omega arith;
     goes_on = λ result found. found;
   }
 
@@ -135,6 +137,7 @@ module _ {V : Type 0} (answers : V → Bool → Type 0) (eid : Eid) (store : Sto
         trie = t.1;
         within = omega (arith, key_len-most top.eid);
         counted = omega (arith, s.counted, t.0.longer, count);
+        rises = omega (arith, s.rises, count);
         goes_on = λ result below. s.goes_on result (
             subst (λ (tree : Tree V). Answers answers eid tree best result) (sym o.is)
             (over (node name top.eid top.value o.low o.high) o.low o.high top.eid top.value best next result (parts_zero answers eid name top.eid top.value o.low o.high) covers
@@ -158,6 +161,7 @@ module _ {V : Type 0} (answers : V → Bool → Type 0) (eid : Eid) (store : Sto
         trie = t.2;
         within = omega (arith, key_len-most top.eid);
         counted = omega (arith, s.counted, t.0.longer, count);
+        rises = omega (arith, s.rises, count);
         goes_on = λ result below. s.goes_on result (
             subst (λ (tree : Tree V). Answers answers eid tree best result) (sym o.is)
             (over (node name top.eid top.value o.low o.high) o.high o.low top.eid top.value best next result (parts_one answers eid name top.eid top.value o.low o.high) covers

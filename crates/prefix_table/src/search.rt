@@ -58,6 +58,7 @@ pub(crate) fn longest_where<'a, V, F: Fn(&V) -> bool>(
         (All (IsRefused (FnReturnsAt F.Fn test) eid.now) (pairs (tree_of store.now root)))
         (λ found. IsLongestWhere (FnReturnsAt F.Fn test) eid.now
         (pairs (tree_of store.now root)) (seen found)) }
+    ensures counted { reads.old ≤ reads.new }
     ensures reads { reads.new ≤ reads.old + 129 }
 {
     let mut at = root;

@@ -69,7 +69,7 @@ impl<V> PrefixTable<V> {
         }
         let rooms = self.store.rooms();
         self.roots
-            .reserve_exact((self.len + n) as usize - self.roots.len())?;
+            .reserve((self.len + n) as usize - self.roots.len())?;
         self.store.make_room(rooms + 2 * (n - self.spare))?;
         self.spare = n;
         Ok(())
@@ -88,6 +88,7 @@ impl<V> PrefixTable<V> {
         ensures longest { MatchOption result
             (All (IsRefused (FnReturnsAt F.Fn test) eid.now) self.now.pairs)
             (λ found. IsLongestWhere (FnReturnsAt F.Fn test) eid.now self.now.pairs (seen found)) }
+        ensures counted { reads.old ≤ reads.new }
         ensures reads { reads.new ≤ reads.old + 129 }
     {
         match find_root(&self.roots, root_key(eid)) {
@@ -103,6 +104,7 @@ impl<V> PrefixTable<V> {
     pub fn get(&self, eid: &Eid, reads: &mut Reads) -> Option<&V>
         requires { reads.old < 2 ^ 63 }
         ensures value { option_copied result ≡ value_in eid.now self.now.pairs }
+        ensures counted { reads.old ≤ reads.new }
         ensures reads { reads.new ≤ reads.old + 129 }
     {
         // The fields are named, since the proof rests on what is kept of them.

@@ -12,12 +12,12 @@ pub invariant_of-self-2 : goal.invariant_of-self-2
 invariant_of-self-2 g c =
     let t = c.self.invariant in
     let pairs_len : length (pairs_under c.self.inside.store c.self.inside.roots.items) + c.args.n ≤ 2 ^ 30 = rw (← c.self.view_is) at c.requires in
-    table_reserved _ _ c.make_room.ensures.nodes _ _ _ _ _ _ _ t c.reserve_exact.ensures.items
+    table_reserved _ _ c.make_room.ensures.nodes _ _ _ _ _ _ _ t c.reserve.ensures.items
     (omega (arith, c.make_room.ensures.slots, c.rooms-rooms.ensures.slots, c.rooms-rooms.ensures.rooms))
     (omega (arith, t.slots, c.make_room.ensures.slots, c.rooms-rooms.ensures.slots, c.rooms-rooms.ensures.rooms, c.in_ok-make_room.ensures.ok))
-    (omega (arith, c.reserve_exact.ensures.len, c.in_ok-reserve_exact.ensures.ok, c.self.inside.roots.ok.0))
+    (omega (arith, c.reserve.ensures.len, c.in_ok-reserve.ensures.ok, c.self.inside.roots.ok.0))
     (omega (arith, t.counted, pairs_len))
 
 pub returns-clause-pairs : goal.returns-clause-pairs
 returns-clause-pairs g c =
-    rw (← c.self.view_is) (ap (pairs_under c.make_room.new.self) c.reserve_exact.ensures.items ∙ under_same _ _ c.make_room.ensures.nodes _)
+    rw (← c.self.view_is) (ap (pairs_under c.make_room.new.self) c.reserve.ensures.items ∙ under_same _ _ c.make_room.ensures.nodes _)
