@@ -1,0 +1,4 @@
+pub mod ItemsLemmas
+pub mod NamesLemmas
+pub mod ChangeLemmas
+pub mod PlaceLemmas

@@ -1,0 +1,22 @@
+use Rattle.std.proofs.Common.{arith, ap}
+use Rattle.named_list.proofs.ItemsLemmas.{length-items_at}
+use Rattle.named_list.proofs.ChangeLemmas.{named_same}
+use Rattle.named_list.proofs.list.NamedList.reserve.Goals as goal
+
+pub make_room-requires : goal.make_room-requires
+make_room-requires g c =
+    let len = length-items_at c.self.inside.store c.self.inside.order.items c.self.invariant.each in
+    omega (arith, len, rw (← c.self.view_is) at c.requires, c.rooms-rooms.ensures.rooms, c.rooms-rooms.ensures.slots, c.self.invariant.all)
+
+pub invariant_of-self-in-Continue-branch-2 : goal.invariant_of-self-in-Continue-branch-2
+invariant_of-self-in-Continue-branch-2 g c =
+    rw (c.reserve.ensures.items) (named_same c.self.inside.store c.make_room.new.self c.self.inside.order.items _ _ c.self.invariant c.make_room.ensures.nodes
+    (omega (arith, c.make_room.ensures.slots, c.rooms-rooms.ensures.rooms, c.rooms-rooms.ensures.slots, c.self.invariant.all))
+    (omega (arith, c.in_ok-make_room.ensures.ok, c.in_ok-reserve.ensures.ok, c.if-n-rooms.true, c.rooms-rooms.ensures.rooms, c.reserve.ensures.len, c.self.inside.order.ok.0)))
+
+pub invariant_of-self-in_err-make_room : goal.invariant_of-self-in_err-make_room
+invariant_of-self-in_err-make_room g c =
+    let rooms = ap (λ store. store.rooms) c.in_err-make_room.ensures.err in
+    rw (c.reserve.ensures.items) (named_same c.self.inside.store c.make_room.new.self c.self.inside.order.items _ _ c.self.invariant c.make_room.ensures.nodes
+    (omega (arith, c.make_room.ensures.slots, c.rooms-rooms.ensures.rooms, c.rooms-rooms.ensures.slots, c.self.invariant.all))
+    (omega (arith, rooms, c.in_ok-reserve.ensures.ok, c.if-n-rooms.true, c.rooms-rooms.ensures.rooms, c.reserve.ensures.len, c.self.inside.order.ok.0)))

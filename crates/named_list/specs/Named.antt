@@ -1,0 +1,50 @@
+-- A list whose items have names.
+use Rattle.std.specs.Prelude.{◌≡◌, ◌+◌, ◌≤◌, ◌==◌, ℕ, List, [], ◌∷◌, length, All, Option, None, Some, count_by, if◌then◌else◌}
+use Rattle.node_store.specs.Store.{Store, node_at, IsLive}
+
+-- the items in order, their names in the same order, for how many more there is room, and how many
+-- items its vectors have in all
+pub record Named (T : Type 0) : Type 0 where
+  pub items : List T
+  pub names : List ℕ
+  pub spare : ℕ
+  pub kept : ℕ
+
+-- the item of that name
+abbrev pub item_named : {T : Type 0} → List ℕ → List T → ℕ → Option T
+item_named [] items name = None
+item_named (first ∷ names) [] name = None
+item_named (first ∷ names) (item ∷ items) name = if first == name then Some item else item_named names items name
+
+-- ### how the list is laid out; no public clause cites what follows
+
+-- a node, if there is one, before others
+abbrev pub before : {T : Type 0} → Option T → List T → List T
+before None items = items
+before (Some item) items = item ∷ items
+
+-- the nodes of names, in order
+abbrev pub items_at : {T : Type 0} → Store T → List ℕ → List T
+items_at store [] = []
+items_at store (name ∷ names) = before (node_at store name) (items_at store names)
+
+-- how often a name is in a list
+abbrev pub times : ℕ → List ℕ → ℕ
+times name names = count_by (λ n. n == name) names
+
+-- what a contract sees of a store and names in order
+abbrev pub named_of : {T : Type 0} → Store T → List ℕ → Named T
+named_of store names = record {
+  items = items_at store names;
+  names = names;
+  spare = store.rooms;
+  kept = length store.slots + (store.rooms + length names);
+}
+
+-- each name is that of a node, none stands twice, all slots but the rooms have their name in the
+-- list, and for each room there is place for one name more
+pub record IsNamedList {T : Type 0} (store : Store T) (names : List ℕ) (capacity : ℕ) : Type 0 where
+  pub each : All (IsLive store) names
+  pub once : (name : ℕ) → times name names ≤ 1
+  pub all : length store.slots ≡ length names + store.rooms
+  pub place : length names + store.rooms ≤ capacity

@@ -1,0 +1,7 @@
+//! A list of items, each under a name that it keeps while it is in the list.
+#![tactic(auto)]
+
+mod list;
+
+pub use list::NamedList;
+pub use octets::NoMemory;

@@ -1,0 +1,148 @@
+// The set: a list of keys in order.
+ghost use Rattle.std.specs.Prelude.{◌≡◌, ◌≤◌, ◌<◌, ◌+◌, ◌-◌, ◌*◌, ◌^◌, ◌&&◌, ◌||◌, not, [], true, false, length, max, slice_get, IfSome, IsOk, OnOk, OnErr, if◌then◌else◌};
+ghost use Rattle.std.specs.Fn.{FnReturnsAt};
+ghost use Rattle.std.specs.Option.{option_copied};
+ghost use Rattle.std.specs.Ordering.{is_eq};
+ghost use Rattle.ordered_set.specs.Keys.{Ascends, IsPlace, has, ties};
+
+use crate::{NoMemory, Ordered};
+use named_list::NamedList;
+use std::alloc::Global;
+use std::marker::Model;
+
+/// Keys in ascending order, each once.
+#[derive(Drop)]
+pub struct OrderedSet<K: Ordered> {
+    list: NamedList<K>,
+}
+
+impl<K: Ordered> Model for OrderedSet<K> {
+    ghost use Rattle.ordered_set.specs.Keys.{Ascends, Keys};
+
+    ghost Value = { Keys K };
+
+    ghost view = { λ set. record {
+      keys = set.list.items;
+      spare = set.list.spare;
+      kept = set.list.kept;
+    } };
+
+    ghost invariant = { λ set. Ascends K.order set.list.items };
+}
+
+impl<K: Ordered> OrderedSet<K> {
+    /// An empty set, with no room. Takes no memory.
+    pub fn new(alloc: Global) -> Self
+        ensures keys { result.keys ≡ [] }
+        ensures spare { result.spare ≡ 0 }
+    {
+        OrderedSet {
+            list: NamedList::new(alloc),
+        }
+    }
+
+    /// Makes room for `n` further keys in all, with those that there is room for already.
+    pub fn reserve(&mut self, n: u32) -> Result<(), NoMemory>
+        requires { length self.old.keys + n < 2 ^ 32 }
+        ensures keys { self.new.keys ≡ self.old.keys }
+        ensures ok { OnOk result (self.new.spare ≡ max self.old.spare n) }
+        ensures enough { n ≤ self.old.spare → IsOk result }
+        ensures err { OnErr result (self.new.spare ≡ self.old.spare) }
+    {
+        self.list.reserve(n)
+    }
+
+    /// For how many more keys there is room.
+    pub fn spare(&self) -> u32
+        ensures { result ≡ self.now.spare }
+    {
+        self.list.spare()
+    }
+
+    /// The number of keys.
+    pub fn len(&self) -> usize
+        ensures len { result ≡ length self.now.keys }
+        ensures ascends { Ascends K.order self.now.keys }
+        ensures kept { self.now.kept ≡ 2 * (result + self.now.spare) }
+    {
+        self.list.len()
+    }
+
+    /// The key at a place, the least at 0. None behind the end.
+    pub fn get(&self, index: usize) -> Option<&K>
+        ensures { option_copied result ≡ slice_get self.now.keys index }
+    {
+        self.list.get(index)
+    }
+
+    /// The first place whose key isn't below, found by halving, where those that are stand before
+    /// those that aren't: the key before that place is below, the one at it isn't.
+    pub fn place<F: Fn(&K) -> bool>(&self, is_below: F) -> usize
+        requires { F.IsAlwaysCallable is_below }
+        ensures within { result ≤ length self.now.keys }
+        ensures before { 0 < result → IfSome (slice_get self.now.keys (result - 1))
+            (λ key. FnReturnsAt F.Fn is_below key true) }
+        ensures behind { IfSome (slice_get self.now.keys result)
+            (λ key. FnReturnsAt F.Fn is_below key false) }
+    {
+        self.list.place(is_below)
+    }
+
+    /// The key is in the set.
+    pub fn contains(&self, key: &K) -> bool
+        ensures { result ≡ has K.order key.now self.now.keys }
+    {
+        self.is_at(self.place_of(key), key)
+    }
+
+    /// Puts a key into the set, and answers whether it is new there. Takes no memory.
+    pub fn insert(&mut self, key: K) -> bool
+        requires { has K.order key self.old.keys ≡ false → 0 < self.old.spare }
+        ensures new { result ≡ not (has K.order key self.old.keys) }
+        ensures members { (other : _) → has K.order other self.new.keys
+            ≡ (is_eq (K.order key other) || has K.order other self.old.keys) }
+        ensures len { length self.new.keys ≡ length self.old.keys + (if result then 1 else 0) }
+        ensures spare { self.new.spare ≡ self.old.spare - (if result then 1 else 0) }
+    {
+        let place = self.place_of(&key);
+        if self.is_at(place, &key) {
+            return false;
+        }
+        self.list.insert(place, key);
+        true
+    }
+
+    /// Takes a key out of the set, and answers whether it was there. Its room is spare again. Takes
+    /// no memory.
+    pub fn remove(&mut self, key: &K) -> bool
+        ensures was { result ≡ has K.order key.now self.old.keys }
+        ensures members { (other : _) → has K.order other self.new.keys
+            ≡ (not (is_eq (K.order key.now other)) && has K.order other self.old.keys) }
+        ensures len { length self.new.keys + (if result then 1 else 0) ≡ length self.old.keys }
+        ensures spare { self.new.spare ≡ self.old.spare + (if result then 1 else 0) }
+    {
+        let place = self.place_of(key);
+        if !self.is_at(place, key) {
+            return false;
+        }
+        self.list.remove(place);
+        true
+    }
+
+    // Where the key is, or where it would go.
+    fn place_of(&self, key: &K) -> usize
+        ensures { IsPlace K.order key.now self.now.keys result }
+    {
+        self.list.place(|other| other.compare(key).is_lt())
+    }
+
+    // The key stands at that place.
+    fn is_at(&self, place: usize, key: &K) -> bool
+        ensures { result ≡ ties K.order key.now (slice_get self.now.keys place) }
+    {
+        match self.list.get(place) {
+            None => false,
+            Some(other) => other.compare(key).is_eq(),
+        }
+    }
+}
