@@ -13,7 +13,7 @@ use Rattle.map_cache.specs.declared.mapping.Mapping.{Mapping}
 use Rattle.map_cache.proofs.EidLemmas.{is_eq-eid}
 
 -- what is below an EID that is below all is below all
-IsBelow-lower : (a b : Eid) (items : List Mapping) → eid_order a b ≡ Less → IsBelow b items → IsBelow a items
+pub IsBelow-lower : (a b : Eid) (items : List Mapping) → eid_order a b ≡ Less → IsBelow b items → IsBelow a items
 IsBelow-lower a b [] less below = tt
 IsBelow-lower a b (x ∷ items) less below = (eid_order-total.trans a b x.eid less below.0, IsBelow-lower a b items less below.1)
 

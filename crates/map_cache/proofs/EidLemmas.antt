@@ -8,15 +8,15 @@ use Rattle.mapping_records.specs.Eids.{same_address, same_eid}
 use Rattle.mapping_records.specs.Orders.{addr_order, eid_order, prefix_order}
 use Rattle.mapping_records.specs.declared.eid.Eid.{Eid}
 
-is_eq-then : (a b : Ordering) → is_eq (ordering_then a b) ≡ (is_eq a && is_eq b)
+pub is_eq-then : (a b : Ordering) → is_eq (ordering_then a b) ≡ (is_eq a && is_eq b)
 is_eq-then Less b = refl
 is_eq-then Equal b = refl
 is_eq-then Greater b = refl
 
-is_eq-nat : (x y : ℕ) → is_eq (nat_cmp x y) ≡ (x == y)
+pub is_eq-nat : (x y : ℕ) → is_eq (nat_cmp x y) ≡ (x == y)
 is_eq-nat x y = grind (arith, nat_tests)
 
-is_eq-addr : (a b : Addr) → is_eq (addr_order a b) ≡ same_address a b
+pub is_eq-addr : (a b : Addr) → is_eq (addr_order a b) ≡ same_address a b
 is_eq-addr (V4 m) (V4 n) = is_eq-nat m n
 is_eq-addr (V4 m) (V6 n) = refl
 is_eq-addr (V6 m) (V4 n) = refl

@@ -1,5 +1,5 @@
 -- Where an item is put in order, and how many mappings are left once one is taken away.
-use Rattle.std.proofs.Common.{◌≡◌, ◌≤◌, suc, ◌+◌, ◌&&◌, Bool, true, false, cond, not, List, [], ◌∷◌, length, filter, insert, Some, is_some, Ordering, is_lt, refl, ap, ◌∙◌, arith}
+use Rattle.std.proofs.Common.{◌≡◌, ◌≤◌, suc, ◌+◌, ◌&&◌, Bool, true, false, cond, not, List, [], ◌∷◌, length, filter, insert, Some, is_some, Ordering, is_lt, refl, ap, ap₂, ◌∙◌, arith}
 use Rattle.std.specs.List.{position_or_len}
 use Rattle.mapping_records.specs.Eids.{same_eid}
 use Rattle.mapping_records.specs.Orders.{put_in_order}
@@ -35,3 +35,12 @@ filter_twice {A} p q (x ∷ items) = by (p x) (filter_twice p q items)
     by : (b : Bool) → filter q (filter p items) ≡ filter (λ item. p item && q item) items → filter q (cond b (x ∷ filter p items) (filter p items)) ≡ cond (b && q x) (x ∷ filter (λ item. p item && q item) items) (filter (λ item. p item && q item) items)
     by true h = ap (λ l. cond (q x) (x ∷ l) l) h
     by false h = h
+
+-- what is left goes once
+pub filter_again : {A : Type 0} (p : A → Bool) (items : List A) → filter p (filter p items) ≡ filter p items
+filter_again p [] = refl
+filter_again {A} p (x ∷ items) = by (p x) refl (filter_again p items)
+  where
+    by : (b : Bool) → p x ≡ b → filter p (filter p items) ≡ filter p items → filter p (cond b (x ∷ filter p items) (filter p items)) ≡ cond b (x ∷ filter p items) (filter p items)
+    by true is h = ap₂ (λ c l. cond c (x ∷ l) l) is h
+    by false is h = h

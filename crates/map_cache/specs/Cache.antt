@@ -81,8 +81,10 @@ learned m mapping fixed mappings =
 abbrev pub bits_told : Eid → ℕ → ℕ → List Mapping → List Mapping
 bits_told eid bits width mappings = map (told_mapping eid bits width) mappings
 
--- a cache as callers see it: the greatest moment that it was handed, its mappings, and how many more it has room for
+-- a cache as callers see it: the greatest moment that it was handed, its mappings, and for how many more, with how many
+-- locators, it has room
 pub record Cache : Type 0 where
   pub now : ℕ
   pub mappings : List Mapping
   pub spare : ℕ
+  pub locator_spare : ℕ

@@ -1,3 +1,4 @@
 pub mod Cache
+pub mod Indexed
 pub mod Lists
 pub mod Named

@@ -1,5 +1,6 @@
 -- What a cache keeps true of its list.
-use Rattle.std.specs.Prelude.{◌≡◌, ◌≤◌, ℕ, true, List, [], ◌∷◌, is_some, length, if◌then◌else◌}
+use Rattle.std.specs.Prelude.{◌≡◌, ◌≤◌, ℕ, true, List, [], ◌∷◌, All, IsFalse, is_some, length, take, drop, if◌then◌else◌}
+use Rattle.std.specs.Ordering.{is_lt}
 use Rattle.std.specs.declared.cmp.Ordering.TheVariants.{Less}
 use Rattle.mapping_records.specs.Orders.{eid_order}
 use Rattle.mapping_records.specs.declared.eid.Eid.{Eid}
@@ -21,6 +22,12 @@ IsAscending (mapping ∷ others) = IsBelow mapping.eid others × IsAscending oth
 abbrev pub IsAbove : Eid → List Mapping → Type 0
 IsAbove eid [] = Unit {0}
 IsAbove eid (mapping ∷ others) = (eid_order mapping.eid eid ≡ Less) × IsAbove eid others
+
+-- the mappings before a place have lesser EIDs, and those from there on don't
+pub record IsPlace (eid : Eid) (mappings : List Mapping) (place : ℕ) : Type 0 where
+  pub within : place ≤ length mappings
+  pub before : IsAbove eid (take place mappings)
+  pub behind : All (λ mapping. IsFalse (is_lt (eid_order mapping.eid eid))) (drop place mappings)
 
 -- none has ended at a moment
 abbrev pub AllLast : ℕ → List Mapping → Type 0

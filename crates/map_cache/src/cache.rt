@@ -1,5 +1,5 @@
-// A map-cache over a vector.
-ghost use Rattle.std.specs.Prelude.{◌≡◌, ◌≤◌, ◌<◌, ◌+◌, ◌*◌, ◌^◌, ◌↔◌, ◌≢◌, IfSome, IsTrue, IsFalse, [], length, Err, OnOk, OnErr};
+// A map-cache: what was learned, and the moment until which it was purged.
+ghost use Rattle.std.specs.Prelude.{◌≡◌, ◌≤◌, ◌<◌, ◌+◌, ◌*◌, ◌^◌, ◌↔◌, ◌≢◌, ◌||◌, nat_lt, is_some, Some, IfSome, IsTrue, IsFalse, IsOk, [], length, slice_get, Err, OnOk, OnErr};
 ghost use Rattle.std.specs.Option.{option_copied};
 ghost use Rattle.map_cache.specs.Cache.{bits_told, exact, has_room, in_force, lasting, learned};
 ghost use Rattle.map_cache.specs.Lists.{IsFew};
@@ -7,11 +7,10 @@ ghost use Rattle.map_cache.specs.Named.{least_named, named_above};
 ghost use Rattle.map_cache.specs.declared.fault.LearnFault.TheVariants.{CacheFull, Memory};
 ghost use Rattle.map_cache.specs.declared.fault.TheConstants.{MOST_LOCATORS, MOST_MAPPINGS};
 
-use crate::bits::tell;
-use crate::learning::{drop_eid, drop_ended, fresh, has_room, put};
-use crate::naming::least_named;
-use crate::searching::{is_exact, lasts, longest_covering};
-use crate::{LearnFault, Mapping, NoMemory, Reads};
+use crate::indexed::Indexed;
+use crate::learning::fresh;
+use crate::searching::lasts;
+use crate::{LearnFault, MOST_MAPPINGS, Mapping, NoMemory, Reads};
 use ip_headers::Addr;
 use mapping_records::{Eid, Record};
 use std::alloc::Global;
@@ -19,15 +18,15 @@ use std::marker::Model;
 
 /// Mappings that were learned, in order of EID, of each EID the last one. What is asked at a moment
 /// is answered by those that haven't ended then.
-#[derive(Debug, Drop)]
+#[derive(Drop)]
 pub struct MapCache {
     now: u64,
-    mappings: Vec<Mapping>,
+    indexed: Indexed,
 }
 
 impl Model for MapCache {
-    ghost use Rattle.std.specs.Prelude.{◌≤◌, ◌-◌, vec_len, vec_capacity};
-    ghost use Rattle.map_cache.specs.Lists.{AllFew, AllLast, IsAscending};
+    ghost use Rattle.std.specs.Prelude.{◌≤◌, length};
+    ghost use Rattle.map_cache.specs.Lists.{AllFew, AllLast};
     ghost use Rattle.map_cache.specs.Cache.{Cache};
     ghost use Rattle.map_cache.specs.declared.fault.TheConstants.{MOST_MAPPINGS};
 
@@ -35,13 +34,13 @@ impl Model for MapCache {
 
     ghost view = { λ cache. record {
       now = cache.now;
-      mappings = cache.mappings.items;
-      spare = vec_capacity cache.mappings - vec_len cache.mappings;
+      mappings = cache.indexed.mappings;
+      spare = cache.indexed.spare;
+      locator_spare = cache.indexed.locator_spare;
     } };
 
-    ghost invariant = { λ cache. (vec_len cache.mappings ≤ MOST_MAPPINGS)
-        × (IsAscending cache.mappings.items
-        × (AllLast cache.now cache.mappings.items × AllFew cache.mappings.items)) };
+    ghost invariant = { λ cache. (length cache.indexed.mappings ≤ MOST_MAPPINGS)
+        × (AllLast cache.now cache.indexed.mappings × AllFew cache.indexed.mappings) };
 }
 
 impl MapCache {
@@ -52,7 +51,7 @@ impl MapCache {
     {
         MapCache {
             now: 0,
-            mappings: Vec::new(alloc),
+            indexed: Indexed::new(alloc),
         }
     }
 
@@ -63,39 +62,48 @@ impl MapCache {
         self.now
     }
 
-    /// What is kept, in order of EID.
-    pub fn mappings(&self) -> &[Mapping]
-        ensures { result.now ≡ self.entry.now.mappings }
+    /// How many mappings are kept.
+    pub fn len(&self) -> usize
+        ensures len { result ≡ length self.entry.now.mappings }
+        ensures most { result ≤ MOST_MAPPINGS }
     {
-        &self.mappings
+        self.indexed.len()
     }
 
-    /// Makes room for `n` further mappings with so many locators in all. Records bring their
-    /// locators with them, so that these take no room here.
+    /// The mapping at a place of those that are kept, in order of EID.
+    pub fn mapping(&self, index: usize) -> &Mapping
+        requires { index < length self.now.mappings }
+        ensures { slice_get self.entry.now.mappings index ≡ Some result.now }
+    {
+        self.indexed.mapping(index)
+    }
+
+    /// Makes room for `n` further mappings with so many locators in all, with those that there is room
+    /// for already.
     pub fn reserve(&mut self, n: u32, locators: u32) -> Result<(), NoMemory>
         requires mappings { n ≤ MOST_MAPPINGS }
         requires locators { locators ≤ MOST_MAPPINGS * MOST_LOCATORS }
         ensures now { self.new.now ≡ self.old.now }
         ensures mappings { self.new.mappings ≡ self.old.mappings }
         ensures spare { self.old.spare ≤ self.new.spare }
+        ensures locator_spare { self.old.locator_spare ≤ self.new.locator_spare }
         ensures ok { OnOk result (n ≤ self.new.spare) }
-        ensures memory { OnErr result (self.old.spare < n) }
+        ensures locators_ok { OnOk result (locators ≤ self.new.locator_spare) }
+        ensures enough { n ≤ self.old.spare → locators ≤ self.old.locator_spare → IsOk result }
     {
-        self.mappings.reserve(n as usize)?;
-        Ok(())
+        self.indexed.reserve(n, locators)
     }
 
-    /// Takes away what has ended at a moment. Nothing is searched where it is that of the last one.
+    /// Takes away what has ended at a moment. Only what goes is looked at.
     pub fn purge(&mut self, m: u64)
         requires { self.old.now ≤ m }
         ensures now { self.new.now ≡ m }
         ensures mappings { self.new.mappings ≡ lasting m self.old.mappings }
         ensures spare { self.old.spare ≤ self.new.spare }
+        ensures locator_spare { self.old.locator_spare ≤ self.new.locator_spare }
     {
-        if self.now < m {
-            self.now = m;
-            drop_ended(m, &mut self.mappings);
-        }
+        self.indexed.drop_ended(m);
+        self.now = m;
     }
 
     /// Learns a mapping at a moment, in place of that of its EID; a TTL of 0 takes that one away.
@@ -109,20 +117,32 @@ impl MapCache {
         ensures err { OnErr result (self.new.mappings ≡ lasting m self.old.mappings) }
         ensures full { (result ≡ Err CacheFull)
             ↔ IsFalse (has_room mapping (lasting m self.old.mappings)) }
-        ensures memory { result ≡ Err Memory → self.old.spare ≡ 0 }
+        ensures memory { 0 < self.old.spare → length mapping.locators ≤ self.old.locator_spare
+            → result ≢ Err Memory }
         ensures spare { self.old.spare ≤ self.new.spare + 1 }
+        ensures locator_spare { self.old.locator_spare
+            ≤ self.new.locator_spare + length mapping.locators }
     {
         self.purge(m);
-        if !has_room(&mapping, &self.mappings) {
-            return Err(LearnFault::CacheFull);
-        }
         if mapping.ttl == 0 {
-            drop_eid(&mapping.eid, &mut self.mappings);
+            self.indexed.drop_eid(&mapping.eid);
             return Ok(());
         }
-        self.mappings.reserve(1)?;
-        put(fresh(m, mapping, fixed), &mut self.mappings);
+        if !self.has_place(&mapping.eid) {
+            return Err(LearnFault::CacheFull);
+        }
+        self.indexed
+            .reserve(1, mapping.locators.as_slice().len() as u32)?;
+        self.indexed.put(fresh(m, mapping, fixed));
         Ok(())
+    }
+
+    // A mapping of that EID is kept, or there are fewer than the limit.
+    fn has_place(&self, eid: &Eid) -> bool
+        ensures { result ≡ (is_some (exact self.entry.now.mappings eid.now)
+            || nat_lt (length self.entry.now.mappings) MOST_MAPPINGS) }
+    {
+        self.indexed.len() < MOST_MAPPINGS || self.indexed.has(eid)
     }
 
     /// Tells the live mapping of that EID the status bits of its first `width` locators, the lowest
@@ -132,8 +152,9 @@ impl MapCache {
         ensures now { self.new.now ≡ self.old.now }
         ensures mappings { self.new.mappings ≡ bits_told eid.now bits width self.old.mappings }
         ensures spare { self.new.spare ≡ self.old.spare }
+        ensures locator_spare { self.new.locator_spare ≡ self.old.locator_spare }
     {
-        tell(eid, bits, width, &mut self.mappings);
+        self.indexed.tell(eid, bits, width);
     }
 
     /// The mapping in force for an EID: the longest of those that haven't ended and cover it. None
@@ -147,10 +168,11 @@ impl MapCache {
         ensures counted { reads.old ≤ reads.new }
         ensures bound { reads.new ≤ reads.old + 129 }
     {
-        longest_covering(m, eid, &self.mappings)
+        self.indexed.in_force(m, eid, reads)
     }
 
-    /// The mapping of just that EID. None where there is none, or it has ended.
+    /// The mapping of just that EID. None where there is none, or it has ended. Reads at most 129
+    /// nodes.
     pub fn exact(&self, m: u64, eid: &Eid, reads: &mut Reads) -> Option<&Mapping>
         requires later { self.now.now ≤ m }
         requires reads { reads.old < 2 ^ 63 }
@@ -158,12 +180,7 @@ impl MapCache {
         ensures counted { reads.old ≤ reads.new }
         ensures bound { reads.new ≤ reads.old + 129 }
     {
-        for mapping in &self.mappings {
-            if is_exact(m, eid, mapping) {
-                return Some(mapping);
-            }
-        }
-        None
+        self.indexed.exact(m, eid, reads)
     }
 
     /// The least address above `after` that a mapping names which hasn't ended, by a locator with a
@@ -174,18 +191,21 @@ impl MapCache {
         ensures { result ≡ least_named
             (named_above (option_copied after.entry) (lasting m self.entry.now.mappings)) }
     {
-        least_named(m, after, &self.mappings)
+        self.indexed.next_named(m, after)
     }
 
-    /// How many mappings haven't ended at a moment.
+    /// How many mappings haven't ended at a moment. None is looked at where none has.
     pub fn live_count(&self, m: u64) -> u32
         requires { self.now.now ≤ m }
         ensures count { result ≡ length (lasting m self.entry.now.mappings) }
         ensures most { result ≤ MOST_MAPPINGS }
     {
+        if self.indexed.first_ended(m).is_none() {
+            return self.indexed.len() as u32;
+        }
         let mut count = 0;
-        for mapping in &self.mappings {
-            if lasts(m, mapping) {
+        for index in 0..self.indexed.len() {
+            if lasts(m, self.indexed.mapping(index)) {
                 count += 1;
             }
         }

@@ -2,6 +2,7 @@
 ghost use Rattle.std.specs.Prelude.{◌≡◌};
 ghost use Rattle.map_cache.specs.declared.fault.LearnFault.TheVariants.{Memory};
 
+use octets::NoMemory;
 use std::alloc::AllocError;
 
 /// The most mappings that a cache holds (this router's choice).
@@ -23,6 +24,14 @@ impl From<AllocError> for LearnFault {
     ghost from_gives = { λ _ fault. fault ≡ Memory };
 
     fn from(_: AllocError) -> Self {
+        LearnFault::Memory
+    }
+}
+
+impl From<NoMemory> for LearnFault {
+    ghost from_gives = { λ _ fault. fault ≡ Memory };
+
+    fn from(_: NoMemory) -> Self {
         LearnFault::Memory
     }
 }

@@ -3,11 +3,16 @@
 
 mod bits;
 mod cache;
+mod endings;
 mod fault;
+mod held;
+mod indexed;
+mod keys;
+mod lasting;
 mod laws;
 mod learning;
 mod mapping;
-mod naming;
+mod names;
 mod searching;
 
 pub use cache::MapCache;

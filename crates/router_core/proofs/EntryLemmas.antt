@@ -1,5 +1,5 @@
 -- What an entry makes of the lists of a table.
-use Rattle.std.proofs.Common.{◌≡◌, ℕ, suc, ◌+◌, ◌-◌, ◌*◌, ◌<◌, ◌≤◌, ◌==◌, ◌||◌, not, nat_lt, Bool, true, false, cond, IsTrue, IsFalse, List, [], ◌∷◌, ◌++◌, filter, filter_map, map, Option, Some, None, Result, Ok, Err, OnOk, OnErr, ◌↔◌, refl, sym, ap, ap₂, ◌∙◌, arith}
+use Rattle.std.proofs.Common.{◌≢◌, ◌≡◌, ℕ, suc, ◌+◌, ◌-◌, ◌*◌, ◌<◌, ◌≤◌, ◌==◌, ◌||◌, not, nat_lt, Bool, true, false, cond, IsTrue, IsFalse, List, [], ◌∷◌, ◌++◌, filter, filter_map, map, Option, Some, None, Result, Ok, Err, OnOk, OnErr, ◌↔◌, refl, sym, ap, ap₂, ◌∙◌, arith}
 use Rattle.std.specs.List.{cons_option}
 use Rattle.std.proofs.lemmas.Bool.Decides.{nat_tests}
 use Rattle.ip_headers.specs.declared.addr.Addr.{Addr}
@@ -148,10 +148,10 @@ learned-parts count drawn now ms rs o m mapping fixed =
     (one_more count) (no_more drawn) (sym (absorb-learned m mapping fixed ms)) (sym (filter_map-all (waiting m rs))) (sym (still m o))
 
 -- a cache that has room and place took it
-pub was_learned : {P : Type 0} (r : Result (Unit {0}) LearnFault) (spare : ℕ) (place : Bool) → OnOk r P → (r ≡ Err learning.Memory → spare ≡ 0) → 0 < spare → ((r ≡ Err learning.CacheFull) ↔ IsFalse place) → IsTrue place → P
-was_learned (Ok u) spare place ok memory some full is = ok
-was_learned (Err learning.Memory) spare place ok memory some full is = let none = memory refl in absurd (omega (arith, none, some))
-was_learned (Err learning.CacheFull) spare place ok memory some full is = apart place (full.0 refl) is
+pub was_learned : {P : Type 0} (r : Result (Unit {0}) LearnFault) (place : Bool) → OnOk r P → r ≢ Err learning.Memory → ((r ≡ Err learning.CacheFull) ↔ IsFalse place) → IsTrue place → P
+was_learned (Ok u) place ok memory full is = ok
+was_learned (Err learning.Memory) place ok memory full is = absurd (memory refl)
+was_learned (Err learning.CacheFull) place ok memory full is = apart place (full.0 refl) is
   where
     apart : {Q : Type 0} (b : Bool) → IsFalse b → IsTrue b → Q
     apart true isn't is' = cc

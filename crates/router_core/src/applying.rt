@@ -105,7 +105,7 @@ impl Table {
         ensures err { OnErr result (self.new.parts ≡ self.old.parts) }
     {
         let mapping = copied(self.alloc, mapping)?;
-        self.reserve_mappings(1)?;
+        self.reserve_mappings(1, mapping.locators.len() as u32)?;
         self.learn(m, mapping, false);
         Ok(())
     }

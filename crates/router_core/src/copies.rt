@@ -32,9 +32,7 @@ pub(crate) fn shortened(alloc: Global, mapping: &Record) -> Result<Record, NoMem
 fn copied_locators(alloc: Global, locators: &[Locator]) -> Result<Locators, NoMemory>
     ensures { IfOk result (λ copy. copy ≡ locators.now) }
 {
-    let mut copies = Vec::new(alloc);
-    copies.extend_from_slice(locators)?;
-    Ok(Items::from_vec(copies))
+    Ok(Items::from_vec(Vec::from_slice(alloc, locators)?))
 }
 
 fn with_locators(mapping: &Record, locators: Locators) -> Record

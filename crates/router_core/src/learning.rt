@@ -1,5 +1,5 @@
 // What a Map-Reply teaches.
-ghost use Rattle.std.specs.Prelude.{◌≡◌, ◌<◌, ◌≤◌, ◌+◌, ◌^◌, ◌&&◌, ◌||◌, nat_lt, max, is_some, [], Some, not, length, IfOk, OnErr, vec_len, vec_capacity};
+ghost use Rattle.std.specs.Prelude.{◌≡◌, ◌<◌, ◌≤◌, ◌+◌, ◌*◌, ◌^◌, ◌&&◌, ◌||◌, nat_lt, max, is_some, [], Some, not, length, IfOk, OnErr, vec_len, vec_capacity};
 ghost use Rattle.map_cache.specs.Cache.{exact, lasting};
 ghost use Rattle.map_cache.specs.declared.fault.TheConstants.{MOST_MAPPINGS};
 ghost use Rattle.std.specs.List.{All, list_any};
@@ -16,7 +16,7 @@ ghost use Rattle.router_core.specs.Table.{change_of, heard_seen};
 use crate::copies::{Copies, all_copies};
 use crate::{Heard, Table};
 use lisp_settings::Settings;
-use map_cache::MOST_MAPPINGS;
+use map_cache::{MOST_LOCATORS, MOST_MAPPINGS};
 use map_messages::MapReply;
 use mapping_records::{Eid, Record};
 use node_store::Reads;
@@ -54,7 +54,8 @@ impl Table {
         let mut entries = Vec::new(self.alloc);
         entries.reserve(1 + mappings.len())?;
         let mut copies = all_copies(self.alloc, mappings)?;
-        self.reserve_mappings(mappings.len() as u32)?;
+        let n = mappings.len() as u32;
+        self.reserve_mappings(n, n * MOST_LOCATORS as u32)?;
         self.answer(m, reply.nonce);
         entries.push_reserved(Entry::Answered {
             moment: m,
@@ -94,6 +95,7 @@ impl Table {
         requires range { All InRange records.now }
         requires copies { copies.old.items ≡ all_copies records.now }
         requires mapping_room { length records.now ≤ self.old.mapping_room }
+        requires locator_room { 32 * length records.now ≤ self.old.locator_room }
         requires room { vec_len entries.old + length records.now ≤ vec_capacity entries.old }
         ensures change { change_of self.new.parts entries.new.items []
             ≡ each (taught table settings.now m asked.now mappings.now) records.now
@@ -127,6 +129,7 @@ impl Table {
         requires range { InRange mapping.now }
         requires copies { copies ≡ copies_of mapping.now }
         requires mapping_room { 0 < self.old.mapping_room }
+        requires locator_room { 32 ≤ self.old.locator_room }
         requires room { vec_len entries.old < vec_capacity entries.old }
         ensures change { change_of self.new.parts entries.new.items []
             ≡ taught table settings.now m asked.now mappings.now mapping.now
@@ -134,6 +137,7 @@ impl Table {
         ensures now { self.new.parts.now ≡ m }
         ensures count { self.new.parts.count ≤ self.old.parts.count + 1 }
         ensures mapping_room { self.old.mapping_room ≤ self.new.mapping_room + 1 }
+        ensures locator_room { self.old.locator_room ≤ self.new.locator_room + 32 }
         ensures more { vec_len entries.old ≤ vec_len entries.new }
         ensures most { vec_len entries.new ≤ vec_len entries.old + 1 }
         ensures capacity { vec_capacity entries.new ≡ vec_capacity entries.old }

@@ -6,7 +6,7 @@ ghost use Rattle.router_core.specs.Resting.{all_rest, rests};
 use crate::site::{is_own, ours};
 use lisp_settings::{Locator, OwnLocator, OwnLocators};
 use locator_state::LocatorState;
-use map_cache::Mapping;
+use map_cache::MapCache;
 use octets::{Items, NoMemory};
 use std::alloc::Global;
 
@@ -77,17 +77,13 @@ fn rest_of_all(own: &[OwnLocator], m: u64, state: &LocatorState, locators: &[Loc
 }
 
 /// Until when none of those that mappings name is to be probed, as is known at a moment.
-pub(crate) fn rest_until(
-    own: &[OwnLocator],
-    m: u64,
-    state: &LocatorState,
-    mappings: &[Mapping],
-) -> u64
+pub(crate) fn rest_until(own: &[OwnLocator], m: u64, state: &LocatorState, cache: &MapCache) -> u64
     ensures { list_all (λ mapping. all_rest own.now result state.now.observed.probes
-        mapping.details.locators) mappings.now ≡ true }
+        mapping.details.locators) cache.entry.now.mappings ≡ true }
 {
     let mut until = u64::MAX;
-    for mapping in mappings {
+    for index in 0..cache.len() {
+        let mapping = cache.mapping(index);
         until = until.min(rest_of_all(own, m, state, mapping.details.locators.as_slice()));
     }
     until

@@ -1,5 +1,7 @@
 // What the settings say of addresses.
-ghost use Rattle.std.specs.Prelude.{◌≡◌, ◌<◌, ◌≤◌, ◌^◌, length, IfSome};
+ghost use Rattle.std.specs.Prelude.{◌≡◌, ◌<◌, ◌≤◌, ◌^◌, length, IfSome, map};
+ghost use Rattle.std.specs.List.Sorted.{IsStrictlySortedBy};
+ghost use Rattle.std.specs.Ordering.{nat_cmp};
 ghost use Rattle.ip_headers.specs.Addr.{width};
 ghost use Rattle.mapping_records.specs.Eids.{same_address};
 ghost use Rattle.router_model.specs.Site.{instance_of, is_own, ours, own_bits};
@@ -54,14 +56,13 @@ pub(crate) fn own_bits(locators: &[OwnLocator]) -> u64
     u64::from(own.up) + 2 * own_bits(others)
 }
 
-/// The instance that a VLAN is attached to.
+/// The instance that a VLAN is attached to, among attachments in order of their VLANs.
 pub(crate) fn instance_of(attachments: &[Attachment], vlan: u16) -> Option<u32>
+    requires { IsStrictlySortedBy nat_cmp (map (λ attachment. attachment.vlan) attachments.now) }
     ensures { result ≡ instance_of attachments.now vlan }
 {
-    for attachment in attachments {
-        if attachment.vlan == vlan {
-            return Some(attachment.iid);
-        }
+    match attachments.binary_search_by_key(&vlan, |attachment| attachment.vlan) {
+        Ok(at) => Some(attachments[at].iid),
+        Err(_) => None,
     }
-    None
 }

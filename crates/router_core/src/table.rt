@@ -1,8 +1,8 @@
 // A table: what a router remembers of its journal.
-ghost use Rattle.std.specs.Prelude.{◌≡◌, ◌<◌, ◌≤◌, ◌+◌, ◌^◌, ◌≢◌, IsTrue, [], length, IfOk, OnOk};
+ghost use Rattle.std.specs.Prelude.{◌≡◌, ◌<◌, ◌≤◌, ◌+◌, ◌^◌, ◌≢◌, IsTrue, All, [], length, sum_by, IfOk, OnOk};
 ghost use Rattle.map_cache.specs.Cache.{has_room, lasting};
 ghost use Rattle.request_queue.specs.Queue.{may_send_again, waiting};
-ghost use Rattle.lisp_settings.specs.Lawful.{IsLawful};
+ghost use Rattle.lisp_settings.specs.Lawful.{IsLawful, IsLawfulMapping};
 ghost use Rattle.router_log.specs.declared.entry.Entry.TheVariants.{Answered, Asked, Bits, DataFrom, EchoHeard, EchoStarted, EchoWanted, Learned, ProbeAnswered, Probed, Retried, Solicited};
 ghost use Rattle.router_model.specs.Journal.{statics};
 ghost use Rattle.router_model.specs.Parts.{Stands, parts_in, with_entry};
@@ -52,6 +52,7 @@ impl Model for Table {
         observed = table.locators.observed;
       };
       mapping_room = table.cache.spare;
+      locator_room = table.cache.locator_spare;
       request_room = table.queue.spare;
       probe_room = table.locators.probe_room;
       start_room = table.locators.start_room;
@@ -76,7 +77,7 @@ impl Table {
     {
         let mappings = settings.mappings.as_slice();
         let mut table = Table::empty(alloc, Rest::new(alloc, settings.locators.as_slice())?);
-        table.reserve_mappings(mappings.len() as u32)?;
+        table.reserve_mappings(mappings.len() as u32, locator_count(mappings))?;
         for mapping in mappings {
             let mapping = copied(alloc, mapping)?;
             table.learn(0, mapping, true);
@@ -106,13 +107,15 @@ impl Table {
         self.count
     }
 
-    /// Makes room for so many further mappings.
-    pub(crate) fn reserve_mappings(&mut self, n: u32) -> Result<(), NoMemory>
-        requires { n ≤ 65536 }
+    /// Makes room for so many further mappings, with so many locators in all.
+    pub(crate) fn reserve_mappings(&mut self, n: u32, locators: u32) -> Result<(), NoMemory>
+        requires n { n ≤ 65536 }
+        requires locators { locators ≤ 2097152 }
         ensures parts { self.new.parts ≡ self.old.parts }
         ensures room { OnOk result (n ≤ self.new.mapping_room) }
+        ensures locator_room { OnOk result (locators ≤ self.new.locator_room) }
     {
-        self.cache.reserve(n, 0)
+        self.cache.reserve(n, locators)
     }
 
     /// Makes room for so many further requests.
@@ -151,9 +154,12 @@ impl Table {
         requires fixed { IsTrue fixed → mapping.ttl ≢ 0 }
         requires place { IsTrue (has_room mapping (lasting m self.old.parts.mappings)) }
         requires room { 0 < self.old.mapping_room }
+        requires locator_room { length mapping.locators ≤ self.old.locator_room }
         requires count { self.old.parts.count < 2 ^ 63 }
         ensures parts { self.new.parts ≡ with_entry (Learned m mapping fixed) self.old.parts }
         ensures mapping_room { self.old.mapping_room ≤ self.new.mapping_room + 1 }
+        ensures locator_room { self.old.locator_room
+            ≤ self.new.locator_room + length mapping.locators }
         ensures request_room { self.old.request_room ≤ self.new.request_room }
     {
         self.rest.until = 0;
@@ -187,6 +193,7 @@ impl Table {
         requires count { self.old.parts.count < 2 ^ 63 }
         ensures parts { self.new.parts ≡ with_entry (Answered m nonce) self.old.parts }
         ensures mapping_room { self.old.mapping_room ≤ self.new.mapping_room }
+        ensures locator_room { self.old.locator_room ≤ self.new.locator_room }
         ensures request_room { self.old.request_room ≤ self.new.request_room }
     {
         self.rest.until = 0;
@@ -328,4 +335,18 @@ impl Table {
         self.cache.set_bits(eid, bits, width);
         self.count += 1;
     }
+}
+
+// How many locators mappings have in all.
+fn locator_count(mappings: &[Record]) -> u32
+    requires few_mappings { length mappings.now ≤ 65536 }
+    requires lawful { All IsLawfulMapping mappings.now }
+    ensures count { result ≡ sum_by (λ mapping. length mapping.locators) mappings.now }
+    ensures most { result ≤ 2097152 }
+{
+    let mut count = 0;
+    for mapping in mappings {
+        count += mapping.locators.as_slice().len() as u32;
+    }
+    count
 }

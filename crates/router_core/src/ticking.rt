@@ -80,12 +80,7 @@ impl Table {
         }
         self.queue.look_ahead();
         if settings.probe {
-            self.rest.until = rest_until(
-                self.rest.own.as_slice(),
-                m,
-                &self.locators,
-                self.cache.mappings(),
-            );
+            self.rest.until = rest_until(self.rest.own.as_slice(), m, &self.locators, &self.cache);
         }
     }
 
@@ -255,7 +250,8 @@ impl Table {
         ensures few { vec_len first.new ≤ MOST_TARGETS }
         ensures senders { All (HasSender settings.now) first.new.items }
     {
-        for mapping in self.cache.mappings() {
+        for index in 0..self.cache.len() {
+            let mapping = self.cache.mapping(index);
             if lasts(m, mapping) {
                 let locators = mapping.details.locators.as_slice();
                 self.offer_each(settings, m, &mapping.eid, locators, first);

@@ -1,24 +1,20 @@
-use Rattle.std.proofs.Common.{◌≡◌, sym, ap, subst, arith}
-use Rattle.map_cache.specs.Cache.{Cache, lasting, lasts}
-use Rattle.map_cache.specs.Lists.{AllFew, AllLast, IsAscending}
-use Rattle.map_cache.proofs.AscendingLemmas.{IsAscending-filter}
+use Rattle.std.proofs.Common.{length, sym, subst, ap, arith}
+use Rattle.map_cache.specs.Cache.{lasts}
+use Rattle.map_cache.specs.Lists.{AllFew, AllLast}
 use Rattle.map_cache.proofs.FewLemmas.{AllFew-filter}
-use Rattle.map_cache.proofs.LastingLemmas.{AllLast-lasting, lasting-all}
+use Rattle.map_cache.proofs.FullLemmas.{few-filter}
+use Rattle.map_cache.proofs.LastingLemmas.{AllLast-lasting}
 use Rattle.map_cache.proofs.cache.MapCache.purge.Goals as goal
 
 pub invariant_of-self : goal.invariant_of-self
-invariant_of-self c = (
-  omega (arith, c.drop_ended.ensures.len, c.self.invariant.0),
-  (
-    subst IsAscending (sym c.drop_ended.ensures.items) (IsAscending-filter (lasts c.args.m) c.self.inside.mappings.items c.self.invariant.1.0),
-    (
-      subst (AllLast c.args.m) (sym c.drop_ended.ensures.items) (AllLast-lasting c.args.m c.self.inside.mappings.items),
-      subst AllFew (sym c.drop_ended.ensures.items) (AllFew-filter (lasts c.args.m) c.self.inside.mappings.items c.self.invariant.1.1.1),
-    ),
-  ),
-)
-
-pub returns-else-self-m-clause-mappings : goal.returns-else-self-m-clause-mappings
-returns-else-self-m-clause-mappings c =
-    let same : c.self.inside.now ≡ c.args.m = omega (arith, c.if-self-m.false, c.requires, ap (λ (cache : Cache). cache.now) c.self.view_is) in
-    subst (λ (cache : Cache). cache.mappings ≡ lasting c.args.m cache.mappings) c.self.view_is (sym (lasting-all c.args.m c.self.inside.mappings.items (subst (λ now. AllLast now c.self.inside.mappings.items) same c.self.invariant.1.1.0)))
+invariant_of-self c =
+    let items = c.self.inside.indexed.mappings in
+    let left = c.drop_ended.ensures.mappings in
+    let same = ap length left in
+    let few = few-filter (lasts c.args.m) items _ c.self.invariant.0 in (
+      omega (arith, same, few),
+      (
+        subst (AllLast c.args.m) (sym left) (AllLast-lasting c.args.m items),
+        subst AllFew (sym left) (AllFew-filter (lasts c.args.m) items c.self.invariant.1.1),
+      ),
+    )

@@ -6,6 +6,7 @@ use Rattle.router_log.specs.declared.entry.Entry.TheVariants.{Learned}
 use Rattle.router_model.specs.Changes.{has_room}
 use Rattle.router_model.specs.Hear.{is_asked_for, is_static, shortened}
 use Rattle.router_model.specs.Parts.{Parts, view_in, with_entry}
+use Rattle.router_core.specs.Copies.{copies_of}
 use Rattle.router_core.specs.Table.{change_of}
 use Rattle.router_core.specs.declared.copies.Copies.{Copies}
 use Rattle.router_core.proofs.ChangeLemmas.{both, learned-place, taught-so}
@@ -22,6 +23,19 @@ few mapping = least (length (take 32 mapping.locators)) (length mapping.locators
 
 pub learn-requires-clause-locators : goal.learn-requires-clause-locators
 learn-requires-clause-locators c = rw (ap (λ (copy : Copies). copy.kept) c.requires.copies) (few c.args.mapping.now)
+
+kept_few : (copies : Copies) (mapping : Record) → copies ≡ copies_of mapping → length copies.kept.locators ≤ 32
+kept_few copies mapping is = let same = ap (λ (copy : Copies). length copy.kept.locators) is in let less = few mapping in omega (arith, same, less)
+
+pub learn-requires-clause-locator_room : goal.learn-requires-clause-locator_room
+learn-requires-clause-locator_room c =
+    let kept = kept_few c.args.copies c.args.mapping.now c.requires.copies in
+    omega (arith, kept, c.requires.locator_room)
+
+pub returns-clause-locator_room : goal.returns-clause-locator_room
+returns-clause-locator_room c =
+    let kept = kept_few c.args.copies c.args.mapping.now c.requires.copies in
+    omega (arith, kept, c.learn.ensures.locator_room)
 
 pub learn-requires-clause-place : goal.learn-requires-clause-place
 learn-requires-clause-place c =

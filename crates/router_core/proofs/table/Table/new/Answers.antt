@@ -1,9 +1,9 @@
-use Rattle.std.proofs.Common.{true, ◌∙◌, ◌≤◌, ◌+◌, List, ◌∷◌, ◌++◌, [], length, take, sym, ap, subst, arith}
+use Rattle.std.proofs.Common.{◌≡◌, true, ◌∙◌, ◌≤◌, ◌+◌, List, ◌∷◌, ◌++◌, [], length, take, sym, ap, subst, arith}
 use Rattle.std.proofs.lemmas.List.{take_more}
 use Rattle.mapping_records.specs.declared.record.Record.{Record}
 use Rattle.router_log.specs.declared.entry.Entry.TheVariants.{Learned}
 use Rattle.router_model.specs.Parts.{Parts, parts_in, with_entry}
-use Rattle.router_core.proofs.StaticLemmas.{journal_of, static-few, static-parts, static-place}
+use Rattle.router_core.proofs.StaticLemmas.{journal_of, static-few, static-parts, static-place, to_come-next}
 use Rattle.router_core.proofs.table.Table.new.Goals as goal
 
 pub learn-requires-clause-place : goal.learn-requires-clause-place
@@ -27,8 +27,12 @@ loop-mapping-preserved c =
     let few = known.1.1.0 in
     let count = known.1.0 in
     let more = static-few item before in
-    let room = known.1.1.1 in
-    let left = c.learn.ensures.mapping_room in (
+    let room = known.1.1.1.0 in
+    let left = c.learn.ensures.mapping_room in
+    let to_come = to_come-next mappings i item below c.mapping-item.is in
+    let places = known.1.1.1.1 in
+    let taken_places = c.learn.ensures.locator_room in
+    let own : length c.in_ok-mapping.mapping.locators ≡ length item.locators = ap (λ (r : Record). length r.locators) c.in_ok-mapping.ensures in (
       same ∙ static-parts (take i mappings) item before c.loop-mapping.invariant.0
           ∙ ap (λ (l : List Record). parts_in (journal_of l)) (ap (λ (r : Record). take i mappings ++ r ∷ []) c.mapping-item.is ∙ sym (take_more mappings i item below)),
       (
@@ -37,8 +41,17 @@ loop-mapping-preserved c =
           subst (λ (q : Parts). q.count ≤ i + 1) (sym same) (omega (arith, count)),
           (
             subst (λ (q : Parts). length q.mappings ≤ i + 1) (sym same) (omega (arith, few, more)),
-            omega (arith, room, left),
+            (omega (arith, room, left), omega (arith, to_come, places, taken_places, own)),
           ),
         ),
       ),
     )
+
+pub learn-requires-clause-locator_room : goal.learn-requires-clause-locator_room
+learn-requires-clause-locator_room c =
+    let mappings = c.as_slice-mappings.result.now in
+    let item = c.mapping-item.result in
+    let to_come = to_come-next mappings c.loop-mapping.mapping-index item c.loop-mapping-test.true c.mapping-item.is in
+    let places = c.loop-mapping.invariant.1.1.1.1.1 in
+    let own : length c.in_ok-mapping.mapping.locators ≡ length item.locators = ap (λ (r : Record). length r.locators) c.in_ok-mapping.ensures in
+    omega (arith, to_come, places, own)

@@ -1,0 +1,56 @@
+-- What a trie tells of mappings in a list.
+use Rattle.std.proofs.Common.{◌≡◌, ℕ, zero, suc, ◌<◌, ◌==◌, true, List, [], ◌∷◌, length, get_or, slice_get, All, Contains, Option, Some, is_some, inl, inr, refl, sym, ap, ◌∙◌, arith, eq-eqb}
+use Rattle.std.proofs.lemmas.Bool.{cases_Bool}
+use Rattle.std.proofs.lemmas.List.Elements.{All-head, All-tail}
+use Rattle.std.proofs.lemmas.Option.{same_Some}
+use Rattle.named_list.specs.Named.{item_named}
+use Rattle.mapping_records.specs.declared.eid.Eid.{Eid}
+use Rattle.map_cache.specs.Indexed.{all_held, held_of}
+use Rattle.map_cache.specs.declared.held.Held.{Held}
+use Rattle.map_cache.specs.declared.mapping.Mapping.{Mapping}
+use Rattle.map_cache.proofs.AmongLemmas.{Among}
+
+-- a pair that is told, and the mapping of which it is
+pub record HeldAt (names : List ℕ) (items : List Mapping) (pair : Eid × Held) : Type 0 where
+  pub index : ℕ
+  pub item : Mapping
+  pub named : slice_get names index ≡ Some pair.1.name
+  pub there : slice_get items index ≡ Some item
+  pub is : held_of pair.1.name item ≡ pair
+
+held-index : (names : List ℕ) (items : List Mapping) (k : ℕ) (pair : Eid × Held) → k < length (all_held names items) → get_or (all_held names items) k pair ≡ pair → HeldAt names items pair
+held-index [] items k pair within is = absurd (omega (arith, within))
+held-index (name ∷ names) [] k pair within is = absurd (omega (arith, within))
+held-index (name ∷ names) (x ∷ items) zero pair within is =
+    let same : name ≡ pair.1.name = ap (λ (p : Eid × Held). p.1.name) is in
+    record { index = 0; item = x; named = ap (λ n. Some n) same; there = refl; is = ap (λ n. held_of n x) (sym same) ∙ is }
+held-index (name ∷ names) (x ∷ items) (suc k) pair within is =
+    let rest = held-index names items k pair (omega (arith, within)) is in
+    record { index = suc rest.index; item = rest.item; named = rest.named; there = rest.there; is = rest.is }
+
+-- a pair that is among them is told of a mapping
+pub held-at : (names : List ℕ) (items : List Mapping) (pair : Eid × Held) → Contains (all_held names items) pair → HeldAt names items pair
+held-at names items pair there = held-index names items there.0 pair there.1 there.2
+
+-- what stands where a name does is named
+pub named-at : (names : List ℕ) (items : List Mapping) (index name : ℕ) (x : Mapping) → slice_get names index ≡ Some name → slice_get items index ≡ Some x → is_some (item_named names items name) ≡ true
+named-at [] items index name x named there = absurd (cc named)
+named-at (first ∷ names) [] index name x named there = absurd (cc there)
+named-at (first ∷ names) (y ∷ items) zero name x named there = rw (eq-eqb first name (same_Some first name named)) refl
+named-at (first ∷ names) (y ∷ items) (suc index) name x named there = elim (cases_Bool (first == name)) [
+  | inl here ↦ rw here refl
+  | inr later ↦ rw later (named-at names items index name x named there)
+]
+
+-- what holds of all that is told holds of what is told of each mapping
+pub held-each : (P : Eid × Held → Type 0) (names : List ℕ) (items : List Mapping) (x : Mapping) → length names ≡ length items → All P (all_held names items) → Among x items → (name : ℕ) × P (held_of name x)
+held-each P names [] x len all among = absurd among
+held-each P [] (y ∷ items) x len all among = absurd (omega (arith, len))
+held-each P (name ∷ names) (y ∷ items) x len all among = elim among [
+  | inl same ↦ (name, rw (← same) (All-head P (held_of name y) (all_held names items) all))
+  | inr later ↦ held-each P names items x (omega (arith, len)) (All-tail P (held_of name y) (all_held names items) all) later
+]
+
+-- what stands at a place, and what else is said of it
+pub at-place : {A : Type 0} (items : List A) (index : ℕ) (x y : A) (o : Option A) → slice_get items index ≡ Some x → slice_get items index ≡ Some y → o ≡ Some y → Some x ≡ o
+at-place items index x y o first second third = sym first ∙ second ∙ sym third

@@ -1,0 +1,39 @@
+-- What the trie tells of mappings, once one is put at a place or taken from it.
+use Rattle.std.proofs.Common.{◌≡◌, ℕ, zero, suc, false, cond, List, [], ◌∷◌, length, insert, remove, Less, is_lt, refl, sym, ap, ◌∙◌, arith}
+use Rattle.std.specs.Ordering.{ordering_reverse}
+use Rattle.std.proofs.lemmas.Cmp.{tied_back}
+use Rattle.mapping_records.proofs.OrderLemmas.{eid_order-total}
+use Rattle.mapping_records.specs.Orders.{eid_order}
+use Rattle.mapping_records.specs.declared.eid.Eid.{Eid}
+use Rattle.prefix_table.specs.Pairs.{is_below, with_pair, without_pair}
+use Rattle.map_cache.specs.Indexed.{all_held, held_of}
+use Rattle.map_cache.specs.declared.held.Held.{Held}
+use Rattle.map_cache.specs.declared.mapping.Mapping.{Mapping}
+use Rattle.map_cache.proofs.PlaceOfLemmas.{IsAbsent, IsThere}
+
+-- what is above isn't below
+not-back : (a b : Eid) → eid_order a b ≡ Less → is_below b a ≡ false
+not-back a b less = ap is_lt (eid_order-total.antisymm b a ∙ ap ordering_reverse less)
+
+-- the mapping of the EID is taken from the place
+pub held-remove : (eid : Eid) (names : List ℕ) (items : List Mapping) (n : ℕ) → length names ≡ length items → IsThere eid items n → all_held (remove names n) (remove items n) ≡ without_pair eid (all_held names items)
+held-remove eid names [] n same there = elim there [ ]
+held-remove eid [] (y ∷ items) n same there = absurd (omega (arith, same))
+held-remove eid (name ∷ names) (y ∷ items) zero same there =
+    rw (ap is_lt there.0, ap is_lt (tied_back eid_order-total y.eid eid there.0)) refl
+held-remove eid (name ∷ names) (y ∷ items) (suc n) same there =
+    ap (λ l. held_of name y ∷ l) (held-remove eid names items n (omega (arith, same)) there.1)
+    ∙ ap (λ b. cond b (held_of name y ∷ without_pair eid (all_held names items)) (cond (is_below eid y.eid) (all_held (name ∷ names) (y ∷ items)) (all_held names items))) (sym (ap is_lt there.0))
+
+-- a mapping is put at its place
+pub held-insert : (name : ℕ) (x : Mapping) (names : List ℕ) (items : List Mapping) (n : ℕ) → length names ≡ length items → IsAbsent x.eid items n → all_held (insert names n name) (insert items n x) ≡ with_pair x.eid (record { fixed = x.fixed; end = x.end; name = name }) (all_held names items)
+held-insert name x [] [] zero same absent = refl
+held-insert name x [] [] (suc n) same absent = elim absent [ ]
+held-insert name x [] (y ∷ items) n same absent = absurd (omega (arith, same))
+held-insert name x (m ∷ names) [] n same absent = absurd (omega (arith, same))
+held-insert name x (m ∷ names) (y ∷ items) zero same absent =
+    rw (not-back x.eid y.eid absent.0, ap is_lt absent.0) refl
+held-insert name x (m ∷ names) (y ∷ items) (suc n) same absent =
+    let held : Held = record { fixed = x.fixed; end = x.end; name = name } in
+    ap (λ l. held_of m y ∷ l) (held-insert name x names items n (omega (arith, same)) absent.1)
+    ∙ ap (λ b. cond b (held_of m y ∷ with_pair x.eid held (all_held names items)) (cond (is_below x.eid y.eid) ((x.eid, held) ∷ all_held (m ∷ names) (y ∷ items)) ((x.eid, held) ∷ all_held names items))) (sym (ap is_lt absent.0))

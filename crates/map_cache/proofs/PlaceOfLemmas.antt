@@ -1,0 +1,200 @@
+-- Where the mapping of an EID is, and where it would go.
+use Rattle.std.proofs.Common.{◌≡◌, ℕ, zero, suc, ◌+◌, ◌-◌, ◌<◌, ◌≤◌, Bool, true, false, cond, not, List, [], ◌∷◌, length, take, drop, All, IsFalse, Option, Some, None, IfSome, is_some, slice_get, Ordering, Less, Equal, Greater, is_lt, is_eq, refl, sym, ap, subst, ◌∙◌, arith, inl, inr, true≢false, ◌⊎◌}
+use Rattle.std.specs.Ordering.{ordering_reverse}
+use Rattle.std.proofs.lemmas.List.Elements.{All-cons, All-head, All-nil}
+use Rattle.mapping_records.proofs.OrderLemmas.{eid_order-total}
+use Rattle.mapping_records.specs.Eids.{same_eid}
+use Rattle.mapping_records.specs.Orders.{eid_order}
+use Rattle.mapping_records.specs.declared.eid.Eid.{Eid}
+use Rattle.map_cache.specs.Lists.{IsAbove, IsAscending, IsBelow, IsPlace}
+use Rattle.map_cache.specs.Cache.{exact, without_eid}
+use Rattle.map_cache.specs.declared.mapping.Mapping.{Mapping}
+use Rattle.map_cache.proofs.AscendingLemmas.{IsBelow-lower, Less-is_lt}
+use Rattle.map_cache.proofs.EidLemmas.{is_eq-eid}
+use Rattle.map_cache.proofs.PlaceLemmas.{length-without_eid}
+
+-- ### the place, by what stands before it and at it
+
+before-all : (eid : Eid) (items : List Mapping) (n : ℕ) → IsAscending items → n < length items → IfSome (slice_get items n) (λ mapping. is_lt (eid_order mapping.eid eid) ≡ true) → IsAbove eid (take (suc n) items)
+before-all eid [] n ascending within is = tt
+before-all eid (x ∷ items) zero ascending within is = (Less-is_lt (eid_order x.eid eid) is, tt)
+before-all eid (x ∷ []) (suc n) ascending within is = absurd (omega (arith, within))
+before-all eid (x ∷ y ∷ items) (suc n) ascending within is =
+    let above : IsAbove eid (take (suc n) (y ∷ items)) = before-all eid (y ∷ items) n ascending.1 (omega (arith, within)) is in
+    (eid_order-total.trans x.eid y.eid eid ascending.0.0 above.0, above)
+
+-- what is above one that isn't under the EID isn't either
+not_under : (eid a b : Eid) → eid_order a b ≡ Less → is_lt (eid_order a eid) ≡ false → is_lt (eid_order b eid) ≡ false
+not_under eid a b less is = by (eid_order b eid) refl
+  where
+    by : (r : Ordering) → eid_order b eid ≡ r → is_lt r ≡ false
+    by Less e = absurd (true≢false (sym (ap is_lt (eid_order-total.trans a b eid less e)) ∙ is))
+    by Equal e = refl
+    by Greater e = refl
+
+behind-below : (eid a : Eid) (items : List Mapping) → is_lt (eid_order a eid) ≡ false → IsBelow a items → All (λ mapping. IsFalse (is_lt (eid_order mapping.eid eid))) items
+behind-below eid a [] is below = All-nil (λ (mapping : Mapping). IsFalse (is_lt (eid_order mapping.eid eid)))
+behind-below eid a (x ∷ items) is below =
+    All-cons (λ (mapping : Mapping). IsFalse (is_lt (eid_order mapping.eid eid))) x items (not_under eid a x.eid below.0 is) (behind-below eid a items is below.1)
+
+behind-all : (eid : Eid) (items : List Mapping) (n : ℕ) → IsAscending items → IfSome (slice_get items n) (λ mapping. is_lt (eid_order mapping.eid eid) ≡ false) → All (λ mapping. IsFalse (is_lt (eid_order mapping.eid eid))) (drop n items)
+behind-all eid [] zero ascending is = All-nil (λ (mapping : Mapping). IsFalse (is_lt (eid_order mapping.eid eid)))
+behind-all eid [] (suc n) ascending is = All-nil (λ (mapping : Mapping). IsFalse (is_lt (eid_order mapping.eid eid)))
+behind-all eid (x ∷ items) zero ascending is =
+    All-cons (λ (mapping : Mapping). IsFalse (is_lt (eid_order mapping.eid eid))) x items is (behind-below eid x.eid items is ascending.0)
+behind-all eid (x ∷ items) (suc n) ascending is = behind-all eid items n ascending.1 is
+
+before-place : (eid : Eid) (items : List Mapping) (n : ℕ) → IsAscending items → n ≤ length items → (0 < n → IfSome (slice_get items (n - 1)) (λ mapping. is_lt (eid_order mapping.eid eid) ≡ true)) → IsAbove eid (take n items)
+before-place eid items zero ascending within before = tt
+before-place eid items (suc n) ascending within before =
+    let back : suc n - 1 ≡ n = omega arith in
+    before-all eid items n ascending (omega (arith, within)) (subst (λ (k : ℕ). IfSome (slice_get items k) (λ mapping. is_lt (eid_order mapping.eid eid) ≡ true)) back (before (omega arith)))
+
+-- where mappings ascend, the one before the place and the one at it tell of all
+pub is_place : (eid : Eid) (items : List Mapping) (n : ℕ) → IsAscending items → n ≤ length items → (0 < n → IfSome (slice_get items (n - 1)) (λ mapping. is_lt (eid_order mapping.eid eid) ≡ true)) → IfSome (slice_get items n) (λ mapping. is_lt (eid_order mapping.eid eid) ≡ false) → IsPlace eid items n
+is_place eid items n ascending within before behind = record {
+  within = within;
+  before = before-place eid items n ascending within before;
+  behind = behind-all eid items n ascending behind;
+}
+
+-- ### the mapping of the EID is at the place, or would go there
+
+-- those before have lesser EIDs, that at the place has the EID, and those behind have greater ones
+abbrev pub IsThere : Eid → List Mapping → ℕ → Type 0
+IsThere eid [] n = ⊥
+IsThere eid (x ∷ items) zero = (eid_order x.eid eid ≡ Equal) × IsBelow eid items
+IsThere eid (x ∷ items) (suc n) = (eid_order x.eid eid ≡ Less) × IsThere eid items n
+
+-- those before have lesser EIDs, and those from the place on have greater ones
+abbrev pub IsAbsent : Eid → List Mapping → ℕ → Type 0
+IsAbsent eid [] zero = Unit {0}
+IsAbsent eid [] (suc n) = ⊥
+IsAbsent eid (x ∷ items) zero = IsBelow eid (x ∷ items)
+IsAbsent eid (x ∷ items) (suc n) = (eid_order x.eid eid ≡ Less) × IsAbsent eid items n
+
+IsBelow-alike : (a b : Eid) (items : List Mapping) → eid_order a b ≡ Equal → IsBelow a items → IsBelow b items
+IsBelow-alike a b [] ties below = tt
+IsBelow-alike a b (x ∷ items) ties below = (sym (eid_order-total.congr a b x.eid ties) ∙ below.0, IsBelow-alike a b items ties below.1)
+
+there_or_absent : (eid : Eid) (items : List Mapping) (n : ℕ) → IsAscending items → IsPlace eid items n → IsThere eid items n ⊎ IsAbsent eid items n
+there_or_absent eid [] zero ascending place = inr tt
+there_or_absent eid [] (suc n) ascending place = absurd (omega (arith, place.within))
+there_or_absent eid (x ∷ items) zero ascending place = by (eid_order x.eid eid) refl
+  where
+    by : (r : Ordering) → eid_order x.eid eid ≡ r → IsThere eid (x ∷ items) zero ⊎ IsAbsent eid (x ∷ items) zero
+    by Less is = absurd (true≢false (sym (ap is_lt is) ∙ All-head (λ (mapping : Mapping). IsFalse (is_lt (eid_order mapping.eid eid))) x items place.behind))
+    by Equal is = inl (is, IsBelow-alike x.eid eid items is ascending.0)
+    by Greater is =
+        let less : eid_order eid x.eid ≡ Less = eid_order-total.antisymm eid x.eid ∙ ap ordering_reverse is in
+        inr (less, IsBelow-lower eid x.eid items less ascending.0)
+there_or_absent eid (x ∷ items) (suc n) ascending place =
+    elim (there_or_absent eid items n ascending.1 (record { within = omega (arith, place.within); before = place.before.1; behind = place.behind })) [
+      | inl there ↦ inl (place.before.0, there)
+      | inr absent ↦ inr (place.before.0, absent)
+    ]
+
+-- ### what is there
+
+pub lesser-apart : (eid : Eid) (x : Mapping) → eid_order x.eid eid ≡ Less → same_eid x.eid eid ≡ false
+lesser-apart eid x less = sym (is_eq-eid x.eid eid) ∙ ap is_eq less
+
+pub greater-apart : (eid : Eid) (x : Mapping) → eid_order eid x.eid ≡ Less → same_eid x.eid eid ≡ false
+greater-apart eid x less = sym (is_eq-eid x.eid eid) ∙ ap is_eq (eid_order-total.antisymm x.eid eid ∙ ap ordering_reverse less)
+
+exact-below : (eid : Eid) (items : List Mapping) → IsBelow eid items → exact items eid ≡ None
+exact-below eid [] below = refl
+exact-below eid (x ∷ items) below = ap (λ b. cond b (Some x) (exact items eid)) (greater-apart eid x below.0) ∙ exact-below eid items below.1
+
+pub without-below : (eid : Eid) (items : List Mapping) → IsBelow eid items → without_eid eid items ≡ items
+without-below eid [] below = refl
+without-below eid (x ∷ items) below =
+    ap (λ b. cond (not b) (x ∷ without_eid eid items) (without_eid eid items)) (greater-apart eid x below.0)
+    ∙ ap (λ l. x ∷ l) (without-below eid items below.1)
+
+exact-absent : (eid : Eid) (items : List Mapping) (n : ℕ) → IsAbsent eid items n → exact items eid ≡ None
+exact-absent eid [] n absent = refl
+exact-absent eid (x ∷ items) zero absent = exact-below eid (x ∷ items) absent
+exact-absent eid (x ∷ items) (suc n) absent =
+    ap (λ b. cond b (Some x) (exact items eid)) (lesser-apart eid x absent.0) ∙ exact-absent eid items n absent.1
+
+-- where there is none, none goes
+pub without-absent : (eid : Eid) (items : List Mapping) (n : ℕ) → IsAbsent eid items n → without_eid eid items ≡ items
+without-absent eid [] n absent = refl
+without-absent eid (x ∷ items) zero absent = without-below eid (x ∷ items) absent
+without-absent eid (x ∷ items) (suc n) absent =
+    ap (λ b. cond (not b) (x ∷ without_eid eid items) (without_eid eid items)) (lesser-apart eid x absent.0)
+    ∙ ap (λ l. x ∷ l) (without-absent eid items n absent.1)
+
+pub there-same : (eid : Eid) (x : Mapping) → eid_order x.eid eid ≡ Equal → same_eid x.eid eid ≡ true
+there-same eid x ties = sym (is_eq-eid x.eid eid) ∙ ap is_eq ties
+
+exact-there : (eid : Eid) (items : List Mapping) (n : ℕ) → IsThere eid items n → slice_get items n ≡ exact items eid
+exact-there eid [] n there = elim there [ ]
+exact-there eid (x ∷ items) zero there = sym (ap (λ b. cond b (Some x) (exact items eid)) (there-same eid x there.0))
+exact-there eid (x ∷ items) (suc n) there =
+    exact-there eid items n there.1 ∙ sym (ap (λ b. cond b (Some x) (exact items eid)) (lesser-apart eid x there.0))
+
+some-there : (eid : Eid) (items : List Mapping) (n : ℕ) → IsThere eid items n → is_some (slice_get items n) ≡ true
+some-there eid [] n there = elim there [ ]
+some-there eid (x ∷ items) zero there = refl
+some-there eid (x ∷ items) (suc n) there = some-there eid items n there.1
+
+pub within-there : (eid : Eid) (items : List Mapping) (n : ℕ) → IsThere eid items n → n < length items
+within-there eid [] n there = elim there [ ]
+within-there eid (x ∷ items) zero there = omega arith
+within-there eid (x ∷ items) (suc n) there = let rest = within-there eid items n there.1 in omega (arith, rest)
+
+-- a mapping is there, and is that of the EID
+abbrev at_eid : Eid → Option Mapping → Bool
+at_eid eid None = false
+at_eid eid (Some x) = same_eid x.eid eid
+
+at_eid-there : (eid : Eid) (items : List Mapping) (n : ℕ) → IsThere eid items n → at_eid eid (slice_get items n) ≡ true
+at_eid-there eid [] n there = elim there [ ]
+at_eid-there eid (x ∷ items) zero there = there-same eid x there.0
+at_eid-there eid (x ∷ items) (suc n) there = at_eid-there eid items n there.1
+
+pub same-there : (eid : Eid) (items : List Mapping) (n : ℕ) (x : Mapping) → IsThere eid items n → slice_get items n ≡ Some x → same_eid x.eid eid ≡ true
+same-there eid items n x there is = ap (at_eid eid) (sym is) ∙ at_eid-there eid items n there
+
+at_eid-absent : (eid : Eid) (items : List Mapping) (n : ℕ) → IsAbsent eid items n → at_eid eid (slice_get items n) ≡ false
+at_eid-absent eid [] n absent = refl
+at_eid-absent eid (x ∷ items) zero absent = greater-apart eid x absent.0
+at_eid-absent eid (x ∷ items) (suc n) absent = at_eid-absent eid items n absent.1
+
+module _ (eid : Eid) (items : List Mapping) (n : ℕ) (ascending : IsAscending items) (place : IsPlace eid items n) where
+  -- the mapping at the place is that of the EID where there is one
+  at-exact : at_eid eid (slice_get items n) ≡ is_some (exact items eid)
+  at-exact = elim (there_or_absent eid items n ascending place) [
+    | inl there ↦
+        at_eid-there eid items n there ∙ sym (ap is_some (sym (exact-there eid items n there)) ∙ some-there eid items n there)
+    | inr absent ↦ at_eid-absent eid items n absent ∙ sym (ap is_some (exact-absent eid items n absent))
+  ]
+
+  pub found-none : None ≡ slice_get items n → false ≡ is_some (exact items eid)
+  found-none is = ap (at_eid eid) is ∙ at-exact
+
+  pub found-some : (x : Mapping) → Some x ≡ slice_get items n → same_eid x.eid eid ≡ is_some (exact items eid)
+  found-some x is = ap (at_eid eid) is ∙ at-exact
+
+  pub there-if : is_some (exact items eid) ≡ true → IsThere eid items n
+  there-if is = elim (there_or_absent eid items n ascending place) [
+    | inl there ↦ there
+    | inr absent ↦ absurd (true≢false (sym is ∙ ap is_some (exact-absent eid items n absent)))
+  ]
+
+  pub absent-if : is_some (exact items eid) ≡ false → IsAbsent eid items n
+  absent-if is = elim (there_or_absent eid items n ascending place) [
+    | inl there ↦
+        absurd (true≢false (sym (some-there eid items n there) ∙ ap is_some (exact-there eid items n there) ∙ is))
+    | inr absent ↦ absent
+  ]
+
+-- where none goes, there is none
+pub none-new : (eid : Eid) (items : List Mapping) → without_eid eid items ≡ items → is_some (exact items eid) ≡ false
+none-new eid items same = by (is_some (exact items eid)) (length-without_eid eid items)
+  where
+    by : (b : Bool) → length (without_eid eid items) + cond b 1 0 ≤ length items → b ≡ false
+    by true less = absurd (omega (arith, less, ap length same))
+    by false less = refl

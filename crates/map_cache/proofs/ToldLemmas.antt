@@ -1,0 +1,70 @@
+-- Status bits that are told at a place.
+use Rattle.std.proofs.Common.{◌≡◌, ℕ, zero, suc, Bool, true, false, cond, ◌||◌, List, [], ◌∷◌, slice_get, slice_set, Some, refl, sym, ap, ap₂, ◌∙◌}
+use Rattle.std.specs.List.{list_any}
+use Rattle.std.proofs.lemmas.Option.{same_Some}
+use Rattle.mapping_records.specs.Eids.{same_eid}
+use Rattle.mapping_records.specs.declared.eid.Eid.{Eid}
+use Rattle.named_list.specs.Named.{Named}
+use Rattle.map_cache.specs.Cache.{bits_told, told_mapping, with_bits}
+use Rattle.map_cache.specs.Indexed.{all_held, ends_as, held_of, names_as, IsIndexed}
+use Rattle.map_cache.specs.Lists.{IsBelow}
+use Rattle.map_cache.specs.declared.held.Held.{Held}
+use Rattle.map_cache.specs.declared.keys.Ending.{Ending}
+use Rattle.map_cache.specs.declared.keys.Naming.{Naming}
+use Rattle.map_cache.specs.declared.mapping.Mapping.{Mapping}
+use Rattle.map_cache.proofs.AscendingLemmas.{IsAscending-told}
+use Rattle.map_cache.proofs.PlaceOfLemmas.{greater-apart, lesser-apart, there-same, IsAbsent, IsThere}
+
+module _ (eid : Eid) (bits width : ℕ) where
+  told-apart : (x : Mapping) (others : List Mapping) → same_eid x.eid eid ≡ false → bits_told eid bits width others ≡ others → bits_told eid bits width (x ∷ others) ≡ x ∷ others
+  told-apart x others apart h = ap₂ (λ b l. cond b (with_bits bits width x) x ∷ l) apart h
+
+  told-below : (items : List Mapping) → IsBelow eid items → bits_told eid bits width items ≡ items
+  told-below [] below = refl
+  told-below (x ∷ items) below = told-apart x items (greater-apart eid x below.0) (told-below items below.1)
+
+  -- where there is no mapping of the EID, nothing is told
+  pub told-absent : (items : List Mapping) (n : ℕ) → IsAbsent eid items n → items ≡ bits_told eid bits width items
+  told-absent [] n absent = refl
+  told-absent (x ∷ items) zero absent = sym (told-below (x ∷ items) absent)
+  told-absent (x ∷ items) (suc n) absent =
+      sym (told-apart x items (lesser-apart eid x absent.0) (sym (told-absent items n absent.1)))
+
+  -- where it is there, it alone is told
+  pub told-there : (items : List Mapping) (n : ℕ) (x : Mapping) → IsThere eid items n → slice_get items n ≡ Some x → slice_set items n (with_bits bits width x) ≡ bits_told eid bits width items
+  told-there [] n x there is = elim there [ ]
+  told-there (y ∷ items) zero x there is =
+      ap (λ (z : Mapping). with_bits bits width z ∷ items) (sym (same_Some y x is))
+      ∙ sym (ap₂ (λ b l. cond b (with_bits bits width y) y ∷ l) (there-same eid y there.0) (told-below items there.1))
+  told-there (y ∷ items) (suc n) x there is =
+      ap (λ l. y ∷ l) (told-there items n x there.1 is)
+      ∙ ap (λ b. cond b (with_bits bits width y) y ∷ bits_told eid bits width items) (sym (lesser-apart eid y there.0))
+
+  told-held : (name : ℕ) (x : Mapping) → held_of name (told_mapping eid bits width x) ≡ held_of name x
+  told-held name x = by (same_eid x.eid eid)
+    where
+      by : (b : Bool) → held_of name (cond b (with_bits bits width x) x) ≡ held_of name x
+      by true = refl
+      by false = refl
+
+  all_held-told : (names : List ℕ) (items : List Mapping) → all_held names (bits_told eid bits width items) ≡ all_held names items
+  all_held-told [] items = refl
+  all_held-told (name ∷ names) [] = refl
+  all_held-told (name ∷ names) (x ∷ items) = ap₂ (λ h l. h ∷ l) (told-held name x) (all_held-told names items)
+
+  any-told : (test : Mapping → Bool) → ((x : Mapping) → test (with_bits bits width x) ≡ test x) → (items : List Mapping) → list_any test (bits_told eid bits width items) ≡ list_any test items
+  any-told test same [] = refl
+  any-told test same (x ∷ items) = ap₂ (λ a b. a || b) (by (same_eid x.eid eid)) (any-told test same items)
+    where
+      by : (b : Bool) → test (cond b (with_bits bits width x) x) ≡ test x
+      by true = same x
+      by false = refl
+
+  -- what is told leaves what finds the mappings
+  pub indexed-told : (list : Named Mapping) (pairs : List (Eid × Held)) (endings : List Ending) (naming : List Naming) (items : List Mapping) → items ≡ bits_told eid bits width list.items → IsIndexed list pairs endings naming → IsIndexed (record list { items = items }) pairs endings naming
+  indexed-told list pairs endings naming items told is = rw told (record {
+    ascending = IsAscending-told eid bits width list.items is.ascending;
+    held = is.held ∙ sym (all_held-told list.names list.items);
+    ends = λ key. is.ends key ∙ sym (any-told (ends_as key) (λ x. refl) list.items);
+    names = λ key. is.names key ∙ sym (any-told (names_as key) (λ x. refl) list.items);
+  })

@@ -1,0 +1,26 @@
+use Rattle.std.proofs.Common.{sym, ◌∙◌}
+use Rattle.map_cache.proofs.EndingLemmas.{remove-there}
+use Rattle.map_cache.proofs.IndexedLemmas.{indexed-dropped}
+use Rattle.map_cache.proofs.PlaceOfLemmas.{absent-if, there-if, within-there, without-absent}
+use Rattle.map_cache.proofs.indexed.Indexed.drop_eid.Goals as goal
+
+pub returns-then-not-is_at-clause-mappings : goal.returns-then-not-is_at-clause-mappings
+returns-then-not-is_at-clause-mappings c =
+    let items = c.self.inside.mappings.items in
+    let absent = absent-if c.args.eid.now items c.place_of-place.result c.self.invariant.ascending c.place_of-place.ensures.place (sym c.is_at.ensures.is ∙ c.if-not-is_at.true) in
+    rw (← c.self.view_is) (sym (without-absent c.args.eid.now items c.place_of-place.result absent))
+
+pub remove-mapping-requires : goal.remove-mapping-requires
+remove-mapping-requires c =
+    within-there c.args.eid.now c.self.inside.mappings.items c.place_of-place.result
+    (there-if c.args.eid.now c.self.inside.mappings.items c.place_of-place.result c.self.invariant.ascending c.place_of-place.ensures.place (sym c.is_at.ensures.is ∙ c.if-not-is_at.false))
+
+pub invariant_of-self : goal.invariant_of-self
+invariant_of-self c =
+    let there = there-if c.args.eid.now c.self.inside.mappings.items c.place_of-place.result c.self.invariant.ascending c.place_of-place.ensures.place (sym c.is_at.ensures.is ∙ c.if-not-is_at.false) in
+    indexed-dropped c.self.inside.mappings c.remove-mapping.new.self c.self.inside.by_eid.pairs c.remove.new.self.pairs c.self.inside.endings.keys c.drop_ending.new.endings.keys c.self.inside.naming.keys c.drop_names.new.naming.keys c.self.invariant c.place_of-place.ensures.names c.place_of-place.result c.remove-mapping.result c.args.eid.now there c.remove-mapping.ensures.item c.remove-mapping.ensures.items c.remove-mapping.ensures.names c.remove.ensures.pairs c.drop_ending.ensures.members (rw c.as_slice-locators.ensures at c.drop_names.ensures.members)
+
+pub returns-clause-mappings : goal.returns-clause-mappings
+returns-clause-mappings c =
+    let there = there-if c.args.eid.now c.self.inside.mappings.items c.place_of-place.result c.self.invariant.ascending c.place_of-place.ensures.place (sym c.is_at.ensures.is ∙ c.if-not-is_at.false) in
+    rw (← c.self.view_is) (c.remove-mapping.ensures.items ∙ remove-there c.args.eid.now c.self.inside.mappings.items c.place_of-place.result there)

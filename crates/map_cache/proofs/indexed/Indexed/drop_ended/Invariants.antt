@@ -1,0 +1,13 @@
+use Rattle.std.proofs.Common.{◌≡◌, ◌≤◌, length}
+use Rattle.map_cache.specs.Cache.{lasting}
+use Rattle.map_cache.proofs.indexed.Indexed.drop_ended.Given as goal
+
+-- those that last are the same
+abbrev pub invariant-loop-eid : goal.invariant-loop-eid
+invariant-loop-eid l =
+    (lasting l.m l.self.mappings ≡ lasting l.m l.initial.self.mappings)
+    × (l.initial.self.spare ≤ l.self.spare)
+    × (l.initial.self.locator_spare ≤ l.self.locator_spare)
+
+abbrev pub decreases-loop-eid : goal.decreases-loop-eid
+decreases-loop-eid l = length l.self.mappings

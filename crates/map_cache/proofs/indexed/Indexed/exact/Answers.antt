@@ -1,0 +1,29 @@
+use Rattle.std.proofs.Common.{true, false, sym, ◌∙◌}
+use Rattle.map_cache.proofs.ExactLemmas.{told-lasts, value-none, value-some, lasting-none, lasting-some, lasting-ended}
+use Rattle.map_cache.proofs.FoundLemmas.{at-place, named-at}
+use Rattle.map_cache.proofs.indexed.Indexed.exact.Goals as goal
+
+pub returns-in_err-held-clause-found : goal.returns-in_err-held-clause-found
+returns-in_err-held-clause-found c =
+    let s = c.self.inside.mappings in
+    let none = value-none s.names s.items c.args.eid.now c.self.invariant.ascending (sym c.len.ensures.names ∙ c.len.ensures.len) (sym (rw c.self.invariant.held at c.in_err-held.ensures.value)) in
+    rw (← c.self.view_is, c.from_residual.ensures) (sym (lasting-none c.args.m c.args.eid.now s.items none))
+
+pub returns-then-not-held_lasts-clause-found : goal.returns-then-not-held_lasts-clause-found
+returns-then-not-held_lasts-clause-found c =
+    let s = c.self.inside.mappings in
+    let told = value-some s.names s.items c.args.eid.now c.in_ok-held.held.now (sym (rw c.self.invariant.held at c.in_ok-held.ensures.value)) in
+    rw (← c.self.view_is) (sym (lasting-ended c.args.m c.args.eid.now s.items told.item c.self.invariant.ascending told.found (told-lasts c.args.m _ _ _ _ told false c.if-not-held_lasts.ensures)))
+
+pub named-requires : goal.named-requires
+named-requires c =
+    let s = c.self.inside.mappings in
+    let told = value-some s.names s.items c.args.eid.now c.in_ok-held.held.now (sym (rw c.self.invariant.held at c.in_ok-held.ensures.value)) in
+    named-at s.names s.items told.index c.in_ok-held.held.now.name told.item told.named told.there
+
+pub returns-clause-found : goal.returns-clause-found
+returns-clause-found c =
+    let s = c.self.inside.mappings in
+    let told = value-some s.names s.items c.args.eid.now c.in_ok-held.held.now (sym (rw c.self.invariant.held at c.in_ok-held.ensures.value)) in
+    let found = lasting-some c.args.m c.args.eid.now s.items told.item c.self.invariant.ascending told.found (told-lasts c.args.m _ _ _ _ told true c.if-not-held_lasts.ensures) in
+    rw (← c.self.view_is) (at-place s.items told.index c.named.result.now told.item _ (c.named.ensures.by_place told.index told.named) told.there found)

@@ -1,0 +1,21 @@
+use Rattle.std.proofs.Common.{ap, arith, length}
+use Rattle.map_cache.proofs.RoomLemmas.{endings-few, held-few, naming-few}
+use Rattle.map_cache.proofs.indexed.Indexed.reserve.Goals as goal
+
+pub reserve-requires-2 : goal.reserve-requires-2
+reserve-requires-2 c =
+    let len = rw (← c.self.view_is) at c.requires.len in
+    let few = held-few c.self.inside.mappings.names c.self.inside.mappings.items in
+    omega (arith, c.requires.n, len, few, ap length c.self.invariant.held)
+
+pub reserve-requires-3 : goal.reserve-requires-3
+reserve-requires-3 c =
+    let len = rw (← c.self.view_is) at c.requires.len in
+    let few = endings-few _ _ _ _ c.self.invariant c.len.ensures.ascends in
+    omega (arith, c.requires.n, len, few)
+
+pub reserve-requires-4 : goal.reserve-requires-4
+reserve-requires-4 c =
+    let len = rw (← c.self.view_is) at c.requires.len in
+    let few = naming-few _ _ _ _ c.self.invariant c.len-2.ensures.ascends (rw (← c.self.view_is) at c.requires.few) in
+    omega (arith, c.requires.locators, len, few)

@@ -1,0 +1,37 @@
+// The ends of mappings, in a set. A mapping that is fixed has none.
+ghost use Rattle.std.specs.Prelude.{◌≡◌, ◌≤◌, ◌<◌, ◌+◌, ◌&&◌, ◌||◌, not};
+ghost use Rattle.ordered_set.specs.Keys.{has};
+ghost use Rattle.map_cache.specs.Indexed.{ending_order, ends_as};
+
+use crate::Mapping;
+use crate::keys::Ending;
+use ordered_set::OrderedSet;
+
+/// Puts the end of a mapping into the set. Takes no memory.
+pub(crate) fn add_ending(mapping: &Mapping, endings: &mut OrderedSet<Ending>)
+    requires { 0 < endings.old.spare }
+    ensures members { (key : _) → has ending_order key endings.new.keys
+        ≡ (ends_as key mapping.now || has ending_order key endings.old.keys) }
+    ensures spare { endings.old.spare ≤ endings.new.spare + 1 }
+{
+    if !mapping.fixed {
+        endings.insert(Ending {
+            end: mapping.end,
+            eid: mapping.eid,
+        });
+    }
+}
+
+/// Takes the end of a mapping out of the set. Takes no memory.
+pub(crate) fn drop_ending(mapping: &Mapping, endings: &mut OrderedSet<Ending>)
+    ensures members { (key : _) → has ending_order key endings.new.keys
+        ≡ (not (ends_as key mapping.now) && has ending_order key endings.old.keys) }
+    ensures spare { endings.old.spare ≤ endings.new.spare }
+{
+    if !mapping.fixed {
+        endings.remove(&Ending {
+            end: mapping.end,
+            eid: mapping.eid,
+        });
+    }
+}

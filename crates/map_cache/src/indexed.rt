@@ -1,0 +1,276 @@
+// Mappings in order of EID, and what finds them.
+ghost use Rattle.std.specs.Prelude.{◌≡◌, ◌≤◌, ◌<◌, ◌+◌, ◌*◌, ◌^◌, [], false, length, slice_get, Some, is_some, IfSome, OnOk, IsOk};
+ghost use Rattle.std.specs.Option.{option_copied};
+ghost use Rattle.mapping_records.specs.Orders.{eid_order, put_in_order};
+ghost use Rattle.map_cache.specs.Cache.{bits_told, exact, in_force, lasting, without_eid};
+ghost use Rattle.map_cache.specs.Lists.{AllFew, IsAscending, IsPlace};
+ghost use Rattle.map_cache.specs.Named.{least_named, named_above};
+ghost use Rattle.map_cache.specs.declared.fault.TheConstants.{MOST_LOCATORS, MOST_MAPPINGS};
+
+use crate::bits::tell;
+use crate::endings::{add_ending, drop_ending};
+use crate::held::{Held, held_lasts};
+use crate::keys::{Ending, Naming};
+use crate::lasting::first_lasting;
+use crate::names::{add_names, drop_names};
+use crate::searching::{comes_after, is_below, same_eid};
+use crate::{Mapping, NoMemory, Reads};
+use ip_headers::Addr;
+use mapping_records::Eid;
+use named_list::NamedList;
+use ordered_set::OrderedSet;
+use prefix_table::PrefixTable;
+use std::alloc::Global;
+use std::marker::Model;
+
+/// Mappings, each EID once, and what finds them by EID, by end and by locator.
+#[derive(Drop)]
+pub(crate) struct Indexed {
+    // In order of EID.
+    mappings: NamedList<Mapping>,
+    by_eid: PrefixTable<Held>,
+    // Of those that end.
+    endings: OrderedSet<Ending>,
+    naming: OrderedSet<Naming>,
+}
+
+impl Model for Indexed {
+    ghost use Rattle.std.specs.Prelude.{min};
+    ghost use Rattle.map_cache.specs.Indexed.{IsIndexed, Listed};
+
+    ghost Value = { Listed };
+
+    ghost view = { λ indexed. record {
+      mappings = indexed.mappings.items;
+      spare = min indexed.mappings.spare (min indexed.by_eid.spare indexed.endings.spare);
+      locator_spare = indexed.naming.spare;
+    } };
+
+    ghost invariant = { λ indexed. IsIndexed indexed.mappings indexed.by_eid.pairs
+        indexed.endings.keys indexed.naming.keys };
+}
+
+impl Indexed {
+    /// No mappings. Takes no memory.
+    pub(crate) fn new(alloc: Global) -> Indexed
+        ensures { result.mappings ≡ [] }
+    {
+        Indexed {
+            mappings: NamedList::new(alloc),
+            by_eid: PrefixTable::new(alloc),
+            endings: OrderedSet::new(alloc),
+            naming: OrderedSet::new(alloc),
+        }
+    }
+
+    /// Makes room for `n` further mappings with so many locators in all.
+    pub(crate) fn reserve(&mut self, n: u32, locators: u32) -> Result<(), NoMemory>
+        requires n { n ≤ MOST_MAPPINGS }
+        requires locators { locators ≤ MOST_MAPPINGS * MOST_LOCATORS }
+        requires len { length self.old.mappings ≤ MOST_MAPPINGS }
+        requires few { AllFew self.old.mappings }
+        ensures mappings { self.new.mappings ≡ self.old.mappings }
+        ensures spare { self.old.spare ≤ self.new.spare }
+        ensures locator_spare { self.old.locator_spare ≤ self.new.locator_spare }
+        ensures ok { OnOk result (n ≤ self.new.spare) }
+        ensures locators_ok { OnOk result (locators ≤ self.new.locator_spare) }
+        ensures enough { n ≤ self.old.spare → locators ≤ self.old.locator_spare → IsOk result }
+    {
+        // The lengths say that no key is there twice, so that they are few.
+        let _ = (self.endings.len(), self.naming.len());
+        self.mappings.reserve(n)?;
+        self.by_eid.reserve(n)?;
+        self.endings.reserve(n)?;
+        self.naming.reserve(locators)
+    }
+
+    /// The number of mappings.
+    pub(crate) fn len(&self) -> usize
+        ensures len { result ≡ length self.now.mappings }
+        ensures ascending { IsAscending self.now.mappings }
+    {
+        self.mappings.len()
+    }
+
+    /// The mapping at a place, in order of EID.
+    pub(crate) fn mapping(&self, index: usize) -> &Mapping
+        requires { index < length self.now.mappings }
+        ensures { slice_get self.now.mappings index ≡ Some result.now }
+    {
+        match self.mappings.get(index) {
+            Some(mapping) => mapping,
+            None => unreachable!(),
+        }
+    }
+
+    /// There is a mapping of that EID.
+    pub(crate) fn has(&self, eid: &Eid) -> bool
+        ensures { result ≡ is_some (exact self.now.mappings eid.now) }
+    {
+        is_at(place_of(eid, &self.mappings), eid, &self.mappings)
+    }
+
+    /// Puts a mapping in place of that of its EID. Takes no memory.
+    pub(crate) fn put(&mut self, mapping: Mapping)
+        requires spare { 0 < self.old.spare }
+        requires locators { length mapping.details.locators ≤ self.old.locator_spare }
+        ensures mappings { self.new.mappings ≡ put_in_order (λ item. item.eid) eid_order mapping
+            (without_eid mapping.eid self.old.mappings) }
+        ensures spare { self.old.spare ≤ self.new.spare + 1 }
+        ensures locator_spare { self.old.locator_spare
+            ≤ self.new.locator_spare + length mapping.details.locators }
+    {
+        self.drop_eid(&mapping.eid);
+        self.enter(mapping);
+    }
+
+    // Puts in a mapping of an EID of which there is none.
+    fn enter(&mut self, mapping: Mapping)
+        requires spare { 0 < self.old.spare }
+        requires locators { length mapping.details.locators ≤ self.old.locator_spare }
+        requires new { without_eid mapping.eid self.old.mappings ≡ self.old.mappings }
+        ensures mappings { self.new.mappings ≡ put_in_order (λ item. item.eid) eid_order mapping
+            self.old.mappings }
+        ensures spare { self.old.spare ≤ self.new.spare + 1 }
+        ensures locator_spare { self.old.locator_spare
+            ≤ self.new.locator_spare + length mapping.details.locators }
+    {
+        let place = place_of(&mapping.eid, &self.mappings);
+        add_ending(&mapping, &mut self.endings);
+        let locators = mapping.details.locators.as_slice();
+        add_names(&mapping.eid, locators, &mut self.naming);
+        let (eid, fixed, end) = (mapping.eid, mapping.fixed, mapping.end);
+        let name = self.mappings.insert(place, mapping);
+        self.by_eid.insert(eid, Held { fixed, end, name });
+    }
+
+    /// Takes the mapping of that EID away. Takes no memory.
+    pub(crate) fn drop_eid(&mut self, eid: &Eid)
+        ensures mappings { self.new.mappings ≡ without_eid eid.now self.old.mappings }
+        ensures spare { self.old.spare ≤ self.new.spare }
+        ensures locator_spare { self.old.locator_spare ≤ self.new.locator_spare }
+    {
+        let place = place_of(eid, &self.mappings);
+        if !is_at(place, eid, &self.mappings) {
+            return;
+        }
+        let mapping = self.mappings.remove(place);
+        self.by_eid.remove(eid);
+        drop_ending(&mapping, &mut self.endings);
+        let locators = mapping.details.locators.as_slice();
+        drop_names(&mapping.eid, locators, &mut self.naming);
+    }
+
+    /// Takes away what has ended at a moment. Takes no memory.
+    pub(crate) fn drop_ended(&mut self, m: u64)
+        ensures mappings { self.new.mappings ≡ lasting m self.old.mappings }
+        ensures spare { self.old.spare ≤ self.new.spare }
+        ensures locator_spare { self.old.locator_spare ≤ self.new.locator_spare }
+    {
+        while let Some(eid) = self.first_ended(m) {
+            self.drop_eid(&eid);
+        }
+    }
+
+    /// The EID of the mapping that ended first, if one has at a moment.
+    pub(crate) fn first_ended(&self, m: u64) -> Option<Eid>
+        ensures ended { IfSome result (λ eid.
+            lasting m (without_eid eid self.now.mappings) ≡ lasting m self.now.mappings) }
+        ensures less { IfSome result (λ eid.
+            length (without_eid eid self.now.mappings) < length self.now.mappings) }
+        ensures none { is_some result ≡ false → lasting m self.now.mappings ≡ self.now.mappings }
+    {
+        // The set says that its keys are in order.
+        let _ = self.endings.len();
+        let ending = self.endings.get(0)?;
+        if u128::from(m) < ending.end {
+            return None;
+        }
+        Some(ending.eid)
+    }
+
+    /// Tells the mapping of an EID so many of the lowest status bits.
+    pub(crate) fn tell(&mut self, eid: &Eid, bits: u32, width: u8)
+        requires { width ≤ 32 }
+        ensures mappings { self.new.mappings ≡ bits_told eid.now bits width self.old.mappings }
+        ensures spare { self.new.spare ≡ self.old.spare }
+        ensures locator_spare { self.new.locator_spare ≡ self.old.locator_spare }
+    {
+        let place = place_of(eid, &self.mappings);
+        if is_at(place, eid, &self.mappings) {
+            tell(bits, width, self.mappings.edit(place));
+        }
+    }
+
+    /// The longest of the mappings that haven't ended at a moment and cover an EID.
+    pub(crate) fn in_force(&self, m: u64, eid: &Eid, reads: &mut Reads) -> Option<&Mapping>
+        requires { reads.old < 2 ^ 63 }
+        ensures found { option_copied result ≡ in_force (lasting m self.now.mappings) eid.now }
+        ensures counted { reads.old ≤ reads.new }
+        ensures bound { reads.new ≤ reads.old + 129 }
+    {
+        // The list says that each mapping has a name.
+        let _ = self.mappings.len();
+        match self
+            .by_eid
+            .longest_where(eid, |held| held_lasts(m, held), reads)
+        {
+            None => None,
+            Some((_, held)) => Some(self.mappings.named(held.name)),
+        }
+    }
+
+    /// The mapping of just that EID, unless it has ended at a moment.
+    pub(crate) fn exact(&self, m: u64, eid: &Eid, reads: &mut Reads) -> Option<&Mapping>
+        requires { reads.old < 2 ^ 63 }
+        ensures found { option_copied result ≡ exact (lasting m self.now.mappings) eid.now }
+        ensures counted { reads.old ≤ reads.new }
+        ensures bound { reads.new ≤ reads.old + 129 }
+    {
+        // The list says that each mapping has a name.
+        let _ = self.mappings.len();
+        let held = self.by_eid.get(eid, reads)?;
+        if !held_lasts(m, held) {
+            return None;
+        }
+        Some(self.mappings.named(held.name))
+    }
+
+    /// The least address above `after` that a mapping names which hasn't ended at a moment, and the
+    /// least such EID.
+    pub(crate) fn next_named(&self, m: u64, after: Option<&Addr>) -> Option<(Addr, Eid)>
+        ensures { result ≡ least_named
+            (named_above (option_copied after.entry) (lasting m self.now.mappings)) }
+    {
+        // The set says that its keys are in order, the list that each mapping has a name.
+        let _ = (self.naming.len(), self.mappings.len());
+        let first = self
+            .naming
+            .place(|naming| !comes_after(after, &naming.addr));
+        let naming = first_lasting(m, first, &self.naming, &self.by_eid)?;
+        Some((naming.addr, naming.eid))
+    }
+}
+
+// Where the mapping of an EID is, or where it would go.
+fn place_of(eid: &Eid, mappings: &NamedList<Mapping>) -> usize
+    requires { IsAscending mappings.now.items }
+    ensures place { IsPlace eid.now mappings.now.items result }
+    ensures names { length mappings.now.names ≡ length mappings.now.items }
+{
+    // The length says that there are as many names as items.
+    let _ = mappings.len();
+    mappings.place(|mapping| is_below(&mapping.eid, eid))
+}
+
+// The mapping at that place is that of the EID.
+fn is_at(place: usize, eid: &Eid, mappings: &NamedList<Mapping>) -> bool
+    requires ascending { IsAscending mappings.now.items }
+    requires place { IsPlace eid.now mappings.now.items place }
+    ensures is { result ≡ is_some (exact mappings.now.items eid.now) }
+{
+    match mappings.get(place) {
+        None => false,
+        Some(mapping) => same_eid(&mapping.eid, eid),
+    }
+}
