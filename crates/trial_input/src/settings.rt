@@ -71,8 +71,7 @@ fn mapping(alloc: Global, i: u32) -> Result<Record, NoMemory>
     requires { i < MOST_MAPPINGS }
     ensures { IfOk result (λ mapping. mapping ≡ trial_mapping i) }
 {
-    let mut locators = Items::new(alloc);
-    locators.push(Locator {
+    let locator = Locator {
         addr: Addr::V4(0xcb00_7101 + i % 254),
         priority: 1,
         weight: 1,
@@ -81,7 +80,7 @@ fn mapping(alloc: Global, i: u32) -> Result<Record, NoMemory>
         local: false,
         probed: false,
         reachable: true,
-    })?;
+    };
     Ok(Record {
         ttl: 1440,
         action: 0,
@@ -94,7 +93,7 @@ fn mapping(alloc: Global, i: u32) -> Result<Record, NoMemory>
                 len: 24,
             },
         },
-        locators,
+        locators: Items::from_vec(Vec::from_slice(alloc, &[locator])?),
     })
 }
 
