@@ -4,7 +4,21 @@ use octets::Octets;
 use replay::Status;
 use run_rows::packets::{RAW, changed, push_record};
 use run_rows::runs::{REPLAY, files_of, run_words, said, text};
+use std::alloc::Global;
 use std::test::Fail;
+use trial_input::{MOST_MAPPINGS, trial_capture};
+
+/// The site of a trial.
+const SITE: &str = r#"
+[[locator]]
+address = "198.51.100.1"
+[[attachment]]
+vlan = 0
+iid = 0
+[[database]]
+iid = 0
+prefix = "192.168.0.0/16"
+"#;
 
 /// The settings of a trial of three mappings.
 const THREE: &str = r#"
@@ -63,6 +77,10 @@ fn a_trial_says_one_line_and_makes_no_file(rt: HostRuntime) -> Result<(), Fail> 
             "2000",
             "trial 2000 frames=2001 written=2000 entries=2000 hash=00cf778b\n",
         ),
+        (
+            "50000",
+            "trial 50000 frames=50001 written=50000 entries=50000 hash=45ce7d18\n",
+        ),
     ] {
         let mut desk = MemoryDesk::new(alloc, Files::new(alloc), Calls::new(alloc));
         let status = run_words(alloc, &["trial", number], &mut desk)?;
@@ -104,5 +122,41 @@ fn the_hash_of_a_trial_is_that_of_the_output_of_its_replay(rt: HostRuntime) -> R
     let output = desk.file("out").ok_or("no output")?;
     assert_eq!(rt; output.len(), 264);
     assert_eq!(rt; hash_of(output), 0x8e6d_bc18);
+    Ok(())
+}
+
+// The settings of a trial of as many mappings as it can have.
+fn most_settings(alloc: Global) -> Result<String, Fail> {
+    let mut text = String::from_str(alloc, SITE)?;
+    for i in 0..MOST_MAPPINGS {
+        let (high, low, host) = (i / 256, i % 256, i % 254 + 1);
+        text.push_str(format!(in alloc;
+            "[[mapping]]\niid = 0\nprefix = '20.{high}.{low}.0/24'\n\
+            locator = [{{address = '203.0.113.{host}', priority = 1, weight = 1}}]\n"
+        )?
+        .as_str())?;
+    }
+    Ok(text)
+}
+
+#[test]
+fn the_largest_trial_is_replayed_from_its_files(rt: HostRuntime) -> Result<(), Fail> {
+    let alloc = rt.alloc();
+    let settings = most_settings(alloc)?;
+    let capture = trial_capture(alloc, MOST_MAPPINGS)?;
+    let files = files_of(
+        alloc,
+        &[
+            ("settings", settings.as_str().as_bytes()),
+            ("in", capture.as_slice()),
+        ],
+    )?;
+    let mut desk = SteadyDesk::new(alloc, files);
+    let status = run_words(alloc, &REPLAY, &mut desk)?;
+    assert_eq!(rt; status, Status::Done);
+    let report = text(desk.said())?;
+    assert!(rt; report.ends_with("end frames=50001 written=50000 entries=50000\n"));
+    let output = desk.file("out").ok_or("no output")?;
+    assert_eq!(rt; hash_of(output), 0x45ce_7d18);
     Ok(())
 }

@@ -160,7 +160,7 @@ fn the_locators_of_a_mapping_that_has_ended_are_passed_over(rt: HostRuntime) -> 
     ] {
         assert_eq!(rt; next(&cache, moment, None), found);
     }
-    assert_eq!(rt; cache.mappings().len(), 2);
+    assert_eq!(rt; cache.len(), 2);
     Ok(())
 }
 
