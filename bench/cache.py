@@ -4,19 +4,23 @@
 usage: cache.py FOLDER FRAMES SEED
 It makes, from a number: frames.pcap (packets of 80 to 1,400 octets to 1,000 destinations, 10,000 a second);
 answered.pcap (the same with the reply to each request right after the frame that causes it, of eight locators of two
-priorities and several weights, and after each tenth frame a packet from one of these); and echoed.pcap (as
-answered.pcap, but replies tell versions, and packets from locators echo a nonce, want an echo, or tell versions). With
-them asking.toml (a resolver, no mappings), echoing.toml (the same with echoes and a version), static.toml (the
-mappings) and single.toml (the mappings with the first locator alone). All listed nonces are alike, so that replies
-don't depend on what else draws one. It prints the number of frames of answered.pcap, and of echoed.pcap.
+priorities and several weights, and after each tenth frame a packet from one of these); echoed.pcap (as answered.pcap,
+but replies tell versions, and packets from locators echo a nonce, want an echo, or tell versions); and expiring.pcap (a
+fifth as many frames, within 200 s, to 50,000 destinations, with the reply to each request, which lasts a minute). With
+them asking.toml (a resolver, no mappings), echoing.toml (the same with echoes and a version), expiring.toml (as
+asking.toml, without listed nonces), static.toml (the mappings) and single.toml (the mappings with the first locator
+alone). All listed nonces are alike, so that replies don't depend on what else draws one. It prints two numbers: of the
+frames of answered.pcap, which echoed.pcap has too, and of those of expiring.pcap.
 """
 import random
 import struct
 import sys
 
-from packets import udp_packet
+from packets import nonce_at, udp_packet
 
 DESTINATIONS, NONCE = 1_000, 0x0102030405060708
+# Of mappings that end, in microseconds.
+EXPIRING, SPAN, MINUTE = 50_000, 200 * 10**6, 60 * 10**6
 OWN, OTHER = bytes([192, 0, 2, 1]), bytes([198, 51, 100, 7])
 # The last octet of each locator of a mapping, its priority and its weight.
 LOCATORS = [(7 + i, 1 + i // 4, 10 * (1 + i % 4)) for i in range(8)]
@@ -24,7 +28,8 @@ HEADER = struct.pack("<IHHIIII", 0xA1B2C3D4, 2, 4, 0, 0, 262144, 101)
 OWN_VERSION, OTHER_VERSION = 5, 7
 SITE = ('[[locator]]\naddress = "192.0.2.1"\n[[attachment]]\nvlan = 0\niid = 0\n'
         '[[database]]\niid = 0\nprefix = "10.1.0.0/16"\n')
-ASKING = 'resolver = "203.0.113.9"\nnonces = [' + ", ".join([f'"{NONCE:016x}"'] * 4096) + "]\n"
+RESOLVER = 'resolver = "203.0.113.9"\n'
+ASKING = RESOLVER + "nonces = [" + ", ".join([f'"{NONCE:016x}"'] * 4096) + "]\n"
 
 
 def address(i):
@@ -37,25 +42,30 @@ def mapping(i, locators):
         for last, priority, weight in locators)
 
 
+def record_at(moment, octets):
+    """A record of a capture, so many microseconds behind the start."""
+    head = 1_700_000_000 + moment // 10**6, moment % 10**6, len(octets), len(octets)
+    return struct.pack("<IIII", *head) + octets
+
+
 def record(i, part, octets):
     """A record of a capture, in a third of the time of the frame."""
-    fraction = i % 10_000 * 100 + 30 * part
-    return struct.pack("<IIII", 1_700_000_000 + i // 10_000, fraction, len(octets), len(octets)) + octets
+    return record_at(100 * i + 30 * part, octets)
 
 
-def frames(count, seed):
+def frames(count, seed, destinations=DESTINATIONS):
     """The destination of each frame, and the frame."""
     numbers, zeros = random.Random(seed), bytes(1400)
     for _ in range(count):
         size, host, port = numbers.randint(80, 1400), numbers.randrange(65536), numbers.randrange(65536)
-        dest = numbers.randrange(DESTINATIONS)
+        dest = numbers.randrange(destinations)
         source = bytes([10, 1]) + struct.pack(">H", host)
         yield dest, udp_packet(source, address(dest), (port, 2000), zeros[:size - 28], False)
 
 
-def reply(dest, version):
-    front = struct.pack(">IQ", 0x20000001, NONCE)
-    eid = struct.pack(">IBBHHH", 1440, len(LOCATORS), 32, 0x1000, version, 1) + dest
+def reply(dest, version, minutes=1440, nonce=NONCE):
+    front = struct.pack(">IQ", 0x20000001, nonce)
+    eid = struct.pack(">IBBHHH", minutes, len(LOCATORS), 32, 0x1000, version, 1) + dest
     locators = b"".join(
         struct.pack(">BBBBHH", priority, weight, 255, 0, 1, 1) + OTHER[:3] + bytes([last])
         for last, priority, weight in LOCATORS)
@@ -78,6 +88,7 @@ def arriving(i, dest, field):
 def write_settings(folder):
     for name, text in (
             ("asking", ASKING + SITE), ("echoing", "echo = true\n" + ASKING + SITE + f"version = {OWN_VERSION}\n"),
+            ("expiring", RESOLVER + SITE),
             ("static", SITE + "".join(mapping(i, LOCATORS) for i in range(DESTINATIONS))),
             ("single", SITE + "".join(mapping(i, LOCATORS[:1]) for i in range(DESTINATIONS)))):
         with open(f"{folder}/{name}.toml", "w") as file:
@@ -107,12 +118,29 @@ def write_answered(path, count, seed, has_echoes):
     return count + len(asked) + arrived
 
 
+def write_expiring(path, count, seed):
+    """Tells how many frames the capture has: a destination is asked for where none of its replies lasts."""
+    ends, asked = {}, 0
+    with open(path, "wb") as file:
+        file.write(HEADER)
+        for i, (dest, octets) in enumerate(frames(count, seed, EXPIRING)):
+            moment = i * SPAN // count
+            file.write(record_at(moment, octets))
+            if ends.get(dest, 0) <= moment:
+                nonce = nonce_at([], bytes(32), asked)
+                file.write(record_at(moment + 30, reply(address(dest), 0, 1, nonce)))
+                ends[dest] = moment + 30 + MINUTE
+                asked += 1
+    return count + asked
+
+
 def main():
     folder, count, seed = sys.argv[1], int(sys.argv[2]), int(sys.argv[3])
     write_settings(folder)
     write_frames(folder, count, seed)
     write_answered(f"{folder}/answered.pcap", count, seed, False)
-    print(write_answered(f"{folder}/echoed.pcap", count, seed, True))
+    exchanged = write_answered(f"{folder}/echoed.pcap", count, seed, True)
+    print(exchanged, write_expiring(f"{folder}/expiring.pcap", count // 5, seed))
 
 
 main()

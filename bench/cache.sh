@@ -1,8 +1,10 @@
 #!/usr/bin/env bash
 # Replays frames to 1,000 destinations that the router must ask for, with the replies to its requests, each of eight
 # locators, and after each tenth frame a packet from a locator, and prints frames a second, user and system time and the
-# greatest memory; then the same with echoes and Map-Versions; beside it the frames alone with the mappings in the
-# settings, then with the first locator of each alone, and `cat` of the file to a new one.
+# greatest memory; then the same with echoes and Map-Versions; then a fifth as many frames within 200 s to 50,000
+# destinations, each learned for a minute, so that mappings end and are asked for again while others live. Beside it the
+# frames to the 1,000 alone with the mappings in the settings, then with the first locator of each alone, and `cat` of
+# the file to a new one.
 # usage: bench/cache.sh [FRAMES [SEED]]
 set -eu
 frames=${1:-1000000}
@@ -14,13 +16,15 @@ words() {
     words=(replay --settings "$folder/$1" --in "$folder/$2" --out "$folder/out.pcap")
 }
 
-exchanged=$(python3 "$top/bench/cache.py" "$folder" "$frames" "$seed")
+counts=$(python3 "$top/bench/cache.py" "$folder" "$frames" "$seed")
+read -r exchanged expiring <<<"$counts"
 echo "$frames frames, $(stat -c %s "$folder/frames.pcap") octets, and $exchanged with what comes"
 
-for kind in "learned asking answered" "echoes echoing echoed"; do
-    read -r name settings capture <<<"$kind"
+for kind in "learned asking answered $exchanged" "echoes echoing echoed $exchanged" \
+    "expiring expiring expiring $expiring"; do
+    read -r name settings capture count <<<"$kind"
     words "$settings.toml" "$capture.pcap"
-    measured "  $(printf %-7s "$name")" "$exchanged" "$folder/report" "$program" "${words[@]}"
+    measured "  $(printf %-8s "$name")" "$count" "$folder/report" "$program" "${words[@]}"
     echo "  $(grep -c ' drop 13 miss$' "$folder/report") misses," \
         "$(grep -c ' control reply learned=1 ' "$folder/report") replies learned," \
         "$(grep -c ' encapsulated ' "$folder/report") encapsulated," \
@@ -29,7 +33,7 @@ for kind in "learned asking answered" "echoes echoing echoed"; do
 done
 for kind in static single; do
     words $kind.toml frames.pcap
-    measured "  $kind " "$frames" "$folder/report" "$program" "${words[@]}"
+    measured "  $(printf %-8s "$kind")" "$frames" "$folder/report" "$program" "${words[@]}"
     tail -n 1 "$folder/report" | sed 's/^/  /'
 done
-measured "  cat    " "$frames" "$folder/copy" cat "$folder/answered.pcap"
+measured "  cat     " "$frames" "$folder/copy" cat "$folder/answered.pcap"

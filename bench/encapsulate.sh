@@ -17,10 +17,8 @@ make_capture() {
     echo "$1: $count frames, $(stat -c %s "$folder/capture.pcap") octets"
 }
 
+count=$frames
 for kind in raw ethernet ipv6 tunnels mappings; do
-    # A look-up goes over all mappings, so there are fewer frames where there are many.
-    count=$frames
-    [ "$kind" = mappings ] && count=$((frames / 100))
     make_capture "$kind"
     for i in "${!programs[@]}"; do
         measured "  ${names[i]}" "$count" "$folder/report" "${programs[i]}" "${words[@]}"

@@ -47,12 +47,12 @@ def frames(r, text, link, unit):
     return Talk(r, site, link, unit, hurried).frames(MANY if hurried else FEW)
 
 
-def capture(r, text, path):
+def capture(r, text, path, make=frames):
     link, order, unit = r.choice([1, 1, 101]), r.choice("<>"), r.choice([1, 1, 1000])
     with open(path, "wb") as file:
         magic = 0xA1B23C4D if unit == 1 else 0xA1B2C3D4
         file.write(struct.pack(order + "IHHIIII", magic, 2, 4, 0, 0, 0, link))
-        for moment, octets in frames(r, text, link, unit):
+        for moment, octets in make(r, text, link, unit):
             seconds, rest = divmod(moment, 10**9)
             file.write(struct.pack(order + "IIII", seconds, rest // unit, len(octets), 9) + octets)
 
@@ -110,11 +110,11 @@ class Round:
         return self.same_replay() and self.same_show() and all(self.same_settings(r) for _ in range(40))
 
 
-def main():
+def main(kind=Round):
     rounds = int(sys.argv[2]) if len(sys.argv) > 2 else 20
     seed = int(sys.argv[3]) if len(sys.argv) > 3 else 1
     with tempfile.TemporaryDirectory() as folder:
-        one = Round(sys.argv[1], folder)
+        one = kind(sys.argv[1], folder)
         for i in range(rounds):
             if not one.agrees(random.Random(f"{seed} {i}")):
                 print(f"round {i} of seed {seed} differs")

@@ -12,6 +12,8 @@ MANY = OTHERS + [f"198.51.100.{i}" for i in range(32, 56)] + [f"2001:db8:e::{i:x
 RESOLVERS = ["203.0.113.9", "2001:db8:9::9"]
 HOMES = ["10.1.0.0/16", "10.1.2.0/24", "10.1.2.8/29", "10.1.9.0/24", "2001:db8:1::/48", "2001:db8:1:7::/64"]
 AWAY = ["10.2.0.0/16", "10.2.9.0/24", "10.2.9.8/29", "10.0.0.0/8", "2001:db8:2::/48", "2001:db8::/32"]
+# How many locators a mapping has.
+COUNTS = [0, 0, 1, 2, 3, 4, 6, 24]
 
 
 def raw(text):
@@ -59,10 +61,10 @@ def attachments(r, iids):
         yield from ["[[attachment]]", f"vlan = {vlan}", f"iid = {iid}"]
 
 
-def mapping(r, iid, prefix, pool):
+def mapping(r, iid, prefix, pool, counts=COUNTS):
     yield from ["[[mapping]]", f"iid = {iid}", f'prefix = "{prefix}"', f"action = {r.choice([2, *range(8)])}"]
     yield from version(r)
-    addresses = r.sample(pool + OWN[:1], min(len(pool) + 1, r.choice([0, 0, 1, 2, 3, 4, 6, 24])))
+    addresses = r.sample(pool + OWN[:1], min(len(pool) + 1, r.choice(counts)))
     for address, (priority, weight) in zip(addresses, shares(r, len(addresses))):
         yield from ["[[mapping.locator]]", f'address = "{address}"', f"priority = {priority}", f"weight = {weight}",
                     f"up = {r.choice(['true', 'true', 'false'])}"]
