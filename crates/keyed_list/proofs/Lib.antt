@@ -1,0 +1,13 @@
+pub mod AgeLemmas
+pub mod AmongLemmas
+pub mod BelowLemmas
+pub mod ChangeLemmas
+pub mod FewLemmas
+pub mod FilterLemmas
+pub mod FitsLemmas
+pub mod KeyedLemmas
+pub mod LastLemmas
+pub mod MarkBelowLemmas
+pub mod MarkLemmas
+pub mod OrderLemmas
+pub mod PlaceLemmas

@@ -1,0 +1,4 @@
+pub mod Keyed
+pub mod Keys
+pub mod Known
+pub mod Lists

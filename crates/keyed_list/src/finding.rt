@@ -1,0 +1,86 @@
+// Where items are found.
+ghost use Rattle.std.specs.Prelude.{◌≡◌, ◌≤◌, ◌<◌, false, true, length, slice_get, IfSome, is_some};
+ghost use Rattle.std.specs.List.{list_all};
+ghost use Rattle.std.specs.Ordering.{is_lt};
+ghost use Rattle.ordered_set.specs.Keys.{Ascends as KeysAscend};
+ghost use Rattle.keyed_list.specs.Keys.{mark_order};
+ghost use Rattle.keyed_list.specs.Keyed.{Ascends, IsKeyed, IsPlace, is_below, is_young, item_at};
+ghost use Rattle.keyed_list.specs.Lists.{last_where};
+
+use crate::key::{Age, Mark};
+use crate::keyed::Numbered;
+use crate::{Key, Keyed};
+use named_list::NamedList;
+use ordered_set::{Ordered, OrderedSet};
+
+// The place of the item of a number, or where it would stand.
+fn place_of<T>(number: u64, list: &NamedList<Numbered<T>>) -> usize
+    requires { Ascends list.now.items }
+    ensures { IsPlace number list.now.items result }
+{
+    list.place(|numbered| numbered.number < number)
+}
+
+// The greatest mark below one.
+fn mark_below(mark: Mark, index: &OrderedSet<Mark>) -> Option<Mark>
+    ensures last { result ≡ last_where (λ other. is_lt (mark_order other mark)) index.now.keys }
+    ensures ascends { KeysAscend mark_order index.now.keys }
+{
+    // The length says that keys ascend.
+    let _ = index.len();
+    let place = index.place(|other| other.compare(&mark).is_lt());
+    if place == 0 {
+        return None;
+    }
+    index.get(place - 1).copied()
+}
+
+/// The place of the last item that has a key, of those with lower numbers.
+pub(crate) fn place_below<T: Keyed>(
+    key: &Key,
+    bound: u64,
+    list: &NamedList<Numbered<T>>,
+    index: &OrderedSet<Mark>,
+    ages: &OrderedSet<Age>,
+) -> Option<usize>
+    requires { IsKeyed T.marks_of list.now.items index.now.keys ages.now.keys }
+    ensures last { item_at list.now.items result
+        ≡ last_where (is_below T.marks_of key.now bound) list.now.items }
+    ensures within { IfSome result (λ place. place < length list.now.items) }
+{
+    let mark = mark_below(
+        Mark {
+            key: *key,
+            number: bound,
+        },
+        index,
+    )?;
+    if !mark.key.is_same(key) {
+        return None;
+    }
+    Some(place_of(mark.number, list))
+}
+
+/// The place of an item that isn't younger than that at a moment, if one is.
+pub(crate) fn old_place<T: Keyed>(
+    now: u64,
+    life: u64,
+    list: &NamedList<Numbered<T>>,
+    index: &OrderedSet<Mark>,
+    ages: &OrderedSet<Age>,
+) -> Option<usize>
+    requires { IsKeyed T.marks_of list.now.items index.now.keys ages.now.keys }
+    ensures old { IfSome result (λ place. IfSome (slice_get list.now.items place)
+        (λ numbered. is_young T.marks_of now life numbered.item ≡ false)) }
+    ensures within { IfSome result (λ place. place < length list.now.items) }
+    ensures none { is_some result ≡ false
+        → list_all (λ numbered. is_young T.marks_of now life numbered.item) list.now.items ≡ true }
+{
+    // The length says that ages ascend.
+    let _ = ages.len();
+    let age = ages.get(0)?;
+    if now.saturating_sub(age.moment) < life {
+        return None;
+    }
+    Some(place_of(age.number, list))
+}

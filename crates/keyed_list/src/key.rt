@@ -1,0 +1,160 @@
+// Keys, and the order of keys and numbers.
+ghost use Rattle.std.specs.Prelude.{◌≡◌};
+ghost use Rattle.std.specs.Ordering.{nat_cmp};
+ghost use Rattle.keyed_list.specs.Keys.{age_order, eid_key, key_order, key_prefix_order, kind_rank, locator_key, mark_order, nonce_key, same_key, told_key};
+
+use ip_headers::Addr;
+use mapping_records::Eid;
+use ordered_set::Ordered;
+use std::cmp::Ordering;
+
+/// What a key is.
+#[derive(Clone, Copy, Debug, PartialEq, Eq)]
+pub(crate) enum Kind {
+    Nonce,
+    Locator,
+    Endpoint,
+    /// A locator that was told of an EID.
+    Told,
+}
+
+impl Kind {
+    fn rank(&self) -> u8
+        ensures { result ≡ kind_rank self.now }
+    {
+        match self {
+            Kind::Nonce => 0,
+            Kind::Locator => 1,
+            Kind::Endpoint => 2,
+            Kind::Told => 3,
+        }
+    }
+}
+
+/// What an item is found by: a nonce, a locator, an EID, or a locator and an EID. Parts that its kind
+/// doesn't have are 0.
+#[derive(Clone, Copy, Debug, PartialEq, Eq, Drop)]
+pub struct Key {
+    kind: Kind,
+    // A nonce, or the instance of an EID.
+    number: u64,
+    rloc: Addr,
+    // Of an EID, as the next.
+    addr: Addr,
+    len: u8,
+}
+
+impl Key {
+    pub fn nonce(nonce: u64) -> Key
+        ensures { result ≡ nonce_key nonce }
+    {
+        Key {
+            kind: Kind::Nonce,
+            number: nonce,
+            rloc: Addr::V4(0),
+            addr: Addr::V4(0),
+            len: 0,
+        }
+    }
+
+    pub fn locator(rloc: Addr) -> Key
+        ensures { result ≡ locator_key rloc }
+    {
+        Key {
+            kind: Kind::Locator,
+            number: 0,
+            rloc,
+            addr: Addr::V4(0),
+            len: 0,
+        }
+    }
+
+    pub fn eid(eid: &Eid) -> Key
+        ensures { result ≡ eid_key eid.now }
+    {
+        Key {
+            kind: Kind::Endpoint,
+            number: u64::from(eid.iid),
+            rloc: Addr::V4(0),
+            addr: eid.prefix.addr,
+            len: eid.prefix.len,
+        }
+    }
+
+    /// Of a locator that was told of an EID.
+    pub fn told(rloc: Addr, eid: &Eid) -> Key
+        ensures { result ≡ told_key rloc eid.now }
+    {
+        Key {
+            kind: Kind::Told,
+            number: u64::from(eid.iid),
+            rloc,
+            addr: eid.prefix.addr,
+            len: eid.prefix.len,
+        }
+    }
+
+    /// How it stands to another key: by kind, then by number, locator, address and length.
+    pub(crate) fn compare(&self, other: &Key) -> Ordering
+        ensures { result ≡ key_order self.now other.now }
+    {
+        let by_kind = self.kind.rank().cmp(&other.kind.rank());
+        by_kind
+            .then_with(|| self.number.cmp(&other.number))
+            .then_with(|| self.rloc.cmp(&other.rloc))
+            .then_with(|| self.compare_prefix(other))
+    }
+
+    fn compare_prefix(&self, other: &Key) -> Ordering
+        ensures { result ≡ key_prefix_order self.now other.now }
+    {
+        let by_address = self.addr.cmp(&other.addr);
+        by_address.then_with(|| self.len.cmp(&other.len))
+    }
+
+    pub(crate) fn is_same(&self, other: &Key) -> bool
+        ensures { result ≡ same_key self.now other.now }
+    {
+        self.compare(other).is_eq()
+    }
+}
+
+/// A key of the item of a number.
+#[derive(Clone, Copy, Debug, PartialEq, Eq, Drop)]
+pub(crate) struct Mark {
+    pub key: Key,
+    pub number: u64,
+}
+
+impl Ordered for Mark {
+    ghost use Rattle.keyed_list.specs.Keys.{mark_order, mark_order-total};
+
+    ghost order = { mark_order };
+
+    ghost is_total = { mark_order-total };
+
+    fn compare(&self, other: &Self) -> Ordering {
+        let by_key = self.key.compare(&other.key);
+        by_key.then_with(|| self.number.cmp(&other.number))
+    }
+}
+
+/// When the item of a number came, in nanoseconds.
+#[derive(Clone, Copy, Debug, PartialEq, Eq, Drop)]
+pub(crate) struct Age {
+    pub moment: u64,
+    pub number: u64,
+}
+
+impl Ordered for Age {
+    ghost use Rattle.keyed_list.specs.Keys.{age_order, age_order-total};
+
+    ghost order = { age_order };
+
+    ghost is_total = { age_order-total };
+
+    fn compare(&self, other: &Self) -> Ordering {
+        let by_moment = self.moment.cmp(&other.moment);
+        by_moment.then_with(|| self.number.cmp(&other.number))
+    }
+}

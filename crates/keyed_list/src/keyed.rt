@@ -1,0 +1,32 @@
+// What a list keeps.
+ghost use Rattle.std.specs.Prelude.{◌≡◌};
+
+use crate::Key;
+
+/// What an item is found by.
+#[derive(Clone, Copy, Debug, PartialEq, Eq)]
+pub struct Marks {
+    /// When it came, in nanoseconds.
+    pub moment: u64,
+    pub key: Key,
+    /// A second key, if it has one.
+    pub other: Option<Key>,
+}
+
+/// An item of a list.
+pub trait Keyed: Drop {
+    ghost use Rattle.keyed_list.specs.declared.keyed.Marks.{Marks};
+
+    ghost marks_of: { Self → Marks };
+
+    /// What it is found by.
+    fn marks(&self) -> Marks
+        ensures { result ≡ marks_of self.now };
+}
+
+/// An item, and the number under which it came.
+#[derive(Drop)]
+pub(crate) struct Numbered<T> {
+    pub number: u64,
+    pub item: T,
+}

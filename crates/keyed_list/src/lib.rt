@@ -1,0 +1,15 @@
+//! Items in order of coming, found by their keys and by their age.
+#![tactic(auto)]
+
+mod ages;
+mod finding;
+mod key;
+mod keyed;
+mod known;
+mod list;
+mod marks;
+
+pub use key::Key;
+pub use keyed::{Keyed, Marks};
+pub use list::KeyedList;
+pub use octets::NoMemory;

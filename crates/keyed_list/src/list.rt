@@ -1,0 +1,243 @@
+// The list: numbered items, their keys and their ages.
+ghost use Rattle.std.specs.Prelude.{◌≡◌, ◌≤◌, ◌<◌, ◌+◌, ◌*◌, ◌^◌, [], ◌∷◌, ◌++◌, Bool, not, count_by, filter, length, map, max, slice_get, Some, false, is_some, true, IsOk, OnOk, OnErr, IfSome, ◌&&◌};
+ghost use Rattle.std.specs.List.{list_all, remove};
+ghost use Rattle.std.specs.Fn.{FnReturnsAt};
+ghost use Rattle.std.specs.Option.{option_copied};
+ghost use Rattle.keyed_list.specs.Keyed.{changed_with, is_key, is_young, item_at};
+ghost use Rattle.keyed_list.specs.Lists.{last_where};
+
+use crate::ages::{add_age, drop_age};
+use crate::finding::{old_place, place_below};
+use crate::key::{Age, Mark};
+use crate::keyed::Numbered;
+use crate::marks::{add_marks, drop_marks};
+use crate::{Key, Keyed, NoMemory};
+use named_list::NamedList;
+use ordered_set::OrderedSet;
+use std::alloc::Global;
+use std::marker::Model;
+
+// The most items, with those that there is room for.
+const MOST_ITEMS: u32 = 1 << 30;
+
+/// Items in order of coming. Those that have a key are found by it, and those that are old by their
+/// age, without a look at the others.
+#[derive(Drop)]
+pub struct KeyedList<T: Keyed> {
+    // Numbers ascend.
+    list: NamedList<Numbered<T>>,
+    index: OrderedSet<Mark>,
+    ages: OrderedSet<Age>,
+    // The number of the next item.
+    next: u64,
+}
+
+impl<T: Keyed> Model for KeyedList<T> {
+    ghost use Rattle.std.specs.Prelude.{◌+◌, ◌-◌, ◌*◌, ◌^◌, ◌<◌, All, length, map, max, min};
+    ghost use Rattle.keyed_list.specs.Keyed.{HasPlaces, IsKeyed, Kept};
+
+    ghost Value = { Kept T };
+
+    ghost view = { λ keyed. record {
+      items = map (λ numbered. numbered.item) keyed.list.items;
+      room = min keyed.list.spare (2 ^ 64 - 1 - keyed.next);
+      places = max (length keyed.index.keys + keyed.index.spare)
+          (2 * (length keyed.ages.keys + keyed.ages.spare));
+      kept = keyed.list.kept + (keyed.index.kept + keyed.ages.kept);
+    } };
+
+    ghost invariant = { λ keyed.
+        IsKeyed T.marks_of keyed.list.items keyed.index.keys keyed.ages.keys
+        × All (λ numbered. numbered.number < keyed.next) keyed.list.items
+        × HasPlaces (length keyed.list.items + keyed.list.spare)
+        (length keyed.index.keys + keyed.index.spare)
+        (length keyed.ages.keys + keyed.ages.spare) };
+}
+
+impl<T: Keyed> KeyedList<T> {
+    /// An empty list, with no room. Takes no memory.
+    pub fn new(alloc: Global) -> Self
+        ensures items { result.items ≡ [] }
+        ensures room { result.room ≡ 0 }
+        ensures places { result.places ≡ 0 }
+    {
+        KeyedList {
+            list: NamedList::new(alloc),
+            index: OrderedSet::new(alloc),
+            ages: OrderedSet::new(alloc),
+            next: 0,
+        }
+    }
+
+    /// Makes room for `n` further items in all, with those that there is room for already. Past 2^30
+    /// items, and past 2^64 that have come, there is none.
+    pub fn reserve(&mut self, n: u32) -> Result<(), NoMemory>
+        ensures items { self.new.items ≡ self.old.items }
+        ensures room { self.old.room ≤ self.new.room }
+        ensures places { self.new.places ≤ max self.old.places (2 * (length self.old.items + n)) }
+        ensures ok { OnOk result (n ≤ self.new.room) }
+        ensures enough { n ≤ self.old.room → IsOk result }
+    {
+        if n <= self.room() {
+            return Ok(());
+        }
+        let len = self.list.len() as u32;
+        if n > MOST_ITEMS - len || u64::from(n) > u64::MAX - self.next {
+            return Err(NoMemory);
+        }
+        let all = len + n;
+        self.index.reserve(2 * all - self.index.len() as u32)?;
+        self.ages.reserve(all - self.ages.len() as u32)?;
+        self.list.reserve(n)
+    }
+
+    /// For how many more items there is room.
+    pub fn room(&self) -> u32
+        ensures { result ≡ self.now.room }
+    {
+        (u64::MAX - self.next).min(u64::from(self.list.spare())) as u32
+    }
+
+    /// The number of items.
+    pub fn len(&self) -> usize
+        ensures len { result ≡ length self.now.items }
+        ensures few { result + self.now.room ≤ 2 ^ 30 }
+        ensures kept { self.now.kept ≤ 4 * self.now.places }
+    {
+        // The lengths say how much is kept.
+        let _ = (self.index.len(), self.ages.len());
+        self.list.len()
+    }
+
+    /// The item at a place, the oldest at 0. None behind the end.
+    pub fn get(&self, index: usize) -> Option<&T>
+        ensures { option_copied result ≡ slice_get self.now.items index }
+    {
+        match self.list.get(index) {
+            None => None,
+            Some(numbered) => Some(&numbered.item),
+        }
+    }
+
+    /// The place of an item that isn't younger than that at a moment, if one is.
+    pub fn old(&self, now: u64, life: u64) -> Option<usize>
+        ensures old { IfSome result (λ place. IfSome (slice_get self.now.items place)
+            (λ item. is_young T.marks_of now life item ≡ false)) }
+        ensures within { IfSome result (λ place. place < length self.now.items) }
+        ensures none { is_some result ≡ false
+            → list_all (is_young T.marks_of now life) self.now.items ≡ true }
+    {
+        old_place(now, life, &self.list, &self.index, &self.ages)
+    }
+
+    /// The place of the last item that has a key.
+    pub fn place(&self, key: &Key) -> Option<usize>
+        ensures last { item_at self.now.items result
+            ≡ last_where (is_key T.marks_of key.now) self.now.items }
+        ensures within { IfSome result (λ place. place < length self.now.items) }
+    {
+        place_below(key, self.next, &self.list, &self.index, &self.ages)
+    }
+
+    /// The last item that has a key and passes a test.
+    pub fn last<F: Fn(&T) -> bool>(&self, key: &Key, test: F) -> Option<&T>
+        requires { F.IsAlwaysCallable test }
+        ensures { (passes : T → Bool)
+            → ((item : T) (told : Bool) → FnReturnsAt F.Fn test item told → told ≡ passes item)
+            → option_copied result
+            ≡ last_where (λ item. is_key T.marks_of key.now item && passes item) self.now.items }
+    {
+        let mut bound = self.next;
+        while let Some(place) = place_below(key, bound, &self.list, &self.index, &self.ages) {
+            let Some(numbered) = self.list.get(place) else {
+                unreachable!()
+            };
+            if test(&numbered.item) {
+                return Some(&numbered.item);
+            }
+            bound = numbered.number;
+        }
+        None
+    }
+
+    /// How many items are younger than that at a moment. None is looked at where all are.
+    pub fn count(&self, now: u64, life: u64) -> usize
+        ensures { result ≡ count_by (is_young T.marks_of now life) self.now.items }
+    {
+        if old_place(now, life, &self.list, &self.index, &self.ages).is_none() {
+            return self.list.len();
+        }
+        let mut count = 0;
+        for index in 0..self.list.len() {
+            let Some(numbered) = self.list.get(index) else {
+                unreachable!()
+            };
+            if now.saturating_sub(numbered.item.marks().moment) < life {
+                count += 1;
+            }
+        }
+        count
+    }
+
+    /// Adds an item at the end. Takes no memory.
+    pub fn push(&mut self, item: T)
+        requires { 0 < self.old.room }
+        ensures items { self.new.items ≡ self.old.items ++ item ∷ [] }
+        ensures room { self.old.room ≤ self.new.room + 1 }
+        ensures places { self.new.places ≡ self.old.places }
+    {
+        // The lengths say that keys and ages ascend, so that there are no more than the items have.
+        let _ = (self.index.len(), self.ages.len());
+        let marks = item.marks();
+        let number = self.next;
+        add_marks(&marks, number, &mut self.index);
+        add_age(&marks, number, &mut self.ages);
+        self.list.insert(self.list.len(), Numbered { number, item });
+        self.next += 1;
+    }
+
+    /// Takes away what isn't younger than that at a moment.
+    pub fn purge(&mut self, now: u64, life: u64)
+        ensures items { self.new.items ≡ filter (is_young T.marks_of now life) self.old.items }
+        ensures room { self.old.room ≤ self.new.room }
+        ensures places { self.new.places ≡ self.old.places }
+    {
+        while let Some(place) = old_place(now, life, &self.list, &self.index, &self.ages) {
+            self.remove(place);
+        }
+    }
+
+    /// Changes each item that has a key. It keeps its keys and its moment.
+    pub fn change<F: Fn(&T) -> T>(&mut self, key: &Key, change: F)
+        requires callable { F.IsAlwaysCallable change }
+        requires marks { (item new : T) → FnReturnsAt F.Fn change item new
+            → T.marks_of new ≡ T.marks_of item }
+        ensures items { (changed : T → T)
+            → ((item new : T) → FnReturnsAt F.Fn change item new → new ≡ changed item)
+            → self.new.items ≡ map (changed_with T.marks_of key.now changed) self.old.items }
+        ensures room { self.new.room ≡ self.old.room }
+        ensures places { self.new.places ≡ self.old.places }
+    {
+        let mut bound = self.next;
+        while let Some(place) = place_below(key, bound, &self.list, &self.index, &self.ages) {
+            let numbered = self.list.edit(place);
+            bound = numbered.number;
+            numbered.item = change(&numbered.item);
+        }
+    }
+
+    /// Takes away the item at a place, and gives it back.
+    pub fn remove(&mut self, place: usize) -> T
+        requires { place < length self.old.items }
+        ensures item { slice_get self.old.items place ≡ Some result }
+        ensures items { self.new.items ≡ remove self.old.items place }
+        ensures room { self.old.room ≤ self.new.room }
+        ensures places { self.new.places ≡ self.old.places }
+    {
+        let Numbered { number, item } = self.list.remove(place);
+        let marks = item.marks();
+        drop_marks(&marks, number, &mut self.index);
+        drop_age(&marks, number, &mut self.ages);
+        item
+    }
+}
