@@ -1,2 +1,2 @@
-mod LastLemmas
+pub mod FoundLemmas
 mod PlaceLemmas

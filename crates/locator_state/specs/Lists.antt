@@ -1,15 +1,8 @@
 -- Lists: the last item of a kind.
-use Rattle.std.specs.Prelude.{Bool, List, fold, Option, Some, None, if◌then◌else◌}
+use Rattle.std.specs.Prelude.{Bool, Option, Some, None, if◌then◌else◌}
+pub use Rattle.keyed_list.specs.Lists.{last_where, later}
 
 -- a value that passes a test
 abbrev pub only_if : {A : Type 0} → (A → Bool) → Option A → Option A
 only_if test None = None
 only_if test (Some value) = if test value then Some value else None
-
--- an item that passes a test, or else the one that did before
-abbrev pub later : {A : Type 0} → (A → Bool) → Option A → A → Option A
-later test before item = if test item then Some item else before
-
--- the last item that passes a test
-abbrev pub last_where : {A : Type 0} → (A → Bool) → List A → Option A
-last_where test items = fold (later test) None items

@@ -1,5 +1,5 @@
 -- All that is known of locators.
-use Rattle.std.specs.Prelude.{ℕ, ◌≤◌, ◌+◌, ◌&&◌, Bool, List}
+use Rattle.std.specs.Prelude.{ℕ, ◌≤◌, ◌+◌, ◌&&◌, Bool, List, length, max}
 use Rattle.ip_headers.specs.declared.addr.Addr.{Addr}
 use Rattle.router_log.specs.declared.kept.EchoStart.{EchoStart}
 use Rattle.router_log.specs.declared.kept.EchoWish.{EchoWish}
@@ -42,13 +42,20 @@ with_wishes now wishes o = record (recent now o) { wishes = wishes }
 abbrev pub with_solicits : ℕ → List Solicitation → Observed → Observed
 with_solicits now solicits o = record (recent now o) { solicits = solicits }
 
--- what is known of locators as callers see it, and of each kind how many more there is room for
+-- the number of items of the longest list
+abbrev pub longest : Observed → ℕ
+longest o = max (length o.probes) (max (length o.starts) (max (length o.wishes) (length o.solicits)))
+
+-- what is known of locators as callers see it, of each kind how many more there is room for, for how many keys of a kind
+-- there is place at most, and how many items all lists have
 pub record Located : Type 0 where
   pub observed : Observed
   pub probe_room : ℕ
   pub start_room : ℕ
   pub wish_room : ℕ
   pub solicit_room : ℕ
+  pub places : ℕ
+  pub kept : ℕ
 
 -- of each kind there is room for so many more
 pub record HasRoom (more others : ℕ) (now : Located) : Type 0 where

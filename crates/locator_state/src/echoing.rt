@@ -1,13 +1,13 @@
 // Which echoes count, which of them is meant, and what becomes of them.
-ghost use Rattle.std.specs.Prelude.{◌≡◌, ◌≤◌, ◌&&◌, count_by, map, nat_lt, vec_len, vec_capacity};
+ghost use Rattle.std.specs.Prelude.{◌≡◌, ◌≤◌, ◌&&◌, count_by, map, nat_lt, true};
 ghost use Rattle.std.specs.List.{list_any};
 ghost use Rattle.std.specs.Option.{option_copied};
 ghost use Rattle.mapping_records.specs.Eids.{same_address};
 ghost use Rattle.locator_state.specs.Lists.{last_where};
 ghost use Rattle.locator_state.specs.Echoes.{answer_or, ask_or_plain, come_from, counting_starts, counting_wishes, data_due, echo_on, echo_up, echo_wanted, hear_from, is_deaf, is_on, is_other, last_start, start_counts, wish_counts};
 
-use crate::probing::same_address;
 use ip_headers::Addr;
+use keyed_list::{Key, KeyedList};
 use router_log::{EchoOut, EchoStart, EchoWish};
 
 /// The most echoes that were asked for in less than 60 seconds (this router's choice).
@@ -16,16 +16,22 @@ pub const MOST_STARTS: usize = 4096;
 /// The most echoes that are wanted within 2 seconds (this router's choice).
 pub const MOST_WISHES: usize = 4096;
 
+/// How long an echo that was asked for counts, in nanoseconds.
+const START_LIFE: u64 = 60_000_000_000;
+
+/// The same of one that is wanted.
+const WISH_LIFE: u64 = 2_000_000_000;
+
 fn start_counts(now: u64, start: &EchoStart) -> bool
     ensures { result ≡ start_counts now start.now }
 {
-    now.saturating_sub(start.moment) < 60_000_000_000
+    now.saturating_sub(start.moment) < START_LIFE
 }
 
 fn wish_counts(now: u64, wish: &EchoWish) -> bool
     ensures { result ≡ wish_counts now wish.now }
 {
-    now.saturating_sub(wish.moment) < 2_000_000_000
+    now.saturating_sub(wish.moment) < WISH_LIFE
 }
 
 fn is_on(now: u64, start: &EchoStart) -> bool
@@ -44,29 +50,23 @@ fn is_deaf(now: u64, start: &EchoStart) -> bool
 }
 
 /// The last echo that was asked of a locator.
-fn last_start<'a>(rloc: &Addr, starts: &'a [EchoStart]) -> Option<&'a EchoStart>
-    ensures { option_copied result ≡ last_start starts.now rloc.now }
+fn last_start<'a>(rloc: &Addr, starts: &'a KeyedList<EchoStart>) -> Option<&'a EchoStart>
+    ensures { option_copied result ≡ last_start starts.now.items rloc.now }
 {
-    starts
-        .iter()
-        .rev()
-        .find(|start| same_address(&start.rloc, rloc))
+    starts.last(&Key::locator(*rloc), |_| true)
 }
 
 /// The last echo that a locator wanted.
-fn last_wish<'a>(rloc: &Addr, wishes: &'a [EchoWish]) -> Option<&'a EchoWish>
+fn last_wish<'a>(rloc: &Addr, wishes: &'a KeyedList<EchoWish>) -> Option<&'a EchoWish>
     ensures { option_copied result
-        ≡ last_where (λ wish. same_address wish.rloc rloc.now) wishes.now }
+        ≡ last_where (λ wish. same_address wish.rloc rloc.now) wishes.now.items }
 {
-    wishes
-        .iter()
-        .rev()
-        .find(|wish| same_address(&wish.rloc, rloc))
+    wishes.last(&Key::locator(*rloc), |_| true)
 }
 
 /// The nonce of the echo that is asked of a locator.
-pub(crate) fn echo_on(now: u64, rloc: &Addr, starts: &[EchoStart]) -> Option<u32>
-    ensures { result ≡ echo_on now starts.now rloc.now }
+pub(crate) fn echo_on(now: u64, rloc: &Addr, starts: &KeyedList<EchoStart>) -> Option<u32>
+    ensures { result ≡ echo_on now starts.now.items rloc.now }
 {
     let start = last_start(rloc, starts)?;
     if is_on(now, start) {
@@ -76,8 +76,8 @@ pub(crate) fn echo_on(now: u64, rloc: &Addr, starts: &[EchoStart]) -> Option<u32
 }
 
 /// An echo is asked of a locator, and no packet came since.
-pub(crate) fn data_due(now: u64, rloc: &Addr, starts: &[EchoStart]) -> bool
-    ensures { result ≡ data_due now starts.now rloc.now }
+pub(crate) fn data_due(now: u64, rloc: &Addr, starts: &KeyedList<EchoStart>) -> bool
+    ensures { result ≡ data_due now starts.now.items rloc.now }
 {
     match last_start(rloc, starts) {
         None => false,
@@ -86,8 +86,8 @@ pub(crate) fn data_due(now: u64, rloc: &Addr, starts: &[EchoStart]) -> bool
 }
 
 /// No echo speaks against a locator.
-pub(crate) fn echo_up(now: u64, rloc: &Addr, starts: &[EchoStart]) -> bool
-    ensures { result ≡ echo_up now starts.now rloc.now }
+pub(crate) fn echo_up(now: u64, rloc: &Addr, starts: &KeyedList<EchoStart>) -> bool
+    ensures { result ≡ echo_up now starts.now.items rloc.now }
 {
     match last_start(rloc, starts) {
         None => true,
@@ -96,8 +96,8 @@ pub(crate) fn echo_up(now: u64, rloc: &Addr, starts: &[EchoStart]) -> bool
 }
 
 /// The nonce that a locator wants echoed.
-pub(crate) fn echo_wanted(now: u64, rloc: &Addr, wishes: &[EchoWish]) -> Option<u32>
-    ensures { result ≡ echo_wanted now wishes.now rloc.now }
+pub(crate) fn echo_wanted(now: u64, rloc: &Addr, wishes: &KeyedList<EchoWish>) -> Option<u32>
+    ensures { result ≡ echo_wanted now wishes.now.items rloc.now }
 {
     let wish = last_wish(rloc, wishes)?;
     if wish_counts(now, wish) {
@@ -117,32 +117,28 @@ pub(crate) fn is_other(nonce: u32, wanted: Option<u32>) -> bool
 }
 
 /// An echo that counts was asked of a locator.
-pub(crate) fn is_asked(now: u64, rloc: &Addr, starts: &[EchoStart]) -> bool
+pub(crate) fn is_asked(now: u64, rloc: &Addr, starts: &KeyedList<EchoStart>) -> bool
     ensures { result
         ≡ list_any (λ start. same_address start.rloc rloc.now && start_counts now start)
-        starts.now }
+        starts.now.items }
 {
-    starts.iter().any(|start| same_address(&start.rloc, rloc) && start_counts(now, start))
+    starts
+        .last(&Key::locator(*rloc), |start| start_counts(now, start))
+        .is_some()
 }
 
-/// One more echo may be asked for. Nothing is counted where few are kept.
-pub(crate) fn few_starts(now: u64, starts: &[EchoStart]) -> bool
-    ensures { result ≡ nat_lt (count_by (start_counts now) starts.now) 4096 }
+/// One more echo may be asked for.
+pub(crate) fn few_starts(now: u64, starts: &KeyedList<EchoStart>) -> bool
+    ensures { result ≡ nat_lt (count_by (start_counts now) starts.now.items) 4096 }
 {
-    starts.len() < MOST_STARTS
-        || starts
-            .iter()
-            .filter(|start| start_counts(now, start))
-            .count()
-            < MOST_STARTS
+    starts.count(now, START_LIFE) < MOST_STARTS
 }
 
-/// One more echo may be wanted. Nothing is counted where few are kept.
-pub(crate) fn few_wishes(now: u64, wishes: &[EchoWish]) -> bool
-    ensures { result ≡ nat_lt (count_by (wish_counts now) wishes.now) 4096 }
+/// One more echo may be wanted.
+pub(crate) fn few_wishes(now: u64, wishes: &KeyedList<EchoWish>) -> bool
+    ensures { result ≡ nat_lt (count_by (wish_counts now) wishes.now.items) 4096 }
 {
-    wishes.len() < MOST_WISHES
-        || wishes.iter().filter(|wish| wish_counts(now, wish)).count() < MOST_WISHES
+    wishes.count(now, WISH_LIFE) < MOST_WISHES
 }
 
 /// An echo is asked for where one is on.
@@ -165,58 +161,56 @@ pub(crate) fn answer_or(other: EchoOut, wanted: Option<u32>) -> EchoOut
     }
 }
 
-fn hear_from(rloc: &Addr, start: &mut EchoStart)
-    ensures { start.new ≡ hear_from rloc.now start.old }
+fn heard(start: &EchoStart) -> EchoStart
+    ensures { result ≡ record start.now { heard = true } }
 {
-    if same_address(&start.rloc, rloc) {
-        start.heard = true;
+    EchoStart {
+        heard: true,
+        ..*start
     }
 }
 
-fn come_from(rloc: &Addr, start: &mut EchoStart)
-    ensures { start.new ≡ come_from rloc.now start.old }
+fn come(start: &EchoStart) -> EchoStart
+    ensures { result ≡ record start.now { came = true } }
 {
-    if same_address(&start.rloc, rloc) {
-        start.came = true;
+    EchoStart {
+        came: true,
+        ..*start
     }
 }
 
 /// The echo of a locator is heard.
-pub(crate) fn hear_all(rloc: &Addr, starts: &mut Vec<EchoStart>)
+pub(crate) fn hear_all(rloc: &Addr, starts: &mut KeyedList<EchoStart>)
     ensures items { starts.new.items ≡ map (hear_from rloc.now) starts.old.items }
-    ensures len { vec_len starts.new ≡ vec_len starts.old }
-    ensures capacity { vec_capacity starts.new ≡ vec_capacity starts.old }
+    ensures room { starts.new.room ≡ starts.old.room }
+    ensures places { starts.new.places ≡ starts.old.places }
 {
-    for start in starts.iter_mut() {
-        hear_from(rloc, start);
-    }
+    starts.change(&Key::locator(*rloc), |start| heard(start));
 }
 
 /// A packet came from a locator.
-pub(crate) fn come_all(rloc: &Addr, starts: &mut Vec<EchoStart>)
+pub(crate) fn come_all(rloc: &Addr, starts: &mut KeyedList<EchoStart>)
     ensures items { starts.new.items ≡ map (come_from rloc.now) starts.old.items }
-    ensures len { vec_len starts.new ≡ vec_len starts.old }
-    ensures capacity { vec_capacity starts.new ≡ vec_capacity starts.old }
+    ensures room { starts.new.room ≡ starts.old.room }
+    ensures places { starts.new.places ≡ starts.old.places }
 {
-    for start in starts.iter_mut() {
-        come_from(rloc, start);
-    }
+    starts.change(&Key::locator(*rloc), |start| come(start));
 }
 
 /// Takes away what counts no longer at a moment.
-pub(crate) fn drop_starts(now: u64, starts: &mut Vec<EchoStart>)
+pub(crate) fn drop_starts(now: u64, starts: &mut KeyedList<EchoStart>)
     ensures items { starts.new.items ≡ counting_starts now starts.old.items }
-    ensures len { vec_len starts.new ≤ vec_len starts.old }
-    ensures capacity { vec_capacity starts.new ≡ vec_capacity starts.old }
+    ensures room { starts.old.room ≤ starts.new.room }
+    ensures places { starts.new.places ≡ starts.old.places }
 {
-    starts.retain(|start| start_counts(now, start));
+    starts.purge(now, START_LIFE);
 }
 
 /// The same of echoes that are wanted.
-pub(crate) fn drop_wishes(now: u64, wishes: &mut Vec<EchoWish>)
+pub(crate) fn drop_wishes(now: u64, wishes: &mut KeyedList<EchoWish>)
     ensures items { wishes.new.items ≡ counting_wishes now wishes.old.items }
-    ensures len { vec_len wishes.new ≤ vec_len wishes.old }
-    ensures capacity { vec_capacity wishes.new ≡ vec_capacity wishes.old }
+    ensures room { wishes.old.room ≤ wishes.new.room }
+    ensures places { wishes.new.places ≡ wishes.old.places }
 {
-    wishes.retain(|wish| wish_counts(now, wish));
+    wishes.purge(now, WISH_LIFE);
 }

@@ -1,7 +1,7 @@
-// What is known of locators, over vectors.
-ghost use Rattle.std.specs.Prelude.{◌≡◌, ◌≤◌, ◌<◌, ◌+◌, nat_lt, [], OnOk, OnErr};
+// What is known of locators.
+ghost use Rattle.std.specs.Prelude.{◌≡◌, ◌≤◌, ◌<◌, ◌+◌, ◌*◌, length, max, nat_lt, [], OnOk, OnErr};
 ghost use Rattle.locator_state.specs.Echoes.{data_due, data_from, echo_heard, echo_on, echo_out, echo_started, may_start, may_want, wanted};
-ghost use Rattle.locator_state.specs.Observed.{HasRoom, UsesRoom, is_up, recent, with_probes, with_solicits, with_starts, with_wishes};
+ghost use Rattle.locator_state.specs.Observed.{HasRoom, UsesRoom, is_up, longest, recent, with_probes, with_solicits, with_starts, with_wishes};
 ghost use Rattle.locator_state.specs.Probes.{last_probe, probe_answered, probe_count, probe_open, probed};
 ghost use Rattle.locator_state.specs.Solicits.{may_solicit, solicited};
 ghost use Rattle.locator_state.specs.declared.locators.TheConstants.{MOST_PROBES};
@@ -11,36 +11,34 @@ use crate::echoing::{
     echo_wanted, few_starts, few_wishes, hear_all, is_asked, is_other,
 };
 use crate::probing::{
-    drop_probes, is_judged, last_judged, last_of, last_with, probe_counts, settle_nonce, up_by,
+    PROBE_LIFE, drop_probes, is_judged, last_judged, last_of, last_with, probe_counts,
+    settle_nonce, up_by,
 };
 use crate::soliciting::{drop_solicits, few_solicits, is_solicited};
 use crate::{Addr, EchoOut, EchoStart, EchoWish, Eid, NoMemory, Probe, ProbeState, Solicitation};
+use keyed_list::KeyedList;
 use std::alloc::Global;
 use std::marker::Model;
 
 /// The most probes younger than 600 seconds (this router's choice).
 pub const MOST_PROBES: usize = 9600;
 
-/// The most probes that are kept, so that they can be counted.
-const MOST_KEPT: usize = u32::MAX as usize;
-
 /// What is known of locators: their probes, the echoes that were asked of them (starts), the echoes
 /// that they want (wishes), and their solicitations; of each kind the oldest first. An item is kept
 /// until something is noted, or until a purge, at a moment at which it counts no longer: a probe
 /// counts for 600 seconds, a start for 60, a wish for 2, a solicitation for 10. What is asked at a
 /// moment is answered by those that count then. Moments are in nanoseconds.
-#[derive(Debug, Drop)]
+#[derive(Drop)]
 pub struct LocatorState {
-    probes: Vec<Probe>,
-    starts: Vec<EchoStart>,
-    wishes: Vec<EchoWish>,
-    solicits: Vec<Solicitation>,
+    probes: KeyedList<Probe>,
+    starts: KeyedList<EchoStart>,
+    wishes: KeyedList<EchoWish>,
+    solicits: KeyedList<Solicitation>,
 }
 
 impl Model for LocatorState {
-    ghost use Rattle.std.specs.Prelude.{◌≤◌, ◌-◌, min, vec_len, vec_capacity};
+    ghost use Rattle.std.specs.Prelude.{◌+◌, max};
     ghost use Rattle.locator_state.specs.Observed.{Located};
-    ghost use Rattle.locator_state.specs.declared.locators.TheConstants.{MOST_KEPT};
 
     ghost Value = { Located };
 
@@ -51,27 +49,40 @@ impl Model for LocatorState {
         wishes = state.wishes.items;
         solicits = state.solicits.items;
       };
-      probe_room = min (vec_capacity state.probes - vec_len state.probes)
-          (MOST_KEPT - vec_len state.probes);
-      start_room = vec_capacity state.starts - vec_len state.starts;
-      wish_room = vec_capacity state.wishes - vec_len state.wishes;
-      solicit_room = vec_capacity state.solicits - vec_len state.solicits;
+      probe_room = state.probes.room;
+      start_room = state.starts.room;
+      wish_room = state.wishes.room;
+      solicit_room = state.solicits.room;
+      places = max (max state.probes.places state.starts.places)
+          (max state.wishes.places state.solicits.places);
+      kept = (state.probes.kept + state.starts.kept)
+          + (state.wishes.kept + state.solicits.kept);
     } };
-
-    ghost invariant = { λ state. vec_len state.probes ≤ MOST_KEPT };
 }
 
 impl LocatorState {
     /// Nothing is known. Takes no memory.
     pub fn new(alloc: Global) -> LocatorState
-        ensures { result.observed ≡ record { probes = []; starts = []; wishes = []; solicits = [] } }
+        ensures observed { result.observed
+            ≡ record { probes = []; starts = []; wishes = []; solicits = [] } }
+        ensures places { result.places ≡ 0 }
     {
         LocatorState {
-            probes: Vec::new(alloc),
-            starts: Vec::new(alloc),
-            wishes: Vec::new(alloc),
-            solicits: Vec::new(alloc),
+            probes: KeyedList::new(alloc),
+            starts: KeyedList::new(alloc),
+            wishes: KeyedList::new(alloc),
+            solicits: KeyedList::new(alloc),
         }
+    }
+
+    /// How many items are kept in all. What all lists have in all is at most 16 for each key for which
+    /// the one with the most has place.
+    pub fn len(&self) -> usize
+        ensures len { result ≡ (length self.now.observed.probes + length self.now.observed.starts)
+            + (length self.now.observed.wishes + length self.now.observed.solicits) }
+        ensures kept { self.now.kept ≤ 16 * self.now.places }
+    {
+        self.probes.len() + self.starts.len() + (self.wishes.len() + self.solicits.len())
     }
 
     /// Makes room for so many further probes, and for so many of each other kind.
@@ -82,33 +93,20 @@ impl LocatorState {
         ensures ok { OnOk result (HasRoom probes others self.new) }
         ensures memory { OnErr result (HasRoom probes others self.old → ⊥) }
         ensures room { UsesRoom 0 0 0 0 self.old self.new }
+        ensures places { self.new.places
+            ≤ max self.old.places (2 * (longest self.old.observed + max probes others)) }
     {
-        self.reserve_probes(probes)?;
-        self.starts.reserve(others as usize)?;
-        self.wishes.reserve(others as usize)?;
-        self.solicits.reserve(others as usize)?;
-        Ok(())
-    }
-
-    // Makes room for so many further probes, as long as they can be counted.
-    fn reserve_probes(&mut self, probes: u32) -> Result<(), NoMemory>
-        requires { probes ≤ 65536 }
-        ensures observed { self.new.observed ≡ self.old.observed }
-        ensures ok { OnOk result (probes ≤ self.new.probe_room) }
-        ensures memory { OnErr result (self.old.probe_room < probes) }
-        ensures room { UsesRoom 0 0 0 0 self.old self.new }
-    {
-        if MOST_KEPT - self.probes.len() < probes as usize {
-            return Err(NoMemory);
-        }
-        self.probes.reserve(probes as usize)?;
-        Ok(())
+        self.probes.reserve(probes)?;
+        self.starts.reserve(others)?;
+        self.wishes.reserve(others)?;
+        self.solicits.reserve(others)
     }
 
     /// Takes away what counts no longer at a moment.
     pub fn purge(&mut self, m: u64)
         ensures observed { self.new.observed ≡ recent m self.old.observed }
         ensures room { UsesRoom 0 0 0 0 self.old self.new }
+        ensures places { self.new.places ≤ self.old.places }
     {
         drop_probes(m, &mut self.probes);
         drop_starts(m, &mut self.starts);
@@ -124,11 +122,13 @@ impl LocatorState {
         ensures err { OnErr result (self.new.observed ≡ self.old.observed) }
         ensures memory { OnErr result (self.old.probe_room ≡ 0) }
         ensures room { UsesRoom 1 0 0 0 self.old self.new }
+        ensures places { self.new.places
+            ≤ max self.old.places (2 * (longest self.old.observed + 1)) }
     {
-        self.reserve_probes(1)?;
+        self.probes.reserve(1)?;
         self.purge(m);
         settle_nonce(ProbeState::Lost, nonce, &mut self.probes);
-        self.probes.push_reserved(Probe {
+        self.probes.push(Probe {
             moment: m,
             rloc,
             nonce,
@@ -142,6 +142,7 @@ impl LocatorState {
         ensures observed { self.new.observed
             ≡ with_probes m (probe_answered m nonce self.old.observed.probes) self.old.observed }
         ensures room { UsesRoom 0 0 0 0 self.old self.new }
+        ensures places { self.new.places ≤ self.old.places }
     {
         self.purge(m);
         settle_nonce(ProbeState::Answered, nonce, &mut self.probes);
@@ -154,10 +155,12 @@ impl LocatorState {
         ensures err { OnErr result (self.new.observed ≡ self.old.observed) }
         ensures memory { OnErr result (self.old.start_room ≡ 0) }
         ensures room { UsesRoom 0 1 0 0 self.old self.new }
+        ensures places { self.new.places
+            ≤ max self.old.places (2 * (longest self.old.observed + 1)) }
     {
         self.starts.reserve(1)?;
         self.purge(m);
-        self.starts.push_reserved(EchoStart {
+        self.starts.push(EchoStart {
             moment: m,
             rloc,
             nonce,
@@ -172,6 +175,7 @@ impl LocatorState {
         ensures observed { self.new.observed
             ≡ with_starts m (echo_heard m rloc.now self.old.observed.starts) self.old.observed }
         ensures room { UsesRoom 0 0 0 0 self.old self.new }
+        ensures places { self.new.places ≤ self.old.places }
     {
         self.purge(m);
         hear_all(rloc, &mut self.starts);
@@ -182,6 +186,7 @@ impl LocatorState {
         ensures observed { self.new.observed
             ≡ with_starts m (data_from m rloc.now self.old.observed.starts) self.old.observed }
         ensures room { UsesRoom 0 0 0 0 self.old self.new }
+        ensures places { self.new.places ≤ self.old.places }
     {
         self.purge(m);
         come_all(rloc, &mut self.starts);
@@ -194,10 +199,12 @@ impl LocatorState {
         ensures err { OnErr result (self.new.observed ≡ self.old.observed) }
         ensures memory { OnErr result (self.old.wish_room ≡ 0) }
         ensures room { UsesRoom 0 0 1 0 self.old self.new }
+        ensures places { self.new.places
+            ≤ max self.old.places (2 * (longest self.old.observed + 1)) }
     {
         self.wishes.reserve(1)?;
         self.purge(m);
-        self.wishes.push_reserved(EchoWish {
+        self.wishes.push(EchoWish {
             moment: m,
             rloc,
             nonce,
@@ -212,10 +219,12 @@ impl LocatorState {
         ensures err { OnErr result (self.new.observed ≡ self.old.observed) }
         ensures memory { OnErr result (self.old.solicit_room ≡ 0) }
         ensures room { UsesRoom 0 0 0 1 self.old self.new }
+        ensures places { self.new.places
+            ≤ max self.old.places (2 * (longest self.old.observed + 1)) }
     {
         self.solicits.reserve(1)?;
         self.purge(m);
-        self.solicits.push_reserved(Solicitation {
+        self.solicits.push(Solicitation {
             moment: m,
             rloc,
             eid,
@@ -249,17 +258,16 @@ impl LocatorState {
     pub fn probe_count(&self, m: u64) -> u32
         ensures { result ≡ probe_count m self.now.observed.probes }
     {
-        self.probes
-            .iter()
-            .filter(|probe| probe_counts(m, probe))
-            .count() as u32
+        // There are no more of them than are kept.
+        let _ = self.probes.len();
+        self.probes.count(m, PROBE_LIFE) as u32
     }
 
-    /// There is room for one more probe at a moment. Nothing is counted where few are kept.
+    /// There is room for one more probe at a moment.
     pub fn may_probe(&self, m: u64) -> bool
         ensures { result ≡ nat_lt (probe_count m self.now.observed.probes) MOST_PROBES }
     {
-        self.probes.len() < MOST_PROBES || (self.probe_count(m) as usize) < MOST_PROBES
+        self.probes.count(m, PROBE_LIFE) < MOST_PROBES
     }
 
     /// The nonce of the echo that is asked of a locator, for 10 seconds and until it is heard. None

@@ -1,12 +1,16 @@
 // Which probes count, which of them is meant, and what becomes of them.
-ghost use Rattle.std.specs.Prelude.{◌≡◌, ◌≤◌, ◌&&◌, ◌==◌, vec_len, vec_capacity};
+ghost use Rattle.std.specs.Prelude.{◌≡◌, ◌≤◌, ◌&&◌, ◌==◌};
 ghost use Rattle.std.specs.Option.{option_copied};
 ghost use Rattle.mapping_records.specs.Eids.{same_address};
 ghost use Rattle.locator_state.specs.Lists.{last_where};
-ghost use Rattle.locator_state.specs.Probes.{counting_probes, is_answered, is_judged, probe_counts, settle_nonce, settle_with, settled, up_by};
+ghost use Rattle.locator_state.specs.Probes.{counting_probes, is_answered, is_judged, probe_counts, settle, settle_nonce, settled, up_by};
 
 use ip_headers::Addr;
+use keyed_list::{Key, KeyedList};
 use router_log::{Probe, ProbeState};
+
+/// How long a probe counts, in nanoseconds.
+pub(crate) const PROBE_LIFE: u64 = 600_000_000_000;
 
 pub(crate) fn same_address(a: &Addr, b: &Addr) -> bool
     ensures { result ≡ same_address a.now b.now }
@@ -17,7 +21,7 @@ pub(crate) fn same_address(a: &Addr, b: &Addr) -> bool
 pub(crate) fn probe_counts(now: u64, probe: &Probe) -> bool
     ensures { result ≡ probe_counts now probe.now }
 {
-    now.saturating_sub(probe.moment) < 600_000_000_000
+    now.saturating_sub(probe.moment) < PROBE_LIFE
 }
 
 fn is_answered(probe: &Probe) -> bool
@@ -45,30 +49,32 @@ pub(crate) fn up_by(now: u64, last: Option<&Probe>) -> bool
 }
 
 /// The last probe with that nonce.
-pub(crate) fn last_with(nonce: u64, probes: &[Probe]) -> Option<&Probe>
-    ensures { option_copied result ≡ last_where (λ probe. probe.nonce == nonce) probes.now }
+pub(crate) fn last_with(nonce: u64, probes: &KeyedList<Probe>) -> Option<&Probe>
+    ensures { option_copied result
+        ≡ last_where (λ probe. probe.nonce == nonce) probes.now.items }
 {
-    probes.iter().rev().find(|probe| probe.nonce == nonce)
+    probes.last(&Key::nonce(nonce), |_| true)
 }
 
 /// The last probe of a locator.
-pub(crate) fn last_of<'a>(rloc: &Addr, probes: &'a [Probe]) -> Option<&'a Probe>
+pub(crate) fn last_of<'a>(rloc: &Addr, probes: &'a KeyedList<Probe>) -> Option<&'a Probe>
     ensures { option_copied result
-        ≡ last_where (λ probe. same_address probe.rloc rloc.now) probes.now }
+        ≡ last_where (λ probe. same_address probe.rloc rloc.now) probes.now.items }
 {
-    probes
-        .iter()
-        .rev()
-        .find(|probe| same_address(&probe.rloc, rloc))
+    probes.last(&Key::locator(*rloc), |_| true)
 }
 
 /// The last probe of a locator that is answered or has waited for 3 seconds.
-pub(crate) fn last_judged<'a>(now: u64, rloc: &Addr, probes: &'a [Probe]) -> Option<&'a Probe>
+pub(crate) fn last_judged<'a>(
+    now: u64,
+    rloc: &Addr,
+    probes: &'a KeyedList<Probe>,
+) -> Option<&'a Probe>
     ensures { option_copied result
         ≡ last_where (λ probe. same_address probe.rloc rloc.now && is_judged now probe)
-        probes.now }
+        probes.now.items }
 {
-    probes.iter().rev().find(|probe| same_address(&probe.rloc, rloc) && is_judged(now, probe))
+    probes.last(&Key::locator(*rloc), |probe| is_judged(now, probe))
 }
 
 fn settled(state: ProbeState, old: ProbeState) -> ProbeState
@@ -81,30 +87,29 @@ fn settled(state: ProbeState, old: ProbeState) -> ProbeState
     }
 }
 
-fn settle_with(state: ProbeState, nonce: u64, probe: &mut Probe)
-    ensures { probe.new ≡ settle_with state nonce probe.old }
+fn settle(state: ProbeState, probe: &Probe) -> Probe
+    ensures { result ≡ settle state probe.now }
 {
-    if probe.nonce == nonce {
-        probe.state = settled(state, probe.state);
+    Probe {
+        state: settled(state, probe.state),
+        ..*probe
     }
 }
 
 /// Settles the open probes with that nonce.
-pub(crate) fn settle_nonce(state: ProbeState, nonce: u64, probes: &mut Vec<Probe>)
+pub(crate) fn settle_nonce(state: ProbeState, nonce: u64, probes: &mut KeyedList<Probe>)
     ensures items { probes.new.items ≡ settle_nonce state nonce probes.old.items }
-    ensures len { vec_len probes.new ≡ vec_len probes.old }
-    ensures capacity { vec_capacity probes.new ≡ vec_capacity probes.old }
+    ensures room { probes.new.room ≡ probes.old.room }
+    ensures places { probes.new.places ≡ probes.old.places }
 {
-    for probe in probes.iter_mut() {
-        settle_with(state, nonce, probe);
-    }
+    probes.change(&Key::nonce(nonce), |probe| settle(state, probe));
 }
 
 /// Takes away what counts no longer at a moment.
-pub(crate) fn drop_probes(now: u64, probes: &mut Vec<Probe>)
+pub(crate) fn drop_probes(now: u64, probes: &mut KeyedList<Probe>)
     ensures items { probes.new.items ≡ counting_probes now probes.old.items }
-    ensures len { vec_len probes.new ≤ vec_len probes.old }
-    ensures capacity { vec_capacity probes.new ≡ vec_capacity probes.old }
+    ensures room { probes.old.room ≤ probes.new.room }
+    ensures places { probes.new.places ≡ probes.old.places }
 {
-    probes.retain(|probe| probe_counts(now, probe));
+    probes.purge(now, PROBE_LIFE);
 }

@@ -1,13 +1,16 @@
-use Rattle.std.proofs.Common.{rules, false, get_or, slice_set, ap, ◌∙◌, arith}
-use Rattle.std.proofs.lemmas.List.{get_or_default}
-use Rattle.std.proofs.lemmas.List.Edits.{map_over_more}
-use Rattle.ip_headers.specs.declared.addr.Addr.TheVariants.{V4}
-use Rattle.locator_state.specs.Echoes.{come_from}
+use Rattle.std.proofs.Common.{rules, true, cond, ap, ◌∙◌}
+use Rattle.keyed_list.specs.Keyed.{changed_with}
+use Rattle.keyed_list.specs.Keys.{locator_key}
+use Rattle.keyed_list.specs.Known.{start_marks}
 use Rattle.router_log.specs.declared.kept.EchoStart.{EchoStart}
+use Rattle.locator_state.specs.Echoes.{come_from}
+use Rattle.locator_state.proofs.FoundLemmas.{map-same, start-locator}
 use Rattle.locator_state.proofs.echoing.come_all.Goals as goal
 
-pub loop-start-preserved : goal.loop-start-preserved
-loop-start-preserved c =
-    let old : EchoStart = get_or c.loop-start.start-items c.loop-start.start-index (record { moment = 0; rloc = V4 0; nonce = 0; heard = false; came = false }) in
-    ap (slice_set c.loop-start.start-items c.loop-start.start-index) c.come_from.ensures
-    ∙ map_over_more (come_from c.args.rloc.now) _ c.loop-start.start-items c.loop-start.start-index old (omega arith) c.loop-start.invariant (search (rules, get_or_default))
+abbrev come : EchoStart → EchoStart
+come start = record start { came = true }
+
+pub returns-clause-items : goal.returns-clause-items
+returns-clause-items c =
+    rw c.locator.ensures at (c.change.ensures.items come (λ start new says. search rules))
+    ∙ map-same (changed_with start_marks (locator_key c.args.rloc.now) come) (come_from c.args.rloc.now) (λ start. ap (λ b. cond b (come start) start) (start-locator c.args.rloc.now start)) c.args.starts.now.items

@@ -1,11 +1,12 @@
-use Rattle.std.proofs.Common.{rules, tests, ◌∙◌}
-use Rattle.std.proofs.lemmas.Iterator.Adapters.{YieldsList-from_rev_slice}
-use Rattle.std.proofs.lemmas.Iterator.Search.{find_from_yields_List}
+use Rattle.std.proofs.Common.{rules, true, ◌∙◌}
+use Rattle.keyed_list.specs.Keyed.{is_key}
+use Rattle.keyed_list.specs.Keys.{locator_key}
+use Rattle.keyed_list.specs.Known.{start_marks}
 use Rattle.mapping_records.specs.Eids.{same_address}
-use Rattle.locator_state.proofs.LastLemmas.{find-reverse}
+use Rattle.locator_state.proofs.FoundLemmas.{last-key, start-locator}
 use Rattle.locator_state.proofs.echoing.last_start.Goals as goal
 
 pub returns : goal.returns
 returns c =
-    find_from_yields_List _ _ _ _ c.find.ensures.ran (YieldsList-from_rev_slice c.args.starts.now (search rules)) (λ x b q k. search (rules, tests))
-    ∙ find-reverse (λ start. same_address start.rloc c.args.rloc.now) c.args.starts.now
+    rw c.locator.ensures at (c.last.ensures (λ start. true) (λ start told says. search rules))
+    ∙ last-key (is_key start_marks (locator_key c.args.rloc.now)) (λ start. same_address start.rloc c.args.rloc.now) (start-locator c.args.rloc.now) c.args.starts.now.items

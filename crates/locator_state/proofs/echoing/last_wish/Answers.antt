@@ -1,11 +1,12 @@
-use Rattle.std.proofs.Common.{rules, tests, ◌∙◌}
-use Rattle.std.proofs.lemmas.Iterator.Adapters.{YieldsList-from_rev_slice}
-use Rattle.std.proofs.lemmas.Iterator.Search.{find_from_yields_List}
+use Rattle.std.proofs.Common.{rules, true, ◌∙◌}
+use Rattle.keyed_list.specs.Keyed.{is_key}
+use Rattle.keyed_list.specs.Keys.{locator_key}
+use Rattle.keyed_list.specs.Known.{wish_marks}
 use Rattle.mapping_records.specs.Eids.{same_address}
-use Rattle.locator_state.proofs.LastLemmas.{find-reverse}
+use Rattle.locator_state.proofs.FoundLemmas.{last-key, wish-locator}
 use Rattle.locator_state.proofs.echoing.last_wish.Goals as goal
 
 pub returns : goal.returns
 returns c =
-    find_from_yields_List _ _ _ _ c.find.ensures.ran (YieldsList-from_rev_slice c.args.wishes.now (search rules)) (λ x b q k. search (rules, tests))
-    ∙ find-reverse (λ wish. same_address wish.rloc c.args.rloc.now) c.args.wishes.now
+    rw c.locator.ensures at (c.last.ensures (λ wish. true) (λ wish told says. search rules))
+    ∙ last-key (is_key wish_marks (locator_key c.args.rloc.now)) (λ wish. same_address wish.rloc c.args.rloc.now) (wish-locator c.args.rloc.now) c.args.wishes.now.items

@@ -1,11 +1,12 @@
-use Rattle.std.proofs.Common.{rules, tests, ◌∙◌}
-use Rattle.std.proofs.lemmas.Iterator.Adapters.{YieldsList-from_rev_slice}
-use Rattle.std.proofs.lemmas.Iterator.Search.{find_from_yields_List}
+use Rattle.std.proofs.Common.{rules, true, ◌∙◌}
+use Rattle.keyed_list.specs.Keyed.{is_key}
+use Rattle.keyed_list.specs.Keys.{locator_key}
+use Rattle.keyed_list.specs.Known.{probe_marks}
 use Rattle.mapping_records.specs.Eids.{same_address}
-use Rattle.locator_state.proofs.LastLemmas.{find-reverse}
+use Rattle.locator_state.proofs.FoundLemmas.{last-key, probe-locator}
 use Rattle.locator_state.proofs.probing.last_of.Goals as goal
 
 pub returns : goal.returns
 returns c =
-    find_from_yields_List _ _ _ _ c.find.ensures.ran (YieldsList-from_rev_slice c.args.probes.now (search rules)) (λ x b q k. search (rules, tests))
-    ∙ find-reverse (λ probe. same_address probe.rloc c.args.rloc.now) c.args.probes.now
+    rw c.locator.ensures at (c.last.ensures (λ probe. true) (λ probe told says. search rules))
+    ∙ last-key (is_key probe_marks (locator_key c.args.rloc.now)) (λ probe. same_address probe.rloc c.args.rloc.now) (probe-locator c.args.rloc.now) c.args.probes.now.items

@@ -1,10 +1,11 @@
-use Rattle.std.proofs.Common.{rules, tests, ◌==◌, ◌∙◌}
-use Rattle.std.proofs.lemmas.Iterator.Adapters.{YieldsList-from_rev_slice}
-use Rattle.std.proofs.lemmas.Iterator.Search.{find_from_yields_List}
-use Rattle.locator_state.proofs.LastLemmas.{find-reverse}
+use Rattle.std.proofs.Common.{rules, ◌==◌, true, ◌∙◌}
+use Rattle.keyed_list.specs.Keyed.{is_key}
+use Rattle.keyed_list.specs.Keys.{nonce_key}
+use Rattle.keyed_list.specs.Known.{probe_marks}
+use Rattle.locator_state.proofs.FoundLemmas.{last-key, probe-nonce}
 use Rattle.locator_state.proofs.probing.last_with.Goals as goal
 
 pub returns : goal.returns
 returns c =
-    find_from_yields_List _ _ _ _ c.find.ensures.ran (YieldsList-from_rev_slice c.args.probes.now (search rules)) (λ x b q k. search (rules, tests))
-    ∙ find-reverse (λ probe. probe.nonce == c.args.nonce) c.args.probes.now
+    rw c.nonce.ensures at (c.last.ensures (λ probe. true) (λ probe told says. search rules))
+    ∙ last-key (is_key probe_marks (nonce_key c.args.nonce)) (λ probe. probe.nonce == c.args.nonce) (probe-nonce c.args.nonce) c.args.probes.now.items

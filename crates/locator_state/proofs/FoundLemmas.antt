@@ -1,0 +1,130 @@
+-- What is found by a key.
+use Rattle.std.proofs.Common.{◌≡◌, ℕ, ◌==◌, ◌&&◌, ◌||◌, Bool, true, false, cond, List, [], ◌∷◌, fold, map, Option, Some, None, is_some, Ordering, Less, Equal, Greater, is_eq, nat_cmp, refl, ap, ap₂, ◌∙◌, arith}
+use Rattle.std.specs.Borrow.{Bor}
+use Rattle.std.specs.List.{list_any}
+use Rattle.std.specs.Option.{option_copied}
+use Rattle.std.specs.Ordering.{ordering_then}
+use Rattle.std.proofs.lemmas.Bool.Decides.{nat_tests}
+use Rattle.ip_headers.specs.declared.addr.Addr.{Addr}
+use Rattle.ip_headers.specs.declared.addr.Addr.TheVariants.{V4, V6}
+use Rattle.mapping_records.specs.Eids.{same_address, same_eid}
+use Rattle.mapping_records.specs.Orders.{addr_order}
+use Rattle.mapping_records.specs.declared.eid.Eid.{Eid}
+use Rattle.router_log.specs.declared.kept.EchoStart.{EchoStart}
+use Rattle.router_log.specs.declared.kept.EchoWish.{EchoWish}
+use Rattle.router_log.specs.declared.kept.Probe.{Probe}
+use Rattle.router_log.specs.declared.kept.Solicitation.{Solicitation}
+use Rattle.keyed_list.specs.Keyed.{is_key}
+use Rattle.keyed_list.specs.Keys.{locator_key, nonce_key, same_key, told_key}
+use Rattle.keyed_list.specs.Known.{probe_marks, solicit_marks, start_marks, wish_marks}
+use Rattle.locator_state.specs.Lists.{last_where, later}
+use Rattle.locator_state.specs.Solicits.{is_of}
+
+-- ### keys
+
+is_eq-then : (a b : Ordering) → is_eq (ordering_then a b) ≡ (is_eq a && is_eq b)
+is_eq-then Less b = refl
+is_eq-then Equal b = refl
+is_eq-then Greater b = refl
+
+is_eq-nat : (x y : ℕ) → is_eq (nat_cmp x y) ≡ (x == y)
+is_eq-nat x y = grind (arith, nat_tests)
+
+is_eq-addr : (a b : Addr) → is_eq (addr_order a b) ≡ same_address a b
+is_eq-addr (V4 m) (V4 n) = is_eq-nat m n
+is_eq-addr (V4 m) (V6 n) = refl
+is_eq-addr (V6 m) (V4 n) = refl
+is_eq-addr (V6 m) (V6 n) = is_eq-nat m n
+
+and-true : (a : Bool) → (a && true) ≡ a
+and-true true = refl
+and-true false = refl
+
+or-false : (a : Bool) → (a || false) ≡ a
+or-false true = refl
+or-false false = refl
+
+turned : (a b c d : Bool) → ((a && b) && (c && d)) ≡ (b && (a && (c && d)))
+turned true true c d = refl
+turned true false c d = refl
+turned false true c d = refl
+turned false false c d = refl
+
+then-Equal : (a : Ordering) → is_eq (ordering_then a Equal) ≡ is_eq a
+then-Equal a = is_eq-then a Equal ∙ and-true (is_eq a)
+
+same-nonce : (a b : ℕ) → same_key (nonce_key a) (nonce_key b) ≡ (a == b)
+same-nonce a b = then-Equal (ordering_then (nat_cmp a b) Equal) ∙ then-Equal (nat_cmp a b) ∙ is_eq-nat a b
+
+same-locator : (a b : Addr) → same_key (locator_key a) (locator_key b) ≡ same_address a b
+same-locator a b = then-Equal (addr_order a b) ∙ is_eq-addr a b
+
+same-told : (a : Addr) (d : Eid) (b : Addr) (e : Eid) → same_key (told_key a d) (told_key b e) ≡ (same_address a b && same_eid d e)
+same-told a d b e =
+    is_eq-then (ordering_then (nat_cmp d.iid e.iid) (addr_order a b)) (ordering_then (addr_order d.prefix.addr e.prefix.addr) (nat_cmp d.prefix.len e.prefix.len))
+    ∙ ap₂ (λ x y. x && y)
+    (is_eq-then (nat_cmp d.iid e.iid) (addr_order a b) ∙ ap₂ (λ x y. x && y) (is_eq-nat d.iid e.iid) (is_eq-addr a b))
+    (is_eq-then (addr_order d.prefix.addr e.prefix.addr) (nat_cmp d.prefix.len e.prefix.len) ∙ ap₂ (λ x y. x && y) (is_eq-addr d.prefix.addr e.prefix.addr) (is_eq-nat d.prefix.len e.prefix.len))
+    ∙ turned (d.iid == e.iid) (same_address a b) (same_address d.prefix.addr e.prefix.addr) (d.prefix.len == e.prefix.len)
+
+-- ### items of a key
+
+pub probe-nonce : (nonce : ℕ) (probe : Probe) → is_key probe_marks (nonce_key nonce) probe ≡ (probe.nonce == nonce)
+probe-nonce nonce probe = same-nonce probe.nonce nonce
+
+pub probe-locator : (rloc : Addr) (probe : Probe) → is_key probe_marks (locator_key rloc) probe ≡ same_address probe.rloc rloc
+probe-locator rloc probe = or-false _ ∙ same-locator probe.rloc rloc
+
+pub start-locator : (rloc : Addr) (start : EchoStart) → is_key start_marks (locator_key rloc) start ≡ same_address start.rloc rloc
+start-locator rloc start = or-false _ ∙ same-locator start.rloc rloc
+
+pub wish-locator : (rloc : Addr) (wish : EchoWish) → is_key wish_marks (locator_key rloc) wish ≡ same_address wish.rloc rloc
+wish-locator rloc wish = or-false _ ∙ same-locator wish.rloc rloc
+
+pub solicit-told : (rloc : Addr) (eid : Eid) (solicit : Solicitation) → is_key solicit_marks (told_key rloc eid) solicit ≡ is_of rloc eid solicit
+solicit-told rloc eid solicit = or-false _ ∙ same-told solicit.rloc solicit.eid rloc eid
+
+-- ### lists
+
+module _ {A : Type 0} (p q : A → Bool) (same : (x : A) → p x ≡ q x) where
+  same-from : (before : Option A) (items : List A) → fold (later p) before items ≡ fold (later q) before items
+  same-from before [] = refl
+  same-from before (x ∷ items) =
+      ap (λ b. fold (later p) (cond b (Some x) before) items) (same x) ∙ same-from (later q before x) items
+
+  -- tests that say the same find the same
+  pub last-same : (items : List A) → last_where p items ≡ last_where q items
+  last-same items = same-from None items
+
+-- of a key alone
+pub last-key : {A : Type 0} (p q : A → Bool) → ((x : A) → p x ≡ q x) → (items : List A) → last_where (λ x. p x && true) items ≡ last_where q items
+last-key p q same items = last-same (λ x. p x && true) q (λ x. and-true (p x) ∙ same x) items
+
+-- of a key, and of another test
+pub last-both : {A : Type 0} (p q r : A → Bool) → ((x : A) → p x ≡ q x) → (items : List A) → last_where (λ x. p x && r x) items ≡ last_where (λ x. q x && r x) items
+last-both p q r same items = last-same (λ x. p x && r x) (λ x. q x && r x) (λ x. ap (λ b. b && r x) (same x)) items
+
+some-from : {A : Type 0} (test : A → Bool) (before : Option A) (items : List A) → is_some (fold (later test) before items) ≡ (is_some before || list_any test items)
+some-from {A} test before [] = by before
+  where
+    by : (o : Option A) → is_some o ≡ (is_some o || false)
+    by None = refl
+    by (Some x) = refl
+some-from {A} test before (x ∷ items) = some-from test (later test before x) items ∙ by (test x) before
+  where
+    by : (b : Bool) (o : Option A) → (is_some (cond b (Some x) o) || list_any test items) ≡ (is_some o || (b || list_any test items))
+    by true None = refl
+    by true (Some y) = refl
+    by false o = refl
+
+some-copied : {A : Type 0} (found : Option (Bor A)) → is_some found ≡ is_some (option_copied found)
+some-copied None = refl
+some-copied (Some x) = refl
+
+-- one is found where one passes
+pub some-last : {A : Type 0} (test : A → Bool) (items : List A) (found : Option (Bor A)) → option_copied found ≡ last_where test items → is_some found ≡ list_any test items
+some-last test items found is = some-copied found ∙ ap is_some is ∙ some-from test None items
+
+pub map-same : {A B : Type 0} (f g : A → B) → ((x : A) → f x ≡ g x) → (items : List A) → map f items ≡ map g items
+map-same f g same [] = refl
+map-same f g same (x ∷ items) = ap₂ (λ a l. a ∷ l) (same x) (map-same f g same items)
