@@ -1,8 +1,7 @@
 -- The request with a nonce, and those asked after it, where nonces are distinct.
-use Rattle.std.proofs.Common.{◌≡◌, ◌⊎◌, ℕ, ◌==◌, ◌&&◌, ◌||◌, ◌+◌, ◌<◌, nat_lt, Bool, true, false, not, cond, List, [], ◌∷◌, drop, set, length, filter, Option, None, Some, IsTrue, IfSome, refl, sym, subst, ap, ◌∙◌, inl, inr, add-one, drop-cons, arith}
+use Rattle.std.proofs.Common.{◌≡◌, ◌⊎◌, ℕ, ◌==◌, ◌&&◌, ◌||◌, nat_lt, Bool, true, false, not, cond, List, [], ◌∷◌, filter, Option, None, Some, IsTrue, IfSome, refl, sym, subst, ap, ◌∙◌, inl, inr, arith}
 use Rattle.std.proofs.lemmas.Bool.{and_from, and_parts, eq-eqb, eqb-true, not-true, or_parts}
 use Rattle.std.proofs.lemmas.Bool.Decides.{nat_tests}
-use Rattle.std.proofs.lemmas.List.{drop-set-lt}
 use Rattle.std.specs.List.{slice_get}
 use Rattle.std.specs.Option.{option_map_or}
 use Rattle.request_queue.specs.Lists.{all_may_again, are_distinct, has_nonce}
@@ -183,9 +182,3 @@ behind-sent_again nonce (x ∷ requests) distinct = by (x.nonce == nonce) refl (
         ∙ none-again nonce requests (subst (λ (n : ℕ). has_nonce n requests ≡ false) (eqb-true x.nonce nonce is) (not-true _ both.0))
     by false is both h =
         ap (λ b. cond b (sent_again nonce requests) (behind nonce (sent_again nonce requests))) is ∙ h both.1
-
--- behind one that was changed lie those to come
-pub all_may-next : (nonce i : ℕ) (requests : List Request) (x : Request) → i < length requests → all_may_again nonce (drop i requests) ≡ true → all_may_again nonce (drop (i + 1) (set requests i x)) ≡ true
-all_may-next nonce i requests x less is =
-    ap (all_may_again nonce) (drop-set-lt (i + 1) requests i x (omega arith) ∙ ap (λ (n : ℕ). drop n requests) (add-one i))
-    ∙ (and_parts _ _ (ap (all_may_again nonce) (sym (drop-cons requests i x less)) ∙ is)).1

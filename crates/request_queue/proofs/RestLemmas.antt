@@ -3,7 +3,7 @@ use Rattle.std.proofs.Common.{◌≡◌, ℕ, ◌≤◌, ◌<◌, ◌+◌, ◌-�
 use Rattle.std.proofs.lemmas.Bool.{and_from, and_parts, not-true}
 use Rattle.std.proofs.lemmas.Bool.Decides.{nat_tests}
 use Rattle.request_queue.specs.Lists.{all_rest, rests}
-use Rattle.request_queue.specs.Queue.{all_due, asked_after, behind, due, is_waiting, once_more, sent_again, waiting, without_nonce}
+use Rattle.request_queue.specs.Queue.{all_due, asked_after, behind, due, is_waiting, once_more, sent_again, waiting}
 use Rattle.request_queue.specs.declared.request.Request.{Request}
 
 younger-before : (m n start age : ℕ) → m ≤ n → not (nat_lt (n - start) age) ≡ false → not (nat_lt (m - start) age) ≡ false
@@ -91,12 +91,5 @@ all_rest-push wake (y ∷ requests) x is last =
     let both = and_parts _ _ is in
     and_from _ _ both.0 (all_rest-push wake requests x both.1 last)
 
-fresh-rests : (low : ℕ) (x : Request) → x.sent_again ≡ 0 → low ≤ x.start + 1000000000 → rests low x ≡ true
+pub fresh-rests : (low : ℕ) (x : Request) → x.sent_again ≡ 0 → low ≤ x.start + 1000000000 → rests low x ≡ true
 fresh-rests low x new le = grind (arith, nat_tests, new, le)
-
--- a request that is made rests for a second
-pub all_rest-asked : (nonce wake low : ℕ) (requests : List Request) (x : Request) → x.sent_again ≡ 0 → low ≤ wake → low ≤ x.start + 1000000000 → all_rest wake requests ≡ true → all_rest low (without_nonce nonce requests ++ x ∷ []) ≡ true
-all_rest-asked nonce wake low requests x new le within is =
-    all_rest-push low (without_nonce nonce requests) x
-    (all_rest-filter (λ request. not (request.nonce == nonce)) low requests (all_rest-lower low wake requests le is))
-    (fresh-rests low x new within)

@@ -66,7 +66,10 @@ may_send_again nonce requests = option_map_or (λ request. nat_lt request.sent_a
 abbrev pub sent_again : ℕ → List Request → List Request
 sent_again nonce requests = map (λ request. if request.nonce == nonce then once_more request else request) requests
 
--- a queue as callers see it: its requests in asking order, and how many more it has room for
+-- a queue as callers see it: its requests in asking order, how many more it has room for, for how many keys it has place,
+-- and how many items its lists have
 pub record Queue : Type 0 where
   pub requests : List Request
   pub spare : ℕ
+  pub places : ℕ
+  pub kept : ℕ

@@ -1,10 +1,11 @@
 // Requests that are sent again.
-ghost use Rattle.std.specs.Prelude.{◌≡◌, ◌≤◌, ◌<◌, ◌==◌, ◌||◌, not, nat_lt, true, if◌then◌else◌, IsTrue, vec_len, vec_capacity};
+ghost use Rattle.std.specs.Prelude.{◌≡◌, ◌≤◌, ◌<◌, ◌+◌, min, true, IsTrue};
 ghost use Rattle.request_queue.specs.Lists.{all_may_again, all_rest, rests};
-ghost use Rattle.request_queue.specs.Queue.{once_more, sent_again};
+ghost use Rattle.request_queue.specs.Queue.{sent_again};
 
 use crate::Request;
 use crate::request::{FIRST_RETRY, LAST_RETRY};
+use keyed_list::{Key, KeyedList};
 
 // The moment before which a request isn't to be sent again, 2^64 - 1 where that never comes.
 fn wake_of(request: &Request) -> u64
@@ -20,34 +21,34 @@ fn wake_of(request: &Request) -> u64
 }
 
 /// The moment before which none of the requests is to be sent again.
-pub(crate) fn least_wake(requests: &[Request]) -> u64
-    ensures { all_rest result requests.now ≡ true }
+pub(crate) fn least_wake(requests: &KeyedList<Request>) -> u64
+    ensures { all_rest result requests.now.items ≡ true }
 {
     let mut wake = u64::MAX;
-    for request in requests {
-        wake = wake.min(wake_of(request));
+    for index in 0..requests.len() {
+        match requests.get(index) {
+            Some(request) => wake = wake.min(wake_of(request)),
+            None => unreachable!(),
+        }
     }
     wake
 }
 
-fn send_again(nonce: u64, request: &mut Request)
-    requires { IsTrue (not (request.old.nonce == nonce) || nat_lt request.old.sent_again 2) }
-    ensures { request.new
-        ≡ (if request.old.nonce == nonce then once_more request.old else request.old) }
+fn again(request: &Request) -> Request
+    ensures { result ≡ record request.now { sent_again = min (request.now.sent_again + 1) 255 } }
 {
-    if request.nonce == nonce {
-        request.sent_again += 1;
+    Request {
+        sent_again: request.sent_again.saturating_add(1),
+        ..*request
     }
 }
 
 /// The request with that nonce was sent again once more.
-pub(crate) fn send_each_again(nonce: u64, requests: &mut Vec<Request>)
+pub(crate) fn send_each_again(nonce: u64, requests: &mut KeyedList<Request>)
     requires { IsTrue (all_may_again nonce requests.old.items) }
     ensures items { requests.new.items ≡ sent_again nonce requests.old.items }
-    ensures len { vec_len requests.new ≡ vec_len requests.old }
-    ensures capacity { vec_capacity requests.new ≡ vec_capacity requests.old }
+    ensures room { requests.new.room ≡ requests.old.room }
+    ensures places { requests.new.places ≡ requests.old.places }
 {
-    for request in requests.iter_mut() {
-        send_again(nonce, request);
-    }
+    requests.change(&Key::nonce(nonce), |request| again(request));
 }

@@ -2,7 +2,7 @@
 ghost use Rattle.std.specs.Prelude.{◌≡◌};
 ghost use Rattle.request_queue.specs.declared.fault.AskFault.TheVariants.{Memory};
 
-use std::alloc::AllocError;
+use octets::NoMemory;
 
 /// The most requests that wait at once (this router's choice).
 pub const MOST_REQUESTS: usize = 1024;
@@ -16,10 +16,10 @@ pub enum AskFault {
     Memory,
 }
 
-impl From<AllocError> for AskFault {
+impl From<NoMemory> for AskFault {
     ghost from_gives = { λ _ fault. fault ≡ Memory };
 
-    fn from(_: AllocError) -> Self {
+    fn from(_: NoMemory) -> Self {
         AskFault::Memory
     }
 }

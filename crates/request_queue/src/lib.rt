@@ -2,7 +2,9 @@
 #![tactic(auto)]
 
 mod again;
+mod eids;
 mod fault;
+mod found;
 mod queue;
 mod request;
 mod searching;

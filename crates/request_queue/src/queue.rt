@@ -1,5 +1,5 @@
-// A queue of requests over a vector.
-ghost use Rattle.std.specs.Prelude.{◌≡◌, ◌≤◌, ◌<◌, ◌+◌, ◌^◌, ◌↔◌, [], ◌∷◌, true, length, slice_get, Err, Some, IfSome, IsTrue, OnOk, OnErr, vec_len, vec_capacity};
+// The queue: requests in asking order, and a trie of their EIDs.
+ghost use Rattle.std.specs.Prelude.{◌≡◌, ◌≤◌, ◌<◌, ◌+◌, ◌*◌, ◌^◌, ◌↔◌, [], ◌∷◌, true, length, max, slice_get, Err, Some, IfSome, IsTrue, OnOk, OnErr, vec_len, vec_capacity};
 ghost use Rattle.std.specs.Option.{option_copied};
 ghost use Rattle.request_queue.specs.Queue.{all_due, asked, asked_after, behind, covered, may_send_again, sent_again, waiting, with_nonce, without_nonce};
 ghost use Rattle.request_queue.specs.Lists.{are_distinct};
@@ -7,26 +7,32 @@ ghost use Rattle.request_queue.specs.declared.fault.AskFault.TheVariants.{Memory
 ghost use Rattle.request_queue.specs.declared.fault.TheConstants.{MOST_REQUESTS};
 
 use crate::again::{least_wake, send_each_again};
+use crate::eids::{add_request, count_eids, drop_request, is_covered};
 use crate::request::FIRST_RETRY;
-use crate::searching::{asked_after, first_due, is_asked, is_covering, is_waiting};
+use crate::searching::{LIFE, first_due, is_waiting, place_after};
 use crate::{AskFault, MOST_REQUESTS, NoMemory, Reads, Request};
 use ip_headers::Addr;
+use keyed_list::{Key, KeyedList};
 use mapping_records::Eid;
+use prefix_table::PrefixTable;
 use std::alloc::Global;
 use std::marker::Model;
 
 /// Requests in asking order. One is kept until it is answered, until another with its nonce is
 /// made, or until a purge at a moment at which it waits no longer. What is asked at a moment is
 /// answered by those that wait then.
-#[derive(Debug, Drop)]
+#[derive(Drop)]
 pub struct RequestQueue {
-    requests: Vec<Request>,
+    requests: KeyedList<Request>,
+    // Those that requests are for.
+    eids: PrefixTable<Eid>,
     // Before that moment none is to be sent again.
     wake: u64,
 }
 
 impl Model for RequestQueue {
-    ghost use Rattle.std.specs.Prelude.{◌≡◌, ◌≤◌, ◌-◌, true, vec_len, vec_capacity};
+    ghost use Rattle.std.specs.Prelude.{◌≡◌, ◌≤◌, ◌+◌, ◌*◌, length, max, min, true};
+    ghost use Rattle.request_queue.specs.Found.{AreEids};
     ghost use Rattle.request_queue.specs.Lists.{all_rest, are_distinct};
     ghost use Rattle.request_queue.specs.Queue.{Queue};
     ghost use Rattle.request_queue.specs.declared.fault.TheConstants.{MOST_REQUESTS};
@@ -35,21 +41,26 @@ impl Model for RequestQueue {
 
     ghost view = { λ queue. record {
       requests = queue.requests.items;
-      spare = vec_capacity queue.requests - vec_len queue.requests;
+      spare = min queue.requests.room queue.eids.spare;
+      places = max queue.requests.places (2 * (length queue.eids.pairs + queue.eids.spare));
+      kept = queue.requests.kept + queue.eids.kept;
     } };
 
-    ghost invariant = { λ queue. (vec_len queue.requests ≤ MOST_REQUESTS)
+    ghost invariant = { λ queue. (length queue.requests.items ≤ MOST_REQUESTS)
         × ((all_rest queue.wake queue.requests.items ≡ true)
-        × (are_distinct queue.requests.items ≡ true)) };
+        × ((are_distinct queue.requests.items ≡ true)
+        × AreEids queue.eids.pairs queue.requests.items)) };
 }
 
 impl RequestQueue {
     /// A queue with no requests. Takes no memory.
     pub fn new(alloc: Global) -> RequestQueue
-        ensures { result.requests ≡ [] }
+        ensures requests { result.requests ≡ [] }
+        ensures places { result.places ≡ 0 }
     {
         RequestQueue {
-            requests: Vec::new(alloc),
+            requests: KeyedList::new(alloc),
+            eids: PrefixTable::new(alloc),
             wake: u64::MAX,
         }
     }
@@ -61,17 +72,25 @@ impl RequestQueue {
         ensures spare { self.old.spare ≤ self.new.spare }
         ensures ok { OnOk result (n ≤ self.new.spare) }
         ensures memory { OnErr result (self.old.spare < n) }
+        ensures places { self.new.places
+            ≤ max self.old.places (2 * (length self.old.requests + n)) }
     {
-        self.requests.reserve(n as usize)?;
-        Ok(())
+        // There are no more EIDs than requests, so that they are few.
+        let _ = count_eids(&self.requests, &self.eids);
+        self.requests.reserve(n)?;
+        self.eids.reserve(n)
     }
 
-    /// How many requests are kept. No two have one nonce.
+    /// How many requests are kept. No two have one nonce. What all lists have in all is at most 7 items
+    /// for each key for which there is place.
     pub fn len(&self) -> usize
         ensures len { result ≡ length self.now.requests }
         ensures most { result ≤ MOST_REQUESTS }
         ensures distinct { are_distinct self.now.requests ≡ true }
+        ensures kept { self.now.kept ≤ 7 * self.now.places }
     {
+        // The length says how much is kept.
+        let _ = self.eids.len();
         self.requests.len()
     }
 
@@ -79,8 +98,11 @@ impl RequestQueue {
     pub fn purge(&mut self, m: u64)
         ensures requests { self.new.requests ≡ waiting m self.old.requests }
         ensures spare { self.old.spare ≤ self.new.spare }
+        ensures places { self.new.places ≤ self.old.places }
     {
-        self.requests.retain(|request| is_waiting(m, request));
+        while let Some(place) = self.requests.old(m, LIFE) {
+            drop_request(place, &mut self.requests, &mut self.eids);
+        }
     }
 
     /// Adds a request at the end, in place of that with its nonce. Where it is refused, only the
@@ -100,21 +122,24 @@ impl RequestQueue {
             ↔ (MOST_REQUESTS ≤ length (waiting m self.old.requests)) }
         ensures memory { result ≡ Err Memory → self.old.spare ≡ 0 }
         ensures spare { self.old.spare ≤ self.new.spare + 1 }
+        ensures places { self.new.places
+            ≤ max self.old.places (2 * (length self.old.requests + 1)) }
     {
         self.purge(m);
         if self.requests.len() >= MOST_REQUESTS {
             return Err(AskFault::QueueFull);
         }
-        self.requests.reserve(1)?;
-        drop_nonce(nonce, &mut self.requests);
-        self.requests.push_reserved(Request {
+        self.reserve(1)?;
+        self.answer(nonce);
+        let request = Request {
             eid,
             source,
             invoked,
             nonce,
             start: m,
             sent_again: 0,
-        });
+        };
+        add_request(request, &mut self.requests, &mut self.eids);
         self.wake = self.wake.min(m.saturating_add(FIRST_RETRY));
         Ok(())
     }
@@ -123,20 +148,19 @@ impl RequestQueue {
     pub fn answer(&mut self, nonce: u64)
         ensures requests { self.new.requests ≡ without_nonce nonce self.old.requests }
         ensures spare { self.old.spare ≤ self.new.spare }
+        ensures places { self.new.places ≤ self.old.places }
     {
-        drop_nonce(nonce, &mut self.requests);
+        while let Some(place) = self.requests.place(&Key::nonce(nonce)) {
+            drop_request(place, &mut self.requests, &mut self.eids);
+        }
     }
 
     /// The request with that nonce. None where there is none, or it waits no longer.
     pub fn find(&self, m: u64, nonce: u64) -> Option<&Request>
         ensures { option_copied result ≡ with_nonce (waiting m self.now.requests) nonce }
     {
-        for request in &self.requests {
-            if is_asked(m, nonce, request) {
-                return Some(request);
-            }
-        }
-        None
+        self.requests
+            .last(&Key::nonce(nonce), |request| is_waiting(m, request))
     }
 
     /// A request that waits is for an EID that covers this one. Reads at most 129 nodes.
@@ -146,12 +170,7 @@ impl RequestQueue {
         ensures counted { reads.old ≤ reads.new }
         ensures bound { reads.new ≤ reads.old + 129 }
     {
-        for request in &self.requests {
-            if is_covering(m, eid, request) {
-                return true;
-            }
-        }
-        false
+        is_covered(m, eid, &self.requests, &self.eids, reads)
     }
 
     /// The first request that waits, is to be sent again, and was asked after the one with the nonce
@@ -169,7 +188,8 @@ impl RequestQueue {
         if m < self.wake {
             return None;
         }
-        first_due(m, asked_after(after, &self.requests))
+        let from = place_after(after, &self.requests);
+        first_due(m, from, &self.requests)
     }
 
     /// The request with that nonce was sent again once more.
@@ -178,6 +198,7 @@ impl RequestQueue {
         ensures requests { self.new.requests ≡ sent_again nonce self.old.requests }
         ensures behind { behind nonce self.new.requests ≡ behind nonce self.old.requests }
         ensures spare { self.old.spare ≤ self.new.spare }
+        ensures places { self.new.places ≤ self.old.places }
     {
         send_each_again(nonce, &mut self.requests);
     }
@@ -187,6 +208,7 @@ impl RequestQueue {
     pub fn look_ahead(&mut self)
         ensures requests { self.new.requests ≡ self.old.requests }
         ensures spare { self.new.spare ≡ self.old.spare }
+        ensures places { self.new.places ≤ self.old.places }
     {
         self.wake = least_wake(&self.requests);
     }
@@ -196,20 +218,6 @@ impl RequestQueue {
         ensures count { result ≡ length (waiting m self.now.requests) }
         ensures most { result ≤ MOST_REQUESTS }
     {
-        let mut count = 0;
-        for request in &self.requests {
-            if is_waiting(m, request) {
-                count += 1;
-            }
-        }
-        count
+        self.requests.count(m, LIFE) as u32
     }
-}
-
-fn drop_nonce(nonce: u64, requests: &mut Vec<Request>)
-    ensures items { requests.new.items ≡ without_nonce nonce requests.old.items }
-    ensures len { vec_len requests.new ≤ vec_len requests.old }
-    ensures capacity { vec_capacity requests.new ≡ vec_capacity requests.old }
-{
-    requests.retain(|request| request.nonce != nonce);
 }

@@ -1,13 +1,11 @@
-use Rattle.std.proofs.Common.{◌==◌, if◌then◌else◌, slice_set, sym, ap, ◌∙◌, arith}
-use Rattle.std.proofs.lemmas.List.Edits.{map_over_more}
-use Rattle.request_queue.specs.Queue.{once_more}
-use Rattle.request_queue.proofs.AgainLemmas.{all_may-next}
+use Rattle.std.proofs.Common.{map, rules, ap, ◌∙◌}
+use Rattle.keyed_list.specs.Keyed.{changed_with}
+use Rattle.request_queue.specs.Found.{request_marks}
+use Rattle.request_queue.proofs.FoundLemmas.{counted_again, map-again}
 use Rattle.request_queue.proofs.again.send_each_again.Goals as goal
 
-pub loop-request-preserved : goal.loop-request-preserved
-loop-request-preserved c = (
-  ap (slice_set c.loop-request.request-items c.loop-request.request-index) c.send_again.ensures
-      ∙ ap (λ x. slice_set c.loop-request.request-items c.loop-request.request-index (if x.nonce == c.args.nonce then once_more x else x)) (sym c.request-item.is)
-      ∙ map_over_more (λ x. if x.nonce == c.args.nonce then once_more x else x) _ c.loop-request.request-items c.loop-request.request-index c.request-item.result (omega arith) c.loop-request.invariant.0 c.request-item.is,
-  all_may-next c.args.nonce c.loop-request.request-index c.loop-request.request-items c.send_again.new.request (omega arith) c.loop-request.invariant.1,
-)
+pub returns-clause-items : goal.returns-clause-items
+returns-clause-items c =
+    c.change.ensures.items counted_again (λ item new says. search rules)
+    ∙ ap (λ key. map (changed_with request_marks key counted_again) c.args.requests.now.items) c.nonce.ensures
+    ∙ map-again c.args.nonce c.args.requests.now.items c.requires

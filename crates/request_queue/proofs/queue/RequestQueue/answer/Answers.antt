@@ -1,14 +1,58 @@
-use Rattle.std.proofs.Common.{◌≡◌, ◌==◌, not, true, sym, subst, arith}
-use Rattle.request_queue.specs.Lists.{all_rest, are_distinct}
-use Rattle.request_queue.proofs.DistinctLemmas.{distinct-filter}
-use Rattle.request_queue.proofs.RestLemmas.{all_rest-filter}
+use Rattle.std.proofs.Common.{◌==◌, not, refl, ap, ◌∙◌, arith}
+use Rattle.keyed_list.specs.Keyed.{is_key}
+use Rattle.keyed_list.specs.Lists.{last_where}
+use Rattle.request_queue.specs.Found.{request_marks}
+use Rattle.request_queue.specs.Queue.{Queue, without_nonce}
+use Rattle.request_queue.specs.declared.fault.TheConstants.{MOST_REQUESTS}
+use Rattle.request_queue.specs.declared.request.Request.{Request}
+use Rattle.request_queue.proofs.DropLemmas.{dropped-invariant, dropped-items, dropped-less, dropped-places, dropped-spare, dropped-step}
+use Rattle.request_queue.proofs.FoundLemmas.{all-without, nonce-there}
 use Rattle.request_queue.proofs.queue.RequestQueue.answer.Goals as goal
 
-pub invariant_of-self : goal.invariant_of-self
-invariant_of-self c = (
-  omega (arith, c.drop_nonce.ensures.len, c.self.invariant.0),
-  (
-    subst (λ l. all_rest c.self.inside.wake l ≡ true) (sym c.drop_nonce.ensures.items) (all_rest-filter (λ request. not (request.nonce == c.args.nonce)) c.self.inside.wake c.self.inside.requests.items c.self.invariant.1.0),
-    subst (λ l. are_distinct l ≡ true) (sym c.drop_nonce.ensures.items) (distinct-filter (λ request. not (request.nonce == c.args.nonce)) c.self.inside.requests.items c.self.invariant.1.1),
-  ),
+pub loop-place-init : goal.loop-place-init
+loop-place-init c = (
+  record {
+    same = refl;
+    eids = c.self.invariant.1.1.1;
+    room = omega arith;
+    places = refl;
+    spare = omega arith;
+    total = refl;
+  },
+  refl,
 )
+
+pub drop_request-requires-clause-eids : goal.drop_request-requires-clause-eids
+drop_request-requires-clause-eids c = c.loop-place.invariant.0.eids
+
+pub loop-place-smaller : goal.loop-place-smaller
+loop-place-smaller c =
+    dropped-less c.loop-place.self-inside.requests c.drop_request.new.requests c.in-Some.place c.in-Some.ensures.within c.drop_request.ensures.requests
+
+pub loop-place-preserved : goal.loop-place-preserved
+loop-place-preserved c = (
+  dropped-step (λ (request : Request). not (request.nonce == c.args.nonce)) c.self.inside.requests c.loop-place.self-inside.requests c.drop_request.new.requests c.self.inside.eids c.loop-place.self-inside.eids c.drop_request.new.eids c.in-Some.place c.loop-place.invariant.0 c.in-Some.ensures.within
+      (nonce-there c.args.nonce c.loop-place.self-inside.requests.items c.in-Some.place (c.in-Some.ensures.last ∙ ap (λ key. last_where (is_key request_marks key) c.loop-place.self-inside.requests.items) c.nonce.ensures))
+      c.drop_request.ensures.requests c.drop_request.ensures.room c.drop_request.ensures.eids c.drop_request.ensures.places c.drop_request.ensures.spare c.drop_request.ensures.total,
+  c.loop-place.invariant.1,
+)
+
+pub invariant_of-self : goal.invariant_of-self
+invariant_of-self c =
+    let test = λ (request : Request). not (request.nonce == c.args.nonce) in
+    let all = all-without c.args.nonce c.loop-place.self-inside.requests.items (c.in_default.ensures.last ∙ ap (λ key. last_where (is_key request_marks key) c.loop-place.self-inside.requests.items) c.nonce.ensures) in
+    rw (c.loop-place.invariant.1) (dropped-invariant test c.self.inside.requests c.loop-place.self-inside.requests c.self.inside.eids c.loop-place.self-inside.eids c.loop-place.invariant.0 c.self.inside.wake MOST_REQUESTS all c.self.invariant)
+
+pub returns-clause-requests : goal.returns-clause-requests
+returns-clause-requests c =
+    let test = λ (request : Request). not (request.nonce == c.args.nonce) in
+    let all = all-without c.args.nonce c.loop-place.self-inside.requests.items (c.in_default.ensures.last ∙ ap (λ key. last_where (is_key request_marks key) c.loop-place.self-inside.requests.items) c.nonce.ensures) in
+    dropped-items test c.self.inside.requests c.loop-place.self-inside.requests c.self.inside.eids c.loop-place.self-inside.eids c.loop-place.invariant.0 all ∙ ap (λ (queue : Queue). without_nonce c.args.nonce queue.requests) c.self.view_is
+
+pub returns-clause-spare : goal.returns-clause-spare
+returns-clause-spare c =
+    rw (← c.self.view_is) (dropped-spare (λ (request : Request). not (request.nonce == c.args.nonce)) c.self.inside.requests c.loop-place.self-inside.requests c.self.inside.eids c.loop-place.self-inside.eids c.loop-place.invariant.0)
+
+pub returns-clause-places : goal.returns-clause-places
+returns-clause-places c =
+    rw (← c.self.view_is) (dropped-places (λ (request : Request). not (request.nonce == c.args.nonce)) c.self.inside.requests c.loop-place.self-inside.requests c.self.inside.eids c.loop-place.self-inside.eids c.loop-place.invariant.0)

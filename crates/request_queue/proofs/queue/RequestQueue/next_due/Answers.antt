@@ -14,14 +14,14 @@ returns-then-m-self-clause-first c =
 
 pub returns-clause-rest : goal.returns-clause-rest
 returns-clause-rest c =
-    let distinct : are_distinct c.args.self.now.requests ≡ true = subst (λ (queue : Queue). are_distinct queue.requests ≡ true) c.self.view_is c.self.invariant.1.1 in
+    let distinct : are_distinct c.args.self.now.requests ≡ true = subst (λ (queue : Queue). are_distinct queue.requests ≡ true) c.self.view_is c.self.invariant.1.1.0 in
     let first : option_copied c.first_due.result ≡ slice_get (all_due c.args.m (asked_after c.args.after c.args.self.now.requests)) 0 =
-    c.first_due.ensures ∙ ap (λ (l : List Request). slice_get (all_due c.args.m l) 0) (c.asked_after.ensures ∙ ap (asked_after c.args.after) (c.deref.ensures.value ∙ ap (λ (queue : Queue). queue.requests) c.self.view_is)) in
+    c.first_due.ensures ∙ ap (λ (l : List Request). slice_get (all_due c.args.m l) 0) (c.place_after-from.ensures.after ∙ ap (λ (queue : Queue). asked_after c.args.after queue.requests) c.self.view_is) in
     (due-clauses c.args.after c.args.m (option_copied c.first_due.result) c.args.self.now.requests distinct first).0
 
 pub returns-clause-may : goal.returns-clause-may
 returns-clause-may c =
-    let distinct : are_distinct c.args.self.now.requests ≡ true = subst (λ (queue : Queue). are_distinct queue.requests ≡ true) c.self.view_is c.self.invariant.1.1 in
+    let distinct : are_distinct c.args.self.now.requests ≡ true = subst (λ (queue : Queue). are_distinct queue.requests ≡ true) c.self.view_is c.self.invariant.1.1.0 in
     let first : option_copied c.first_due.result ≡ slice_get (all_due c.args.m (asked_after c.args.after c.args.self.now.requests)) 0 =
-    c.first_due.ensures ∙ ap (λ (l : List Request). slice_get (all_due c.args.m l) 0) (c.asked_after.ensures ∙ ap (asked_after c.args.after) (c.deref.ensures.value ∙ ap (λ (queue : Queue). queue.requests) c.self.view_is)) in
+    c.first_due.ensures ∙ ap (λ (l : List Request). slice_get (all_due c.args.m l) 0) (c.place_after-from.ensures.after ∙ ap (λ (queue : Queue). asked_after c.args.after queue.requests) c.self.view_is) in
     (due-clauses c.args.after c.args.m (option_copied c.first_due.result) c.args.self.now.requests distinct first).1

@@ -1,22 +1,53 @@
-use Rattle.std.proofs.Common.{◌≡◌, true, rules, sym, subst, ap, ◌∙◌, arith}
-use Rattle.std.proofs.lemmas.Fn.{filter_same}
-use Rattle.request_queue.specs.Lists.{all_rest, are_distinct}
+use Rattle.std.proofs.Common.{is_some, refl, ap, ◌∙◌, arith}
 use Rattle.request_queue.specs.Queue.{Queue, is_waiting, waiting}
-use Rattle.request_queue.proofs.DistinctLemmas.{distinct-filter}
-use Rattle.request_queue.proofs.RestLemmas.{all_rest-filter}
+use Rattle.request_queue.specs.declared.fault.TheConstants.{MOST_REQUESTS}
+use Rattle.request_queue.proofs.DropLemmas.{dropped-invariant, dropped-items, dropped-less, dropped-places, dropped-spare, dropped-step, filter-all}
 use Rattle.request_queue.proofs.queue.RequestQueue.purge.Goals as goal
+
+pub loop-place-init : goal.loop-place-init
+loop-place-init c = (
+  record {
+    same = refl;
+    eids = c.self.invariant.1.1.1;
+    room = omega arith;
+    places = refl;
+    spare = omega arith;
+    total = refl;
+  },
+  refl,
+)
+
+pub drop_request-requires-clause-eids : goal.drop_request-requires-clause-eids
+drop_request-requires-clause-eids c = c.loop-place.invariant.0.eids
+
+pub loop-place-smaller : goal.loop-place-smaller
+loop-place-smaller c =
+    dropped-less c.loop-place.self-inside.requests c.drop_request.new.requests c.in-Some.place c.in-Some.ensures.within c.drop_request.ensures.requests
+
+pub loop-place-preserved : goal.loop-place-preserved
+loop-place-preserved c = (
+  dropped-step (is_waiting c.args.m) c.self.inside.requests c.loop-place.self-inside.requests c.drop_request.new.requests c.self.inside.eids c.loop-place.self-inside.eids c.drop_request.new.eids c.in-Some.place c.loop-place.invariant.0 c.in-Some.ensures.within
+      c.in-Some.ensures.old
+      c.drop_request.ensures.requests c.drop_request.ensures.room c.drop_request.ensures.eids c.drop_request.ensures.places c.drop_request.ensures.spare c.drop_request.ensures.total,
+  c.loop-place.invariant.1,
+)
 
 pub invariant_of-self : goal.invariant_of-self
 invariant_of-self c =
-    let left : c.retain.new.self.items ≡ waiting c.args.m c.self.inside.requests.items = filter_same _ (is_waiting c.args.m) _ (λ x b f' k. search rules) _ _ c.retain.ensures.filtered in (
-      omega (arith, c.retain.ensures.bound, c.self.invariant.0),
-      (
-        subst (λ l. all_rest c.self.inside.wake l ≡ true) (sym left) (all_rest-filter (is_waiting c.args.m) c.self.inside.wake c.self.inside.requests.items c.self.invariant.1.0),
-        subst (λ l. are_distinct l ≡ true) (sym left) (distinct-filter (is_waiting c.args.m) c.self.inside.requests.items c.self.invariant.1.1),
-      ),
-    )
+    let test = is_waiting c.args.m in
+    let all = filter-all test c.loop-place.self-inside.requests.items (c.old.ensures.none (ap is_some c.in_default.is)) in
+    rw (c.loop-place.invariant.1) (dropped-invariant test c.self.inside.requests c.loop-place.self-inside.requests c.self.inside.eids c.loop-place.self-inside.eids c.loop-place.invariant.0 c.self.inside.wake MOST_REQUESTS all c.self.invariant)
 
 pub returns-clause-requests : goal.returns-clause-requests
 returns-clause-requests c =
-    filter_same _ (is_waiting c.args.m) _ (λ x b f' k. search rules) _ _ c.retain.ensures.filtered
-    ∙ ap (λ (queue : Queue). waiting c.args.m queue.requests) c.self.view_is
+    let test = is_waiting c.args.m in
+    let all = filter-all test c.loop-place.self-inside.requests.items (c.old.ensures.none (ap is_some c.in_default.is)) in
+    dropped-items test c.self.inside.requests c.loop-place.self-inside.requests c.self.inside.eids c.loop-place.self-inside.eids c.loop-place.invariant.0 all ∙ ap (λ (queue : Queue). waiting c.args.m queue.requests) c.self.view_is
+
+pub returns-clause-spare : goal.returns-clause-spare
+returns-clause-spare c =
+    rw (← c.self.view_is) (dropped-spare (is_waiting c.args.m) c.self.inside.requests c.loop-place.self-inside.requests c.self.inside.eids c.loop-place.self-inside.eids c.loop-place.invariant.0)
+
+pub returns-clause-places : goal.returns-clause-places
+returns-clause-places c =
+    rw (← c.self.view_is) (dropped-places (is_waiting c.args.m) c.self.inside.requests c.loop-place.self-inside.requests c.self.inside.eids c.loop-place.self-inside.eids c.loop-place.invariant.0)

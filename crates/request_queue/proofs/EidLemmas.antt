@@ -1,0 +1,455 @@
+-- EIDs in a trie, each under itself.
+use Rattle.std.proofs.Common.{◌≡◌, ◌⊎◌, ℕ, zero, suc, ◌≤◌, ◌<◌, ◌+◌, ◌-◌, ◌==◌, ◌&&◌, ◌||◌, Bool, true, false, cond, List, [], ◌∷◌, ◌++◌, filter, length, map, remove, slice_get, slice_index_or, All, Contains, Option, None, Some, is_some, Ordering, Less, Equal, Greater, is_eq, is_lt, nat_cmp, MatchOption, inl, inr, refl, sym, ap, ap₂, subst, ◌∙◌, arith, true≢false}
+use Rattle.std.specs.List.{list_any}
+use Rattle.std.specs.List.Sorted.{IsStrictlySortedBy}
+use Rattle.std.specs.Ordering.{eq_by_cmp, ordering_reverse}
+use Rattle.std.specs.Set.{is_member}
+use Rattle.std.proofs.lemmas.Bool.{and_parts, cases_Bool, eqb-true}
+use Rattle.std.proofs.lemmas.Cmp.{eq_by_cmp_equiv, tied_itself}
+use Rattle.std.proofs.lemmas.List.{length-map}
+use Rattle.std.proofs.lemmas.List.Elements.{All-cons, All-nil, recursion_from_All}
+use Rattle.std.proofs.lemmas.List.Folds.{list_any-append}
+use Rattle.std.proofs.lemmas.Map.Keys.{IsDistinct-from_sorted}
+use Rattle.std.proofs.lemmas.Map.Made.{length-le_from_is_member}
+use Rattle.std.proofs.lemmas.Option.{same_Some}
+use Rattle.ip_headers.specs.Addr.{number, width}
+use Rattle.ip_headers.specs.declared.addr.Addr.{Addr}
+use Rattle.ip_headers.specs.declared.addr.Addr.TheVariants.{V4, V6}
+use Rattle.keyed_list.proofs.AmongLemmas.{Among, among-all, among-any, any-among, pairs-behind_first, pairs-tail, IsPassing}
+use Rattle.mapping_records.proofs.EqualValue.{equal_eid, equal_prefix}
+use Rattle.mapping_records.proofs.OrderLemmas.{eid_order-total}
+use Rattle.mapping_records.specs.Eids.{covers_eid, same_address, same_eid}
+use Rattle.mapping_records.specs.Orders.{addr_order, eid_order, prefix_order}
+use Rattle.mapping_records.specs.declared.eid.Eid.{Eid}
+use Rattle.prefix_table.specs.Longest.{IsLongestWhere, IsRefused}
+use Rattle.prefix_table.specs.Pairs.{is_below, with_pair, without_pair, value_in, Ascends}
+use Rattle.request_queue.specs.Found.{asks_for, AreEids}
+use Rattle.request_queue.specs.Queue.{covered, is_waiting, once_more, sent_again, waiting}
+use Rattle.request_queue.specs.declared.request.Request.{Request}
+use Rattle.request_queue.proofs.FoundLemmas.{is_eq-addr, is_eq-nat, is_eq-then}
+
+-- ### the order of EIDs
+
+same_addr : (a b : Addr) → width a ≡ width b → number a ≡ number b → a ≡ b
+same_addr (V4 m) (V4 n) w is = ap (λ x. V4 x) is
+same_addr (V6 m) (V6 n) w is = ap (λ x. V6 x) is
+same_addr (V4 m) (V6 n) w is = absurd (omega (arith, w))
+same_addr (V6 m) (V4 n) w is = absurd (omega (arith, w))
+
+equal-address : (a b : Addr) → same_address a b ≡ true → a ≡ b
+equal-address a b same =
+    let parts = and_parts _ _ same in
+    same_addr a b (eqb-true (width a) (width b) parts.0) (eqb-true (number a) (number b) parts.1)
+
+-- the same EIDs are equal
+pub equal-same : (a b : Eid) → same_eid a b ≡ true → a ≡ b
+equal-same a b same =
+    let outer = and_parts _ _ same in
+    let inner = and_parts _ _ outer.1 in
+    equal_eid a b (eqb-true a.iid b.iid outer.0) (equal_prefix a.prefix b.prefix (equal-address a.prefix.addr b.prefix.addr inner.0) (eqb-true a.prefix.len b.prefix.len inner.1))
+
+is_eq-eid : (a b : Eid) → is_eq (eid_order a b) ≡ same_eid a b
+is_eq-eid a b =
+    is_eq-then (nat_cmp a.iid b.iid) (prefix_order a.prefix b.prefix)
+    ∙ ap₂ (λ p q. p && q) (is_eq-nat a.iid b.iid)
+    (is_eq-then (addr_order a.prefix.addr b.prefix.addr) (nat_cmp a.prefix.len b.prefix.len)
+    ∙ ap₂ (λ p q. p && q) (is_eq-addr a.prefix.addr b.prefix.addr) (is_eq-nat a.prefix.len b.prefix.len))
+
+pub same-self : (a : Eid) → same_eid a a ≡ true
+same-self a = sym (is_eq-eid a a) ∙ ap is_eq (tied_itself eid_order-total a)
+
+-- the first comes before the second
+abbrev Lt : Eid → Eid → Type 0
+Lt a b = eid_order a b ≡ Less
+
+greater : (a b : Eid) → Lt a b → eid_order b a ≡ Greater
+greater a b less = eid_order-total.antisymm b a ∙ ap ordering_reverse less
+
+apart : (a b : Eid) → Lt a b → same_eid a b ≡ false
+apart a b less = sym (is_eq-eid a b) ∙ ap is_eq less
+
+apart-back : (a b : Eid) → Lt a b → same_eid b a ≡ false
+apart-back a b less = sym (is_eq-eid b a) ∙ ap is_eq (greater a b less)
+
+is_less : (a b : Eid) → is_below a b ≡ true → Lt a b
+is_less a b is = by (eid_order a b) is
+  where
+    by : (o : Ordering) → is_lt o ≡ true → o ≡ Less
+    by Less lt = refl
+    by Equal lt = absurd (true≢false (sym lt))
+    by Greater lt = absurd (true≢false (sym lt))
+
+compare : (a b : Eid) → Lt a b ⊎ (Lt b a ⊎ (a ≡ b))
+compare a b = by (eid_order a b) refl
+  where
+    by : (o : Ordering) → eid_order a b ≡ o → Lt a b ⊎ (Lt b a ⊎ (a ≡ b))
+    by Less is = inl is
+    by Equal is = inr (inr (equal-same a b (sym (is_eq-eid a b) ∙ ap is_eq is)))
+    by Greater is = inr (inl (eid_order-total.antisymm b a ∙ ap ordering_reverse is))
+
+-- ### the value of an EID
+
+module _ {V : Type 0} (eid : Eid) where
+  module _ (key : Eid) (old : V) (rest : List (Eid × V)) where
+    value-past : Lt key eid → value_in eid ((key, old) ∷ rest) ≡ value_in eid rest
+    value-past less = rw (less) refl
+
+    value-over : Lt eid key → value_in eid ((key, old) ∷ rest) ≡ None
+    value-over less = rw (greater eid key less, less) refl
+
+    with-past : (value : V) → Lt key eid → with_pair eid value ((key, old) ∷ rest) ≡ (key, old) ∷ with_pair eid value rest
+    with-past value less = rw (less) refl
+
+    with-over : (value : V) → Lt eid key → with_pair eid value ((key, old) ∷ rest) ≡ (eid, value) ∷ ((key, old) ∷ rest)
+    with-over value less = rw (greater eid key less, less) refl
+
+    without-past : Lt key eid → without_pair eid ((key, old) ∷ rest) ≡ (key, old) ∷ without_pair eid rest
+    without-past less = rw (less) refl
+
+    without-over : Lt eid key → without_pair eid ((key, old) ∷ rest) ≡ (key, old) ∷ rest
+    without-over less = rw (greater eid key less, less) refl
+
+  module _ (old : V) (rest : List (Eid × V)) where
+    value-here : value_in eid ((eid, old) ∷ rest) ≡ Some old
+    value-here = rw (tied_itself eid_order-total eid) refl
+
+    with-here : (value : V) → with_pair eid value ((eid, old) ∷ rest) ≡ (eid, value) ∷ rest
+    with-here value = rw (tied_itself eid_order-total eid) refl
+
+    without-here : without_pair eid ((eid, old) ∷ rest) ≡ rest
+    without-here = rw (tied_itself eid_order-total eid) refl
+
+module _ {V : Type 0} where
+  -- what is put in is found, and all else as before
+  pub value_in-with : (eid : Eid) (value : V) (e : Eid) (pairs : List (Eid × V)) → value_in e (with_pair eid value pairs) ≡ cond (same_eid eid e) (Some value) (value_in e pairs)
+  value_in-with eid value e [] = elim (compare eid e) [
+    | inl less ↦ value-past e eid value [] less ∙ sym (ap (λ b. cond b (Some value) None) (apart eid e less))
+    | inr others ↦ elim others [
+      | inl more ↦ value-over e eid value [] more ∙ sym (ap (λ b. cond b (Some value) None) (apart-back e eid more))
+      | inr same ↦ subst (λ k. value_in k ((eid, value) ∷ []) ≡ cond (same_eid eid k) (Some value) None) same (value-here eid value [] ∙ sym (ap (λ b. cond b (Some value) None) (same-self eid)))
+    ]
+  ]
+  value_in-with eid value e ((key, old) ∷ pairs) = elim (compare key eid) [
+    | inl below ↦
+        ap (value_in e) (with-past eid key old pairs value below)
+        ∙ elim (compare key e) [
+          | inl less ↦
+              value-past e key old (with_pair eid value pairs) less
+              ∙ value_in-with eid value e pairs
+              ∙ ap (cond (same_eid eid e) (Some value)) (sym (value-past e key old pairs less))
+          | inr others ↦ elim others [
+            | inl more ↦
+                value-over e key old (with_pair eid value pairs) more
+                ∙ ap₂ (λ b o. cond b (Some value) o) (sym (apart-back e eid (eid_order-total.trans e key eid more below))) (sym (value-over e key old pairs more))
+            | inr same ↦
+                subst (λ k. value_in k ((key, old) ∷ with_pair eid value pairs) ≡ cond (same_eid eid k) (Some value) (value_in k ((key, old) ∷ pairs))) same
+                (value-here key old (with_pair eid value pairs) ∙ ap₂ (λ b o. cond b (Some value) o) (sym (apart-back key eid below)) (sym (value-here key old pairs)))
+          ]
+        ]
+    | inr cases ↦ elim cases [
+      | inl above ↦
+          ap (value_in e) (with-over eid key old pairs value above)
+          ∙ elim (compare eid e) [
+            | inl less ↦
+                value-past e eid value ((key, old) ∷ pairs) less
+                ∙ sym (ap (λ b. cond b (Some value) (value_in e ((key, old) ∷ pairs))) (apart eid e less))
+            | inr others ↦ elim others [
+              | inl more ↦
+                  value-over e eid value ((key, old) ∷ pairs) more
+                  ∙ ap₂ (λ b o. cond b (Some value) o) (sym (apart-back e eid more)) (sym (value-over e key old pairs (eid_order-total.trans e eid key more above)))
+              | inr same ↦
+                  subst (λ k. value_in k ((eid, value) ∷ (key, old) ∷ pairs) ≡ cond (same_eid eid k) (Some value) (value_in k ((key, old) ∷ pairs))) same
+                  (value-here eid value ((key, old) ∷ pairs) ∙ sym (ap (λ b. cond b (Some value) (value_in eid ((key, old) ∷ pairs))) (same-self eid)))
+            ]
+          ]
+      | inr there ↦
+          subst (λ k. value_in e (with_pair k value ((key, old) ∷ pairs)) ≡ cond (same_eid k e) (Some value) (value_in e ((key, old) ∷ pairs))) there
+          (ap (value_in e) (with-here key old pairs value)
+          ∙ elim (compare key e) [
+            | inl less ↦
+                value-past e key value pairs less
+                ∙ ap₂ (λ b o. cond b (Some value) o) (sym (apart key e less)) (sym (value-past e key old pairs less))
+            | inr others ↦ elim others [
+              | inl more ↦
+                  value-over e key value pairs more
+                  ∙ ap₂ (λ b o. cond b (Some value) o) (sym (apart-back e key more)) (sym (value-over e key old pairs more))
+              | inr same ↦
+                  subst (λ k. value_in k ((key, value) ∷ pairs) ≡ cond (same_eid key k) (Some value) (value_in k ((key, old) ∷ pairs))) same
+                  (value-here key value pairs ∙ sym (ap (λ b. cond b (Some value) (value_in key ((key, old) ∷ pairs))) (same-self key)))
+            ]
+          ])
+    ]
+  ]
+
+  -- before the first there is none
+  value-before : (e key : Eid) (old : V) (pairs : List (Eid × V)) → Ascends ((key, old) ∷ pairs) → Lt e key ⊎ (key ≡ e) → value_in e pairs ≡ None
+  value-before e key old [] ascends least = refl
+  value-before e key old ((next, other) ∷ pairs) ascends least =
+      let below : Lt key next = is_less key next (pairs-behind_first (λ a b. is_below a.0 b.0 ≡ true) (key, old) ((next, other) ∷ pairs) (next, other) ascends (inl refl)) in
+      elim least [
+        | inl less ↦ value-over e next other pairs (eid_order-total.trans e key next less below)
+        | inr same ↦ value-over e next other pairs (subst (λ k. Lt k next) same below)
+      ]
+
+  -- what is taken out isn't found, and all else as before
+  pub value_in-without : (eid e : Eid) (pairs : List (Eid × V)) → Ascends pairs → value_in e (without_pair eid pairs) ≡ cond (same_eid eid e) None (value_in e pairs)
+  value_in-without eid e [] ascends = by (same_eid eid e)
+    where
+      by : (b : Bool) → value_in {V = V} e [] ≡ cond b None (value_in {V = V} e [])
+      by true = refl
+      by false = refl
+  value_in-without eid e ((key, old) ∷ pairs) ascends = elim (compare key eid) [
+    | inl below ↦
+        ap (value_in e) (without-past eid key old pairs below)
+        ∙ elim (compare key e) [
+          | inl less ↦
+              value-past e key old (without_pair eid pairs) less
+              ∙ value_in-without eid e pairs (pairs-tail (λ a b. is_below a.0 b.0 ≡ true) (key, old) pairs ascends)
+              ∙ ap (cond (same_eid eid e) None) (sym (value-past e key old pairs less))
+          | inr others ↦ elim others [
+            | inl more ↦
+                value-over e key old (without_pair eid pairs) more
+                ∙ ap₂ (λ b o. cond b None o) (sym (apart-back e eid (eid_order-total.trans e key eid more below))) (sym (value-over e key old pairs more))
+            | inr same ↦
+                subst (λ k. value_in k ((key, old) ∷ without_pair eid pairs) ≡ cond (same_eid eid k) None (value_in k ((key, old) ∷ pairs))) same
+                (value-here key old (without_pair eid pairs) ∙ ap₂ (λ b o. cond b None o) (sym (apart-back key eid below)) (sym (value-here key old pairs)))
+          ]
+        ]
+    | inr cases ↦ elim cases [
+      | inl above ↦
+          ap (value_in e) (without-over eid key old pairs above)
+          ∙ elim (cases_Bool (same_eid eid e)) [
+            | inl same ↦
+                value-over e key old pairs (subst (λ k. Lt k key) (equal-same eid e same) above)
+                ∙ sym (ap (λ b. cond b None (value_in e ((key, old) ∷ pairs))) same)
+            | inr other ↦ sym (ap (λ b. cond b None (value_in e ((key, old) ∷ pairs))) other)
+          ]
+      | inr there ↦
+          subst (λ k. value_in e (without_pair k ((key, old) ∷ pairs)) ≡ cond (same_eid k e) None (value_in e ((key, old) ∷ pairs))) there
+          (ap (value_in e) (without-here key old pairs)
+          ∙ elim (compare key e) [
+            | inl less ↦ ap₂ (λ b o. cond b None o) (sym (apart key e less)) (sym (value-past e key old pairs less))
+            | inr others ↦ elim others [
+              | inl more ↦
+                  value-before e key old pairs ascends (inl more)
+                  ∙ ap₂ (λ b o. cond b None o) (sym (apart-back e key more)) (sym (value-over e key old pairs more))
+              | inr same ↦
+                  value-before e key old pairs ascends (inr same)
+                  ∙ sym (ap (λ b. cond b None (value_in e ((key, old) ∷ pairs))) (ap (same_eid key) (sym same) ∙ same-self key))
+            ]
+          ])
+    ]
+  ]
+
+  -- a pair is found by its EID
+  value-among : (eid : Eid) (v : V) (pairs : List (Eid × V)) → Ascends pairs → Among (eid, v) pairs → value_in eid pairs ≡ Some v
+  value-among eid v [] ascends among = absurd among
+  value-among eid v ((key, old) ∷ pairs) ascends among = elim among [
+    | inl here ↦
+        ap (λ (p : Eid × V). value_in eid (p ∷ pairs)) here ∙ value-here eid v pairs
+    | inr later ↦
+        value-past eid key old pairs (is_less key eid (pairs-behind_first (λ a b. is_below a.0 b.0 ≡ true) (key, old) pairs (eid, v) ascends later))
+        ∙ value-among eid v pairs (pairs-tail (λ a b. is_below a.0 b.0 ≡ true) (key, old) pairs ascends) later
+  ]
+
+  -- what is found stands there
+  among-value : (eid : Eid) (v : V) (pairs : List (Eid × V)) → value_in eid pairs ≡ Some v → Among (eid, v) pairs
+  among-value eid v [] is = absurd (cc is)
+  among-value eid v ((key, old) ∷ pairs) is = elim (compare key eid) [
+    | inl less ↦ inr (among-value eid v pairs (sym (value-past eid key old pairs less) ∙ is))
+    | inr others ↦ elim others [
+      | inl more ↦ absurd (cc (sym (value-over eid key old pairs more) ∙ is))
+      | inr same ↦
+          inl (ap₂ (λ (k : Eid) (o : V). (k, o)) same (same_Some old v (sym (ap (λ k. value_in k ((key, old) ∷ pairs)) (sym same) ∙ value-here key old pairs) ∙ is)))
+    ]
+  ]
+
+-- ### lists
+
+either : (a b c : Bool) → (a || (b || c)) ≡ (b || (a || c))
+either true true c = refl
+either true false c = refl
+either false b c = refl
+
+module _ {A : Type 0} where
+  among-contains : (items : List A) (x : A) → Contains items x → Among x items
+  among-contains items x there = from items there.0 x there.1 there.2
+    where
+      from : (some : List A) (k : ℕ) (z : A) → k < length some → slice_index_or some k z ≡ z → Among z some
+      from [] k z within is = absurd (omega (arith, within))
+      from (y ∷ some) zero z within is = inl is
+      from (y ∷ some) (suc k) z within is = inr (from some k z (omega (arith, within)) is)
+
+  among-filter : (test : A → Bool) (items : List A) (x : A) → test x ≡ true → Among x items → Among x (filter test items)
+  among-filter test [] x passes among = absurd among
+  among-filter test (y ∷ items) x passes among = by (test y) refl (among-filter test items x passes) among
+    where
+      by : (b : Bool) → test y ≡ b → (Among x items → Among x (filter test items)) → Among x (y ∷ items) → Among x (cond b (y ∷ filter test items) (filter test items))
+      by true is rest (inl here) = inl here
+      by true is rest (inr later) = inr (rest later)
+      by false is rest (inl here) = absurd (true≢false (sym passes ∙ ap test (sym here) ∙ is))
+      by false is rest (inr later) = rest later
+
+  filter-among : (test : A → Bool) (items : List A) (x : A) → Among x (filter test items) → Among x items × (test x ≡ true)
+  filter-among test [] x among = absurd among
+  filter-among test (y ∷ items) x among = by (test y) refl (filter-among test items x) among
+    where
+      by : (b : Bool) → test y ≡ b → (Among x (filter test items) → Among x items × (test x ≡ true)) → Among x (cond b (y ∷ filter test items) (filter test items)) → Among x (y ∷ items) × (test x ≡ true)
+      by true is rest (inl here) = (inl here, ap test (sym here) ∙ is)
+      by true is rest (inr later) = (inr (rest later).0, (rest later).1)
+      by false is rest later = (inr (rest later).0, (rest later).1)
+
+  any-left : (test : A → Bool) (items : List A) (place : ℕ) (x : A) → slice_get items place ≡ Some x → list_any test items ≡ (test x || list_any test (remove items place))
+  any-left test [] place x at = absurd (cc at)
+  any-left test (y ∷ items) zero x at = ap (λ z. test z || list_any test items) (same_Some y x at)
+  any-left test (y ∷ items) (suc place) x at =
+      ap (λ b. test y || b) (any-left test items place x at) ∙ either (test y) (test x) (list_any test (remove items place))
+
+  module _ {B : Type 0} (f : A → B) where
+    any-map_is : (test : B → Bool) (items : List A) → list_any test (map f items) ≡ list_any (λ y. test (f y)) items
+    any-map_is test [] = refl
+    any-map_is test (y ∷ items) = ap (λ b. test (f y) || b) (any-map_is test items)
+
+    any-map : (test : B → Bool) (items : List A) (x : A) → test (f x) ≡ true → Among x items → list_any test (map f items) ≡ true
+    any-map test items x passes among = any-map_is test items ∙ any-among (λ y. test (f y)) items x passes among
+
+    any-of_map : (test : B → Bool) (items : List A) → list_any test (map f items) ≡ true → IsPassing (λ y. test (f y)) items
+    any-of_map test items is = among-any (λ y. test (f y)) items (sym (any-map_is test items) ∙ is)
+
+    All-map-of : (P : B → Type 0) (items : List A) → ((x : A) → Among x items → P (f x)) → All P (map f items)
+    All-map-of P [] each = All-nil P
+    All-map-of P (y ∷ items) each = All-cons P (f y) (map f items) (each y (inl refl)) (All-map-of P items (λ x among. each x (inr among)))
+
+-- ### EIDs of requests
+
+-- a pair takes room where it is new
+pub total-put : (was : Bool) (pairs spare new left : ℕ) → 0 < spare → left ≡ spare - cond was 0 1 → new ≡ pairs + cond was 0 1 → new + left ≡ pairs + spare
+total-put true pairs spare new left room less more = omega (arith, less, more)
+total-put false pairs spare new left room less more = omega (arith, room, less, more)
+
+module _ (pairs : List (Eid × Eid)) (requests : List Request) (are : AreEids pairs requests) where
+  -- each pair is an EID under itself, and there is a request for it
+  pub each-pair : (pair : Eid × Eid) → Among pair pairs → (pair.1 ≡ pair.0) × (asks_for pair.0 requests ≡ true)
+  each-pair (key, v) among = by (asks_for key requests) refl (sym (value-among key v pairs are.ascends among) ∙ are.each key)
+    where
+      by : (b : Bool) → asks_for key requests ≡ b → Some v ≡ cond b (Some key) None → (v ≡ key) × (asks_for key requests ≡ true)
+      by true asks is = (same_Some v key is, asks)
+      by false asks is = absurd (cc is)
+
+  -- the EID of each request is there
+  pub pair-of : (x : Request) → Among x requests → Among (x.eid, x.eid) pairs
+  pair-of x among =
+      among-value x.eid x.eid pairs (are.each x.eid ∙ ap (λ b. cond b (Some x.eid) None) (any-among (λ request. same_eid request.eid x.eid) requests x (same-self x.eid) among))
+
+  -- a pair that covers, and for which a request waits: the request covers
+  pub covered-some : (m : ℕ) (eid : Eid) (pair : Eid × Eid) → Among pair pairs → covers_eid pair.0 eid ≡ true → list_any (λ request. same_eid request.eid pair.1 && is_waiting m request) requests ≡ true → true ≡ covered (waiting m requests) eid
+  covered-some m eid pair among covers asked =
+      let x = among-any (λ request. same_eid request.eid pair.1 && is_waiting m request) requests asked in
+      let both = and_parts _ _ x.passes in
+      let key : x.item.eid ≡ pair.0 = equal-same x.item.eid pair.1 both.0 ∙ (each-pair pair among).0 in
+      sym (any-among (λ request. covers_eid request.eid eid) (waiting m requests) x.item (ap (λ k. covers_eid k eid) key ∙ covers) (among-filter (is_waiting m) requests x.item both.1 x.among))
+
+  -- where no request waits for an EID that covers, none that waits covers
+  pub covered-none : (m : ℕ) (eid : Eid) → All (λ pair. covers_eid pair.0 eid ≡ true → list_any (λ request. same_eid request.eid pair.1 && is_waiting m request) requests ≡ false) pairs → false ≡ covered (waiting m requests) eid
+  covered-none m eid refused = elim (cases_Bool (covered (waiting m requests) eid)) [
+    | inl is ↦
+        let x = among-any (λ request. covers_eid request.eid eid) (waiting m requests) is in
+        let both = filter-among (is_waiting m) requests x.item x.among in
+        let told = among-all (λ pair. covers_eid pair.0 eid ≡ true → list_any (λ request. same_eid request.eid pair.1 && is_waiting m request) requests ≡ false) pairs (x.item.eid, x.item.eid) refused (pair-of x.item both.0) x.passes in
+        let asked = any-among (λ request. same_eid request.eid x.item.eid && is_waiting m request) requests x.item (ap₂ (λ a b. a && b) (same-self x.item.eid) both.1) both.0 in
+        absurd (true≢false (sym asked ∙ told))
+    | inr isnt ↦ sym isnt
+  ]
+
+  -- one waits whose EID covers exactly where a pair was found
+  pub covered-is : {X Refused : Type 0} (answers : Eid → Bool → Type 0) (seen : X → Eid × Eid) (m : ℕ) (eid : Eid) (found : Option X)
+      → MatchOption found Refused (λ x. IsLongestWhere answers eid pairs (seen x)) → (Refused → All (IsRefused answers eid) pairs)
+      → ((v : Eid) (b : Bool) → answers v b → b ≡ list_any (λ request. same_eid request.eid v && is_waiting m request) requests) → is_some found ≡ covered (waiting m requests) eid
+  covered-is answers seen m eid None refused all says = covered-none m eid (λ k d within covers. sym (says _ false (all refused k d within covers)))
+  covered-is answers seen m eid (Some x) longest all says =
+      covered-some m eid (seen x) (among-contains pairs (seen x) longest.there) longest.covers (sym (says (seen x).1 true longest.passes))
+
+  asks-again : (nonce : ℕ) (eid : Eid) (some : List Request) → asks_for eid (sent_again nonce some) ≡ asks_for eid some
+  asks-again nonce eid [] = refl
+  asks-again nonce eid (x ∷ some) = ap₂ (λ a b. a || b) (by (x.nonce == nonce)) (asks-again nonce eid some)
+    where
+      by : (b : Bool) → same_eid (cond b (once_more x) x).eid eid ≡ same_eid x.eid eid
+      by true = refl
+      by false = refl
+
+  -- what is sent again is for the same EIDs
+  pub are-again : (nonce : ℕ) → AreEids pairs (sent_again nonce requests)
+  are-again nonce = record {
+    ascends = are.ascends;
+    each = λ eid. are.each eid ∙ ap (λ b. cond b (Some eid) None) (sym (asks-again nonce eid requests));
+  }
+
+  -- one request more, and its EID
+  pub are-pushed : (x : Request) → Ascends (with_pair x.eid x.eid pairs) → AreEids (with_pair x.eid x.eid pairs) (requests ++ x ∷ [])
+  are-pushed x ascends = record {
+    ascends = ascends;
+    each = λ eid.
+        value_in-with x.eid x.eid eid pairs
+        ∙ ap (cond (same_eid x.eid eid) (Some x.eid)) (are.each eid)
+        ∙ by eid (same_eid x.eid eid) (asks_for eid requests) refl
+        ∙ sym (ap (λ b. cond b (Some eid) None) (list_any-append (λ request. same_eid request.eid eid) requests (x ∷ [])));
+  }
+    where
+      by : (eid : Eid) (a b : Bool) → same_eid x.eid eid ≡ a → cond a (Some x.eid) (cond b (Some eid) None) ≡ cond (b || (a || false)) (Some eid) None
+      by eid true true is = ap (λ (k : Eid). Some k) (equal-same x.eid eid is)
+      by eid true false is = ap (λ (k : Eid). Some k) (equal-same x.eid eid is)
+      by eid false true is = refl
+      by eid false false is = refl
+
+  module _ (place : ℕ) (x : Request) (at : slice_get requests place ≡ Some x) where
+    asks-remove : (eid : Eid) → asks_for eid requests ≡ (same_eid x.eid eid || asks_for eid (remove requests place))
+    asks-remove eid = any-left (λ request. same_eid request.eid eid) requests place x at
+
+    -- one request less: its EID goes where there is no other for it
+    pub are-left : asks_for x.eid (remove requests place) ≡ false → Ascends (without_pair x.eid pairs) → AreEids (without_pair x.eid pairs) (remove requests place)
+    are-left alone ascends = record {
+      ascends = ascends;
+      each = λ eid.
+          value_in-without x.eid eid pairs are.ascends
+          ∙ ap (cond (same_eid x.eid eid) None) (are.each eid ∙ ap (λ b. cond b (Some eid) None) (asks-remove eid))
+          ∙ by eid (same_eid x.eid eid) (asks_for eid (remove requests place)) refl refl;
+    }
+      where
+        by : (eid : Eid) (a b : Bool) → same_eid x.eid eid ≡ a → asks_for eid (remove requests place) ≡ b → cond a None (cond (a || b) (Some eid) None) ≡ cond b (Some eid) None
+        by eid true true same asks = absurd (true≢false (sym asks ∙ ap (λ k. asks_for k (remove requests place)) (sym (equal-same x.eid eid same)) ∙ alone))
+        by eid true false same asks = refl
+        by eid false true same asks = refl
+        by eid false false same asks = refl
+
+    -- it stays where there is
+    pub are-kept : asks_for x.eid (remove requests place) ≡ true → AreEids pairs (remove requests place)
+    are-kept asked = record {
+      ascends = are.ascends;
+      each = λ eid. are.each eid ∙ ap (λ b. cond b (Some eid) None) (asks-remove eid ∙ by eid (same_eid x.eid eid) refl);
+    }
+      where
+        by : (eid : Eid) (a : Bool) → same_eid x.eid eid ≡ a → (a || asks_for eid (remove requests place)) ≡ asks_for eid (remove requests place)
+        by eid true same = sym (ap (λ k. asks_for k (remove requests place)) (sym (equal-same x.eid eid same)) ∙ asked)
+        by eid false same = refl
+
+  -- ### how many there are
+
+  sorted : (some : List (Eid × Eid)) → Ascends some → IsStrictlySortedBy eid_order (map (λ pair. pair.0) some)
+  unfolding IsStrictlySortedBy
+  sorted [] ascends = tt
+  sorted (pair ∷ some) ascends = (
+    recursion_from_All (λ other. eid_order pair.0 other ≡ Less) (map (λ p. p.0) some) (All-map-of (λ (p : Eid × Eid). p.0) (λ other. eid_order pair.0 other ≡ Less) some (λ p among. is_less pair.0 p.0 (pairs-behind_first (λ a b. is_below a.0 b.0 ≡ true) pair some p ascends among))),
+    sorted some (pairs-tail (λ a b. is_below a.0 b.0 ≡ true) pair some ascends),
+  )
+
+  -- there are no more EIDs than requests
+  pub eids-few : length pairs ≤ length requests
+  eids-few =
+      let few = length-le_from_is_member (eq_by_cmp_equiv eid_order-total) (map (λ pair. pair.0) pairs) (map (λ request. request.eid) requests) (IsDistinct-from_sorted eid_order (map (λ pair. pair.0) pairs) (sorted pairs are.ascends)) member in
+      omega (arith, few, length-map pairs (λ (pair : Eid × Eid). pair.0), length-map requests (λ (request : Request). request.eid))
+    where
+      member : (eid : Eid) → is_member (eq_by_cmp eid_order) (map (λ pair. pair.0) pairs) eid ≡ true → is_member (eq_by_cmp eid_order) (map (λ request. request.eid) requests) eid ≡ true
+      member eid is =
+          let pair = any-of_map (λ (p : Eid × Eid). p.0) (eq_by_cmp eid_order eid) pairs is in
+          let x = among-any (λ request. same_eid request.eid pair.item.0) requests (each-pair pair.item pair.among).1 in
+          any-map (λ (r : Request). r.eid) (eq_by_cmp eid_order eid) requests x.item (ap (eq_by_cmp eid_order eid) (equal-same x.item.eid pair.item.0 x.passes) ∙ pair.passes) x.among

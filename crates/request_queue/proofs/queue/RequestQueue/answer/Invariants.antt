@@ -1,0 +1,12 @@
+use Rattle.std.proofs.Common.{◌≡◌, ◌==◌, length, not}
+use Rattle.request_queue.proofs.DropLemmas.{Dropped}
+use Rattle.request_queue.proofs.queue.RequestQueue.answer.Given as goal
+
+-- so far only such as don't pass were dropped
+abbrev pub invariant-loop-place : goal.invariant-loop-place
+invariant-loop-place l =
+    Dropped (λ request. not (request.nonce == l.nonce)) l.initial.self-inside.requests l.self-inside.requests l.initial.self-inside.eids l.self-inside.eids
+    × (l.self-inside.wake ≡ l.initial.self-inside.wake)
+
+abbrev pub decreases-loop-place : goal.decreases-loop-place
+decreases-loop-place l = length l.self-inside.requests.items

@@ -1,0 +1,13 @@
+use Rattle.std.proofs.Common.{◌≡◌, length}
+use Rattle.request_queue.specs.Queue.{is_waiting}
+use Rattle.request_queue.proofs.DropLemmas.{Dropped}
+use Rattle.request_queue.proofs.queue.RequestQueue.purge.Given as goal
+
+-- so far only such as don't pass were dropped
+abbrev pub invariant-loop-place : goal.invariant-loop-place
+invariant-loop-place l =
+    Dropped (is_waiting l.m) l.initial.self-inside.requests l.self-inside.requests l.initial.self-inside.eids l.self-inside.eids
+    × (l.self-inside.wake ≡ l.initial.self-inside.wake)
+
+abbrev pub decreases-loop-place : goal.decreases-loop-place
+decreases-loop-place l = length l.self-inside.requests.items
