@@ -8,7 +8,7 @@ use Rattle.std.specs.Ordering.{is_lt}
 use Rattle.std.specs.declared.cmp.Ordering.{Ordering}
 use Rattle.mapping_records.specs.Orders.{eid_order, put_in_order}
 use Rattle.mapping_records.specs.declared.record.Record.{Record}
-use Rattle.map_cache.specs.Cache.{exact, fresh, lasting, learned, without_eid}
+use Rattle.map_cache.specs.Cache.{exact, fresh, lasting, lasts, learned, without_eid}
 use Rattle.map_cache.specs.declared.mapping.Mapping.{Mapping}
 use Rattle.map_cache.proofs.PlaceLemmas.{length-without_eid}
 
@@ -25,6 +25,10 @@ few-filter test items most few =
     let same = length-filter test items in
     let less = count_by-le-length test items in omega (arith, same, less, few)
 
+-- no more are left once those that have ended go
+pub length-lasting : (m : ℕ) (items : List Mapping) → length (lasting m items) ≤ length items
+length-lasting m items = few-filter (lasts m) items (length items) (omega arith)
+
 below-most : (n most : ℕ) → nat_lt n most ≡ true → n < most
 below-most n most h = ltb-true n most h
 
@@ -40,8 +44,8 @@ few-put x items most few place =
 
 -- what is learned with a TTL is put in
 pub learned-put : (m : ℕ) (mapping : Record) (fixed : Bool) (items : List Mapping) → (mapping.ttl == 0) ≡ false → learned m mapping fixed items ≡ put_in_order (λ i. i.eid) eid_order (fresh m mapping fixed) (without_eid mapping.eid (lasting m items))
-learned-put m mapping fixed items lasts =
-    by fixed (mapping.ttl == 0) (put_in_order (λ (i : Mapping). i.eid) eid_order (fresh m mapping fixed) (without_eid mapping.eid (lasting m items))) lasts
+learned-put m mapping fixed items stays =
+    by fixed (mapping.ttl == 0) (put_in_order (λ (i : Mapping). i.eid) eid_order (fresh m mapping fixed) (without_eid mapping.eid (lasting m items))) stays
   where
     by : (b z : Bool) (put : List Mapping) → z ≡ false → cond (b || not z) put (without_eid mapping.eid (lasting m items)) ≡ put
     by true z put h = refl

@@ -1,11 +1,11 @@
 -- What the trie tells of mappings, once one is put at a place or taken from it.
-use Rattle.std.proofs.Common.{◌≡◌, ℕ, zero, suc, false, cond, List, [], ◌∷◌, length, insert, remove, Less, is_lt, refl, sym, ap, ◌∙◌, arith}
+use Rattle.std.proofs.Common.{◌≡◌, ℕ, zero, suc, false, cond, List, [], ◌∷◌, length, insert, remove, None, Less, is_lt, refl, sym, ap, ◌∙◌, arith}
 use Rattle.std.specs.Ordering.{ordering_reverse}
 use Rattle.std.proofs.lemmas.Cmp.{tied_back}
 use Rattle.mapping_records.proofs.OrderLemmas.{eid_order-total}
 use Rattle.mapping_records.specs.Orders.{eid_order}
 use Rattle.mapping_records.specs.declared.eid.Eid.{Eid}
-use Rattle.prefix_table.specs.Pairs.{is_below, with_pair, without_pair}
+use Rattle.prefix_table.specs.Pairs.{is_below, value_in, with_pair, without_pair}
 use Rattle.map_cache.specs.Indexed.{all_held, held_of}
 use Rattle.map_cache.specs.declared.held.Held.{Held}
 use Rattle.map_cache.specs.declared.mapping.Mapping.{Mapping}
@@ -37,3 +37,11 @@ held-insert name x (m ∷ names) (y ∷ items) (suc n) same absent =
     let held : Held = record { fixed = x.fixed; end = x.end; name = name } in
     ap (λ l. held_of m y ∷ l) (held-insert name x names items n (omega (arith, same)) absent.1)
     ∙ ap (λ b. cond b (held_of m y ∷ with_pair x.eid held (all_held names items)) (cond (is_below x.eid y.eid) ((x.eid, held) ∷ all_held (m ∷ names) (y ∷ items)) ((x.eid, held) ∷ all_held names items))) (sym (ap is_lt absent.0))
+
+-- nothing is told of an EID of which there is no mapping
+pub value-absent : (eid : Eid) (names : List ℕ) (items : List Mapping) (n : ℕ) → IsAbsent eid items n → value_in eid (all_held names items) ≡ None
+value-absent eid [] items n absent = refl
+value-absent eid (name ∷ names) [] n absent = refl
+value-absent eid (name ∷ names) (x ∷ items) zero absent = rw (not-back eid x.eid absent.0, ap is_lt absent.0) refl
+value-absent eid (name ∷ names) (x ∷ items) (suc n) absent =
+    rw (ap is_lt absent.0) (value-absent eid names items n absent.1)

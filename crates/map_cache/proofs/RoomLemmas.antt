@@ -1,7 +1,7 @@
 -- How many keys find mappings: no more than there are mappings, and addresses that they name.
-use Rattle.std.proofs.Common.{◌≡◌, ℕ, suc, ◌*◌, ◌≤◌, ◌&&◌, ◌||◌, Bool, true, false, not, List, [], ◌∷◌, ◌++◌, length, map, Ordering, Less, is_eq, refl, sym, ap, ap₂, ◌∙◌, arith, true≢false}
+use Rattle.std.proofs.Common.{◌≡◌, ℕ, suc, ◌*◌, ◌≤◌, ◌&&◌, ◌||◌, Bool, true, false, not, List, [], ◌∷◌, ◌++◌, length, map, Ordering, Less, is_eq, Result, Ok, Err, OnOk, OnErr, max, refl, sym, ap, ap₂, ◌∙◌, arith, true≢false}
 use Rattle.std.specs.Cmp.{IsTotalOrder}
-use Rattle.std.specs.List.{list_any}
+use Rattle.std.specs.List.{list_any, sum_by}
 use Rattle.std.specs.List.Sorted.{IsStrictlySortedBy}
 use Rattle.std.specs.Ordering.{eq_by_cmp}
 use Rattle.std.specs.Set.{is_member}
@@ -9,6 +9,7 @@ use Rattle.std.proofs.lemmas.Cmp.{eq_by_cmp_equiv}
 use Rattle.std.proofs.lemmas.List.{length-append, length-map}
 use Rattle.std.proofs.lemmas.List.Elements.{recursion_from_All}
 use Rattle.std.proofs.lemmas.List.Folds.{list_any-append}
+use Rattle.std.proofs.lemmas.List.Sums.{sum_by-cons}
 use Rattle.std.proofs.lemmas.Map.Keys.{IsDistinct-from_sorted}
 use Rattle.std.proofs.lemmas.Map.Made.{length-le_from_is_member}
 use Rattle.mapping_records.specs.Eids.{same_address, same_eid}
@@ -123,3 +124,19 @@ pub held-few : (names : List ℕ) (items : List Mapping) → length (all_held na
 held-few [] items = omega arith
 held-few (name ∷ names) [] = omega arith
 held-few (name ∷ names) (x ∷ items) = let rest = held-few names items in omega (arith, rest)
+
+-- ### all locators
+
+-- there are at most 32 for each mapping
+pub locators-few : (items : List Mapping) → AllFew items → sum_by (λ mapping. length mapping.details.locators) items ≤ 32 * length items
+locators-few [] few = omega arith
+locators-few (x ∷ items) few =
+    let rest = locators-few items few.1 in
+    omega (arith, rest, few.0, sum_by-cons (λ (mapping : Mapping). length mapping.details.locators) x items)
+
+-- ### room
+
+-- whatever is answered, there is no more room than there was, or was asked for
+pub room-after : {T E : Type 0} (result : Result T E) (old new n : ℕ) → OnOk result (new ≡ max old n) → OnErr result (new ≡ old) → new ≤ max old n
+room-after (Ok done) old new n ok err = omega (arith, ok)
+room-after (Err fault) old new n ok err = omega (arith, err)

@@ -82,8 +82,12 @@ pub record IsIndexed (mappings : Named Mapping) (pairs : List (Eid × Held)) (en
   pub ends : (key : Ending) → has ending_order key endings ≡ list_any (ends_as key) mappings.items
   pub names : (key : Naming) → has naming_order key naming ≡ list_any (names_as key) mappings.items
 
--- what is seen of mappings that are found so: they, and for how many more, with how many locators, there is room
+-- what is seen of mappings that are found so: they, for how many more, with how many locators, there is room, for how many
+-- mappings some list has place, for how many locators, and how many items the lists have
 pub record Listed : Type 0 where
   pub mappings : List Mapping
   pub spare : ℕ
   pub locator_spare : ℕ
+  pub mapping_places : ℕ
+  pub locator_places : ℕ
+  pub kept : ℕ

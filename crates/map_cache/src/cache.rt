@@ -1,5 +1,5 @@
 // A map-cache: what was learned, and the moment until which it was purged.
-ghost use Rattle.std.specs.Prelude.{◌≡◌, ◌≤◌, ◌<◌, ◌+◌, ◌*◌, ◌^◌, ◌↔◌, ◌≢◌, ◌||◌, nat_lt, is_some, Some, IfSome, IsTrue, IsFalse, IsOk, [], length, slice_get, Err, OnOk, OnErr};
+ghost use Rattle.std.specs.Prelude.{◌≡◌, ◌≤◌, ◌<◌, ◌+◌, ◌*◌, ◌^◌, ◌↔◌, ◌≢◌, ◌||◌, nat_lt, is_some, Some, IfSome, IsTrue, IsFalse, IsOk, [], length, max, slice_get, Err, OnOk, OnErr};
 ghost use Rattle.std.specs.Option.{option_copied};
 ghost use Rattle.map_cache.specs.Cache.{bits_told, exact, has_room, in_force, lasting, learned};
 ghost use Rattle.map_cache.specs.Lists.{IsFew};
@@ -37,6 +37,9 @@ impl Model for MapCache {
       mappings = cache.indexed.mappings;
       spare = cache.indexed.spare;
       locator_spare = cache.indexed.locator_spare;
+      mapping_places = cache.indexed.mapping_places;
+      locator_places = cache.indexed.locator_places;
+      kept = cache.indexed.kept;
     } };
 
     ghost invariant = { λ cache. (length cache.indexed.mappings ≤ MOST_MAPPINGS)
@@ -48,6 +51,8 @@ impl MapCache {
     pub fn new(alloc: Global) -> MapCache
         ensures now { result.now ≡ 0 }
         ensures mappings { result.mappings ≡ [] }
+        ensures mapping_places { result.mapping_places ≡ 0 }
+        ensures locator_places { result.locator_places ≡ 0 }
     {
         MapCache {
             now: 0,
@@ -62,12 +67,15 @@ impl MapCache {
         self.now
     }
 
-    /// How many mappings are kept.
+    /// How many mappings are kept. What all lists have in all is at most 41 items for each mapping and 2
+    /// for each locator for which there is place.
     pub fn len(&self) -> usize
         ensures len { result ≡ length self.entry.now.mappings }
         ensures most { result ≤ MOST_MAPPINGS }
+        ensures kept { self.entry.now.kept
+            ≤ 41 * self.entry.now.mapping_places + 2 * self.entry.now.locator_places }
     {
-        self.indexed.len()
+        self.indexed.len_kept()
     }
 
     /// The mapping at a place of those that are kept, in order of EID.
@@ -87,6 +95,10 @@ impl MapCache {
         ensures mappings { self.new.mappings ≡ self.old.mappings }
         ensures spare { self.old.spare ≤ self.new.spare }
         ensures locator_spare { self.old.locator_spare ≤ self.new.locator_spare }
+        ensures mapping_places { self.new.mapping_places
+            ≤ max self.old.mapping_places (length self.old.mappings + n) }
+        ensures locator_places { self.new.locator_places
+            ≤ max self.old.locator_places (MOST_LOCATORS * length self.old.mappings + locators) }
         ensures ok { OnOk result (n ≤ self.new.spare) }
         ensures locators_ok { OnOk result (locators ≤ self.new.locator_spare) }
         ensures enough { n ≤ self.old.spare → locators ≤ self.old.locator_spare → IsOk result }
@@ -101,6 +113,8 @@ impl MapCache {
         ensures mappings { self.new.mappings ≡ lasting m self.old.mappings }
         ensures spare { self.old.spare ≤ self.new.spare }
         ensures locator_spare { self.old.locator_spare ≤ self.new.locator_spare }
+        ensures mapping_places { self.new.mapping_places ≤ self.old.mapping_places }
+        ensures locator_places { self.new.locator_places ≤ self.old.locator_places }
     {
         self.indexed.drop_ended(m);
         self.now = m;
@@ -122,6 +136,10 @@ impl MapCache {
         ensures spare { self.old.spare ≤ self.new.spare + 1 }
         ensures locator_spare { self.old.locator_spare
             ≤ self.new.locator_spare + length mapping.locators }
+        ensures mapping_places { self.new.mapping_places
+            ≤ max self.old.mapping_places (length self.old.mappings + 1) }
+        ensures locator_places { self.new.locator_places ≤ max self.old.locator_places
+            (MOST_LOCATORS * length self.old.mappings + length mapping.locators) }
     {
         self.purge(m);
         if mapping.ttl == 0 {
@@ -153,6 +171,8 @@ impl MapCache {
         ensures mappings { self.new.mappings ≡ bits_told eid.now bits width self.old.mappings }
         ensures spare { self.new.spare ≡ self.old.spare }
         ensures locator_spare { self.new.locator_spare ≡ self.old.locator_spare }
+        ensures mapping_places { self.new.mapping_places ≤ self.old.mapping_places }
+        ensures locator_places { self.new.locator_places ≤ self.old.locator_places }
     {
         self.indexed.tell(eid, bits, width);
     }

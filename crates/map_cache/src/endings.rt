@@ -1,5 +1,5 @@
 // The ends of mappings, in a set. A mapping that is fixed has none.
-ghost use Rattle.std.specs.Prelude.{◌≡◌, ◌≤◌, ◌<◌, ◌+◌, ◌&&◌, ◌||◌, not};
+ghost use Rattle.std.specs.Prelude.{◌≡◌, ◌≤◌, ◌<◌, ◌+◌, ◌&&◌, ◌||◌, not, length};
 ghost use Rattle.ordered_set.specs.Keys.{has};
 ghost use Rattle.map_cache.specs.Indexed.{ending_order, ends_as};
 
@@ -13,6 +13,8 @@ pub(crate) fn add_ending(mapping: &Mapping, endings: &mut OrderedSet<Ending>)
     ensures members { (key : _) → has ending_order key endings.new.keys
         ≡ (ends_as key mapping.now || has ending_order key endings.old.keys) }
     ensures spare { endings.old.spare ≤ endings.new.spare + 1 }
+    ensures total { length endings.new.keys + endings.new.spare
+        ≡ length endings.old.keys + endings.old.spare }
 {
     if !mapping.fixed {
         endings.insert(Ending {
@@ -27,6 +29,8 @@ pub(crate) fn drop_ending(mapping: &Mapping, endings: &mut OrderedSet<Ending>)
     ensures members { (key : _) → has ending_order key endings.new.keys
         ≡ (not (ends_as key mapping.now) && has ending_order key endings.old.keys) }
     ensures spare { endings.old.spare ≤ endings.new.spare }
+    ensures total { length endings.new.keys + endings.new.spare
+        ≡ length endings.old.keys + endings.old.spare }
 {
     if !mapping.fixed {
         endings.remove(&Ending {

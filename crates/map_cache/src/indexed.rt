@@ -1,5 +1,5 @@
 // Mappings in order of EID, and what finds them.
-ghost use Rattle.std.specs.Prelude.{◌≡◌, ◌≤◌, ◌<◌, ◌+◌, ◌*◌, ◌^◌, [], false, length, slice_get, Some, is_some, IfSome, OnOk, IsOk};
+ghost use Rattle.std.specs.Prelude.{◌≡◌, ◌≤◌, ◌<◌, ◌+◌, ◌*◌, ◌^◌, [], false, length, max, slice_get, Some, is_some, IfSome, OnOk, IsOk};
 ghost use Rattle.std.specs.Option.{option_copied};
 ghost use Rattle.mapping_records.specs.Orders.{eid_order, put_in_order};
 ghost use Rattle.map_cache.specs.Cache.{bits_told, exact, in_force, lasting, without_eid};
@@ -35,7 +35,7 @@ pub(crate) struct Indexed {
 }
 
 impl Model for Indexed {
-    ghost use Rattle.std.specs.Prelude.{min};
+    ghost use Rattle.std.specs.Prelude.{◌+◌, length, max, min, sum_by};
     ghost use Rattle.map_cache.specs.Indexed.{IsIndexed, Listed};
 
     ghost Value = { Listed };
@@ -44,6 +44,13 @@ impl Model for Indexed {
       mappings = indexed.mappings.items;
       spare = min indexed.mappings.spare (min indexed.by_eid.spare indexed.endings.spare);
       locator_spare = indexed.naming.spare;
+      mapping_places = max (length indexed.mappings.items + indexed.mappings.spare)
+          (max (length indexed.mappings.items + indexed.by_eid.spare)
+          (length indexed.endings.keys + indexed.endings.spare));
+      locator_places = length indexed.naming.keys + indexed.naming.spare;
+      kept = indexed.mappings.kept + (indexed.by_eid.kept
+          + (indexed.endings.kept + (indexed.naming.kept
+          + sum_by (λ mapping. length mapping.details.locators) indexed.mappings.items)));
     } };
 
     ghost invariant = { λ indexed. IsIndexed indexed.mappings indexed.by_eid.pairs
@@ -53,7 +60,9 @@ impl Model for Indexed {
 impl Indexed {
     /// No mappings. Takes no memory.
     pub(crate) fn new(alloc: Global) -> Indexed
-        ensures { result.mappings ≡ [] }
+        ensures mappings { result.mappings ≡ [] }
+        ensures mapping_places { result.mapping_places ≡ 0 }
+        ensures locator_places { result.locator_places ≡ 0 }
     {
         Indexed {
             mappings: NamedList::new(alloc),
@@ -72,6 +81,10 @@ impl Indexed {
         ensures mappings { self.new.mappings ≡ self.old.mappings }
         ensures spare { self.old.spare ≤ self.new.spare }
         ensures locator_spare { self.old.locator_spare ≤ self.new.locator_spare }
+        ensures mapping_places { self.new.mapping_places
+            ≤ max self.old.mapping_places (length self.old.mappings + n) }
+        ensures locator_places { self.new.locator_places
+            ≤ max self.old.locator_places (MOST_LOCATORS * length self.old.mappings + locators) }
         ensures ok { OnOk result (n ≤ self.new.spare) }
         ensures locators_ok { OnOk result (locators ≤ self.new.locator_spare) }
         ensures enough { n ≤ self.old.spare → locators ≤ self.old.locator_spare → IsOk result }
@@ -89,6 +102,18 @@ impl Indexed {
         ensures len { result ≡ length self.now.mappings }
         ensures ascending { IsAscending self.now.mappings }
     {
+        self.mappings.len()
+    }
+
+    /// The number of mappings, of which each has at most 32 locators.
+    pub(crate) fn len_kept(&self) -> usize
+        requires { AllFew self.now.mappings }
+        ensures len { result ≡ length self.now.mappings }
+        ensures kept { self.now.kept
+            ≤ 41 * self.now.mapping_places + 2 * self.now.locator_places }
+    {
+        // The lengths say how much is kept.
+        let _ = (self.by_eid.len(), self.endings.len(), self.naming.len());
         self.mappings.len()
     }
 
@@ -119,6 +144,8 @@ impl Indexed {
         ensures spare { self.old.spare ≤ self.new.spare + 1 }
         ensures locator_spare { self.old.locator_spare
             ≤ self.new.locator_spare + length mapping.details.locators }
+        ensures mapping_places { self.new.mapping_places ≤ self.old.mapping_places }
+        ensures locator_places { self.new.locator_places ≤ self.old.locator_places }
     {
         self.drop_eid(&mapping.eid);
         self.enter(mapping);
@@ -134,6 +161,8 @@ impl Indexed {
         ensures spare { self.old.spare ≤ self.new.spare + 1 }
         ensures locator_spare { self.old.locator_spare
             ≤ self.new.locator_spare + length mapping.details.locators }
+        ensures mapping_places { self.new.mapping_places ≤ self.old.mapping_places }
+        ensures locator_places { self.new.locator_places ≤ self.old.locator_places }
     {
         let place = place_of(&mapping.eid, &self.mappings);
         add_ending(&mapping, &mut self.endings);
@@ -149,6 +178,8 @@ impl Indexed {
         ensures mappings { self.new.mappings ≡ without_eid eid.now self.old.mappings }
         ensures spare { self.old.spare ≤ self.new.spare }
         ensures locator_spare { self.old.locator_spare ≤ self.new.locator_spare }
+        ensures mapping_places { self.new.mapping_places ≤ self.old.mapping_places }
+        ensures locator_places { self.new.locator_places ≤ self.old.locator_places }
     {
         let place = place_of(eid, &self.mappings);
         if !is_at(place, eid, &self.mappings) {
@@ -166,6 +197,8 @@ impl Indexed {
         ensures mappings { self.new.mappings ≡ lasting m self.old.mappings }
         ensures spare { self.old.spare ≤ self.new.spare }
         ensures locator_spare { self.old.locator_spare ≤ self.new.locator_spare }
+        ensures mapping_places { self.new.mapping_places ≤ self.old.mapping_places }
+        ensures locator_places { self.new.locator_places ≤ self.old.locator_places }
     {
         while let Some(eid) = self.first_ended(m) {
             self.drop_eid(&eid);
@@ -195,6 +228,8 @@ impl Indexed {
         ensures mappings { self.new.mappings ≡ bits_told eid.now bits width self.old.mappings }
         ensures spare { self.new.spare ≡ self.old.spare }
         ensures locator_spare { self.new.locator_spare ≡ self.old.locator_spare }
+        ensures mapping_places { self.new.mapping_places ≤ self.old.mapping_places }
+        ensures locator_places { self.new.locator_places ≤ self.old.locator_places }
     {
         let place = place_of(eid, &self.mappings);
         if is_at(place, eid, &self.mappings) {

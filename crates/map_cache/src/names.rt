@@ -13,6 +13,8 @@ pub(crate) fn add_names(eid: &Eid, locators: &[Locator], naming: &mut OrderedSet
     ensures members { (key : _) → has naming_order key naming.new.keys
         ≡ (names_by eid.now locators.now key || has naming_order key naming.old.keys) }
     ensures spare { naming.old.spare ≤ naming.new.spare + length locators.now }
+    ensures total { length naming.new.keys + naming.new.spare
+        ≡ length naming.old.keys + naming.old.spare }
 {
     let [locator, others @ ..] = locators else {
         return;
@@ -27,6 +29,8 @@ fn add_name(eid: &Eid, locator: &Locator, naming: &mut OrderedSet<Naming>)
     ensures members { (key : _) → has naming_order key naming.new.keys
         ≡ (names_by eid.now (locator.now ∷ []) key || has naming_order key naming.old.keys) }
     ensures spare { naming.old.spare ≤ naming.new.spare + 1 }
+    ensures total { length naming.new.keys + naming.new.spare
+        ≡ length naming.old.keys + naming.old.spare }
 {
     if locator.priority != 255 {
         naming.insert(Naming {
@@ -41,6 +45,8 @@ pub(crate) fn drop_names(eid: &Eid, locators: &[Locator], naming: &mut OrderedSe
     ensures members { (key : _) → has naming_order key naming.new.keys
         ≡ (not (names_by eid.now locators.now key) && has naming_order key naming.old.keys) }
     ensures spare { naming.old.spare ≤ naming.new.spare }
+    ensures total { length naming.new.keys + naming.new.spare
+        ≡ length naming.old.keys + naming.old.spare }
 {
     let [locator, others @ ..] = locators else {
         return;
@@ -54,6 +60,8 @@ fn drop_name(eid: &Eid, locator: &Locator, naming: &mut OrderedSet<Naming>)
     ensures members { (key : _) → has naming_order key naming.new.keys
         ≡ (not (names_by eid.now (locator.now ∷ []) key) && has naming_order key naming.old.keys) }
     ensures spare { naming.old.spare ≤ naming.new.spare }
+    ensures total { length naming.new.keys + naming.new.spare
+        ≡ length naming.old.keys + naming.old.spare }
 {
     if locator.priority != 255 {
         naming.remove(&Naming {

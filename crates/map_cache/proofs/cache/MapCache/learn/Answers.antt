@@ -7,7 +7,7 @@ use Rattle.map_cache.specs.Lists.{AllFew, AllLast, IsFew}
 use Rattle.map_cache.specs.declared.fault.TheConstants.{MOST_MAPPINGS}
 use Rattle.map_cache.specs.declared.mapping.Mapping.{Mapping}
 use Rattle.map_cache.proofs.FewLemmas.{AllFew-filter, AllFew-put}
-use Rattle.map_cache.proofs.FullLemmas.{few-filter, few-put, learned-put}
+use Rattle.map_cache.proofs.FullLemmas.{few-filter, few-put, learned-put, length-lasting}
 use Rattle.map_cache.proofs.LastingLemmas.{AllLast-filter, AllLast-put, fresh-lasts}
 use Rattle.map_cache.proofs.cache.MapCache.learn.Goals as goal
 
@@ -61,3 +61,23 @@ returns-clause-ok c =
     ∙ ap (λ (x : Mapping). put_in_order (λ (i : Mapping). i.eid) eid_order x (without_eid x.eid c.reserve.new.self.mappings)) is
     ∙ ap (λ (l : List Mapping). put_in_order (λ (i : Mapping). i.eid) eid_order (fresh c.args.m c.args.mapping c.args.fixed) (without_eid c.args.mapping.eid l)) kept
     ∙ sym (learned-put c.args.m c.args.mapping c.args.fixed c.args.self.now.mappings (ne_eqb c.args.mapping.ttl 0 c.if-mapping-eq0.false))
+
+pub returns-in_err-reserve-clause-mapping_places : goal.returns-in_err-reserve-clause-mapping_places
+returns-in_err-reserve-clause-mapping_places c =
+    let purged = rw (← c.self.view_is) at c.purge.ensures in
+    omega (arith, length-lasting c.args.m c.args.self.now.mappings, ap length purged.mappings, purged.mapping_places, c.reserve.ensures.mapping_places)
+
+pub returns-in_err-reserve-clause-locator_places : goal.returns-in_err-reserve-clause-locator_places
+returns-in_err-reserve-clause-locator_places c =
+    let purged = rw (← c.self.view_is) at c.purge.ensures in
+    omega (arith, length-lasting c.args.m c.args.self.now.mappings, ap length c.as_slice.ensures, c.requires.locators, ap length purged.mappings, purged.locator_places, c.reserve.ensures.locator_places)
+
+pub returns-clause-mapping_places : goal.returns-clause-mapping_places
+returns-clause-mapping_places c =
+    let purged = rw (← c.self.view_is) at c.purge.ensures in
+    omega (arith, length-lasting c.args.m c.args.self.now.mappings, ap length purged.mappings, purged.mapping_places, c.reserve.ensures.mapping_places, c.put.ensures.mapping_places)
+
+pub returns-clause-locator_places : goal.returns-clause-locator_places
+returns-clause-locator_places c =
+    let purged = rw (← c.self.view_is) at c.purge.ensures in
+    omega (arith, length-lasting c.args.m c.args.self.now.mappings, ap length c.as_slice.ensures, c.requires.locators, ap length purged.mappings, purged.locator_places, c.reserve.ensures.locator_places, c.put.ensures.locator_places)
