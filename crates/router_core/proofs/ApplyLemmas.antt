@@ -12,13 +12,14 @@ use Rattle.mapping_records.specs.declared.record.Record.{Record}
 use Rattle.request_queue.specs.Queue.{may_send_again, waiting, with_nonce}
 use Rattle.request_queue.specs.declared.request.Request.{Request}
 use Rattle.router_log.specs.declared.entry.Entry.{Entry}
-use Rattle.router_log.specs.declared.entry.Entry.TheVariants.{Learned, Asked, Bits, Retried}
+use Rattle.router_log.specs.declared.entry.Entry.TheVariants.{Learned, Asked, Bits, EchoStarted, EchoWanted, Probed, Retried, Solicited}
 use Rattle.router_model.specs.Journal.{Journal, moment_of}
 use Rattle.router_model.specs.Mappings.{exact}
 use Rattle.router_model.specs.Parts.{Parts, Stands, absorbed, admits, view_in, with_entry}
 use Rattle.router_model.specs.Proper.{fits, may_retry, suits}
 use Rattle.router_model.proofs.StandsLemmas.{standing-absorbs}
 use Rattle.router_core.proofs.ChangeLemmas.{both, learned-place, may_ask-place, requests-now}
+use Rattle.router_core.proofs.LengthLemmas.{below-most}
 
 -- there is room in the journal, its moment isn't before the last one, and it suits what is seen
 pub record May (p : Parts) (e : Entry) : Type 0 where
@@ -105,3 +106,19 @@ may-retry p m nonce is =
     again : (o : Option Request) → may_retry o ≡ true → IsTrue (option_map_or (λ (r : Request). nat_lt r.sent_again 2) o false)
     again None is = cc
     again (Some r) is = is
+
+-- a probe that may be sent is within the limit
+pub may-probe : (p : Parts) (m : ℕ) (rloc : Addr) (nonce : ℕ) → admits p (Probed m rloc nonce) ≡ true → (view_in p m).probe_count < 9600
+may-probe p m rloc nonce is = below-most (view_in p m).probe_count (may p (Probed m rloc nonce) is).suit
+
+-- an echo that may be asked of a locator
+pub may-start : (p : Parts) (m : ℕ) (rloc : Addr) (nonce : ℕ) → admits p (EchoStarted m rloc nonce) ≡ true → IsTrue ((view_in p m).may_start rloc)
+may-start p m rloc nonce is = (both ((view_in p m).may_start rloc) _ (may p (EchoStarted m rloc nonce) is).suit).0
+
+-- one that a locator may want
+pub may-want : (p : Parts) (m : ℕ) (rloc : Addr) (nonce : ℕ) → admits p (EchoWanted m rloc nonce) ≡ true → IsTrue ((view_in p m).may_want rloc nonce)
+may-want p m rloc nonce is = (both ((view_in p m).may_want rloc nonce) _ (may p (EchoWanted m rloc nonce) is).suit).0
+
+-- a locator that may be solicited
+pub may-solicit : (p : Parts) (m : ℕ) (rloc : Addr) (eid : Eid) (nonce : ℕ) → admits p (Solicited m rloc eid nonce) ≡ true → IsTrue ((view_in p m).may_solicit rloc eid)
+may-solicit p m rloc eid nonce is = (may p (Solicited m rloc eid nonce) is).suit

@@ -8,7 +8,7 @@ use Rattle.router_model.specs.Parts.{Parts}
 use Rattle.router_core.specs.declared.changed.Changed.{Changed}
 use Rattle.router_core.specs.declared.changed.Heard.{Heard}
 
--- the parts of a table, and of each kind how many more it has room for
+-- the parts of a table, of each kind how many more it has room for, and how many items all its lists have
 pub record Memory : Type 0 where
   pub parts : Parts
   pub mapping_room : ℕ
@@ -18,6 +18,7 @@ pub record Memory : Type 0 where
   pub start_room : ℕ
   pub wish_room : ℕ
   pub solicit_room : ℕ
+  pub kept : ℕ
 
 -- a change, by its entries and emits and the parts that it left
 abbrev pub change_of : Parts → List Entry → List Emit → Change Parts

@@ -5,7 +5,7 @@ ghost use Rattle.map_cache.specs.Cache.{has_room, lasting};
 ghost use Rattle.request_queue.specs.Queue.{waiting};
 ghost use Rattle.router_log.specs.declared.entry.Entry.TheVariants.{Asked, EchoStarted, EchoWanted, Learned, Probed, Solicited};
 ghost use Rattle.router_model.specs.Journal.{Journal};
-ghost use Rattle.router_model.specs.Parts.{Stands, absorbed, admits, with_entry};
+ghost use Rattle.router_model.specs.Parts.{Stands, absorbed, admits, view_in, with_entry};
 ghost use Rattle.router_model.specs.Proper.{fits};
 
 use crate::Table;
@@ -134,6 +134,7 @@ impl Table {
     // Takes the entry of a probe that was sent.
     fn apply_probed(&mut self, m: u64, rloc: Addr, nonce: u64) -> Result<(), NoMemory>
         requires later { self.old.parts.now ≤ m }
+        requires place { (view_in self.old.parts m).probe_count < 9600 }
         requires count { self.old.parts.count < 2 ^ 62 }
         ensures ok { OnOk result (self.new.parts
             ≡ with_entry (Probed m rloc nonce) self.old.parts) }
@@ -148,6 +149,7 @@ impl Table {
     fn apply_started(&mut self, m: u64, rloc: Addr, nonce: u32) -> Result<(), NoMemory>
         requires later { self.old.parts.now ≤ m }
         requires short { nonce < 2 ^ 24 }
+        requires place { IsTrue ((view_in self.old.parts m).may_start rloc) }
         requires count { self.old.parts.count < 2 ^ 62 }
         ensures ok { OnOk result (self.new.parts
             ≡ with_entry (EchoStarted m rloc nonce) self.old.parts) }
@@ -162,6 +164,7 @@ impl Table {
     fn apply_wanted(&mut self, m: u64, rloc: Addr, nonce: u32) -> Result<(), NoMemory>
         requires later { self.old.parts.now ≤ m }
         requires short { nonce < 2 ^ 24 }
+        requires place { IsTrue ((view_in self.old.parts m).may_want rloc nonce) }
         requires count { self.old.parts.count < 2 ^ 62 }
         ensures ok { OnOk result (self.new.parts
             ≡ with_entry (EchoWanted m rloc nonce) self.old.parts) }
@@ -175,6 +178,7 @@ impl Table {
     // Takes the entry of a locator that was solicited.
     fn apply_solicited(&mut self, m: u64, rloc: Addr, eid: Eid, nonce: u64) -> Result<(), NoMemory>
         requires later { self.old.parts.now ≤ m }
+        requires place { IsTrue ((view_in self.old.parts m).may_solicit rloc eid) }
         requires count { self.old.parts.count < 2 ^ 62 }
         ensures ok { OnOk result (self.new.parts
             ≡ with_entry (Solicited m rloc eid nonce) self.old.parts) }

@@ -20,7 +20,8 @@ pub(crate) struct Rest {
 impl Rest {
     /// With these own locators; of no moment.
     pub(crate) fn new(alloc: Global, own: &[OwnLocator]) -> Result<Rest, NoMemory>
-        ensures { IfOk result (λ rest. rest.until ≡ 0) }
+        ensures until { IfOk result (λ rest. rest.until ≡ 0) }
+        ensures own { IfOk result (λ rest. rest.own ≡ own.now) }
     {
         let mut copies = Vec::new(alloc);
         copies.extend_from_slice(own)?;

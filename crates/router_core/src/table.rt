@@ -5,7 +5,7 @@ ghost use Rattle.request_queue.specs.Queue.{may_send_again, waiting};
 ghost use Rattle.lisp_settings.specs.Lawful.{IsLawful, IsLawfulMapping};
 ghost use Rattle.router_log.specs.declared.entry.Entry.TheVariants.{Answered, Asked, Bits, DataFrom, EchoHeard, EchoStarted, EchoWanted, Learned, ProbeAnswered, Probed, Retried, Solicited};
 ghost use Rattle.router_model.specs.Journal.{statics};
-ghost use Rattle.router_model.specs.Parts.{Stands, parts_in, with_entry};
+ghost use Rattle.router_model.specs.Parts.{Stands, parts_in, view_in, with_entry};
 
 use crate::copies::copied;
 use crate::resting::Rest;
@@ -35,10 +35,10 @@ pub struct Table {
 }
 
 impl Model for Table {
-    ghost use Rattle.std.specs.Prelude.{◌≤◌};
+    ghost use Rattle.std.specs.Prelude.{◌≤◌, ◌+◌, length};
     ghost use Rattle.router_core.specs.Resting.{IsAtRest};
     ghost use Rattle.router_core.specs.Table.{Memory};
-    ghost use Rattle.router_core.specs.Bounded.{AreShort, AreVersioned};
+    ghost use Rattle.router_core.specs.Bounded.{AreBounded, AreShort, AreVersioned};
 
     ghost Value = { Memory };
 
@@ -58,13 +58,16 @@ impl Model for Table {
       start_room = table.locators.start_room;
       wish_room = table.locators.wish_room;
       solicit_room = table.locators.solicit_room;
+      kept = table.cache.kept
+          + (table.queue.kept + (table.locators.kept + length table.rest.own));
     } };
 
     ghost invariant = { λ table. (table.drawn ≤ table.count)
         × IsAtRest table.rest.own table.rest.until table.locators.observed.probes
         table.cache.mappings
         × AreVersioned table.cache.mappings
-        × AreShort table.locators.observed };
+        × AreShort table.locators.observed
+        × AreBounded table.cache table.queue table.locators (length table.rest.own) };
 }
 
 impl Table {
@@ -77,7 +80,7 @@ impl Table {
     {
         let mappings = settings.mappings.as_slice();
         let mut table = Table::empty(alloc, Rest::new(alloc, settings.locators.as_slice())?);
-        table.reserve_mappings(mappings.len() as u32, locator_count(mappings))?;
+        table.reserve_statics(mappings.len() as u32, locator_count(mappings))?;
         for mapping in mappings {
             let mapping = copied(alloc, mapping)?;
             table.learn(0, mapping, true);
@@ -86,7 +89,8 @@ impl Table {
     }
 
     fn empty(alloc: Global, rest: Rest) -> Table
-        requires { rest.until ≡ 0 }
+        requires until { rest.until ≡ 0 }
+        requires own { length rest.own ≤ 32 }
         ensures { result.parts ≡ parts_in [] }
     {
         Table {
@@ -100,15 +104,9 @@ impl Table {
         }
     }
 
-    /// The length of the journal.
-    pub fn count(&self) -> u64
-        ensures { result ≡ self.now.parts.count }
-    {
-        self.count
-    }
-
-    /// Makes room for so many further mappings, with so many locators in all.
-    pub(crate) fn reserve_mappings(&mut self, n: u32, locators: u32) -> Result<(), NoMemory>
+    // Makes room for so many static mappings, with so many locators in all, where there is none yet.
+    fn reserve_statics(&mut self, n: u32, locators: u32) -> Result<(), NoMemory>
+        requires none { self.old.parts.mappings ≡ [] }
         requires n { n ≤ 65536 }
         requires locators { locators ≤ 2097152 }
         ensures parts { self.new.parts ≡ self.old.parts }
@@ -118,12 +116,42 @@ impl Table {
         self.cache.reserve(n, locators)
     }
 
+    /// The length of the journal.
+    pub fn count(&self) -> u64
+        ensures { result ≡ self.now.parts.count }
+    {
+        self.count
+    }
+
+    /// Law: however long the capture is, all lists of a table have at most 12,000,000 items.
+    pub fn keeps_to_its_size(&self)
+        ensures { self.now.kept ≤ 12000000 }
+    {
+        // The lengths say how much is kept.
+        let _ = (self.cache.len(), self.queue.len(), self.locators.len());
+    }
+
+    /// Makes room for so many further mappings, at most those of a reply, with so many locators in all.
+    pub(crate) fn reserve_mappings(&mut self, n: u32, locators: u32) -> Result<(), NoMemory>
+        requires n { n ≤ 255 }
+        requires locators { locators ≤ 8160 }
+        ensures parts { self.new.parts ≡ self.old.parts }
+        ensures room { OnOk result (n ≤ self.new.mapping_room) }
+        ensures locator_room { OnOk result (locators ≤ self.new.locator_room) }
+    {
+        // The length says that there are at most 65,536.
+        let _ = self.cache.len();
+        self.cache.reserve(n, locators)
+    }
+
     /// Makes room for so many further requests.
     pub(crate) fn reserve_requests(&mut self, n: u32) -> Result<(), NoMemory>
         requires { n ≤ 16384 }
         ensures parts { self.new.parts ≡ self.old.parts }
         ensures room { OnOk result (n ≤ self.new.request_room) }
     {
+        // The length says that there are at most 1,024.
+        let _ = self.queue.len();
         self.queue.reserve(n)
     }
 
@@ -163,6 +191,8 @@ impl Table {
         ensures request_room { self.old.request_room ≤ self.new.request_room }
     {
         self.rest.until = 0;
+        // The length says that there are at most 65,536.
+        let _ = self.cache.len();
         let _ = self.cache.learn(m, mapping, fixed);
         self.queue.purge(m);
         self.locators.purge(m);
@@ -181,6 +211,8 @@ impl Table {
     {
         self.rest.until = 0;
         self.cache.purge(m);
+        // The length says that there are at most 1,024.
+        let _ = self.queue.len();
         let _ = self.queue.ask(m, eid, source, invoked, nonce);
         self.locators.purge(m);
         self.count += 1;
@@ -224,6 +256,7 @@ impl Table {
     pub(crate) fn probe(&mut self, m: u64, rloc: Addr, nonce: u64)
         requires later { self.old.parts.now ≤ m }
         requires room { 0 < self.old.probe_room }
+        requires place { (view_in self.old.parts m).probe_count < 9600 }
         requires count { self.old.parts.count < 2 ^ 63 }
         ensures parts { self.new.parts ≡ with_entry (Probed m rloc nonce) self.old.parts }
         ensures probe_room { self.old.probe_room ≤ self.new.probe_room + 1 }
@@ -253,6 +286,7 @@ impl Table {
     pub(crate) fn start_echo(&mut self, m: u64, rloc: Addr, nonce: u32)
         requires later { self.old.parts.now ≤ m }
         requires room { 0 < self.old.start_room }
+        requires place { IsTrue ((view_in self.old.parts m).may_start rloc) }
         requires short { nonce < 2 ^ 24 }
         requires count { self.old.parts.count < 2 ^ 63 }
         ensures parts { self.new.parts ≡ with_entry (EchoStarted m rloc nonce) self.old.parts }
@@ -295,6 +329,7 @@ impl Table {
     pub(crate) fn want_echo(&mut self, m: u64, rloc: Addr, nonce: u32)
         requires later { self.old.parts.now ≤ m }
         requires room { 0 < self.old.wish_room }
+        requires place { IsTrue ((view_in self.old.parts m).may_want rloc nonce) }
         requires short { nonce < 2 ^ 24 }
         requires count { self.old.parts.count < 2 ^ 63 }
         ensures parts { self.new.parts ≡ with_entry (EchoWanted m rloc nonce) self.old.parts }
@@ -310,6 +345,7 @@ impl Table {
     pub(crate) fn solicit(&mut self, m: u64, rloc: Addr, eid: Eid, nonce: u64)
         requires later { self.old.parts.now ≤ m }
         requires room { 0 < self.old.solicit_room }
+        requires place { IsTrue ((view_in self.old.parts m).may_solicit rloc eid) }
         requires count { self.old.parts.count < 2 ^ 63 }
         ensures parts { self.new.parts ≡ with_entry (Solicited m rloc eid nonce) self.old.parts }
     {

@@ -1,15 +1,16 @@
-use Rattle.std.proofs.Common.{List, ap, ap₂, arith, refl, subst, sym, ℕ, ◌+◌, ◌∙◌}
+use Rattle.std.proofs.Common.{List, ap, ap₂, arith, refl, subst, sym, ℕ, ◌+◌, ◌∙◌, ◌≤◌}
 use Rattle.map_cache.specs.Cache.{lasting}
 use Rattle.map_cache.specs.declared.mapping.Mapping.{Mapping}
 use Rattle.request_queue.specs.declared.request.Request.{Request}
 use Rattle.router_log.specs.declared.entry.Entry.TheVariants.{ProbeAnswered}
-use Rattle.locator_state.specs.Observed.{Observed}
+use Rattle.locator_state.specs.Observed.{Observed, longest}
 use Rattle.locator_state.specs.Probes.{probe_answered}
 use Rattle.router_model.specs.Parts.{with_entry}
 use Rattle.router_core.specs.Table.{Memory}
 use Rattle.router_core.specs.Bounded.{AreShort, AreVersioned}
 use Rattle.router_core.proofs.BoundLemmas.{lasting-versioned, probes-short}
 use Rattle.router_core.proofs.EntryLemmas.{parts_with, probe_answered-parts}
+use Rattle.router_core.proofs.LengthLemmas.{probe_answered-few}
 use Rattle.router_core.proofs.table.Table.answer_probe.Goals as goal
 
 pub returns : goal.returns
@@ -29,4 +30,17 @@ invariant_of-self c =
     let m = c.args.m in
     let inside = c.self.inside in
     let few = c.self.invariant.0 in
-    (omega (arith, few), refl, subst AreVersioned (sym c.purge.ensures.mappings) (lasting-versioned m inside.cache.mappings c.self.invariant.2), subst AreShort (sym c.probe_answered.ensures.observed) (probes-short m (probe_answered m c.args.nonce inside.locators.observed.probes) inside.locators.observed c.self.invariant.3))
+    let are = c.self.invariant.4 in (
+      omega (arith, few),
+      refl,
+      subst AreVersioned (sym c.purge.ensures.mappings) (lasting-versioned m inside.cache.mappings c.self.invariant.2),
+      subst AreShort (sym c.probe_answered.ensures.observed) (probes-short m (probe_answered m c.args.nonce inside.locators.observed.probes) inside.locators.observed c.self.invariant.3),
+      record {
+        mappings = omega (arith, are.mappings, c.purge.ensures.mapping_places);
+        locators = omega (arith, are.locators, c.purge.ensures.locator_places);
+        requests = omega (arith, are.requests, c.purge-2.ensures.places);
+        probes = omega (arith, are.probes, c.probe_answered.ensures.places);
+        longest = subst (λ (o : Observed). longest o ≤ 9600) (sym c.probe_answered.ensures.observed) (probe_answered-few m c.args.nonce inside.locators.observed are.longest);
+        own = are.own;
+      },
+    )

@@ -1,6 +1,6 @@
 use Rattle.std.proofs.Common.{◌∙◌}
 use Rattle.std.proofs.lemmas.Result.{on_ok_weaker}
-use Rattle.router_core.proofs.ApplyLemmas.{absorbed-as, absorbed-learned, may-ask, may-learn, may-retry, may-tell, stands-with}
+use Rattle.router_core.proofs.ApplyLemmas.{absorbed-as, absorbed-learned, may-ask, may-learn, may-probe, may-retry, may-solicit, may-start, may-tell, may-want, stands-with}
 use Rattle.router_core.proofs.table.Table.apply.Goals as goal
 
 pub apply_learned-requires-clause-place : goal.apply_learned-requires-clause-place
@@ -56,6 +56,10 @@ returns-in-Retried-clause-parts c = c.retry.ensures.parts ∙ absorbed-as c.args
 pub returns-in-Retried-clause-journal : goal.returns-in-Retried-clause-journal
 returns-in-Retried-clause-journal c settings journal = stands-with settings c.args.self.now.parts c.retry.new.self.parts journal c.args.entry.now (returns-in-Retried-clause-parts c)
 
+pub apply_probed-requires-clause-place : goal.apply_probed-requires-clause-place
+apply_probed-requires-clause-place c =
+    may-probe c.args.self.now.parts c.in-Probed.moment c.in-Probed.rloc c.in-Probed.nonce (rw c.in-Probed.is at c.requires)
+
 pub returns-in-Probed-clause-parts : goal.returns-in-Probed-clause-parts
 returns-in-Probed-clause-parts c =
     on_ok_weaker c.apply_probed.result (λ is. is ∙ absorbed-as c.args.self.now.parts c.args.entry.now _ c.in-Probed.is c.requires) c.apply_probed.ensures.ok
@@ -69,6 +73,10 @@ returns-in-ProbeAnswered-clause-parts c = c.answer_probe.ensures.parts ∙ absor
 
 pub returns-in-ProbeAnswered-clause-journal : goal.returns-in-ProbeAnswered-clause-journal
 returns-in-ProbeAnswered-clause-journal c settings journal = stands-with settings c.args.self.now.parts c.answer_probe.new.self.parts journal c.args.entry.now (returns-in-ProbeAnswered-clause-parts c)
+
+pub apply_started-requires-clause-place : goal.apply_started-requires-clause-place
+apply_started-requires-clause-place c =
+    may-start c.args.self.now.parts c.in-EchoStarted.moment c.in-EchoStarted.rloc c.in-EchoStarted.nonce (rw c.in-EchoStarted.is at c.requires)
 
 pub returns-in-EchoStarted-clause-parts : goal.returns-in-EchoStarted-clause-parts
 returns-in-EchoStarted-clause-parts c =
@@ -90,6 +98,10 @@ returns-in-DataFrom-clause-parts c = c.take_data.ensures.parts ∙ absorbed-as c
 pub returns-in-DataFrom-clause-journal : goal.returns-in-DataFrom-clause-journal
 returns-in-DataFrom-clause-journal c settings journal = stands-with settings c.args.self.now.parts c.take_data.new.self.parts journal c.args.entry.now (returns-in-DataFrom-clause-parts c)
 
+pub apply_wanted-requires-clause-place : goal.apply_wanted-requires-clause-place
+apply_wanted-requires-clause-place c =
+    may-want c.args.self.now.parts c.in-EchoWanted.moment c.in-EchoWanted.rloc c.in-EchoWanted.nonce (rw c.in-EchoWanted.is at c.requires)
+
 pub returns-in-EchoWanted-clause-parts : goal.returns-in-EchoWanted-clause-parts
 returns-in-EchoWanted-clause-parts c =
     on_ok_weaker c.apply_wanted.result (λ is. is ∙ absorbed-as c.args.self.now.parts c.args.entry.now _ c.in-EchoWanted.is c.requires) c.apply_wanted.ensures.ok
@@ -97,6 +109,10 @@ returns-in-EchoWanted-clause-parts c =
 pub returns-in-EchoWanted-clause-journal : goal.returns-in-EchoWanted-clause-journal
 returns-in-EchoWanted-clause-journal c =
     on_ok_weaker c.apply_wanted.result (λ is settings journal. stands-with settings c.args.self.now.parts c.apply_wanted.new.self.parts journal c.args.entry.now is) (returns-in-EchoWanted-clause-parts c)
+
+pub apply_solicited-requires-clause-place : goal.apply_solicited-requires-clause-place
+apply_solicited-requires-clause-place c =
+    may-solicit c.args.self.now.parts c.in-Solicited.moment c.in-Solicited.rloc c.in-Solicited.eid c.in-Solicited.nonce (rw c.in-Solicited.is at c.requires)
 
 pub returns-in-Solicited-clause-parts : goal.returns-in-Solicited-clause-parts
 returns-in-Solicited-clause-parts c =

@@ -3,12 +3,13 @@ use Rattle.map_cache.specs.Cache.{has_room, lasting, learned}
 use Rattle.map_cache.specs.declared.mapping.Mapping.{Mapping}
 use Rattle.request_queue.specs.declared.request.Request.{Request}
 use Rattle.router_log.specs.declared.entry.Entry.TheVariants.{Learned}
-use Rattle.locator_state.specs.Observed.{Observed}
+use Rattle.locator_state.specs.Observed.{Observed, longest}
 use Rattle.router_model.specs.Parts.{with_entry}
 use Rattle.router_core.specs.Table.{Memory}
 use Rattle.router_core.specs.Bounded.{AreShort, AreVersioned}
 use Rattle.router_core.proofs.BoundLemmas.{learned-versioned, recent-short}
 use Rattle.router_core.proofs.EntryLemmas.{learned-parts, parts_with, was_learned}
+use Rattle.router_core.proofs.LengthLemmas.{recent-few}
 use Rattle.router_core.proofs.table.Table.learn.Goals as goal
 
 pub returns-clause-parts : goal.returns-clause-parts
@@ -30,7 +31,8 @@ pub invariant_of-self : goal.invariant_of-self
 invariant_of-self c =
     let m = c.args.m in
     let inside = c.self.inside in
-    let few = c.self.invariant.0 in (
+    let few = c.self.invariant.0 in
+    let are = c.self.invariant.4 in (
       omega (arith, few),
       refl,
       (
@@ -41,4 +43,12 @@ invariant_of-self c =
           was_learned c.learn.result (has_room c.args.mapping (lasting m inside.cache.mappings)) c.learn.ensures.ok (c.learn.ensures.memory room locator_room) c.learn.ensures.full place in
           subst AreVersioned (sym ms) (learned-versioned m c.args.mapping c.args.fixed inside.cache.mappings c.requires.version c.self.invariant.2)),
       subst AreShort (sym c.purge-2.ensures.observed) (recent-short m inside.locators.observed c.self.invariant.3),
+      record {
+        mappings = omega (arith, are.mappings, c.learn.ensures.mapping_places, c.len.ensures.len, c.len.ensures.most);
+        locators = omega (arith, are.locators, c.learn.ensures.locator_places, c.len.ensures.len, c.len.ensures.most, c.requires.locators);
+        requests = omega (arith, are.requests, c.purge.ensures.places);
+        probes = omega (arith, are.probes, c.purge-2.ensures.places);
+        longest = subst (λ (o : Observed). longest o ≤ 9600) (sym c.purge-2.ensures.observed) (recent-few m inside.locators.observed are.longest);
+        own = are.own;
+      },
     )

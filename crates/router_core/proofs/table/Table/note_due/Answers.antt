@@ -1,11 +1,17 @@
-use Rattle.std.proofs.Common.{◌≡◌, ◌∙◌, ◌%◌, ◌^◌, sym, ap, arith}
+use Rattle.std.proofs.Common.{◌≡◌, ◌∙◌, ◌%◌, ◌^◌, IsTrue, sym, ap, subst, arith}
 use Rattle.lisp_settings.specs.Nonces.{nonce_of}
 use Rattle.router_log.specs.declared.entry.Entry.{Entry}
 use Rattle.router_log.specs.declared.entry.Entry.TheVariants.{EchoStarted}
-use Rattle.router_model.specs.Parts.{with_entry}
+use Rattle.router_model.specs.Parts.{Parts, view_in, with_entry}
 use Rattle.router_core.specs.Table.{Memory}
+use Rattle.router_core.proofs.ChangeLemmas.{both}
 use Rattle.router_core.proofs.NotingLemmas.{due-change, quiet-entered}
 use Rattle.router_core.proofs.table.Table.note_due.Goals as goal
+
+pub start_echo-requires-clause-place : goal.start_echo-requires-clause-place
+start_echo-requires-clause-place c =
+    subst (λ (p : Parts). IsTrue ((view_in p c.args.m).may_start c.args.rloc)) (sym c.in_ok-reserve_others.ensures.parts)
+    (both c.args.settings.now.echo _ (sym c.is_echo_due.ensures ∙ c.if-not-is_echo_due.false)).1
 
 pub returns-clause-parts : goal.returns-clause-parts
 returns-clause-parts c =

@@ -1,12 +1,19 @@
-use Rattle.std.proofs.Common.{◌≡◌, ◌∙◌, [], ◌∷◌, sym, ap, arith}
+use Rattle.std.proofs.Common.{◌≡◌, ◌∙◌, [], ◌∷◌, IsTrue, is_some, sym, ap, subst, arith}
 use Rattle.lisp_settings.specs.Nonces.{nonce_of}
 use Rattle.router_log.specs.declared.emit.Emit.TheVariants as emit
 use Rattle.router_log.specs.declared.entry.Entry.{Entry}
 use Rattle.router_log.specs.declared.entry.Entry.TheVariants.{Solicited}
-use Rattle.router_model.specs.Parts.{with_entry}
+use Rattle.router_model.specs.Parts.{Parts, view_in, with_entry}
+use Rattle.router_model.specs.Site.{ours}
 use Rattle.router_core.specs.Table.{Memory}
+use Rattle.router_core.proofs.ChangeLemmas.{both}
 use Rattle.router_core.proofs.NotingLemmas.{one-entered, solicited-change}
 use Rattle.router_core.proofs.table.Table.note_solicit.Goals as goal
+
+pub solicit-requires-clause-place : goal.solicit-requires-clause-place
+solicit-requires-clause-place c =
+    subst (λ (p : Parts). IsTrue ((view_in p c.args.m).may_solicit c.args.rloc c.args.eid)) (sym c.in_ok-reserve_others.ensures.parts)
+    (both (is_some (ours c.args.settings.now.locators c.args.rloc)) _ (sym c.may_solicit.ensures ∙ c.if-not-may_solicit.false)).1
 
 pub returns-clause-parts : goal.returns-clause-parts
 returns-clause-parts c =

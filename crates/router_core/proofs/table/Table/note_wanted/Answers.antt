@@ -1,8 +1,13 @@
-use Rattle.std.proofs.Common.{◌∙◌, sym, ap, arith}
+use Rattle.std.proofs.Common.{◌∙◌, IsTrue, sym, ap, subst, arith}
 use Rattle.router_log.specs.declared.entry.Entry.TheVariants.{EchoWanted}
-use Rattle.router_model.specs.Parts.{with_entry}
+use Rattle.router_model.specs.Parts.{Parts, view_in, with_entry}
 use Rattle.router_core.proofs.NotingLemmas.{quiet-entered, wanted-change}
 use Rattle.router_core.proofs.table.Table.note_wanted.Goals as goal
+
+pub want_echo-requires-clause-place : goal.want_echo-requires-clause-place
+want_echo-requires-clause-place c =
+    subst (λ (p : Parts). IsTrue ((view_in p c.args.m).may_want c.args.rloc c.args.nonce)) (sym c.in_ok-reserve_others.ensures.parts)
+    (sym c.may_want.ensures ∙ c.if-not-may_want.false)
 
 pub returns-clause-parts : goal.returns-clause-parts
 returns-clause-parts c settings =

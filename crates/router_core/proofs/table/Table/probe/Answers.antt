@@ -1,15 +1,16 @@
-use Rattle.std.proofs.Common.{List, ap, ap₂, arith, refl, subst, sym, ℕ, ◌+◌, ◌<◌, ◌∙◌, ◌≡◌}
-use Rattle.locator_state.specs.Probes.{probed}
+use Rattle.std.proofs.Common.{List, ap, ap₂, arith, refl, subst, sym, ℕ, ◌+◌, ◌<◌, ◌∙◌, ◌≡◌, ◌≤◌}
+use Rattle.locator_state.specs.Probes.{probe_count, probed}
 use Rattle.map_cache.specs.Cache.{lasting}
 use Rattle.map_cache.specs.declared.mapping.Mapping.{Mapping}
 use Rattle.request_queue.specs.declared.request.Request.{Request}
 use Rattle.router_log.specs.declared.entry.Entry.TheVariants.{Probed}
-use Rattle.locator_state.specs.Observed.{Observed, with_probes}
+use Rattle.locator_state.specs.Observed.{Observed, longest, with_probes}
 use Rattle.router_model.specs.Parts.{with_entry}
 use Rattle.router_core.specs.Table.{Memory}
 use Rattle.router_core.specs.Bounded.{AreShort, AreVersioned}
 use Rattle.router_core.proofs.BoundLemmas.{lasting-versioned, probes-short}
 use Rattle.router_core.proofs.EntryLemmas.{parts_with, probed-parts, was_kept}
+use Rattle.router_core.proofs.LengthLemmas.{few-probes, probed-few}
 use Rattle.router_core.proofs.table.Table.probe.Goals as goal
 
 pub returns-clause-parts : goal.returns-clause-parts
@@ -28,13 +29,22 @@ pub invariant_of-self : goal.invariant_of-self
 invariant_of-self c =
     let m = c.args.m in
     let inside = c.self.inside in
-    let few = c.self.invariant.0 in (
+    let few = c.self.invariant.0 in
+    let are = c.self.invariant.4 in
+    let room = subst (λ (t : Memory). 0 < t.probe_room) (sym c.self.view_is) c.requires.room in
+    let os : c.probed.new.self.observed ≡ with_probes m (probed m c.args.rloc c.args.nonce inside.locators.observed.probes) inside.locators.observed =
+    was_kept c.probed.result inside.locators.probe_room c.probed.ensures.ok c.probed.ensures.memory room in
+    let place = subst (λ (t : Memory). probe_count m t.parts.observed.probes < 9600) (sym c.self.view_is) (few-probes c.args.self.now.parts m c.requires.later c.requires.place) in (
       omega (arith, few),
       refl,
       subst AreVersioned (sym c.purge.ensures.mappings) (lasting-versioned m inside.cache.mappings c.self.invariant.2),
-      (
-          let room = subst (λ (t : Memory). 0 < t.probe_room) (sym c.self.view_is) c.requires.room in
-          let os : c.probed.new.self.observed ≡ with_probes m (probed m c.args.rloc c.args.nonce inside.locators.observed.probes) inside.locators.observed =
-          was_kept c.probed.result inside.locators.probe_room c.probed.ensures.ok c.probed.ensures.memory room in
-          subst AreShort (sym os) (probes-short m (probed m c.args.rloc c.args.nonce inside.locators.observed.probes) inside.locators.observed c.self.invariant.3)),
+      subst AreShort (sym os) (probes-short m (probed m c.args.rloc c.args.nonce inside.locators.observed.probes) inside.locators.observed c.self.invariant.3),
+      record {
+        mappings = omega (arith, are.mappings, c.purge.ensures.mapping_places);
+        locators = omega (arith, are.locators, c.purge.ensures.locator_places);
+        requests = omega (arith, are.requests, c.purge-2.ensures.places);
+        probes = omega (arith, are.probes, are.longest, c.probed.ensures.places);
+        longest = subst (λ (o : Observed). longest o ≤ 9600) (sym os) (probed-few m c.args.rloc c.args.nonce inside.locators.observed are.longest place);
+        own = are.own;
+      },
     )

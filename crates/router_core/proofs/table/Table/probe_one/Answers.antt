@@ -5,8 +5,9 @@ use Rattle.router_log.specs.declared.emit.Emit.{Emit}
 use Rattle.router_log.specs.declared.emit.Emit.TheVariants as emit
 use Rattle.router_log.specs.declared.entry.Entry.{Entry}
 use Rattle.router_log.specs.declared.entry.Entry.TheVariants.{Probed}
-use Rattle.router_model.specs.Parts.{Parts, with_entry}
+use Rattle.router_model.specs.Parts.{Parts, view_in, with_entry}
 use Rattle.router_core.specs.Table.{Memory, change_of}
+use Rattle.router_core.proofs.LengthLemmas.{below-most}
 use Rattle.router_core.proofs.TickingLemmas.{count-now, probed-not, probed-so}
 use Rattle.router_core.proofs.table.Table.probe_one.Goals as goal
 
@@ -15,6 +16,12 @@ returns-then-not-may_probe-clause-change c =
     let p = c.args.self.now.parts in
     let full = count-now p c.args.m c.requires.later ∙ sym (ap (λ (t : Memory). nat_lt (probe_count c.args.m t.parts.observed.probes) 9600) c.self.view_is) ∙ sym c.may_probe.ensures ∙ c.if-not-may_probe.true in
     probed-not c.args.settings.now c.args.m c.args.target.now (change_of p c.args.entries.now.items c.args.emits.now.items) full
+
+pub probe-requires-clause-place : goal.probe-requires-clause-place
+probe-requires-clause-place c =
+    let p = c.args.self.now.parts in
+    below-most (view_in p c.args.m).probe_count
+    (count-now p c.args.m c.requires.later ∙ sym (ap (λ (t : Memory). nat_lt (probe_count c.args.m t.parts.observed.probes) 9600) c.self.view_is) ∙ sym c.may_probe.ensures ∙ c.if-not-may_probe.false)
 
 pub returns-clause-change : goal.returns-clause-change
 returns-clause-change c =

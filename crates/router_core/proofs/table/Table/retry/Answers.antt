@@ -1,15 +1,16 @@
-use Rattle.std.proofs.Common.{IsTrue, List, ap, ap₂, arith, refl, subst, sym, ℕ, ◌+◌, ◌∙◌}
+use Rattle.std.proofs.Common.{IsTrue, List, ap, ap₂, arith, refl, subst, sym, ℕ, ◌+◌, ◌∙◌, ◌≤◌}
 use Rattle.map_cache.specs.Cache.{lasting}
 use Rattle.map_cache.specs.declared.mapping.Mapping.{Mapping}
 use Rattle.request_queue.specs.Queue.{may_send_again, sent_again, waiting}
 use Rattle.request_queue.specs.declared.request.Request.{Request}
 use Rattle.router_log.specs.declared.entry.Entry.TheVariants.{Retried}
-use Rattle.locator_state.specs.Observed.{Observed}
+use Rattle.locator_state.specs.Observed.{Observed, longest}
 use Rattle.router_model.specs.Parts.{with_entry}
 use Rattle.router_core.specs.Table.{Memory}
 use Rattle.router_core.specs.Bounded.{AreShort, AreVersioned}
 use Rattle.router_core.proofs.BoundLemmas.{lasting-versioned, recent-short}
 use Rattle.router_core.proofs.EntryLemmas.{parts_with, retried-parts}
+use Rattle.router_core.proofs.LengthLemmas.{recent-few}
 use Rattle.router_core.proofs.table.Table.retry.Goals as goal
 
 pub retry-requires : goal.retry-requires
@@ -31,4 +32,17 @@ invariant_of-self c =
     let m = c.args.m in
     let inside = c.self.inside in
     let few = c.self.invariant.0 in
-    (omega (arith, few), refl, subst AreVersioned (sym c.purge.ensures.mappings) (lasting-versioned m inside.cache.mappings c.self.invariant.2), subst AreShort (sym c.purge-3.ensures.observed) (recent-short m inside.locators.observed c.self.invariant.3))
+    let are = c.self.invariant.4 in (
+      omega (arith, few),
+      refl,
+      subst AreVersioned (sym c.purge.ensures.mappings) (lasting-versioned m inside.cache.mappings c.self.invariant.2),
+      subst AreShort (sym c.purge-3.ensures.observed) (recent-short m inside.locators.observed c.self.invariant.3),
+      record {
+        mappings = omega (arith, are.mappings, c.purge.ensures.mapping_places);
+        locators = omega (arith, are.locators, c.purge.ensures.locator_places);
+        requests = omega (arith, are.requests, c.retry.ensures.places, c.purge-2.ensures.places);
+        probes = omega (arith, are.probes, c.purge-3.ensures.places);
+        longest = subst (λ (o : Observed). longest o ≤ 9600) (sym c.purge-3.ensures.observed) (recent-few m inside.locators.observed are.longest);
+        own = are.own;
+      },
+    )

@@ -1,6 +1,6 @@
-use Rattle.std.proofs.Common.{List, ap, ap₂, arith, refl, subst, sym, ℕ, ◌+◌, ◌<◌, ◌∙◌, ◌≡◌}
-use Rattle.locator_state.specs.Echoes.{echo_started}
-use Rattle.locator_state.specs.Observed.{Observed, with_starts}
+use Rattle.std.proofs.Common.{List, ap, ap₂, arith, refl, subst, sym, ℕ, ◌+◌, ◌<◌, ◌∙◌, ◌≡◌, ◌≤◌, count_by}
+use Rattle.locator_state.specs.Echoes.{echo_started, start_counts}
+use Rattle.locator_state.specs.Observed.{Observed, longest, with_starts}
 use Rattle.map_cache.specs.Cache.{lasting}
 use Rattle.map_cache.specs.declared.mapping.Mapping.{Mapping}
 use Rattle.request_queue.specs.declared.request.Request.{Request}
@@ -10,6 +10,7 @@ use Rattle.router_core.specs.Table.{Memory}
 use Rattle.router_core.specs.Bounded.{AreShort, AreVersioned}
 use Rattle.router_core.proofs.BoundLemmas.{lasting-versioned, started-short}
 use Rattle.router_core.proofs.EntryLemmas.{parts_with, started-parts, was_kept}
+use Rattle.router_core.proofs.LengthLemmas.{few-starts, started-few}
 use Rattle.router_core.proofs.table.Table.start_echo.Goals as goal
 
 pub returns : goal.returns
@@ -31,13 +32,22 @@ pub invariant_of-self : goal.invariant_of-self
 invariant_of-self c =
     let m = c.args.m in
     let inside = c.self.inside in
-    let few = c.self.invariant.0 in (
+    let few = c.self.invariant.0 in
+    let are = c.self.invariant.4 in
+    let room = subst (λ (t : Memory). 0 < t.start_room) (sym c.self.view_is) c.requires.room in
+    let os : c.echo_started.new.self.observed ≡ with_starts m (echo_started m c.args.rloc c.args.nonce inside.locators.observed.starts) inside.locators.observed =
+    was_kept c.echo_started.result inside.locators.start_room c.echo_started.ensures.ok c.echo_started.ensures.memory room in
+    let place = subst (λ (t : Memory). count_by (start_counts m) t.parts.observed.starts < 4096) (sym c.self.view_is) (few-starts c.args.self.now.parts m c.requires.later c.args.rloc c.requires.place) in (
       omega (arith, few),
       refl,
       subst AreVersioned (sym c.purge.ensures.mappings) (lasting-versioned m inside.cache.mappings c.self.invariant.2),
-      (
-          let room = subst (λ (t : Memory). 0 < t.start_room) (sym c.self.view_is) c.requires.room in
-          let os : c.echo_started.new.self.observed ≡ with_starts m (echo_started m c.args.rloc c.args.nonce inside.locators.observed.starts) inside.locators.observed =
-          was_kept c.echo_started.result inside.locators.start_room c.echo_started.ensures.ok c.echo_started.ensures.memory room in
-          subst AreShort (sym os) (started-short m c.args.rloc c.args.nonce inside.locators.observed c.requires.short c.self.invariant.3)),
+      subst AreShort (sym os) (started-short m c.args.rloc c.args.nonce inside.locators.observed c.requires.short c.self.invariant.3),
+      record {
+        mappings = omega (arith, are.mappings, c.purge.ensures.mapping_places);
+        locators = omega (arith, are.locators, c.purge.ensures.locator_places);
+        requests = omega (arith, are.requests, c.purge-2.ensures.places);
+        probes = omega (arith, are.probes, are.longest, c.echo_started.ensures.places);
+        longest = subst (λ (o : Observed). longest o ≤ 9600) (sym os) (started-few m c.args.rloc c.args.nonce inside.locators.observed are.longest place);
+        own = are.own;
+      },
     )

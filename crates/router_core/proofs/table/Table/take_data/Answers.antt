@@ -1,5 +1,5 @@
-use Rattle.std.proofs.Common.{List, ap, ap₂, arith, refl, subst, sym, ℕ, ◌+◌, ◌∙◌}
-use Rattle.locator_state.specs.Observed.{Observed}
+use Rattle.std.proofs.Common.{List, ap, ap₂, arith, refl, subst, sym, ℕ, ◌+◌, ◌∙◌, ◌≤◌}
+use Rattle.locator_state.specs.Observed.{Observed, longest}
 use Rattle.map_cache.specs.Cache.{lasting}
 use Rattle.map_cache.specs.declared.mapping.Mapping.{Mapping}
 use Rattle.request_queue.specs.declared.request.Request.{Request}
@@ -9,6 +9,7 @@ use Rattle.router_core.specs.Table.{Memory}
 use Rattle.router_core.specs.Bounded.{AreShort, AreVersioned}
 use Rattle.router_core.proofs.BoundLemmas.{data-short, lasting-versioned}
 use Rattle.router_core.proofs.EntryLemmas.{data-parts, parts_with}
+use Rattle.router_core.proofs.LengthLemmas.{data-few}
 use Rattle.router_core.proofs.table.Table.take_data.Goals as goal
 
 pub returns : goal.returns
@@ -28,4 +29,17 @@ invariant_of-self c =
     let m = c.args.m in
     let inside = c.self.inside in
     let few = c.self.invariant.0 in
-    (omega (arith, few), refl, subst AreVersioned (sym c.purge.ensures.mappings) (lasting-versioned m inside.cache.mappings c.self.invariant.2), subst AreShort (sym c.data_from.ensures.observed) (data-short m c.args.rloc.now inside.locators.observed c.self.invariant.3))
+    let are = c.self.invariant.4 in (
+      omega (arith, few),
+      refl,
+      subst AreVersioned (sym c.purge.ensures.mappings) (lasting-versioned m inside.cache.mappings c.self.invariant.2),
+      subst AreShort (sym c.data_from.ensures.observed) (data-short m c.args.rloc.now inside.locators.observed c.self.invariant.3),
+      record {
+        mappings = omega (arith, are.mappings, c.purge.ensures.mapping_places);
+        locators = omega (arith, are.locators, c.purge.ensures.locator_places);
+        requests = omega (arith, are.requests, c.purge-2.ensures.places);
+        probes = omega (arith, are.probes, c.data_from.ensures.places);
+        longest = subst (λ (o : Observed). longest o ≤ 9600) (sym c.data_from.ensures.observed) (data-few m c.args.rloc.now inside.locators.observed are.longest);
+        own = are.own;
+      },
+    )

@@ -1,14 +1,15 @@
-use Rattle.std.proofs.Common.{List, ap, ap₂, arith, refl, subst, sym, ℕ, ◌+◌, ◌∙◌}
+use Rattle.std.proofs.Common.{List, ap, ap₂, arith, refl, subst, sym, ℕ, ◌+◌, ◌∙◌, ◌≤◌}
 use Rattle.map_cache.specs.Cache.{bits_told, lasting}
 use Rattle.map_cache.specs.declared.mapping.Mapping.{Mapping}
 use Rattle.request_queue.specs.declared.request.Request.{Request}
 use Rattle.router_log.specs.declared.entry.Entry.TheVariants.{Bits}
-use Rattle.locator_state.specs.Observed.{Observed}
+use Rattle.locator_state.specs.Observed.{Observed, longest}
 use Rattle.router_model.specs.Parts.{with_entry}
 use Rattle.router_core.specs.Table.{Memory}
 use Rattle.router_core.specs.Bounded.{AreShort, AreVersioned}
 use Rattle.router_core.proofs.BoundLemmas.{lasting-versioned, recent-short, told-versioned}
 use Rattle.router_core.proofs.EntryLemmas.{parts_with, told-parts}
+use Rattle.router_core.proofs.LengthLemmas.{recent-few}
 use Rattle.router_core.proofs.table.Table.tell.Goals as goal
 
 pub returns : goal.returns
@@ -30,4 +31,17 @@ invariant_of-self c =
     let m = c.args.m in
     let inside = c.self.inside in
     let few = c.self.invariant.0 in
-    (omega (arith, few), refl, subst AreVersioned (sym (c.set_bits.ensures.mappings ∙ ap (bits_told c.args.eid.now c.args.bits c.args.width) c.purge.ensures.mappings)) (told-versioned c.args.eid.now c.args.bits c.args.width (lasting m inside.cache.mappings) (lasting-versioned m inside.cache.mappings c.self.invariant.2)), subst AreShort (sym c.purge-3.ensures.observed) (recent-short m inside.locators.observed c.self.invariant.3))
+    let are = c.self.invariant.4 in (
+      omega (arith, few),
+      refl,
+      subst AreVersioned (sym (c.set_bits.ensures.mappings ∙ ap (bits_told c.args.eid.now c.args.bits c.args.width) c.purge.ensures.mappings)) (told-versioned c.args.eid.now c.args.bits c.args.width (lasting m inside.cache.mappings) (lasting-versioned m inside.cache.mappings c.self.invariant.2)),
+      subst AreShort (sym c.purge-3.ensures.observed) (recent-short m inside.locators.observed c.self.invariant.3),
+      record {
+        mappings = omega (arith, are.mappings, c.set_bits.ensures.mapping_places, c.purge.ensures.mapping_places);
+        locators = omega (arith, are.locators, c.set_bits.ensures.locator_places, c.purge.ensures.locator_places);
+        requests = omega (arith, are.requests, c.purge-2.ensures.places);
+        probes = omega (arith, are.probes, c.purge-3.ensures.places);
+        longest = subst (λ (o : Observed). longest o ≤ 9600) (sym c.purge-3.ensures.observed) (recent-few m inside.locators.observed are.longest);
+        own = are.own;
+      },
+    )
