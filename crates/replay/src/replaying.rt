@@ -176,11 +176,21 @@ fn replay_frames<D: Desk>(
     let file = make_output(alloc, desk, output)?;
     let table = Table::new(alloc, settings)?;
     let mut router = Replay { settings, table };
-    let ending = play(alloc, desk, &mut router, reader, Some(file))?;
+    let ended = play(alloc, desk, &mut router, reader, Some(file));
+    let entries = entries_of(router);
+    let ending = ended?;
     Ok(Counts {
         fault: ending.fault,
         frames: ending.frames,
         written: ending.written,
-        entries: router.table.count(),
+        entries,
     })
+}
+
+// The length of a router's journal. It ends here, so that nothing is left to be dropped where a call
+// is refused.
+fn entries_of(router: Replay<'_>) -> u64
+    ensures { result ≡ router.entry.table.parts.count }
+{
+    router.table.count()
 }
