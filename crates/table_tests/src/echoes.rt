@@ -2,7 +2,7 @@
 use crate::rows::{SECOND, eid};
 use ip_headers::Addr;
 use locator_state::{EchoOut, Eid, LocatorState};
-use std::alloc::Global;
+use std::process::Abort;
 use std::test::Fail;
 
 const FIRST: Addr = Addr::V4(0xc633_6401);
@@ -14,6 +14,10 @@ const THIRD: Addr = Addr::V6(0xc633_6401);
 #[test]
 fn an_echo_is_wanted_for_2_seconds(rt: HostRuntime) -> Result<(), Fail> {
     let mut state = LocatorState::new(rt.alloc());
+    wanted_for_2_seconds(&rt, &mut state)
+}
+
+fn wanted_for_2_seconds(rt: &impl Abort, state: &mut LocatorState) -> Result<(), Fail> {
     state.echo_wanted(SECOND, FIRST, 7)?;
     let rows = [
         (SECOND, EchoOut::Answer(7), false),
@@ -36,6 +40,10 @@ fn an_echo_is_wanted_for_2_seconds(rt: HostRuntime) -> Result<(), Fail> {
 #[test]
 fn an_echo_is_asked_for_10_seconds_until_it_is_heard(rt: HostRuntime) -> Result<(), Fail> {
     let mut state = LocatorState::new(rt.alloc());
+    asked_until_it_is_heard(&rt, &mut state)
+}
+
+fn asked_until_it_is_heard(rt: &impl Abort, state: &mut LocatorState) -> Result<(), Fail> {
     state.echo_started(0, FIRST, 9)?;
     state.echo_started(0, OTHER, 10)?;
     state.data_from(SECOND, &OTHER);
@@ -61,6 +69,10 @@ fn only_where_packets_came_without_the_echo_is_a_locator_down_from_10_to_60_seco
     rt: HostRuntime,
 ) -> Result<(), Fail> {
     let mut state = LocatorState::new(rt.alloc());
+    deaf_from_10_to_60_seconds(&rt, &mut state)
+}
+
+fn deaf_from_10_to_60_seconds(rt: &impl Abort, state: &mut LocatorState) -> Result<(), Fail> {
     state.echo_started(0, FIRST, 9)?;
     state.echo_started(0, OTHER, 10)?;
     state.echo_started(0, THIRD, 11)?;
@@ -87,6 +99,10 @@ fn only_where_packets_came_without_the_echo_is_a_locator_down_from_10_to_60_seco
 #[test]
 fn an_answer_goes_before_a_question(rt: HostRuntime) -> Result<(), Fail> {
     let mut state = LocatorState::new(rt.alloc());
+    answer_before_question(&rt, &mut state)
+}
+
+fn answer_before_question(rt: &impl Abort, state: &mut LocatorState) -> Result<(), Fail> {
     state.echo_started(0, FIRST, 9)?;
     state.echo_wanted(58 * SECOND, OTHER, 7)?;
     assert!(rt; state.may_start(58 * SECOND, &THIRD));
@@ -109,9 +125,13 @@ fn an_answer_goes_before_a_question(rt: HostRuntime) -> Result<(), Fail> {
 
 #[test]
 fn a_locator_is_solicited_again_after_10_seconds(rt: HostRuntime) -> Result<(), Fail> {
+    let mut state = LocatorState::new(rt.alloc());
+    again_after_10_seconds(&rt, &mut state)
+}
+
+fn again_after_10_seconds(rt: &impl Abort, state: &mut LocatorState) -> Result<(), Fail> {
     let net = eid(0x0a01_0000, 16)?;
     let longer = eid(0x0a01_0000, 24)?;
-    let mut state = LocatorState::new(rt.alloc());
     state.solicited(0, FIRST, net)?;
     let rows = [(0, false), (10 * SECOND - 1, false), (10 * SECOND, true)];
     for (moment, again) in rows {
@@ -124,8 +144,12 @@ fn a_locator_is_solicited_again_after_10_seconds(rt: HostRuntime) -> Result<(), 
 
 #[test]
 fn within_its_room_nothing_is_refused(rt: HostRuntime) -> Result<(), Fail> {
-    let net = eid(0x0a01_0000, 16)?;
     let mut state = LocatorState::new(rt.alloc());
+    nothing_is_refused(&rt, &mut state)
+}
+
+fn nothing_is_refused(rt: &impl Abort, state: &mut LocatorState) -> Result<(), Fail> {
+    let net = eid(0x0a01_0000, 16)?;
     state.reserve(1, 2)?;
     assert!(rt; state.echo_started(0, FIRST, 9).is_ok());
     assert!(rt; state.echo_wanted(0, FIRST, 7).is_ok());
@@ -138,31 +162,35 @@ fn within_its_room_nothing_is_refused(rt: HostRuntime) -> Result<(), Fail> {
 }
 
 // So many of each kind but probes.
-fn filled(alloc: Global, each: usize, eid: Eid) -> Result<LocatorState, Fail> {
-    let mut state = LocatorState::new(alloc);
+fn fill(state: &mut LocatorState, moment: u64, each: usize, eid: Eid) -> Result<(), Fail> {
     for _ in 0..each {
-        state.echo_started(0, FIRST, 9)?;
-        state.echo_wanted(0, FIRST, 7)?;
-        state.solicited(0, FIRST, eid)?;
+        state.echo_started(moment, FIRST, 9)?;
+        state.echo_wanted(moment, FIRST, 7)?;
+        state.solicited(moment, FIRST, eid)?;
     }
-    Ok(state)
+    Ok(())
 }
 
 #[test]
 fn there_are_at_most_4096_of_each_kind(rt: HostRuntime) -> Result<(), Fail> {
+    let mut state = LocatorState::new(rt.alloc());
+    full_twice(&rt, &mut state)
+}
+
+fn full_twice(rt: &impl Abort, state: &mut LocatorState) -> Result<(), Fail> {
     let net = eid(0x0a01_0000, 16)?;
-    let mut state = filled(rt.alloc(), 4095, net)?;
-    assert!(rt; state.may_start(0, &OTHER));
-    assert!(rt; state.may_want(0, &OTHER, 7));
-    assert!(rt; state.may_solicit(0, &OTHER, &net));
-    state.echo_started(0, FIRST, 9)?;
-    state.echo_wanted(0, FIRST, 7)?;
-    state.solicited(0, FIRST, net)?;
-    assert!(rt; !state.may_start(60 * SECOND - 1, &OTHER));
-    assert!(rt; state.may_start(60 * SECOND, &OTHER));
-    assert!(rt; !state.may_want(2 * SECOND - 1, &OTHER, 7));
-    assert!(rt; state.may_want(2 * SECOND, &OTHER, 7));
-    assert!(rt; !state.may_solicit(10 * SECOND - 1, &OTHER, &net));
-    assert!(rt; state.may_solicit(10 * SECOND, &OTHER, &net));
+    for moment in [0, 60 * SECOND] {
+        fill(state, moment, 4095, net)?;
+        assert!(rt; state.may_start(moment, &OTHER));
+        assert!(rt; state.may_want(moment, &OTHER, 7));
+        assert!(rt; state.may_solicit(moment, &OTHER, &net));
+        fill(state, moment, 1, net)?;
+        assert!(rt; !state.may_start(moment + 60 * SECOND - 1, &OTHER));
+        assert!(rt; state.may_start(moment + 60 * SECOND, &OTHER));
+        assert!(rt; !state.may_want(moment + 2 * SECOND - 1, &OTHER, 7));
+        assert!(rt; state.may_want(moment + 2 * SECOND, &OTHER, 7));
+        assert!(rt; !state.may_solicit(moment + 10 * SECOND - 1, &OTHER, &net));
+        assert!(rt; state.may_solicit(moment + 10 * SECOND, &OTHER, &net));
+    }
     Ok(())
 }

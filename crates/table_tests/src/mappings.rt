@@ -7,6 +7,7 @@ use map_cache::{LearnFault, MapCache};
 use mapping_records::{Eid, Locator, Locators, Record};
 use node_store::Reads;
 use std::alloc::Global;
+use std::process::Abort;
 use std::test::Fail;
 
 const MINUTE: u64 = 60 * SECOND;
@@ -32,15 +33,21 @@ fn bits(cache: &MapCache, moment: u64, eid: &Eid) -> Option<(u32, u32)>
 #[test]
 fn a_mapping_lasts_until_its_ttl_is_over(rt: HostRuntime) -> Result<(), Fail> {
     let mut cache = MapCache::new(rt.alloc());
+    until_its_ttl_is_over(&rt, rt.alloc(), &mut cache)
+}
+
+fn until_its_ttl_is_over(rt: &impl Abort, alloc: Global, cache: &mut MapCache) -> Result<(), Fail>
+    requires { cache.old.now ≡ 0 }
+{
     let tenant = eid(0x0a02_0000, 16)?;
-    cache.learn(0, record(rt.alloc(), tenant, 1), false)?;
+    cache.learn(0, record(alloc, tenant, 1), false)?;
     for (moment, count, known) in [
         (0, 1, Some((0, 0))),
         (MINUTE - 1, 1, Some((0, 0))),
         (MINUTE, 0, None),
     ] {
         assert_eq!(rt; cache.live_count(moment), count);
-        assert_eq!(rt; bits(&cache, moment, &tenant), known);
+        assert_eq!(rt; bits(cache, moment, &tenant), known);
     }
     Ok(())
 }
@@ -48,8 +55,14 @@ fn a_mapping_lasts_until_its_ttl_is_over(rt: HostRuntime) -> Result<(), Fail> {
 #[test]
 fn the_longest_prefix_is_in_force_until_it_ends(rt: HostRuntime) -> Result<(), Fail> {
     let mut cache = MapCache::new(rt.alloc());
-    cache.learn(0, record(rt.alloc(), eid(0x0a02_0000, 16)?, 1), false)?;
-    cache.learn(0, record(rt.alloc(), eid(0x0a00_0000, 8)?, 2), false)?;
+    longest_until_it_ends(&rt, rt.alloc(), &mut cache)
+}
+
+fn longest_until_it_ends(rt: &impl Abort, alloc: Global, cache: &mut MapCache) -> Result<(), Fail>
+    requires { cache.old.now ≡ 0 }
+{
+    cache.learn(0, record(alloc, eid(0x0a02_0000, 16)?, 1), false)?;
+    cache.learn(0, record(alloc, eid(0x0a00_0000, 8)?, 2), false)?;
     let host = eid(0x0a02_0009, 32)?;
     for (moment, len) in [
         (MINUTE - 1, Some(16)),
@@ -57,7 +70,7 @@ fn the_longest_prefix_is_in_force_until_it_ends(rt: HostRuntime) -> Result<(), F
         (2 * MINUTE - 1, Some(8)),
         (2 * MINUTE, None),
     ] {
-        assert_eq!(rt; length_in_force(&cache, moment, &host), len);
+        assert_eq!(rt; length_in_force(cache, moment, &host), len);
     }
     Ok(())
 }
@@ -65,27 +78,43 @@ fn the_longest_prefix_is_in_force_until_it_ends(rt: HostRuntime) -> Result<(), F
 #[test]
 fn status_bits_are_known_until_the_mapping_is_replaced(rt: HostRuntime) -> Result<(), Fail> {
     let mut cache = MapCache::new(rt.alloc());
+    bits_until_it_is_replaced(&rt, rt.alloc(), &mut cache)
+}
+
+fn bits_until_it_is_replaced(
+    rt: &impl Abort,
+    alloc: Global,
+    cache: &mut MapCache,
+) -> Result<(), Fail>
+    requires { cache.old.now ≡ 0 }
+{
     let tenant = eid(0x0a02_0000, 16)?;
-    cache.learn(0, record(rt.alloc(), tenant, 1), false)?;
+    cache.learn(0, record(alloc, tenant, 1), false)?;
     cache.set_bits(&tenant, 0b101, 8);
-    assert_eq!(rt; bits(&cache, 0, &tenant), Some((0xff, 0b101)));
+    assert_eq!(rt; bits(cache, 0, &tenant), Some((0xff, 0b101)));
     cache.set_bits(&tenant, 0b110, 1);
-    assert_eq!(rt; bits(&cache, 0, &tenant), Some((0xff, 0b100)));
-    cache.learn(0, record(rt.alloc(), tenant, 1), false)?;
-    assert_eq!(rt; bits(&cache, 0, &tenant), Some((0, 0)));
+    assert_eq!(rt; bits(cache, 0, &tenant), Some((0xff, 0b100)));
+    cache.learn(0, record(alloc, tenant, 1), false)?;
+    assert_eq!(rt; bits(cache, 0, &tenant), Some((0, 0)));
     Ok(())
 }
 
 #[test]
 fn a_fixed_mapping_has_no_end_and_a_ttl_of_0_takes_it_away(rt: HostRuntime) -> Result<(), Fail> {
     let mut cache = MapCache::new(rt.alloc());
+    fixed_without_end(&rt, rt.alloc(), &mut cache)
+}
+
+fn fixed_without_end(rt: &impl Abort, alloc: Global, cache: &mut MapCache) -> Result<(), Fail>
+    requires { cache.old.now ≡ 0 }
+{
     cache.reserve(1, 32)?;
     let tenant = eid(0x0a02_0000, 16)?;
-    cache.learn(0, record(rt.alloc(), tenant, 1), true)?;
+    cache.learn(0, record(alloc, tenant, 1), true)?;
     cache.purge(MINUTE);
     assert_eq!(rt; cache.now(), MINUTE);
     assert_eq!(rt; cache.live_count(MINUTE), 1);
-    cache.learn(MINUTE, record(rt.alloc(), tenant, 0), false)?;
+    cache.learn(MINUTE, record(alloc, tenant, 0), false)?;
     assert_eq!(rt; cache.live_count(MINUTE), 0);
     Ok(())
 }
@@ -124,15 +153,21 @@ fn next(cache: &MapCache, moment: u64, after: Option<Addr>) -> Option<(Addr, Eid
 #[test]
 fn locators_come_in_order_of_address_and_of_one_the_least_eid(rt: HostRuntime) -> Result<(), Fail> {
     let mut cache = MapCache::new(rt.alloc());
+    locators_in_order(&rt, rt.alloc(), &mut cache)
+}
+
+fn locators_in_order(rt: &impl Abort, alloc: Global, cache: &mut MapCache) -> Result<(), Fail>
+    requires { cache.old.now ≡ 0 }
+{
     let (low, high) = (eid(0x0a02_0000, 16)?, eid(0x0a03_0000, 16)?);
     let locators = [
         locator(Addr::V4(12), 254),
         locator(Addr::V4(4), 255),
         locator(Addr::V4(9), 1),
     ];
-    cache.learn(0, record_to(rt.alloc(), high, 1, &locators)?, false)?;
+    cache.learn(0, record_to(alloc, high, 1, &locators)?, false)?;
     let locators = [locator(Addr::V6(1), 0), locator(Addr::V4(9), 2)];
-    cache.learn(0, record_to(rt.alloc(), low, 1, &locators)?, false)?;
+    cache.learn(0, record_to(alloc, low, 1, &locators)?, false)?;
     for (after, found) in [
         (None, Some((Addr::V4(9), low))),
         (Some(Addr::V4(8)), Some((Addr::V4(9), low))),
@@ -141,7 +176,7 @@ fn locators_come_in_order_of_address_and_of_one_the_least_eid(rt: HostRuntime) -
         (Some(Addr::V6(0)), Some((Addr::V6(1), low))),
         (Some(Addr::V6(1)), None),
     ] {
-        assert_eq!(rt; next(&cache, 0, after), found);
+        assert_eq!(rt; next(cache, 0, after), found);
     }
     Ok(())
 }
@@ -149,42 +184,108 @@ fn locators_come_in_order_of_address_and_of_one_the_least_eid(rt: HostRuntime) -
 #[test]
 fn the_locators_of_a_mapping_that_has_ended_are_passed_over(rt: HostRuntime) -> Result<(), Fail> {
     let mut cache = MapCache::new(rt.alloc());
+    ended_is_passed_over(&rt, rt.alloc(), &mut cache)
+}
+
+fn ended_is_passed_over(rt: &impl Abort, alloc: Global, cache: &mut MapCache) -> Result<(), Fail>
+    requires { cache.old.now ≡ 0 }
+{
     let (low, high) = (eid(0x0a02_0000, 16)?, eid(0x0a03_0000, 16)?);
     let locators = [locator(Addr::V4(9), 1)];
-    cache.learn(0, record_to(rt.alloc(), low, 1, &locators)?, false)?;
-    cache.learn(0, record_to(rt.alloc(), high, 2, &locators)?, false)?;
+    cache.learn(0, record_to(alloc, low, 1, &locators)?, false)?;
+    cache.learn(0, record_to(alloc, high, 2, &locators)?, false)?;
     for (moment, found) in [
         (MINUTE - 1, Some((Addr::V4(9), low))),
         (MINUTE, Some((Addr::V4(9), high))),
         (2 * MINUTE, None),
     ] {
-        assert_eq!(rt; next(&cache, moment, None), found);
+        assert_eq!(rt; next(cache, moment, None), found);
     }
     assert_eq!(rt; cache.len(), 2);
     Ok(())
 }
 
-// So many hosts, from the first address on, for a minute.
-fn filled(alloc: Global, hosts: u32) -> Result<MapCache, Fail>
-    ensures { IfOk result (λ cache. cache.now ≡ 0) }
+// Learns so many hosts for a minute, from the first address on.
+fn fill(alloc: Global, cache: &mut MapCache, moment: u64, hosts: u32) -> Result<(), Fail>
+    requires { cache.old.now ≤ moment }
+    ensures { cache.new.now ≤ moment }
 {
-    let mut cache = MapCache::new(alloc);
     for host in 0..hosts {
         let prefix = Prefix::host(Addr::V4(host));
-        cache.learn(0, record(alloc, Eid { iid: 100, prefix }, 1), false)?;
+        cache.learn(moment, record(alloc, Eid { iid: 100, prefix }, 1), false)?;
     }
-    Ok(cache)
+    Ok(())
 }
 
 #[test]
-fn a_full_cache_takes_no_other_eid(rt: HostRuntime) -> Result<(), Fail> {
-    let mut cache = filled(rt.alloc(), 65_536)?;
-    let other = eid(0x0a02_0000, 16)?;
-    let full = cache.learn(0, record(rt.alloc(), other, 1), false);
+fn a_full_cache_takes_no_other_eid_until_time_has_emptied_it(rt: HostRuntime) -> Result<(), Fail> {
+    let mut cache = MapCache::new(rt.alloc());
+    full_twice(&rt, rt.alloc(), &mut cache)
+}
+
+fn full_twice(rt: &impl Abort, alloc: Global, cache: &mut MapCache) -> Result<(), Fail>
+    requires { cache.old.now ≡ 0 }
+{
+    full_at(rt, alloc, cache, 0)?;
+    full_at(rt, alloc, cache, MINUTE)
+}
+
+fn full_at(rt: &impl Abort, alloc: Global, cache: &mut MapCache, moment: u64) -> Result<(), Fail>
+    requires { cache.old.now ≤ moment }
+    ensures { cache.new.now ≤ moment }
+{
+    fill(alloc, cache, moment, 65_536)?;
+    let full = cache.learn(moment, record(alloc, eid(0x0a02_0000, 16)?, 1), false);
     assert_eq!(rt; full, Err(LearnFault::CacheFull));
-    cache.learn(0, record(rt.alloc(), eid(65_535, 32)?, 1), false)?;
-    assert_eq!(rt; cache.live_count(0), 65_536);
-    cache.learn(MINUTE, record(rt.alloc(), other, 1), false)?;
-    assert_eq!(rt; cache.live_count(MINUTE), 1);
+    cache.learn(moment, record(alloc, eid(65_535, 32)?, 1), false)?;
+    assert_eq!(rt; cache.live_count(moment), 65_536);
+    Ok(())
+}
+
+// Learns all prefixes of the last IPv6 address but the shortest, in each of 512 instances: those of
+// even length for a minute, the others for two.
+fn nest(alloc: Global, cache: &mut MapCache) -> Result<(), Fail>
+    requires { cache.old.now ≡ 0 }
+    ensures { cache.new.now ≡ 0 }
+{
+    for iid in 0..512_u32 {
+        for len in 1..=128_u8 {
+            let prefix = Prefix::new(Addr::V6(u128::MAX), len).ok_or("no such prefix")?;
+            let ttl = 1 + u32::from(len) % 2;
+            cache.learn(0, record(alloc, Eid { iid, prefix }, ttl), false)?;
+        }
+    }
+    Ok(())
+}
+
+#[test]
+fn among_65_536_nested_mappings_the_longest_is_found(rt: HostRuntime) -> Result<(), Fail> {
+    let mut cache = MapCache::new(rt.alloc());
+    longest_of_nested(&rt, rt.alloc(), &mut cache)
+}
+
+fn longest_of_nested(rt: &impl Abort, alloc: Global, cache: &mut MapCache) -> Result<(), Fail>
+    requires { cache.old.now ≡ 0 }
+{
+    nest(alloc, cache)?;
+    assert_eq!(rt; cache.len(), 65_536);
+    let rows = [
+        (0, u128::MAX, Some(128)),
+        (0, u128::MAX - 1, Some(127)),
+        (0, 1 << 127, Some(1)),
+        (0, 1, None),
+        (MINUTE, u128::MAX, Some(127)),
+        (2 * MINUTE, u128::MAX, None),
+    ];
+    for (moment, addr, len) in rows {
+        let host = Eid {
+            iid: 511,
+            prefix: Prefix::host(Addr::V6(addr)),
+        };
+        let mut reads = Reads::new();
+        let found = cache.in_force(moment, &host, &mut reads);
+        assert_eq!(rt; found.map(|mapping| mapping.eid.prefix.len), len);
+        assert!(rt; reads.count() <= 129);
+    }
     Ok(())
 }

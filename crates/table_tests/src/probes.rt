@@ -2,7 +2,7 @@
 use crate::rows::SECOND;
 use ip_headers::Addr;
 use locator_state::{LocatorState, MOST_PROBES};
-use std::alloc::Global;
+use std::process::Abort;
 use std::test::Fail;
 
 const FIRST: Addr = Addr::V4(0xc633_6401);
@@ -12,6 +12,10 @@ const OTHER: Addr = Addr::V4(0xc633_6402);
 #[test]
 fn without_an_answer_a_locator_is_down_from_3_to_600_seconds(rt: HostRuntime) -> Result<(), Fail> {
     let mut state = LocatorState::new(rt.alloc());
+    down_without_an_answer(&rt, &mut state)
+}
+
+fn down_without_an_answer(rt: &impl Abort, state: &mut LocatorState) -> Result<(), Fail> {
     state.reserve(1, 0)?;
     state.probed(0, FIRST, 42)?;
     let rows = [
@@ -33,6 +37,10 @@ fn without_an_answer_a_locator_is_down_from_3_to_600_seconds(rt: HostRuntime) ->
 #[test]
 fn a_probe_is_of_its_locator_and_nonce(rt: HostRuntime) -> Result<(), Fail> {
     let mut state = LocatorState::new(rt.alloc());
+    of_its_locator_and_nonce(&rt, &mut state)
+}
+
+fn of_its_locator_and_nonce(rt: &impl Abort, state: &mut LocatorState) -> Result<(), Fail> {
     state.probed(SECOND, FIRST, 42)?;
     let mapped = Addr::V6(0xc633_6401);
     for address in [OTHER, mapped] {
@@ -48,6 +56,10 @@ fn a_probe_is_of_its_locator_and_nonce(rt: HostRuntime) -> Result<(), Fail> {
 #[test]
 fn an_answered_probe_is_closed_and_its_locator_up(rt: HostRuntime) -> Result<(), Fail> {
     let mut state = LocatorState::new(rt.alloc());
+    answered_is_closed(&rt, &mut state)
+}
+
+fn answered_is_closed(rt: &impl Abort, state: &mut LocatorState) -> Result<(), Fail> {
     state.probed(0, FIRST, 42)?;
     state.probed(0, OTHER, 43)?;
     state.probe_answered(2 * SECOND, 42);
@@ -61,6 +73,10 @@ fn an_answered_probe_is_closed_and_its_locator_up(rt: HostRuntime) -> Result<(),
 #[test]
 fn while_a_probe_waits_the_one_before_it_is_judged(rt: HostRuntime) -> Result<(), Fail> {
     let mut state = LocatorState::new(rt.alloc());
+    one_before_is_judged(&rt, &mut state)
+}
+
+fn one_before_is_judged(rt: &impl Abort, state: &mut LocatorState) -> Result<(), Fail> {
     state.probed(0, FIRST, 1)?;
     state.probed(3 * SECOND, FIRST, 2)?;
     assert_eq!(rt; state.probe_open(3 * SECOND, 2), Some(FIRST));
@@ -77,6 +93,10 @@ fn while_a_probe_waits_the_one_before_it_is_judged(rt: HostRuntime) -> Result<()
 #[test]
 fn of_a_repeated_nonce_the_last_probe_is_answered(rt: HostRuntime) -> Result<(), Fail> {
     let mut state = LocatorState::new(rt.alloc());
+    last_of_a_nonce_is_answered(&rt, &mut state)
+}
+
+fn last_of_a_nonce_is_answered(rt: &impl Abort, state: &mut LocatorState) -> Result<(), Fail> {
     state.probed(0, FIRST, 42)?;
     state.probed(SECOND, OTHER, 42)?;
     assert_eq!(rt; state.probe_open(2 * SECOND, 42), Some(OTHER));
@@ -87,25 +107,31 @@ fn of_a_repeated_nonce_the_last_probe_is_answered(rt: HostRuntime) -> Result<(),
 }
 
 // So many probes with the nonces from 0 on.
-fn filled(alloc: Global, probes: u64) -> Result<LocatorState, Fail> {
-    let mut state = LocatorState::new(alloc);
+fn fill(state: &mut LocatorState, moment: u64, probes: u64) -> Result<(), Fail> {
     for nonce in 0..probes {
-        state.probed(0, FIRST, nonce)?;
+        state.probed(moment, FIRST, nonce)?;
     }
-    Ok(state)
+    Ok(())
 }
 
 #[test]
 fn after_9600_probes_none_may_be_made_until_600_seconds_are_over(
     rt: HostRuntime,
 ) -> Result<(), Fail> {
-    let mut state = filled(rt.alloc(), 9599)?;
-    assert!(rt; state.may_probe(0));
-    state.probed(0, OTHER, 9599)?;
-    assert!(rt; !state.may_probe(600 * SECOND - 1));
-    assert_eq!(rt; state.probe_count(0) as usize, MOST_PROBES);
-    assert!(rt; state.may_probe(600 * SECOND));
-    state.purge(600 * SECOND);
-    assert_eq!(rt; state.probe_count(0), 0);
+    let mut state = LocatorState::new(rt.alloc());
+    full_twice(&rt, &mut state)
+}
+
+fn full_twice(rt: &impl Abort, state: &mut LocatorState) -> Result<(), Fail> {
+    for moment in [0, 600 * SECOND] {
+        fill(state, moment, 9599)?;
+        assert!(rt; state.may_probe(moment));
+        state.probed(moment, OTHER, 9599)?;
+        assert!(rt; !state.may_probe(moment + 600 * SECOND - 1));
+        assert_eq!(rt; state.probe_count(moment) as usize, MOST_PROBES);
+        assert!(rt; state.may_probe(moment + 600 * SECOND));
+    }
+    state.purge(1200 * SECOND);
+    assert_eq!(rt; state.probe_count(600 * SECOND), 0);
     Ok(())
 }

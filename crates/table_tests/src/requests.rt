@@ -5,19 +5,23 @@ use mapping_records::Eid;
 use node_store::Reads;
 use request_queue::{AskFault, RequestQueue};
 use std::alloc::Global;
+use std::process::Abort;
 use std::test::Fail;
 
 const LATE: u64 = 7 * SECOND;
 
 // A request waits that covers an EID.
 fn is_open(queue: &RequestQueue, moment: u64, eid: &Eid) -> bool {
-    let mut reads = Reads::new();
-    queue.open_for(moment, eid, &mut reads)
+    queue.open_for(moment, eid, &mut Reads::new())
 }
 
 #[test]
 fn a_request_waits_for_seven_seconds(rt: HostRuntime) -> Result<(), Fail> {
     let mut queue = RequestQueue::new(rt.alloc());
+    waits_for_seven_seconds(&rt, &mut queue)
+}
+
+fn waits_for_seven_seconds(rt: &impl Abort, queue: &mut RequestQueue) -> Result<(), Fail> {
     queue.reserve(1)?;
     let source = Some(Addr::V4(0x0a01_0005));
     queue.ask(0, eid(0x0a02_0000, 16)?, source, false, 42)?;
@@ -25,7 +29,7 @@ fn a_request_waits_for_seven_seconds(rt: HostRuntime) -> Result<(), Fail> {
     for (moment, count, open) in [(0, 1, true), (LATE - 1, 1, true), (LATE, 0, false)] {
         assert_eq!(rt; queue.open_count(moment), count);
         assert_eq!(rt; queue.find(moment, 42).is_some(), open);
-        assert_eq!(rt; is_open(&queue, moment, &host), open);
+        assert_eq!(rt; is_open(queue, moment, &host), open);
     }
     assert!(rt; queue.find(0, 43).is_none());
     queue.purge(LATE);
@@ -36,6 +40,10 @@ fn a_request_waits_for_seven_seconds(rt: HostRuntime) -> Result<(), Fail> {
 #[test]
 fn an_answered_request_is_gone(rt: HostRuntime) -> Result<(), Fail> {
     let mut queue = RequestQueue::new(rt.alloc());
+    answered_is_gone(&rt, &mut queue)
+}
+
+fn answered_is_gone(rt: &impl Abort, queue: &mut RequestQueue) -> Result<(), Fail> {
     queue.ask(0, eid(0x0a02_0000, 16)?, None, false, 1)?;
     queue.ask(0, eid(0x0a03_0000, 16)?, None, true, 2)?;
     queue.answer(1);
@@ -48,6 +56,10 @@ fn an_answered_request_is_gone(rt: HostRuntime) -> Result<(), Fail> {
 #[test]
 fn of_a_repeated_nonce_the_last_request_counts(rt: HostRuntime) -> Result<(), Fail> {
     let mut queue = RequestQueue::new(rt.alloc());
+    last_of_a_nonce_counts(&rt, &mut queue)
+}
+
+fn last_of_a_nonce_counts(rt: &impl Abort, queue: &mut RequestQueue) -> Result<(), Fail> {
     let first = eid(0x0a02_0000, 16)?;
     let last = eid(0x0a03_0000, 16)?;
     queue.ask(0, first, None, false, 42)?;
@@ -55,7 +67,7 @@ fn of_a_repeated_nonce_the_last_request_counts(rt: HostRuntime) -> Result<(), Fa
     assert_eq!(rt; queue.open_count(SECOND), 1);
     let request = queue.find(LATE, 42).ok_or("no request")?;
     assert_eq!(rt; (request.eid, request.start), (last, SECOND));
-    assert_eq!(rt; is_open(&queue, SECOND, &first), false);
+    assert_eq!(rt; is_open(queue, SECOND, &first), false);
     Ok(())
 }
 
@@ -70,6 +82,10 @@ fn send_next(queue: &mut RequestQueue, moment: u64, after: Option<u64>) -> Optio
 #[test]
 fn a_request_is_sent_again_after_one_second_and_after_three(rt: HostRuntime) -> Result<(), Fail> {
     let mut queue = RequestQueue::new(rt.alloc());
+    again_after_one_and_three(&rt, &mut queue)
+}
+
+fn again_after_one_and_three(rt: &impl Abort, queue: &mut RequestQueue) -> Result<(), Fail> {
     queue.ask(0, eid(0x0a02_0000, 16)?, None, false, 42)?;
     for (moment, nonce) in [
         (SECOND - 1, None),
@@ -80,7 +96,7 @@ fn a_request_is_sent_again_after_one_second_and_after_three(rt: HostRuntime) -> 
         (3 * SECOND, None),
         (LATE - 1, None),
     ] {
-        assert_eq!(rt; send_next(&mut queue, moment, None), nonce);
+        assert_eq!(rt; send_next(queue, moment, None), nonce);
     }
     Ok(())
 }
@@ -93,16 +109,24 @@ fn next_due(queue: &RequestQueue, moment: u64, after: Option<u64>) -> Option<u64
 #[test]
 fn a_request_that_waits_no_longer_is_not_sent_again(rt: HostRuntime) -> Result<(), Fail> {
     let mut queue = RequestQueue::new(rt.alloc());
+    late_is_not_sent_again(&rt, &mut queue)
+}
+
+fn late_is_not_sent_again(rt: &impl Abort, queue: &mut RequestQueue) -> Result<(), Fail> {
     queue.ask(0, eid(0x0a02_0000, 16)?, None, false, 42)?;
     queue.look_ahead();
-    assert_eq!(rt; next_due(&queue, LATE - 1, None), Some(42));
-    assert_eq!(rt; next_due(&queue, LATE, None), None);
+    assert_eq!(rt; next_due(queue, LATE - 1, None), Some(42));
+    assert_eq!(rt; next_due(queue, LATE, None), None);
     Ok(())
 }
 
 #[test]
 fn requests_are_sent_again_in_asking_order(rt: HostRuntime) -> Result<(), Fail> {
     let mut queue = RequestQueue::new(rt.alloc());
+    again_in_asking_order(&rt, &mut queue)
+}
+
+fn again_in_asking_order(rt: &impl Abort, queue: &mut RequestQueue) -> Result<(), Fail> {
     for (moment, nonce) in [(0, 7), (0, 3), (1, 9), (0, 5)] {
         queue.ask(moment, eid(0x0a02_0000, 16)?, None, false, nonce)?;
     }
@@ -115,33 +139,48 @@ fn requests_are_sent_again_in_asking_order(rt: HostRuntime) -> Result<(), Fail> 
         (Some(8), None),
     ];
     for (after, nonce) in rows {
-        assert_eq!(rt; next_due(&queue, SECOND, after), nonce);
+        assert_eq!(rt; next_due(queue, SECOND, after), nonce);
     }
-    assert_eq!(rt; send_next(&mut queue, SECOND, Some(7)), Some(3));
-    assert_eq!(rt; next_due(&queue, SECOND, Some(7)), Some(5));
-    assert_eq!(rt; next_due(&queue, SECOND, None), Some(7));
+    assert_eq!(rt; send_next(queue, SECOND, Some(7)), Some(3));
+    assert_eq!(rt; next_due(queue, SECOND, Some(7)), Some(5));
+    assert_eq!(rt; next_due(queue, SECOND, None), Some(7));
     Ok(())
 }
 
-// So many requests with the nonces from 0 on.
-fn filled(alloc: Global, requests: u64) -> Result<RequestQueue, Fail> {
-    let mut queue = RequestQueue::new(alloc);
+// Asks for so many networks, with the nonces from 0 on.
+fn fill(queue: &mut RequestQueue, moment: u64, requests: u32) -> Result<(), Fail> {
     for nonce in 0..requests {
-        queue.ask(0, eid(0x0a02_0000, 16)?, None, false, nonce)?;
+        let net = eid(nonce % 65_536 * 256, 24)?;
+        queue.ask(moment, net, None, false, u64::from(nonce))?;
     }
-    Ok(queue)
+    Ok(())
 }
 
 #[test]
-fn a_full_queue_takes_no_request_until_seven_seconds_are_over(rt: HostRuntime) -> Result<(), Fail> {
-    let mut queue = filled(rt.alloc(), 1024)?;
+fn a_full_queue_takes_no_request_until_time_has_emptied_it(rt: HostRuntime) -> Result<(), Fail> {
+    let mut queue = RequestQueue::new(rt.alloc());
+    full_twice(&rt, &mut queue)
+}
+
+fn full_twice(rt: &impl Abort, queue: &mut RequestQueue) -> Result<(), Fail> {
     let other = eid(0x0a03_0000, 16)?;
-    for nonce in [0, 1024] {
-        let full = queue.ask(LATE - 1, other, None, false, nonce);
-        assert_eq!(rt; full, Err(AskFault::QueueFull));
+    for moment in [0, LATE] {
+        fill(queue, moment, 1024)?;
+        for nonce in [0, 1024] {
+            let full = queue.ask(moment + LATE - 1, other, None, false, nonce);
+            assert_eq!(rt; full, Err(AskFault::QueueFull));
+        }
+        assert_eq!(rt; queue.open_count(moment + LATE - 1), 1024);
+        for (host, open) in [
+            (0x0000_0001, true),
+            (0x0003_ff01, true),
+            (0x0004_0001, false),
+        ] {
+            assert_eq!(rt; is_open(queue, moment, &eid(host, 32)?), open);
+        }
     }
-    assert_eq!(rt; queue.open_count(LATE - 1), 1024);
-    queue.ask(LATE, other, None, false, 1024)?;
-    assert_eq!(rt; queue.open_count(LATE), 1);
+    queue.ask(2 * LATE, other, None, false, 1024)?;
+    assert_eq!(rt; queue.open_count(2 * LATE), 1);
+    assert!(rt; !is_open(queue, 2 * LATE, &eid(0x0000_0001, 32)?));
     Ok(())
 }
