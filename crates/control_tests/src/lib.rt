@@ -10,6 +10,8 @@ mod assertions;
 #[cfg(test)]
 mod cache;
 #[cfg(test)]
+mod live_mappings;
+#[cfg(test)]
 mod map_requests;
 #[cfg(test)]
 mod nested_solicits;

@@ -10,29 +10,19 @@ mod choice;
 #[cfg(test)]
 mod control;
 #[cfg(test)]
-mod echoes;
-#[cfg(test)]
 mod failures;
 #[cfg(test)]
 mod families;
 #[cfg(test)]
-mod instance_bits;
-#[cfg(test)]
-mod live_mappings;
-#[cfg(test)]
 mod messages;
 #[cfg(test)]
 mod site;
-#[cfg(test)]
-mod status_bits;
 #[cfg(test)]
 mod steady_desks;
 #[cfg(test)]
 mod trials;
 #[cfg(test)]
 mod tunnels;
-#[cfg(test)]
-mod versions;
 #[cfg(test)]
 mod whole_runs;
 #[cfg(test)]
