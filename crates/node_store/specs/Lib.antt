@@ -1,5 +1,4 @@
 pub mod Store
 pub mod Lends
 pub mod Sound
-pub mod Adding
 pub mod LendsSlot

@@ -2,7 +2,6 @@
 #![tactic(auto)]
 
 mod reads;
-mod rooms;
 mod store;
 
 pub use octets::NoMemory;

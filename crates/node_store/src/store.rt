@@ -1,10 +1,9 @@
 // Nodes under names that the store picks.
-ghost use Rattle.std.specs.Prelude.{◌≡◌, ◌+◌, ◌^◌, ◌<◌, ◌≤◌, [], max, length, OnOk, OnErr, Some, None, IsOk, IsSome};
+ghost use Rattle.std.specs.Prelude.{◌≡◌, ◌+◌, ◌^◌, ◌<◌, ◌≤◌, [], ◌∷◌, ◌++◌, max, length, OnOk, OnErr, Some, None, IsOk, IsSome, vec_len, vec_capacity};
 ghost use Rattle.std.specs.Borrow.{sem};
 ghost use Rattle.node_store.specs.LendsSlot.{lends_slot};
 ghost use Rattle.node_store.specs.Store.{node_at, IsLive, live, SameNodes, Changes};
 
-use crate::rooms::add_slots;
 use crate::{NoMemory, Reads};
 use std::alloc::Global;
 use std::marker::Model;
@@ -14,22 +13,28 @@ use std::mem;
 /// to a reader, and counts.
 #[derive(Drop)]
 pub struct NodeStore<T> {
+    // A slot is pushed when its name is first used.
     slots: Vec<Option<T>>,
     // The names of the vacant slots, with room for the names of all.
     free: Vec<u32>,
+    // For how many names more, from the number of slots on, there is room.
+    fresh: u32,
 }
 
 impl<T> Model for NodeStore<T> {
-    ghost use Rattle.std.specs.Prelude.{length, vec_capacity};
+    ghost use Rattle.std.specs.Prelude.{◌+◌, ◌++◌, None, length, replicate, vec_capacity};
     ghost use Rattle.node_store.specs.Store.{Store};
     ghost use Rattle.node_store.specs.Sound.{IsSound};
 
     ghost Value = { Store T };
 
-    ghost view = { λ store. record { slots = store.slots.items; rooms = length store.free.items } };
+    ghost view = { λ store. record {
+      slots = store.slots.items ++ replicate store.fresh None;
+      rooms = length store.free.items + store.fresh;
+    } };
 
-    ghost invariant = { λ store. IsSound store.slots.items store.free.items
-        (vec_capacity store.free) };
+    ghost invariant = { λ store. IsSound store.slots.items store.free.items store.fresh
+        (vec_capacity store.slots) (vec_capacity store.free) };
 }
 
 fn node_mut<T>(slot: &mut Option<T>) -> &mut T
@@ -43,6 +48,19 @@ fn node_mut<T>(slot: &mut Option<T>) -> &mut T
     }
 }
 
+// The node's name is the number of slots before it.
+fn push_node<T>(slots: &mut Vec<Option<T>>, node: T) -> u32
+    requires room { vec_len slots.old < vec_capacity slots.old }
+    requires few { vec_len slots.old < 2 ^ 32 }
+    ensures name { result ≡ length slots.old.items }
+    ensures items { slots.new.items ≡ slots.old.items ++ Some node ∷ [] }
+    ensures capacity { vec_capacity slots.new ≡ vec_capacity slots.old }
+{
+    let name = slots.len() as u32;
+    slots.push_reserved(Some(node));
+    name
+}
+
 impl<T> NodeStore<T> {
     ghost use Rattle.node_store.specs.Lends.{lends_node};
 
@@ -54,6 +72,7 @@ impl<T> NodeStore<T> {
         NodeStore {
             slots: Vec::new(alloc),
             free: Vec::new(alloc),
+            fresh: 0,
         }
     }
 
@@ -66,15 +85,15 @@ impl<T> NodeStore<T> {
         ensures slots { length self.new.slots ≡ live self.old + self.new.rooms }
         ensures err { OnErr result (self.new ≡ self.old) }
     {
-        let rooms = self.free.len();
-        if n as usize <= rooms {
+        let rooms = self.rooms();
+        if n <= rooms {
             return Ok(());
         }
-        let more = n as usize - rooms;
-        let all = self.slots.len() + more;
-        self.slots.reserve(more)?;
-        self.free.reserve(all - rooms)?;
-        add_slots(&mut self.slots, &mut self.free, all);
+        let fresh = self.fresh + (n - rooms);
+        let all = self.slots.len() + fresh as usize;
+        self.slots.reserve(fresh as usize)?;
+        self.free.reserve(all - self.free.len())?;
+        self.fresh = fresh;
         Ok(())
     }
 
@@ -83,7 +102,7 @@ impl<T> NodeStore<T> {
         ensures rooms { result ≡ self.now.rooms }
         ensures slots { length self.now.slots ≡ live self.now + result }
     {
-        self.free.len() as u32
+        self.free.len() as u32 + self.fresh
     }
 
     /// The node of that name. The count of reads rises by one.
@@ -109,7 +128,8 @@ impl<T> NodeStore<T> {
         ensures slots { length self.new.slots ≡ length self.old.slots }
     {
         let Some(name) = self.free.pop() else {
-            unreachable!();
+            self.fresh -= 1;
+            return push_node(&mut self.slots, node);
         };
         match mem::replace(&mut self.slots[name as usize], Some(node)) {
             None => name,
