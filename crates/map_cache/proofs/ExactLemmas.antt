@@ -1,5 +1,5 @@
 -- The mapping of just one EID, among mappings in order.
-use Rattle.std.proofs.Common.{◌≡◌, ℕ, suc, ◌||◌, nat_lt, Bool, true, false, cond, List, [], ◌∷◌, length, slice_get, Option, None, Some, is_some, Ordering, Less, Equal, Greater, is_lt, is_eq, inl, inr, refl, sym, ap, ap₂, ◌∙◌, arith}
+use Rattle.std.proofs.Common.{◌≡◌, ◌<◌, ◌^◌, ℕ, suc, Bool, true, false, cond, List, [], ◌∷◌, length, slice_get, Option, None, Some, is_some, Ordering, Less, Equal, Greater, is_lt, is_eq, inl, inr, refl, sym, ap, ◌∙◌, arith}
 use Rattle.std.specs.Ordering.{ordering_reverse}
 use Rattle.std.proofs.lemmas.Bool.{cases_Bool, and_parts, eqb-true, false≢true}
 use Rattle.std.proofs.lemmas.Cmp.{tied_itself}
@@ -21,6 +21,7 @@ use Rattle.map_cache.specs.declared.mapping.Mapping.{Mapping}
 use Rattle.map_cache.proofs.AmongLemmas.{Among, among-filter, filter-among, one-among}
 use Rattle.map_cache.proofs.AscendingLemmas.{IsAscending-filter}
 use Rattle.map_cache.proofs.EidLemmas.{is_eq-eid}
+use Rattle.map_cache.proofs.HeldLemmas.{held-lasts}
 
 same_addr : (a b : Addr) → width a ≡ width b → number a ≡ number b → a ≡ b
 same_addr (V4 m) (V4 n) w is = ap (λ x. V4 x) is
@@ -132,8 +133,7 @@ pub record IsTold (names : List ℕ) (items : List Mapping) (eid : Eid) (held : 
   pub item : Mapping
   pub named : slice_get names index ≡ Some held.name
   pub there : slice_get items index ≡ Some item
-  pub fixed : held.fixed ≡ item.fixed
-  pub end : held.end ≡ item.end
+  pub is : (held_of held.name item).1 ≡ held
   pub found : exact items eid ≡ Some item
 
 pub value-some : (names : List ℕ) (items : List Mapping) (eid : Eid) (held : Held) → value_in eid (all_held names items) ≡ Some held → IsTold names items eid held
@@ -153,25 +153,24 @@ value-some (name ∷ names) (x ∷ items) eid held is =
           item = later.item;
           named = later.named;
           there = later.there;
-          fixed = later.fixed;
-          end = later.end;
+          is = later.is;
           found = ap (λ b. cond b (Some x) (exact items eid)) (apart Less order) ∙ later.found;
         }
     by Equal order is rest =
         let here : (held_of name x).1 ≡ held = same_Some (held_of name x).1 held is in
+        let same : name ≡ held.name = ap (λ (h : Held). h.name) here in
         record {
           index = 0;
           item = x;
-          named = ap (λ (h : Held). Some h.name) here;
+          named = ap (λ n. Some n) same;
           there = refl;
-          fixed = ap (λ (h : Held). h.fixed) (sym here);
-          end = ap (λ (h : Held). h.end) (sym here);
+          is = ap (λ n. (held_of n x).1) (sym same) ∙ here;
           found = ap (λ b. cond b (Some x) (exact items eid)) (apart Equal order);
         }
     by Greater order is rest = absurd (cc is)
 
-pub told-lasts : (m : ℕ) (names : List ℕ) (items : List Mapping) (eid : Eid) (held : Held) (t : IsTold names items eid held) (b : Bool) → b ≡ held_lasts m held → lasts m t.item ≡ b
-told-lasts m names items eid held t b is = sym (is ∙ ap₂ (λ f e. f || nat_lt m e) t.fixed t.end)
+pub told-lasts : (m : ℕ) (names : List ℕ) (items : List Mapping) (eid : Eid) (held : Held) (t : IsTold names items eid held) (b : Bool) → m < 2 ^ 64 → b ≡ held_lasts m held → lasts m t.item ≡ b
+told-lasts m names items eid held t b within is = sym (held-lasts m held.name t.item within) ∙ ap (held_lasts m) t.is ∙ sym is
 
 -- an EID that is below that of a mapping, which is below those of others, isn't theirs
 none_above : (eid : Eid) (x : Mapping) (items : List Mapping) → eid_order eid x.eid ≡ Less → IsBelow x.eid items → exact items eid ≡ None
@@ -196,12 +195,12 @@ value-none (name ∷ names) (x ∷ items) eid ascending len is =
     by Greater order is rest = apart Greater order refl ∙ none_above eid x items (eid_order-total.antisymm eid x.eid ∙ ap ordering_reverse order) ascending.0
 
 -- what the trie tells of an EID lasts exactly where a mapping of it is among those that last
-pub some-lasts : (m : ℕ) (names : List ℕ) (items : List Mapping) (eid : Eid) → IsAscending items → length names ≡ length items → some_lasts m (value_in eid (all_held names items)) ≡ is_some (exact (lasting m items) eid)
-some-lasts m names items eid ascending len = by (value_in eid (all_held names items)) refl
+pub some-lasts : (m : ℕ) (names : List ℕ) (items : List Mapping) (eid : Eid) → m < 2 ^ 64 → IsAscending items → length names ≡ length items → some_lasts m (value_in eid (all_held names items)) ≡ is_some (exact (lasting m items) eid)
+some-lasts m names items eid within ascending len = by (value_in eid (all_held names items)) refl
   where
     ended_or : (held : Held) (t : IsTold names items eid held) (b : Bool) → b ≡ held_lasts m held → b ≡ is_some (exact (lasting m items) eid)
-    ended_or held t true is = ap is_some (sym (lasting-some m eid items t.item ascending t.found (told-lasts m names items eid held t true is)))
-    ended_or held t false is = ap is_some (sym (lasting-ended m eid items t.item ascending t.found (told-lasts m names items eid held t false is)))
+    ended_or held t true is = ap is_some (sym (lasting-some m eid items t.item ascending t.found (told-lasts m names items eid held t true within is)))
+    ended_or held t false is = ap is_some (sym (lasting-ended m eid items t.item ascending t.found (told-lasts m names items eid held t false within is)))
 
     by : (o : Option Held) → value_in eid (all_held names items) ≡ o → some_lasts m o ≡ is_some (exact (lasting m items) eid)
     by None is = ap is_some (sym (lasting-none m eid items (value-none names items eid ascending len is)))

@@ -1,5 +1,5 @@
 -- The mapping in force is the longest that lasts and covers.
-use Rattle.std.proofs.Common.{◌≡◌, ℕ, ◌<◌, ◌≤◌, nat_lt, Bool, true, false, List, length, All, IsFalse, Option, None, Some, IfSome, Equal, inl, inr, refl, sym, ap, subst, ◌∙◌, arith, ltb-true, ltb-false}
+use Rattle.std.proofs.Common.{◌≡◌, ℕ, ◌<◌, ◌≤◌, ◌^◌, nat_lt, Bool, true, false, List, length, All, IsFalse, Option, None, Some, IfSome, Equal, inl, inr, refl, sym, ap, subst, ◌∙◌, arith, ltb-true, ltb-false}
 use Rattle.std.proofs.lemmas.Bool.{cases_Bool, false≢true}
 use Rattle.std.proofs.lemmas.Cmp.{tied_itself}
 use Rattle.mapping_records.proofs.LongestLemmas.{longest-none, longest_is}
@@ -19,6 +19,7 @@ use Rattle.map_cache.specs.declared.mapping.Mapping.{Mapping}
 use Rattle.map_cache.proofs.AmongLemmas.{Among, all-among, among-all, among-contains, among-filter, among-place, filter-among, one-among}
 use Rattle.map_cache.proofs.AscendingLemmas.{IsAscending-filter}
 use Rattle.map_cache.proofs.FoundLemmas.{HeldAt, held-each}
+use Rattle.map_cache.proofs.HeldLemmas.{held-lasts}
 
 -- two EIDs of one length that cover a third are the same
 same_covering : (a b eid : Eid) → covers_eid a eid ≡ true → covers_eid b eid ≡ true → a.prefix.len ≡ b.prefix.len → a ≡ b
@@ -54,12 +55,12 @@ force-longest eid items x ascending among covers longest = by (in_force items ei
         ap (λ b. Some b) (one-among items best x ascending best_among among ties)
 
 -- what a refused pair tells of its mapping
-refused : (answers : Held → Bool → Type 0) (m : ℕ) (eid : Eid) (x : Mapping) (name : ℕ) → ((held : Held) → answers held false → held_lasts m held ≡ false) → IsRefused answers eid (held_of name x) → lasts m x ≡ true → covers_eid x.eid eid ≡ true → ⊥
-refused answers m eid x name says is last covers = false≢true (sym (says (held_of name x).1 (is covers)) ∙ last)
+refused : (answers : Held → Bool → Type 0) (m : ℕ) (eid : Eid) (x : Mapping) (name : ℕ) → m < 2 ^ 64 → ((held : Held) → answers held false → held_lasts m held ≡ false) → IsRefused answers eid (held_of name x) → lasts m x ≡ true → covers_eid x.eid eid ≡ true → ⊥
+refused answers m eid x name within says is last covers = false≢true (sym (says (held_of name x).1 (is covers)) ∙ held-lasts m name x within ∙ last)
 
 -- where all pairs that cover have ended, nothing is in force
-pub force-none : (m : ℕ) (eid : Eid) (names : List ℕ) (items : List Mapping) → length names ≡ length items → All (IsRefused (λ held b. held_lasts m held ≡ b) eid) (all_held names items) → None ≡ in_force (lasting m items) eid
-force-none m eid names items len all =
+pub force-none : (m : ℕ) (eid : Eid) (names : List ℕ) (items : List Mapping) → m < 2 ^ 64 → length names ≡ length items → All (IsRefused (λ held b. held_lasts m held ≡ b) eid) (all_held names items) → None ≡ in_force (lasting m items) eid
+force-none m eid names items within len all =
     sym ((longest-none (λ (mapping : Mapping). mapping.eid) (lasting m items) eid.iid eid.prefix.addr eid.prefix.len).1 (all-among (λ item. IsFalse (covers_eid item.eid eid)) (lasting m items) each))
   where
     each : (x : Mapping) → Among x (lasting m items) → covers_eid x.eid eid ≡ false
@@ -67,13 +68,13 @@ force-none m eid names items len all =
         let left = filter-among (lasts m) items x among in
         let told = held-each (IsRefused (λ held b. held_lasts m held ≡ b) eid) names items x len all left.0 in
         elim (cases_Bool (covers_eid x.eid eid)) [
-          | inl covers ↦ absurd (refused (λ held b. held_lasts m held ≡ b) m eid x told.0 (λ held is. is) told.1 left.1 covers)
+          | inl covers ↦ absurd (refused (λ held b. held_lasts m held ≡ b) m eid x told.0 within (λ held is. is) told.1 left.1 covers)
           | inr apart ↦ apart
         ]
 
 -- the mapping of the longest pair that passes is in force
-pub force-some : (answers : Held → Bool → Type 0) (m : ℕ) (eid : Eid) (names : List ℕ) (items : List Mapping) (pair : Eid × Held) → IsLongestWhere answers eid (all_held names items) pair → (at : HeldAt names items pair) → IsAscending items → length names ≡ length items → ((held : Held) (b : Bool) → answers held b → held_lasts m held ≡ b) → in_force (lasting m items) eid ≡ Some at.item
-force-some answers m eid names items pair found at ascending len says =
+pub force-some : (answers : Held → Bool → Type 0) (m : ℕ) (eid : Eid) (names : List ℕ) (items : List Mapping) (pair : Eid × Held) → m < 2 ^ 64 → IsLongestWhere answers eid (all_held names items) pair → (at : HeldAt names items pair) → IsAscending items → length names ≡ length items → ((held : Held) (b : Bool) → answers held b → held_lasts m held ≡ b) → in_force (lasting m items) eid ≡ Some at.item
+force-some answers m eid names items pair within found at ascending len says =
     force-longest eid (lasting m items) x (IsAscending-filter (lasts m) items ascending) among covers longest
   where
     x : Mapping
@@ -83,7 +84,7 @@ force-some answers m eid names items pair found at ascending len says =
     key_is = ap (λ (p : Eid × Held). p.0) at.is
 
     last : lasts m x ≡ true
-    last = ap (λ (p : Eid × Held). held_lasts m p.1) at.is ∙ says pair.1 true found.passes
+    last = sym (held-lasts m pair.1.name x within) ∙ ap (λ (p : Eid × Held). held_lasts m p.1) at.is ∙ says pair.1 true found.passes
 
     covers : covers_eid x.eid eid ≡ true
     covers = ap (λ e. covers_eid e eid) key_is ∙ found.covers
@@ -96,6 +97,6 @@ force-some answers m eid names items pair found at ascending len says =
         let left = filter-among (lasts m) items y in_list in
         let told = held-each (λ other. key_len pair.0 < key_len other.0 → IsRefused answers eid other) names items y len found.longest left.0 in
         elim (cases_Bool (nat_lt (key_len pair.0) (key_len y.eid))) [
-          | inl longer ↦ absurd (refused answers m eid y told.0 (λ held. says held false) (told.1 (ltb-true _ _ longer)) left.1 y_covers)
+          | inl longer ↦ absurd (refused answers m eid y told.0 within (λ held. says held false) (told.1 (ltb-true _ _ longer)) left.1 y_covers)
           | inr short ↦ omega (arith, ltb-false (key_len pair.0) (key_len y.eid) short, ap key_len key_is)
         ]

@@ -1,15 +1,25 @@
--- What the trie tells of mappings, once one is put at a place or taken from it.
-use Rattle.std.proofs.Common.{◌≡◌, ℕ, zero, suc, false, cond, List, [], ◌∷◌, length, insert, remove, None, Less, is_lt, refl, sym, ap, ◌∙◌, arith}
+-- What the trie tells of mappings: how long they last, and what it is once one is put at a place or taken from it.
+use Rattle.std.proofs.Common.{◌≡◌, ◌<◌, ◌-◌, ◌^◌, ◌||◌, ℕ, zero, suc, Bool, true, false, cond, nat_lt, List, [], ◌∷◌, length, insert, remove, None, Less, is_lt, refl, sym, ap, ◌∙◌, arith, lt-ltb, ltb-true}
 use Rattle.std.specs.Ordering.{ordering_reverse}
 use Rattle.std.proofs.lemmas.Cmp.{tied_back}
 use Rattle.mapping_records.proofs.OrderLemmas.{eid_order-total}
 use Rattle.mapping_records.specs.Orders.{eid_order}
 use Rattle.mapping_records.specs.declared.eid.Eid.{Eid}
 use Rattle.prefix_table.specs.Pairs.{is_below, value_in, with_pair, without_pair}
-use Rattle.map_cache.specs.Indexed.{all_held, held_of}
+use Rattle.map_cache.specs.Cache.{lasts}
+use Rattle.map_cache.specs.Indexed.{all_held, held_lasts, held_of}
 use Rattle.map_cache.specs.declared.held.Held.{Held}
 use Rattle.map_cache.specs.declared.mapping.Mapping.{Mapping}
 use Rattle.map_cache.proofs.PlaceOfLemmas.{IsAbsent, IsThere}
+
+-- what is told of a mapping lasts as long as the mapping
+pub held-lasts : (now name : ℕ) (x : Mapping) → now < 2 ^ 64 → held_lasts now (held_of name x).1 ≡ lasts now x
+held-lasts now name x within = by x.fixed (nat_lt (2 ^ 64 - 1) x.end) refl
+  where
+    by : (fixed late : Bool) → nat_lt (2 ^ 64 - 1) x.end ≡ late → ((fixed || late) || nat_lt now (cond (fixed || late) 0 x.end)) ≡ (fixed || nat_lt now x.end)
+    by true late is = refl
+    by false true is = sym (lt-ltb now x.end (omega (arith, within, ltb-true (2 ^ 64 - 1) x.end is)))
+    by false false is = refl
 
 -- what is above isn't below
 not-back : (a b : Eid) → eid_order a b ≡ Less → is_below b a ≡ false
@@ -26,7 +36,7 @@ held-remove eid (name ∷ names) (y ∷ items) (suc n) same there =
     ∙ ap (λ b. cond b (held_of name y ∷ without_pair eid (all_held names items)) (cond (is_below eid y.eid) (all_held (name ∷ names) (y ∷ items)) (all_held names items))) (sym (ap is_lt there.0))
 
 -- a mapping is put at its place
-pub held-insert : (name : ℕ) (x : Mapping) (names : List ℕ) (items : List Mapping) (n : ℕ) → length names ≡ length items → IsAbsent x.eid items n → all_held (insert names n name) (insert items n x) ≡ with_pair x.eid (record { fixed = x.fixed; end = x.end; name = name }) (all_held names items)
+pub held-insert : (name : ℕ) (x : Mapping) (names : List ℕ) (items : List Mapping) (n : ℕ) → length names ≡ length items → IsAbsent x.eid items n → all_held (insert names n name) (insert items n x) ≡ with_pair x.eid (held_of name x).1 (all_held names items)
 held-insert name x [] [] zero same absent = refl
 held-insert name x [] [] (suc n) same absent = elim absent [ ]
 held-insert name x [] (y ∷ items) n same absent = absurd (omega (arith, same))
@@ -34,7 +44,7 @@ held-insert name x (m ∷ names) [] n same absent = absurd (omega (arith, same))
 held-insert name x (m ∷ names) (y ∷ items) zero same absent =
     rw (not-back x.eid y.eid absent.0, ap is_lt absent.0) refl
 held-insert name x (m ∷ names) (y ∷ items) (suc n) same absent =
-    let held : Held = record { fixed = x.fixed; end = x.end; name = name } in
+    let held : Held = (held_of name x).1 in
     ap (λ l. held_of m y ∷ l) (held-insert name x names items n (omega (arith, same)) absent.1)
     ∙ ap (λ b. cond b (held_of m y ∷ with_pair x.eid held (all_held names items)) (cond (is_below x.eid y.eid) ((x.eid, held) ∷ all_held (m ∷ names) (y ∷ items)) ((x.eid, held) ∷ all_held names items))) (sym (ap is_lt absent.0))
 

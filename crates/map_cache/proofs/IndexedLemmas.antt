@@ -7,7 +7,7 @@ use Rattle.named_list.specs.Named.{Named}
 use Rattle.ordered_set.specs.Keys.{has}
 use Rattle.prefix_table.specs.Pairs.{with_pair, without_pair}
 use Rattle.map_cache.specs.Cache.{without_eid}
-use Rattle.map_cache.specs.Indexed.{all_held, ending_order, ends_as, names_as, naming_order, IsIndexed}
+use Rattle.map_cache.specs.Indexed.{all_held, ending_order, ends_as, held_of, names_as, naming_order, IsIndexed}
 use Rattle.map_cache.specs.Lists.{IsAscending}
 use Rattle.map_cache.specs.declared.held.Held.{Held}
 use Rattle.map_cache.specs.declared.keys.Ending.{Ending}
@@ -23,7 +23,7 @@ module _ (list new : Named Mapping) (pairs now_pairs : List (Eid × Held)) (endi
   pub indexed-entered : (name : ℕ) → IsAbsent x.eid list.items n
       → new.items ≡ insert list.items n x
       → new.names ≡ insert list.names n name
-      → now_pairs ≡ with_pair x.eid (record { fixed = x.fixed; end = x.end; name = name }) pairs
+      → now_pairs ≡ with_pair x.eid (held_of name x).1 pairs
       → ((key : Ending) → has ending_order key now_endings ≡ (ends_as key x || has ending_order key endings))
       → ((key : Naming) → has naming_order key now_naming ≡ (names_as key x || has naming_order key naming))
       → IsIndexed new now_pairs now_endings now_naming
@@ -34,7 +34,7 @@ module _ (list new : Named Mapping) (pairs now_pairs : List (Eid × Held)) (endi
         ascending = subst IsAscending (without ∙ sym put) (IsAscending-put x list.items is.ascending);
         held =
             held
-            ∙ ap (with_pair x.eid (record { fixed = x.fixed; end = x.end; name = name })) is.held
+            ∙ ap (with_pair x.eid (held_of name x).1) is.held
             ∙ sym (held-insert name x list.names list.items n same absent)
             ∙ sym (ap₂ all_held names items);
         ends = λ key.

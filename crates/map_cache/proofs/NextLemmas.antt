@@ -1,5 +1,5 @@
 -- The first key, in order of address and EID, whose mapping lasts is the least address that is named.
-use Rattle.std.proofs.Common.{◌≡◌, ◌⊎◌, ℕ, zero, suc, ◌<◌, ◌≤◌, ◌+◌, ◌-◌, ◌==◌, ◌&&◌, Bool, true, false, cond, not, List, [], ◌∷◌, ◌++◌, length, get_or, drop, filter, find, map, slice_get, All, Contains, Option, None, Some, IfSome, is_some, Ordering, Less, Equal, Greater, is_lt, is_eq, inl, inr, refl, sym, ap, ap₂, subst, ◌∙◌, arith}
+use Rattle.std.proofs.Common.{◌≡◌, ◌⊎◌, ℕ, zero, suc, ◌<◌, ◌≤◌, ◌+◌, ◌-◌, ◌^◌, ◌==◌, ◌&&◌, Bool, true, false, cond, not, List, [], ◌∷◌, ◌++◌, length, get_or, drop, filter, find, map, slice_get, All, Contains, Option, None, Some, IfSome, is_some, Ordering, Less, Equal, Greater, is_lt, is_eq, inl, inr, refl, sym, ap, ap₂, subst, ◌∙◌, arith}
 use Rattle.std.specs.List.{list_any}
 use Rattle.std.specs.Option.{option_map}
 use Rattle.std.specs.Ordering.{is_gt, ordering_reverse, ordering_then}
@@ -351,8 +351,8 @@ module _ (after : Option Addr) (m : ℕ) (items : List Mapping) (keys : List Nam
       by (Some key) found (Some best) is = ap (λ p. Some p) (same-first key best (find-first live keys key ascends found) is)
 
 -- what is found from the place on is the least that is named
-pub next-from : (after : Option Addr) (m : ℕ) (listed : Named Mapping) (pairs : List (Eid × Held)) (endings : List Ending) (keys : List Naming) (place : ℕ) (found : Option Naming) → IsIndexed listed pairs endings keys → length listed.names ≡ length listed.items → Splits after keys place → found ≡ find (λ key. some_lasts m (value_in key.eid pairs)) (drop place keys) → option_map (λ (key : Naming). (key.addr, key.eid)) found ≡ least_named (named_above after (lasting m listed.items))
-next-from after m listed pairs endings keys place found indexed len splits is =
+pub next-from : (after : Option Addr) (m : ℕ) (listed : Named Mapping) (pairs : List (Eid × Held)) (endings : List Ending) (keys : List Naming) (place : ℕ) (found : Option Naming) → m < 2 ^ 64 → IsIndexed listed pairs endings keys → length listed.names ≡ length listed.items → Splits after keys place → found ≡ find (λ key. some_lasts m (value_in key.eid pairs)) (drop place keys) → option_map (λ (key : Naming). (key.addr, key.eid)) found ≡ least_named (named_above after (lasting m listed.items))
+next-from after m listed pairs endings keys place found within indexed len splits is =
     ap (option_map (λ (key : Naming). (key.addr, key.eid)))
     (is
     ∙ find-agree (λ key. some_lasts m (value_in key.eid pairs)) (λ key. is_some (exact (lasting m listed.items) key.eid)) (drop place keys) (λ key among. told key)
@@ -360,4 +360,4 @@ next-from after m listed pairs endings keys place found indexed len splits is =
     ∙ next-named after m listed.items keys indexed.ascending splits.ascends indexed.names
   where
     told : (key : Naming) → some_lasts m (value_in key.eid pairs) ≡ is_some (exact (lasting m listed.items) key.eid)
-    told key = ap (λ l. some_lasts m (value_in key.eid l)) indexed.held ∙ some-lasts m listed.names listed.items key.eid indexed.ascending len
+    told key = ap (λ l. some_lasts m (value_in key.eid l)) indexed.held ∙ some-lasts m listed.names listed.items key.eid within indexed.ascending len

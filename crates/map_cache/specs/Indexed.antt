@@ -1,5 +1,5 @@
 -- How a cache finds its mappings. No public clause cites this file.
-use Rattle.std.specs.Prelude.{◌≡◌, ◌==◌, ◌&&◌, ◌||◌, ℕ, nat_lt, not, false, Bool, List, [], ◌∷◌, Option, None, Some}
+use Rattle.std.specs.Prelude.{◌≡◌, ◌-◌, ◌^◌, ◌==◌, ◌&&◌, ◌||◌, ℕ, nat_lt, not, false, Bool, List, [], ◌∷◌, Option, None, Some, if◌then◌else◌}
 use Rattle.std.specs.List.{list_any}
 use Rattle.std.specs.Cmp.{IsTotalOrder}
 use Rattle.std.proofs.lemmas.Cmp.{nat_cmp_total, on_total, then_total}
@@ -20,9 +20,21 @@ use Rattle.map_cache.specs.declared.mapping.Mapping.{Mapping}
 
 -- ### by EID
 
+-- no moment ends a mapping: it is fixed, or its end is past the last moment
+abbrev pub is_endless : Bool → ℕ → Bool
+is_endless fixed end = fixed || nat_lt (2 ^ 64 - 1) end
+
+-- what is told, under a name, of a mapping that is fixed or ends at a moment
+abbrev pub held_until : Bool → ℕ → ℕ → Held
+held_until fixed end name = record {
+  end = if is_endless fixed end then 0 else end;
+  name = name;
+  endless = is_endless fixed end;
+}
+
 -- what the trie tells of a mapping, under its EID
 abbrev pub held_of : ℕ → Mapping → Eid × Held
-held_of name mapping = (mapping.eid, record { fixed = mapping.fixed; end = mapping.end; name = name })
+held_of name mapping = (mapping.eid, held_until mapping.fixed mapping.end name)
 
 -- the same of each, with their names
 abbrev pub all_held : List ℕ → List Mapping → List (Eid × Held)
@@ -32,7 +44,7 @@ all_held (name ∷ names) (mapping ∷ mappings) = held_of name mapping ∷ all_
 
 -- a mapping of which this is told hasn't ended
 abbrev pub held_lasts : ℕ → Held → Bool
-held_lasts now held = held.fixed || nat_lt now held.end
+held_lasts now held = held.endless || nat_lt now held.end
 
 -- a mapping is told of, and hasn't ended
 abbrev pub some_lasts : ℕ → Option Held → Bool

@@ -9,7 +9,7 @@ ghost use Rattle.map_cache.specs.declared.fault.TheConstants.{MOST_LOCATORS, MOS
 
 use crate::bits::tell;
 use crate::endings::{add_ending, drop_ending};
-use crate::held::{Held, held_lasts};
+use crate::held::{Held, held_lasts, held_until};
 use crate::keys::{Ending, Naming};
 use crate::lasting::first_lasting;
 use crate::names::{add_names, drop_names};
@@ -170,7 +170,7 @@ impl Indexed {
         add_names(&mapping.eid, locators, &mut self.naming);
         let (eid, fixed, end) = (mapping.eid, mapping.fixed, mapping.end);
         let name = self.mappings.insert(place, mapping);
-        self.by_eid.insert(eid, Held { fixed, end, name });
+        self.by_eid.insert(eid, held_until(fixed, end, name));
     }
 
     /// Takes the mapping of that EID away. Takes no memory.

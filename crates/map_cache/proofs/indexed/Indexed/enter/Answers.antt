@@ -11,7 +11,7 @@ pub invariant_of-self : goal.invariant_of-self
 invariant_of-self c =
     let new = none-new c.args.mapping.eid c.self.inside.mappings.items (rw (← c.self.view_is) at c.requires.new) in
     let absent = absent-if c.args.mapping.eid c.self.inside.mappings.items c.place_of-place.result c.self.invariant.ascending c.place_of-place.ensures.place new in
-    indexed-entered c.self.inside.mappings c.insert-name.new.self c.self.inside.by_eid.pairs c.insert.new.self.pairs c.self.inside.endings.keys c.add_ending.new.endings.keys c.self.inside.naming.keys c.add_names.new.naming.keys c.self.invariant c.place_of-place.ensures.names c.place_of-place.result c.args.mapping c.insert-name.result absent c.insert-name.ensures.items c.insert-name.ensures.names c.insert.ensures.pairs c.add_ending.ensures.members (rw c.as_slice-locators.ensures at c.add_names.ensures.members)
+    indexed-entered c.self.inside.mappings c.insert-name.new.self c.self.inside.by_eid.pairs c.insert.new.self.pairs c.self.inside.endings.keys c.add_ending.new.endings.keys c.self.inside.naming.keys c.add_names.new.naming.keys c.self.invariant c.place_of-place.ensures.names c.place_of-place.result c.args.mapping c.insert-name.result absent c.insert-name.ensures.items c.insert-name.ensures.names (rw c.held_until.ensures at c.insert.ensures.pairs) c.add_ending.ensures.members (rw c.as_slice-locators.ensures at c.add_names.ensures.members)
 
 pub returns-clause-mappings : goal.returns-clause-mappings
 returns-clause-mappings c =

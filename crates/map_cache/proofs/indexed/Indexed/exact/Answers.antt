@@ -1,4 +1,4 @@
-use Rattle.std.proofs.Common.{true, false, sym, ◌∙◌}
+use Rattle.std.proofs.Common.{true, false, sym, ◌∙◌, arith}
 use Rattle.map_cache.proofs.ExactLemmas.{told-lasts, value-none, value-some, lasting-none, lasting-some, lasting-ended}
 use Rattle.map_cache.proofs.FoundLemmas.{at-place, named-at}
 use Rattle.map_cache.proofs.indexed.Indexed.exact.Goals as goal
@@ -13,7 +13,7 @@ pub returns-then-not-held_lasts-clause-found : goal.returns-then-not-held_lasts-
 returns-then-not-held_lasts-clause-found c =
     let s = c.self.inside.mappings in
     let told = value-some s.names s.items c.args.eid.now c.in_ok-held.held.now (sym (rw c.self.invariant.held at c.in_ok-held.ensures.value)) in
-    rw (← c.self.view_is) (sym (lasting-ended c.args.m c.args.eid.now s.items told.item c.self.invariant.ascending told.found (told-lasts c.args.m _ _ _ _ told false c.if-not-held_lasts.ensures)))
+    rw (← c.self.view_is) (sym (lasting-ended c.args.m c.args.eid.now s.items told.item c.self.invariant.ascending told.found (told-lasts c.args.m _ _ _ _ told false (omega arith) c.if-not-held_lasts.ensures)))
 
 pub named-requires : goal.named-requires
 named-requires c =
@@ -25,5 +25,5 @@ pub returns-clause-found : goal.returns-clause-found
 returns-clause-found c =
     let s = c.self.inside.mappings in
     let told = value-some s.names s.items c.args.eid.now c.in_ok-held.held.now (sym (rw c.self.invariant.held at c.in_ok-held.ensures.value)) in
-    let found = lasting-some c.args.m c.args.eid.now s.items told.item c.self.invariant.ascending told.found (told-lasts c.args.m _ _ _ _ told true c.if-not-held_lasts.ensures) in
+    let found = lasting-some c.args.m c.args.eid.now s.items told.item c.self.invariant.ascending told.found (told-lasts c.args.m _ _ _ _ told true (omega arith) c.if-not-held_lasts.ensures) in
     rw (← c.self.view_is) (at-place s.items told.index c.named.result.now told.item _ (c.named.ensures.by_place told.index told.named) told.there found)
