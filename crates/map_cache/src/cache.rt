@@ -67,13 +67,13 @@ impl MapCache {
         self.now
     }
 
-    /// How many mappings are kept. What all lists have in all is at most 41 items for each mapping and 2
+    /// How many mappings are kept. What all lists have in all is at most 43 items for each mapping and 2
     /// for each locator for which there is place.
     pub fn len(&self) -> usize
         ensures len { result ≡ length self.entry.now.mappings }
         ensures most { result ≤ MOST_MAPPINGS }
         ensures kept { self.entry.now.kept
-            ≤ 41 * self.entry.now.mapping_places + 2 * self.entry.now.locator_places }
+            ≤ 43 * self.entry.now.mapping_places + 2 * self.entry.now.locator_places }
     {
         self.indexed.len_kept()
     }

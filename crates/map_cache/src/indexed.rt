@@ -110,7 +110,7 @@ impl Indexed {
         requires { AllFew self.now.mappings }
         ensures len { result ≡ length self.now.mappings }
         ensures kept { self.now.kept
-            ≤ 41 * self.now.mapping_places + 2 * self.now.locator_places }
+            ≤ 43 * self.now.mapping_places + 2 * self.now.locator_places }
     {
         // The lengths say how much is kept.
         let _ = (self.by_eid.len(), self.endings.len(), self.naming.len());

@@ -82,7 +82,7 @@ module _ {V : Type 0} where
       (omega (arith, t.slots, t.rooms, most.0, t.counted), omega (arith, t.enough, most.1, t.counted), omega (arith, most.0, t.counted), omega (arith, most.1, t.counted))
 
   -- what a table keeps
-  pub kept-most : (store : Store (Node V)) (roots : List Root) (spare len capacity : ℕ) → IsTable store roots spare len capacity → kept_in store roots ≤ 5 * (len + spare)
+  pub kept-most : (store : Store (Node V)) (roots : List Root) (spare len capacity : ℕ) → IsTable store roots spare len capacity → kept_in store roots ≤ 7 * (len + spare)
   kept-most store roots spare len capacity t =
       let most = under-twice store roots t.forest.each in
       omega (arith, t.slots, t.rooms, most.1, t.counted)

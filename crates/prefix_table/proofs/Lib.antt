@@ -1,4 +1,5 @@
 pub mod Bits
+pub mod KeyLemmas
 pub mod LongestLemmas
 pub mod SearchLemmas
 pub mod AfterLemmas
@@ -18,3 +19,4 @@ pub mod AroundLemmas
 pub mod RootedLemmas
 pub mod FieldLemmas
 pub mod AscendLemmas
+pub mod NodesLemmas

@@ -1,7 +1,8 @@
 -- EIDs as keys: their instance, family, length and first bits.
-use Rattle.std.specs.Prelude.{ℕ}
-use Rattle.ip_headers.specs.Addr.{width, first_bits}
+use Rattle.std.specs.Prelude.{ℕ, ◌/◌, ◌%◌, ◌^◌}
+use Rattle.ip_headers.specs.Addr.{width, number, first_bits}
 use Rattle.mapping_records.specs.declared.eid.Eid.{Eid}
+use Rattle.prefix_table.specs.declared.key.Key.{Key}
 
 -- the number of bits of its family's addresses
 abbrev pub key_width : Eid → ℕ
@@ -14,3 +15,13 @@ key_len key = key.prefix.len
 -- its first bits, as a number
 abbrev pub key_bits : Eid → ℕ → ℕ
 key_bits key len = first_bits key.prefix.addr len
+
+-- what a node keeps of its EID
+abbrev pub key_of : Eid → Key
+key_of eid = record {
+  high = number eid.prefix.addr / 2 ^ 64;
+  low = number eid.prefix.addr % 2 ^ 64;
+  iid = eid.iid;
+  width = width eid.prefix.addr;
+  len = eid.prefix.len;
+}

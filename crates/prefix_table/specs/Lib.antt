@@ -1,4 +1,5 @@
 pub mod Keys
+pub mod Nodes
 pub mod Tree
 pub mod Longest
 pub mod Spelled

@@ -16,9 +16,9 @@ pub record Table (V : Type 0) : Type 0 where
   pub spare : ℕ
   pub kept : ℕ
 
--- how many roots, slots for nodes and names of free slots there are
+-- how many roots, slots for nodes, EIDs beside them and names of free slots there are
 abbrev pub kept_in : {V : Type 0} → Store (Node V) → List Root → ℕ
-kept_in store roots = length roots + (length store.slots + store.rooms)
+kept_in store roots = length roots + (2 * length store.slots + store.rooms)
 
 -- the number by which roots are in order: the instance, then the width of the family
 abbrev pub root_key : Eid → ℕ

@@ -7,15 +7,16 @@ ghost use Rattle.prefix_table.specs.Grown.{Puts, Takes};
 
 use crate::common::common;
 use crate::node::Node;
+use crate::nodes::Nodes;
 use crate::place::{link_one, link_zero, set_value};
 use crate::search::next_bit;
 use mapping_records::Eid;
-use node_store::{NodeStore, Reads};
+use node_store::Reads;
 
 /// Puts a pair into the trie under a name, whose keys have at least that length, or replaces the
 /// value of its EID. The name of the trie then, and the former value. Takes no memory.
 pub(crate) fn put_below<V>(
-    store: &mut NodeStore<Node<V>>,
+    store: &mut Nodes<V>,
     at: Option<u32>,
     eid: Eid,
     value: V,
@@ -28,8 +29,8 @@ pub(crate) fn put_below<V>(
         return (put_leaf(store, eid, value), None);
     };
     let mut reads = Reads::new();
-    let node = store.read(at, &mut reads);
-    let key = node.eid;
+    let (key, node) = store.read(at, &mut reads);
+    let key = *key;
     let zero = node.zero;
     let one = node.one;
     if !key.covers(&eid) {
@@ -52,7 +53,7 @@ pub(crate) fn put_below<V>(
 }
 
 // A leaf, where nothing was.
-fn put_leaf<V>(store: &mut NodeStore<Node<V>>, eid: Eid, value: V) -> u32
+fn put_leaf<V>(store: &mut Nodes<V>, eid: Eid, value: V) -> u32
     requires { 2 ≤ store.old.rooms }
     ensures { (least : _) → Puts store.old store.new None least eid value result None }
 {
@@ -65,7 +66,7 @@ fn put_leaf<V>(store: &mut NodeStore<Node<V>>, eid: Eid, value: V) -> u32
 }
 
 // A node above the trie, whose keys it covers.
-fn put_above<V>(store: &mut NodeStore<Node<V>>, at: u32, key: Eid, eid: Eid, value: V) -> u32
+fn put_above<V>(store: &mut Nodes<V>, at: u32, key: Eid, eid: Eid, value: V) -> u32
     requires rooms { 2 ≤ store.old.rooms }
     requires top { (top : _) → node_at store.old at ≡ Some top → top.eid ≡ key }
     requires live { IsLive store.old at }
@@ -90,14 +91,7 @@ fn put_above<V>(store: &mut NodeStore<Node<V>>, at: u32, key: Eid, eid: Eid, val
 }
 
 // A node with no value above the trie and a new leaf.
-fn put_beside<V>(
-    store: &mut NodeStore<Node<V>>,
-    at: u32,
-    key: Eid,
-    eid: Eid,
-    value: V,
-    least: u8,
-) -> u32
+fn put_beside<V>(store: &mut Nodes<V>, at: u32, key: Eid, eid: Eid, value: V, least: u8) -> u32
     requires rooms { 2 ≤ store.old.rooms }
     requires top { (top : _) → node_at store.old at ≡ Some top → top.eid ≡ key }
     requires live { IsLive store.old at }

@@ -3,7 +3,9 @@
 
 mod common;
 mod insert;
+mod key;
 mod node;
+mod nodes;
 mod place;
 mod removal;
 mod rooted;

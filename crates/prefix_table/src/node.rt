@@ -1,4 +1,5 @@
 // The nodes of the tries, and their roots.
+use crate::key::Key;
 use mapping_records::Eid;
 
 /// A node. One with no value has something on both sides.
@@ -8,6 +9,15 @@ pub(crate) struct Node<V> {
     pub(crate) value: Option<V>,
     pub(crate) zero: Option<u32>,
     pub(crate) one: Option<u32>,
+}
+
+/// A node as it is kept: the key of its EID in place of that.
+#[derive(Drop)]
+pub(crate) struct SlimNode<V> {
+    pub(crate) key: Key,
+    pub(crate) zero: Option<u32>,
+    pub(crate) one: Option<u32>,
+    pub(crate) value: Option<V>,
 }
 
 /// The trie of an instance and family.

@@ -3,62 +3,61 @@ ghost use Rattle.std.specs.Prelude.{◌≡◌, ◌+◌, length, Some, None};
 ghost use Rattle.node_store.specs.Store.{node_at, IsLive, Changes};
 ghost use Rattle.prefix_table.specs.Grown.{Becomes};
 
-use crate::node::Node;
-use node_store::NodeStore;
+use crate::nodes::Nodes;
 
 /// Gives a node a value, and hands back the one that it had.
-pub(crate) fn set_value<V>(store: &mut NodeStore<Node<V>>, at: u32, value: V) -> Option<V>
+pub(crate) fn set_value<V>(store: &mut Nodes<V>, at: u32, value: V) -> Option<V>
     requires { IsLive store.old at }
     ensures was { (top : _) → node_at store.old at ≡ Some top → result ≡ top.value }
     ensures changes { Becomes store.old store.new at (λ top. record top { value = Some value }) }
     ensures rooms { store.new.rooms ≡ store.old.rooms }
     ensures slots { length store.new.slots ≡ length store.old.slots }
 {
-    let node = store.edit(at);
+    let node = store.slim.edit(at);
     node.value.replace(value)
 }
 
 /// Names what is below a node on the side of the next bit 0.
-pub(crate) fn link_zero<V>(store: &mut NodeStore<Node<V>>, at: u32, below: Option<u32>)
+pub(crate) fn link_zero<V>(store: &mut Nodes<V>, at: u32, below: Option<u32>)
     requires { IsLive store.old at }
     ensures changes { Becomes store.old store.new at (λ top. record top { zero = below }) }
     ensures rooms { store.new.rooms ≡ store.old.rooms }
     ensures slots { length store.new.slots ≡ length store.old.slots }
 {
-    let node = store.edit(at);
+    let node = store.slim.edit(at);
     node.zero = below;
 }
 
 /// Names what is below a node on the side of the next bit 1.
-pub(crate) fn link_one<V>(store: &mut NodeStore<Node<V>>, at: u32, below: Option<u32>)
+pub(crate) fn link_one<V>(store: &mut Nodes<V>, at: u32, below: Option<u32>)
     requires { IsLive store.old at }
     ensures changes { Becomes store.old store.new at (λ top. record top { one = below }) }
     ensures rooms { store.new.rooms ≡ store.old.rooms }
     ensures slots { length store.new.slots ≡ length store.old.slots }
 {
-    let node = store.edit(at);
+    let node = store.slim.edit(at);
     node.one = below;
 }
 
 /// Takes the value of a node, which stays.
-pub(crate) fn clear_value<V>(store: &mut NodeStore<Node<V>>, at: u32) -> Option<V>
+pub(crate) fn clear_value<V>(store: &mut Nodes<V>, at: u32) -> Option<V>
     requires { IsLive store.old at }
     ensures was { (top : _) → node_at store.old at ≡ Some top → result ≡ top.value }
     ensures changes { Becomes store.old store.new at (λ top. record top { value = None }) }
     ensures rooms { store.new.rooms ≡ store.old.rooms }
     ensures slots { length store.new.slots ≡ length store.old.slots }
 {
-    let node = store.edit(at);
+    let node = store.slim.edit(at);
     node.value.take()
 }
 
 /// Takes the value of a node, which goes.
-pub(crate) fn drop_value<V>(store: &mut NodeStore<Node<V>>, at: u32) -> Option<V>
+pub(crate) fn drop_value<V>(store: &mut Nodes<V>, at: u32) -> Option<V>
     requires { IsLive store.old at }
     ensures was { (top : _) → node_at store.old at ≡ Some top → result ≡ top.value }
     ensures changes { Changes store.old store.new at None }
     ensures rooms { store.new.rooms ≡ store.old.rooms + 1 }
     ensures slots { length store.new.slots ≡ length store.old.slots }
 {
-    store.drop_node(at).value
+    store.slim.drop_node(at).value
 }

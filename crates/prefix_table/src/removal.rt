@@ -3,16 +3,16 @@ ghost use Rattle.std.specs.Prelude.{◌≡◌, length, Some, is_some};
 ghost use Rattle.node_store.specs.Store.{node_at, IsLive};
 ghost use Rattle.prefix_table.specs.Shrunk.{Holds, Shrinks, StaysWhere, GoesWhere};
 
-use crate::node::Node;
+use crate::nodes::Nodes;
 use crate::place::{clear_value, drop_value, link_one, link_zero};
 use crate::search::next_bit;
 use mapping_records::Eid;
-use node_store::{NodeStore, Reads};
+use node_store::Reads;
 
 /// Takes the pair of an EID out of the trie under a name, whose keys have at least that length. The
 /// name of the trie then, if something is left of it, and the value. Takes no memory.
 pub(crate) fn take_below<V>(
-    store: &mut NodeStore<Node<V>>,
+    store: &mut Nodes<V>,
     at: Option<u32>,
     eid: Eid,
     least: u8,
@@ -24,8 +24,8 @@ pub(crate) fn take_below<V>(
         return (None, None);
     };
     let mut reads = Reads::new();
-    let node = store.read(at, &mut reads);
-    let key = node.eid;
+    let (key, node) = store.read(at, &mut reads);
+    let key = *key;
     let valued = node.value.is_some();
     let zero = node.zero;
     let one = node.one;
@@ -49,7 +49,7 @@ pub(crate) fn take_below<V>(
 // Names what is left below a node on the side of the next bit 0, or drops the node where it has no
 // value and nothing is left there. The name of the trie then.
 fn relink_zero<V>(
-    store: &mut NodeStore<Node<V>>,
+    store: &mut Nodes<V>,
     at: u32,
     valued: bool,
     one: Option<u32>,
@@ -73,7 +73,7 @@ fn relink_zero<V>(
 
 // The same on the side of the next bit 1.
 fn relink_one<V>(
-    store: &mut NodeStore<Node<V>>,
+    store: &mut Nodes<V>,
     at: u32,
     valued: bool,
     zero: Option<u32>,

@@ -7,11 +7,11 @@ ghost use Rattle.prefix_table.specs.Table.{IsForest, pairs_under, root_key};
 ghost use Rattle.prefix_table.specs.Under.{PutUnder, TakenUnder};
 
 use crate::insert::put_below;
-use crate::node::{Node, Root};
+use crate::node::Root;
+use crate::nodes::Nodes;
 use crate::removal::take_below;
 use crate::roots::find_root;
 use mapping_records::{Addr, Eid};
-use node_store::NodeStore;
 
 // An address has no bits above its width.
 fn no_more_bits(addr: Addr)
@@ -29,7 +29,7 @@ fn no_more_bits(addr: Addr)
 
 /// Puts a pair under its root, which is made where there is none.
 pub(crate) fn put<V>(
-    store: &mut NodeStore<Node<V>>,
+    store: &mut Nodes<V>,
     roots: &mut Vec<Root>,
     key: u64,
     eid: Eid,
@@ -52,7 +52,7 @@ pub(crate) fn put<V>(
 
 /// Puts a pair under the root that stands at `at`.
 pub(crate) fn put_at<V>(
-    store: &mut NodeStore<Node<V>>,
+    store: &mut Nodes<V>,
     roots: &mut Vec<Root>,
     at: usize,
     eid: Eid,
@@ -77,7 +77,7 @@ pub(crate) fn put_at<V>(
 
 /// Puts a pair under a new root at the gap for it.
 pub(crate) fn put_new<V>(
-    store: &mut NodeStore<Node<V>>,
+    store: &mut Nodes<V>,
     roots: &mut Vec<Root>,
     at: usize,
     key: u64,
@@ -101,12 +101,7 @@ pub(crate) fn put_new<V>(
 }
 
 /// Takes the pair of an EID from under its root, which goes with the last pair under it.
-pub(crate) fn take<V>(
-    store: &mut NodeStore<Node<V>>,
-    roots: &mut Vec<Root>,
-    key: u64,
-    eid: Eid,
-) -> Option<V>
+pub(crate) fn take<V>(store: &mut Nodes<V>, roots: &mut Vec<Root>, key: u64, eid: Eid) -> Option<V>
     requires forest { IsForest store.old roots.old.items }
     requires key { key ≡ root_key eid }
     ensures taken { TakenUnder store.old store.new roots.old.items roots.new.items eid result }
@@ -120,7 +115,7 @@ pub(crate) fn take<V>(
 
 /// Takes the pair of an EID from under the root that stands at `at`.
 pub(crate) fn take_at<V>(
-    store: &mut NodeStore<Node<V>>,
+    store: &mut Nodes<V>,
     roots: &mut Vec<Root>,
     at: usize,
     eid: Eid,

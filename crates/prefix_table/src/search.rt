@@ -8,9 +8,10 @@ ghost use Rattle.prefix_table.specs.Tree.{pairs};
 ghost use Rattle.prefix_table.specs.Longest.{IsRefused, IsLongestWhere, After, seen};
 ghost use Rattle.prefix_table.specs.Spelled.{tree_of, IsRoot};
 
-use crate::node::Node;
+use crate::key::Key;
+use crate::nodes::Nodes;
 use mapping_records::{Addr, Eid};
-use node_store::{NodeStore, Reads};
+use node_store::Reads;
 
 /// The bit of an address behind its first `len` bits.
 pub(crate) fn next_bit(addr: Addr, len: u8) -> bool
@@ -25,19 +26,20 @@ pub(crate) fn next_bit(addr: Addr, len: u8) -> bool
 
 // What was found so far, after a look at the node.
 fn better<'a, V, F: Fn(&V) -> bool>(
-    node: &'a Node<V>,
+    eid: &'a Eid,
+    value: &'a Option<V>,
     test: &F,
     best: Option<(&'a Eid, &'a V)>,
 ) -> Option<(&'a Eid, &'a V)>
     requires { F.IsAlwaysCallable test.now }
     ensures { After (FnReturnsAt F.Fn test.now) (option_map seen best.entry)
-        node.now.eid node.now.value (option_map seen result) }
+        eid.now value.now (option_map seen result) }
 {
-    let Some(value) = &node.value else {
+    let Some(value) = value else {
         return best;
     };
     if test(value) {
-        return Some((&node.eid, value));
+        return Some((eid, value));
     }
     best
 }
@@ -45,7 +47,7 @@ fn better<'a, V, F: Fn(&V) -> bool>(
 /// The longest pair of the trie that covers the EID and passes the test. Each node on the way down
 /// is read once.
 pub(crate) fn longest_where<'a, V, F: Fn(&V) -> bool>(
-    store: &'a NodeStore<Node<V>>,
+    store: &'a Nodes<V>,
     root: Option<u32>,
     eid: &Eid,
     test: F,
@@ -61,18 +63,19 @@ pub(crate) fn longest_where<'a, V, F: Fn(&V) -> bool>(
     ensures counted { reads.old ≤ reads.new }
     ensures reads { reads.new ≤ reads.old + 129 }
 {
+    let sought = Key::of(eid);
     let mut at = root;
     let mut best: Option<(&'a Eid, &'a V)> = None;
     while let Some(name) = at {
-        let node = store.read(name, reads);
-        if !node.eid.covers(eid) {
+        let (key, node) = store.read(name, reads);
+        if !node.key.covers(&sought) {
             return best;
         }
-        best = better(node, &test, best);
-        if node.eid.prefix.len == eid.prefix.len {
+        best = better(key, &node.value, &test, best);
+        if node.key.len == sought.len {
             return best;
         }
-        if next_bit(eid.prefix.addr, node.eid.prefix.len) {
+        if sought.next_bit(node.key.len) {
             at = node.one;
         } else {
             at = node.zero;

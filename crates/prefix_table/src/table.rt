@@ -5,19 +5,20 @@ ghost use Rattle.prefix_table.specs.Pairs.{Ascends, with_pair, without_pair, val
 ghost use Rattle.prefix_table.specs.Table.{root_key};
 ghost use Rattle.prefix_table.specs.Longest.{IsRefused, IsLongestWhere, seen};
 
-use crate::node::{Node, Root};
+use crate::node::Root;
+use crate::nodes::Nodes;
 use crate::rooted::{put, take};
 use crate::roots::find_root;
 use crate::search;
 use mapping_records::Eid;
-use node_store::{NoMemory, NodeStore, Reads};
+use node_store::{NoMemory, Reads};
 use std::alloc::Global;
 use std::marker::Model;
 
 /// Pairs of EIDs and values, in ascending order of the EIDs.
 #[derive(Drop)]
 pub struct PrefixTable<V> {
-    store: NodeStore<Node<V>>,
+    store: Nodes<V>,
     // In ascending order of their keys.
     roots: Vec<Root>,
     spare: u32,
@@ -49,7 +50,7 @@ impl<V> PrefixTable<V> {
         ensures spare { result.spare ≡ 0 }
     {
         PrefixTable {
-            store: NodeStore::new(alloc),
+            store: Nodes::new(alloc),
             roots: Vec::new(alloc),
             spare: 0,
             len: 0,
@@ -156,7 +157,7 @@ impl<V> PrefixTable<V> {
     pub fn len(&self) -> u32
         ensures len { result ≡ length self.now.pairs }
         ensures ascends { Ascends self.now.pairs }
-        ensures kept { self.now.kept ≤ 5 * (result + self.now.spare) }
+        ensures kept { self.now.kept ≤ 7 * (result + self.now.spare) }
     {
         self.len
     }

@@ -81,13 +81,13 @@ impl RequestQueue {
         self.eids.reserve(n)
     }
 
-    /// How many requests are kept. No two have one nonce. What all lists have in all is at most 7 items
+    /// How many requests are kept. No two have one nonce. What all lists have in all is at most 8 items
     /// for each key for which there is place.
     pub fn len(&self) -> usize
         ensures len { result ≡ length self.now.requests }
         ensures most { result ≤ MOST_REQUESTS }
         ensures distinct { are_distinct self.now.requests ≡ true }
-        ensures kept { self.now.kept ≤ 7 * self.now.places }
+        ensures kept { self.now.kept ≤ 8 * self.now.places }
     {
         // The length says how much is kept.
         let _ = self.eids.len();

@@ -1,0 +1,84 @@
+// What a way down compares.
+ghost use Rattle.std.specs.Prelude.{◌≡◌, ◌≤◌, ◌<◌, ◌+◌, ◌*◌, ◌^◌, ◌/◌, ◌%◌, ◌==◌};
+ghost use Rattle.ip_headers.specs.Addr.{first_bits, number};
+ghost use Rattle.mapping_records.specs.Eids.{covers_eid};
+ghost use Rattle.mapping_records.specs.declared.eid.Eid.{Eid};
+ghost use Rattle.prefix_table.specs.Keys.{key_of};
+
+use mapping_records::{Addr, Eid};
+
+/// An EID in 24 octets, where it takes 64 itself, so that nodes lie close together.
+#[derive(Clone, Copy, Drop)]
+pub(crate) struct Key {
+    // The address as a number.
+    high: u64,
+    low: u64,
+    iid: u32,
+    // The number of bits of its family's addresses, and how many count.
+    width: u8,
+    pub(crate) len: u8,
+}
+
+// Fields lie in the order of the source: in another one it takes more.
+const _: () = prove!(std::mem::size_of::<Key>() == 24);
+
+impl Key {
+    /// The key of an EID.
+    pub(crate) fn of(eid: &Eid) -> Key
+        ensures { result ≡ key_of eid.now }
+    {
+        let addr = eid.prefix.addr;
+        let (high, low) = halves(addr);
+        Key {
+            high,
+            low,
+            iid: eid.iid,
+            width: addr.width(),
+            len: eid.prefix.len,
+        }
+    }
+
+    fn number(&self) -> u128
+        ensures { result ≡ self.now.high * 2 ^ 64 + self.now.low }
+    {
+        (u128::from(self.high) << 64) + u128::from(self.low)
+    }
+
+    /// The EID of the one covers that of the other.
+    pub(crate) fn covers(&self, other: &Key) -> bool
+        requires len { self.now.len ≤ self.now.width }
+        requires width { self.now.width ≤ 128 }
+        ensures { (a b : Eid) → self.now ≡ key_of a → other.now ≡ key_of b
+            → result ≡ covers_eid a b }
+    {
+        if self.iid != other.iid || self.width != other.width || self.len > other.len {
+            return false;
+        }
+        let past = self.width - self.len;
+        let bits = self.number();
+        let other_bits = other.number();
+        // A number isn't shifted by all of its bits.
+        past == 128 || bits >> past == other_bits >> past
+    }
+
+    /// The bit of the address behind its first `len` bits.
+    pub(crate) fn next_bit(&self, len: u8) -> bool
+        requires len { len < self.now.width }
+        requires width { self.now.width ≤ 128 }
+        ensures { (a : Eid) → self.now ≡ key_of a
+            → result ≡ (first_bits a.prefix.addr (len + 1) % 2 == 1) }
+    {
+        (self.number() >> (self.width - 1 - len)) % 2 == 1
+    }
+}
+
+// The address as a number, in two halves.
+fn halves(addr: Addr) -> (u64, u64)
+    ensures high { result.0 ≡ number addr / 2 ^ 64 }
+    ensures low { result.1 ≡ number addr % 2 ^ 64 }
+{
+    match addr {
+        Addr::V4(n) => (0, u64::from(n)),
+        Addr::V6(n) => ((n >> 64) as u64, (n % (1 << 64)) as u64),
+    }
+}
