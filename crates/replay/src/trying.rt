@@ -16,7 +16,6 @@ ghost use Rattle.trial_input.specs.declared.settings.TheConstants.{MOST_MAPPINGS
 use crate::Status;
 use crate::replaying::replay_file;
 use desk::{Desk, DeskFault, Files, NamedFile, SteadyDesk};
-use lisp_settings::Settings;
 use locator_choice::octets_hash;
 use octets::{NoMemory, Octets};
 use router_log::{push_named, push_octets};
