@@ -24,6 +24,12 @@ for kind in raw ethernet ipv6 tunnels mappings; do
         measured "  ${names[i]}" "$count" "$folder/report" "${programs[i]}" "${words[@]}"
         tail -n 1 "$folder/report" | sed 's/^/  /'
     done
+    if [ "$kind" = mappings ]; then
+        # What of it goes to the settings: the same ones, and a capture of no frames.
+        head -c 24 "$folder/capture.pcap" >"$folder/empty.pcap"
+        measured "  settings alone" 50000 "$folder/report" "$program" replay \
+            --settings "$folder/settings.toml" --in "$folder/empty.pcap" --out "$folder/out.pcap"
+    fi
     measured "  cat  " "$count" "$folder/copy" cat "$folder/capture.pcap"
     rm -f "$folder/out.pcap" "$folder/copy"
 done
