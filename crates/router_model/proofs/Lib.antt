@@ -1,11 +1,13 @@
 pub mod AgedLemmas
 pub mod BitLemmas
+pub mod CutLemmas
 pub mod DropLemmas
 pub mod EchoLemmas
 pub mod EidLemmas
 pub mod FindLemmas
 pub mod FollowLemmas
 pub mod ForceLemmas
+pub mod GrowLemmas
 pub mod HearLemmas
 pub mod KeptLemmas
 pub mod KeyLemmas
@@ -19,6 +21,8 @@ pub mod ReceivedLemmas
 pub mod ReplayLemmas
 pub mod RequestLemmas
 pub mod RunLemmas
+pub mod SideLemmas
+pub mod SingleLemmas
 pub mod SortedLemmas
 pub mod SoundLemmas
 pub mod StandsLemmas

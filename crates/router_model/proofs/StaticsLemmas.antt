@@ -11,7 +11,7 @@ abbrev static : Record → Entry
 static mapping = Learned 0 mapping true
 
 -- further entries are counted with those before
-length-extended : (journal : Journal) (entries : List Entry) → length (extended journal entries) ≡ length entries + length journal
+pub length-extended : (journal : Journal) (entries : List Entry) → length (extended journal entries) ≡ length entries + length journal
 length-extended journal [] = omega arith
 length-extended journal (entry ∷ entries) = length-extended (entry ∷ journal) entries ∙ omega arith
 

@@ -2,6 +2,7 @@ pub mod Cache
 pub mod Changes
 pub mod Choice
 pub mod Course
+pub mod Cut
 pub mod Decide
 pub mod Emits
 pub mod Hear
@@ -17,6 +18,9 @@ pub mod Plain
 pub mod Proper
 pub mod Received
 pub mod Requests
+pub mod Rounds
+pub mod Sharing
+pub mod Sides
 pub mod Site
 pub mod Tick
 pub mod View

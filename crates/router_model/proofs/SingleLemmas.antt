@@ -1,0 +1,141 @@
+-- With rounds of one frame the router with forwarders is the plain one.
+use Rattle.std.proofs.Common.{◌≡◌, ℕ, zero, suc, ◌+◌, ◌-◌, ◌≤◌, ◌<◌, not, Bool, true, false, cond, List, [], ◌∷◌, ◌++◌, drop, filter, flat_map, get_or, length, map, replicate, Option, Some, None, refl, sym, ap, subst, ◌∙◌, inl, inr, arith, append_assoc}
+use Rattle.std.specs.List.{All, Contains, range_with_len}
+use Rattle.std.proofs.lemmas.List.{append-nil, length-replicate}
+use Rattle.std.proofs.lemmas.List.Elements.{All-get_or, All-replicate, Contains-get_or}
+use Rattle.capture_io.specs.Frame.{Frame}
+use Rattle.lisp_settings.specs.declared.settings.Settings.{Settings}
+use Rattle.playback.specs.Events.{Event, Outcome, Packet, Tick, Arrival, events, events_after, events_of, followed, idle, played, second_of, ticks}
+use Rattle.playback.proofs.EventLemmas.{played-append}
+use Rattle.router_log.specs.Moments.{seconds}
+use Rattle.router_log.specs.declared.decision.Decision.{Decision}
+use Rattle.router_log.specs.declared.notice.Notice.{Notice}
+use Rattle.router_model.specs.Changes.{Change, each, journal as of_journal, unchanged}
+use Rattle.router_model.specs.Course.{control}
+use Rattle.router_model.specs.Cut.{cut}
+use Rattle.router_model.specs.Decide.{decide}
+use Rattle.router_model.specs.Hear.{Heard, hear, hear_by}
+use Rattle.router_model.specs.Journal.{Journal, first}
+use Rattle.router_model.specs.Note.{noted}
+use Rattle.router_model.specs.Plain.{Router, after_data, after_decision, after_message, emit_packets, packet_of, packets_of, plain, started}
+use Rattle.router_model.specs.Rounds.{AllLawful, AreLawful, Lawful, Told, advanced, after_round, all_advanced, and_then, closing_moment, data_frames, decided, ends, lengths, nothing, of_data, of_events, of_message, round, round_of_events, rounds, rounds_from, with_if, with_notices}
+use Rattle.router_model.specs.Sharing.{NumbersExist, SinglesAreForced, SinglesArePlain}
+use Rattle.router_model.specs.Tick.{tick}
+use Rattle.router_model.proofs.CutLemmas.{cut-singly}
+use Rattle.router_model.proofs.SideLemmas.{none-of, one-of}
+
+-- all of a journal
+first-all : (journal : Journal) → first (length journal) journal ≡ journal
+first-all journal = ap (λ n. drop n journal) (let none : length journal - length journal ≡ 0 = omega arith in none)
+
+-- seconds, and then a frame
+abbrev behind_seconds : List ℕ → Frame → List Event
+behind_seconds ss frame = map Tick ss ++ Arrival frame ∷ []
+
+module _ (settings : Settings) (frame : Frame) where
+  abbrev router_of : Journal → Router Journal
+  router_of journal = record { settings = settings; memory = journal }
+
+  -- the round is what the plain router does
+  abbrev IsPlain : List Event → Journal → List ℕ → Type 0
+  IsPlain events journal ns = after_round (router_of journal) (round_of_events settings frame.moment journal events ns) ≡ played plain (router_of journal) events
+
+  message-plain : (journal : Journal) (heard : Heard Journal) → after_round (router_of journal) (with_notices settings frame.moment heard.change.after (and_then (of_message settings journal frame heard) nothing)) ≡ followed (after_message of_journal (router_of journal) frame heard) (idle (after_message of_journal (router_of journal) frame heard).after)
+  message-plain journal heard =
+      let packets : List Packet = emit_packets settings frame.moment heard.change.emits in
+      ap (λ p. record (after_round (router_of journal) (with_notices settings frame.moment heard.change.after (and_then (of_message settings journal frame heard) nothing))) { packets = p })
+      (append-nil (packets ++ []))
+
+  abbrev change_of : Journal → List Notice → Change Journal
+  change_of journal notices = each (noted of_journal settings frame.moment) notices (unchanged journal)
+
+  abbrev sent : Journal → List Notice → List Packet
+  sent journal notices = emit_packets settings frame.moment (change_of journal notices).emits
+
+  -- the outcome of a decision, with these packets
+  abbrev out : Journal → Decision → List Notice → List Packet → Outcome (Router Journal)
+  out journal decision notices packets = record {
+    lines = (after_decision of_journal (router_of journal) frame decision).lines ++ [];
+    packets = packets;
+    after = router_of (change_of journal notices).after;
+  }
+
+  data-plain : (journal : Journal) (decision : Decision) → after_round (router_of journal) (with_notices settings frame.moment journal (and_then (of_data settings frame (length journal) decision) nothing)) ≡ followed (after_decision of_journal (router_of journal) frame decision) (idle (after_decision of_journal (router_of journal) frame decision).after)
+  data-plain journal decision =
+      let first : List Packet = packets_of frame.moment (packet_of decision.verdict) in
+      ap (λ notices. out journal decision notices ((first ++ []) ++ sent journal notices)) (append-nil decision.notices)
+      ∙ ap (λ p. out journal decision decision.notices (p ++ sent journal decision.notices)) (append-nil first)
+      ∙ ap (λ p. out journal decision decision.notices p) (sym (append-nil (first ++ sent journal decision.notices)))
+
+  -- a number of a round of one data packet
+  abbrev IsWhole : Journal → List ℕ → Type 0
+  IsWhole journal ns = control settings frame ≡ false → get_or ns 0 0 ≡ length journal
+
+  frame-plain : (journal : Journal) (ns : List ℕ) → IsWhole journal ns → IsPlain (Arrival frame ∷ []) journal ns
+  frame-plain journal ns whole = by (control settings frame) refl
+    where
+      by : (b : Bool) → control settings frame ≡ b → let last = cond b (hear settings journal frame.moment frame).change.after journal in after_round (router_of journal) (with_notices settings frame.moment last (and_then (cond b (of_message settings journal frame (hear settings journal frame.moment frame)) (of_data settings frame (get_or ns 0 0) (decided settings last (get_or ns 0 0) frame))) nothing)) ≡ let out = cond b (after_message of_journal (router_of journal) frame (hear_by of_journal settings frame.moment frame (unchanged journal))) (after_decision of_journal (router_of journal) frame (decide settings journal frame.moment frame)) in followed out (idle out.after)
+      by true is = message-plain journal (hear settings journal frame.moment frame)
+      by false is =
+          ap (λ n. after_round (router_of journal) (with_notices settings frame.moment journal (and_then (of_data settings frame n (decide settings (first n journal) frame.moment frame)) nothing))) (whole is)
+          ∙ ap (λ j. after_round (router_of journal) (with_notices settings frame.moment journal (and_then (of_data settings frame (length journal) (decide settings j frame.moment frame)) nothing))) (first-all journal)
+          ∙ data-plain journal (decide settings journal frame.moment frame)
+
+  -- the number of a data packet in a round of one frame
+  whole-number : (journal : Journal) (ns : List ℕ) → All (Contains (length journal ∷ lengths settings journal (Arrival frame ∷ []))) ns → length ns ≡ length (data_frames settings (frame ∷ [])) → IsWhole journal ns
+  whole-number journal ns all each = by (control settings frame) all each
+    where
+      by : (b : Bool) → All (Contains (length journal ∷ with_if b (length (cond b (hear settings journal frame.moment frame).change.after journal)) [])) ns → length ns ≡ length (cond (not b) (frame ∷ []) []) → b ≡ false → get_or ns 0 0 ≡ length journal
+      by true all each is = absurd cc
+      by false all each is =
+          elim (one-of (length journal) [] (get_or ns 0 0) (all 0 0 (omega (arith, each)))) as (λ _. get_or ns 0 0 ≡ length journal)
+          [ inl same ↦ sym same | inr more ↦ absurd (none-of (get_or ns 0 0) more) ]
+
+  -- seconds, and then the frame
+  seconds-plain : (ss : List ℕ) (journal : Journal) (ns : List ℕ) → All (Contains (ends settings journal (behind_seconds ss frame))) ns → length ns ≡ length (data_frames settings (frame ∷ [])) → IsPlain (behind_seconds ss frame) journal ns
+  seconds-plain [] journal ns all each = frame-plain journal ns (whole-number journal ns all each)
+  seconds-plain (s ∷ ss) journal ns all each =
+      let change : Change Journal = tick settings journal s in
+      let events : List Event = behind_seconds ss frame in
+      let last : Journal = all_advanced settings change.after events in
+      let told : Told = of_events settings last change.after ns events in
+      let packets : List Packet = emit_packets settings (seconds s) change.emits in
+      ap (λ p. record (after_round (router_of journal) (with_notices settings frame.moment last told)) { packets = p })
+      (append_assoc packets told.packets (sent last told.notices))
+      ∙ ap (followed (plain (router_of journal) (Tick s))) (seconds-plain ss change.after ns all each)
+
+-- the events of a frame
+events-behind : (previous : Option ℕ) (frame : Frame) → (ss : List ℕ) × (events_of previous frame ≡ behind_seconds ss frame)
+events-behind None frame = ([], refl)
+events-behind (Some from) frame =
+    (range_with_len (suc (second_of from)) (second_of frame.moment - second_of from), refl)
+
+events-one : (previous : Option ℕ) (frame : Frame) → events_after previous (frame ∷ []) ≡ events_of previous frame
+events-one previous frame = append-nil (events_of previous frame)
+
+-- a round of one frame
+single-plain : (router : Router Journal) (previous : Option ℕ) (frame : Frame) (ns : List ℕ) → AreLawful router.settings previous (frame ∷ []) router.memory ns → after_round router (round router.settings previous (frame ∷ []) router.memory ns) ≡ played plain router (events_of previous frame)
+single-plain router previous frame ns lawful =
+    let behind = events-behind previous frame in
+    let same : events_after previous (frame ∷ []) ≡ behind_seconds behind.0 frame = events-one previous frame ∙ behind.1 in
+    ap (λ events. after_round router (round_of_events router.settings frame.moment router.memory events ns)) same
+    ∙ seconds-plain router.settings frame behind.0 router.memory ns
+    (subst (λ events. All (Contains (ends router.settings router.memory events)) ns) same lawful.ends) lawful.each
+    ∙ ap (played plain router) (sym behind.1)
+
+abbrev singles : List Frame → List (List Frame)
+singles frames = map (λ frame. frame ∷ []) frames
+
+all-plain : (router : Router Journal) (previous : Option ℕ) (frames : List Frame) (ns : List (List ℕ)) → AllLawful router previous (singles frames) ns → rounds_from router previous (singles frames) ns ≡ played plain router (events_after previous frames)
+all-plain router previous [] ns lawful = refl
+all-plain router previous (frame ∷ frames) ns lawful =
+    let one : Outcome (Router Journal) = after_round router (round router.settings previous (frame ∷ []) router.memory (get_or ns 0 [])) in
+    let rest : List Event = events_after (Some frame.moment) frames in
+    ap (followed one) (all-plain one.after (Some frame.moment) frames (drop 1 ns) lawful.1.1)
+    ∙ ap (λ (t : Outcome (Router Journal)). followed t (played plain t.after rest)) (single-plain router previous frame (get_or ns 0 []) lawful.1.0)
+    ∙ sym (played-append plain router (events_of previous frame) rest)
+
+pub singles-are-plain : SinglesArePlain
+singles-are-plain settings frames ns lawful =
+    ap (λ r. rounds_from (started settings) None r ns) (cut-singly frames)
+    ∙ all-plain (started settings) None frames ns (subst (λ r. AllLawful (started settings) None r ns) (cut-singly frames) lawful)

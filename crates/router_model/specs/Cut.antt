@@ -1,0 +1,68 @@
+-- The frames of a capture, cut into rounds.
+use Rattle.std.specs.Prelude.{◌≡◌, ℕ, suc, ◌+◌, ◌≤◌, ◌||◌, max, nat_le, nat_lt, Bool, true, false, List, [], ◌∷◌, fold, length, if◌then◌else◌}
+use Rattle.std.specs.List.{sum_by}
+use Rattle.capture_io.specs.Frame.{Frame}
+
+-- the frames of a round so far, and their octets
+pub record Filling : Type 0 where
+  pub frames : ℕ
+  pub octets : ℕ
+
+-- no frame yet
+abbrev pub empty : Filling
+empty = record { frames = 0; octets = 0 }
+
+-- one frame more
+abbrev pub with_frame : Filling → Frame → Filling
+with_frame filling frame =
+    record { frames = suc filling.frames; octets = filling.octets + length frame.octets }
+
+-- frames more
+abbrev pub with_frames : Filling → List Frame → Filling
+with_frames filling frames = fold with_frame filling frames
+
+-- a round is closed by its size, or by the frame that brings its octets past 16 MiB
+abbrev pub is_full : ℕ → Filling → Bool
+is_full size filling = nat_le size filling.frames || nat_lt 16777216 filling.octets
+
+-- what is open behind a frame
+abbrev pub behind : ℕ → Filling → Filling
+behind size filling = if is_full size filling then empty else filling
+
+-- a frame in front of rounds: it closes one of its own, or begins the first of them
+abbrev pub in_front : Bool → Frame → List (List Frame) → List (List Frame)
+in_front true frame rounds = (frame ∷ []) ∷ rounds
+in_front false frame [] = (frame ∷ []) ∷ []
+in_front false frame (round ∷ rounds) = (frame ∷ round) ∷ rounds
+
+-- the rest of a round that is open, and the rounds after it
+abbrev pub cut_on : ℕ → Filling → List Frame → List (List Frame)
+cut_on size filling [] = []
+cut_on size filling (frame ∷ frames) =
+    in_front (is_full size (with_frame filling frame)) frame (cut_on size (behind size (with_frame filling frame)) frames)
+
+-- the rounds of a size
+abbrev pub cut : ℕ → List Frame → List (List Frame)
+cut size frames = cut_on size empty frames
+
+-- none of the frames closes the round
+abbrev pub StaysOpen : ℕ → Filling → List Frame → Type 0
+StaysOpen size filling [] = Unit {0}
+StaysOpen size filling (frame ∷ frames) =
+    (is_full size (with_frame filling frame) ≡ false) × StaysOpen size (with_frame filling frame) frames
+
+-- the octets of frames
+abbrev pub octets_of : List Frame → ℕ
+octets_of [] = 0
+octets_of (frame ∷ frames) = length frame.octets + octets_of frames
+
+-- no more frames than that
+abbrev pub AreShort : ℕ → List Frame → Type 0
+AreShort most [] = Unit {0}
+AreShort most (frame ∷ frames) = (length frame.octets ≤ most) × AreShort most frames
+
+-- rounds of at most so many frames and octets
+abbrev pub AreWithin : ℕ → ℕ → List (List Frame) → Type 0
+AreWithin frames octets [] = Unit {0}
+AreWithin frames octets (round ∷ rounds) =
+    (length round ≤ frames) × ((octets_of round ≤ octets) × AreWithin frames octets rounds)

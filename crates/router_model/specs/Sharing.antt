@@ -1,0 +1,146 @@
+-- What is promised of rounds.
+use Rattle.std.specs.Prelude.{◌≡◌, ℕ, ◌+◌, ◌*◌, ◌^◌, ◌≤◌, false, true, List, [], ◌∷◌, ◌++◌, flat_map, length, map, take, Option, None}
+use Rattle.std.specs.List.{Contains}
+use Rattle.capture_io.specs.Frame.{Frame}
+use Rattle.lisp_settings.specs.declared.settings.Settings.{Settings}
+use Rattle.playback.specs.Events.{Event, events, events_after, played}
+use Rattle.router_log.specs.declared.entry.Entry.{Entry}
+use Rattle.router_model.specs.Changes.{Ledger, journal as of_journal}
+use Rattle.router_model.specs.Cut.{AreShort, AreWithin, Filling, StaysOpen, cut, cut_on, is_full, with_frame, with_frames}
+use Rattle.router_model.specs.Journal.{Journal, extended, first, last_moment, statics}
+use Rattle.router_model.specs.Lifting.{AreInOrder}
+use Rattle.router_model.specs.Parts.{Parts, Stands, parts_in, table}
+use Rattle.router_model.specs.Plain.{Router, plain, started}
+use Rattle.router_model.specs.Proper.{IsProper}
+use Rattle.router_model.specs.Rounds.{AllLawful, Lawful, Round, all_advanced, closing_moment, data_frames, ends, round, round_of_events, rounds, rounds_from}
+use Rattle.router_model.specs.Sides.{Worked, Writing, data_in, joined, noting, ruling, ruling_by, rulings, with_entries, worked, writing}
+
+-- ### how frames are cut
+
+-- no frame is lost, and their order stays
+abbrev pub CutKeeps : Type 0
+CutKeeps = (size : ℕ) (frames : List Frame) → flat_map (λ frames. frames) (cut size frames) ≡ frames
+
+-- a round is of at most its size, and of 16 MiB and one frame
+abbrev pub CutWithin : Type 0
+CutWithin = (size most : ℕ) (frames : List Frame) → 1 ≤ size → AreShort most frames → AreWithin size (16777216 + most) (cut size frames)
+
+-- rounds of one frame
+abbrev pub CutSingly : Type 0
+CutSingly = (frames : List Frame) → cut 1 frames ≡ map (λ frame. frame ∷ []) frames
+
+-- a round that is open is closed by the frame that makes it full
+abbrev pub RoundCloses : Type 0
+RoundCloses = (size : ℕ) (filling : Filling) (before : List Frame) (frame : Frame) (others : List Frame) → StaysOpen size filling before → is_full size (with_frame (with_frames filling before) frame) ≡ true → cut_on size filling (before ++ frame ∷ others) ≡ (before ++ frame ∷ []) ∷ cut size others
+
+-- or else stays open
+abbrev pub RoundStaysOpen : Type 0
+RoundStaysOpen = (size : ℕ) (filling : Filling) (before : List Frame) (frame : Frame) → StaysOpen size filling before → is_full size (with_frame (with_frames filling before) frame) ≡ false → StaysOpen size filling (before ++ frame ∷ [])
+
+-- and is the last one, where no frame is left
+abbrev pub LastRoundCloses : Type 0
+LastRoundCloses = (size : ℕ) (filling : Filling) (frame : Frame) (frames : List Frame) → StaysOpen size filling (frame ∷ frames) → cut_on size filling (frame ∷ frames) ≡ (frame ∷ frames) ∷ []
+
+-- ### with rounds of one frame
+
+-- the router with forwarders is the plain one
+abbrev pub SinglesArePlain : Type 0
+SinglesArePlain = (settings : Settings) (frames : List Frame) (ns : List (List ℕ)) → Lawful settings frames 1 ns → rounds settings frames 1 ns ≡ played plain (started settings) (events frames)
+
+-- and there is no choice of numbers
+abbrev pub SinglesAreForced : Type 0
+SinglesAreForced = (settings : Settings) (frames : List Frame) (ms ns : List (List ℕ)) → Lawful settings frames 1 ms → Lawful settings frames 1 ns → ms ≡ ns
+
+-- rounds of each size have numbers
+abbrev pub NumbersExist : Type 0
+NumbersExist = (router : Router Journal) (previous : Option ℕ) (frames : List (List Frame)) → (ns : List (List ℕ)) × AllLawful router previous frames ns
+
+-- ### the parts of a round
+
+-- the journal of a round by what was written
+abbrev pub told_of : Worked Journal → Round
+told_of result = record { lines = result.lines; packets = result.packets; after = result.after }
+
+-- the writer's side, the decisions by numbers, and the notices, put together, are the round
+abbrev pub SidesMeet : Type 0
+SidesMeet = (settings : Settings) (moment : ℕ) (journal : Journal) (events : List Event) (ns : List ℕ) → let written = writing of_journal settings journal events in round_of_events settings moment journal events ns ≡ told_of (worked of_journal settings moment journal events (rulings settings written.after ns (data_in written.items)))
+
+-- what is written leaves the state with its batches
+abbrev pub WritingAdds : {S : Type 0} → Ledger S → Type 0
+WritingAdds {S} ledger = (settings : Settings) (state : S) (events : List Event) → (writing ledger settings state events).after ≡ with_entries ledger state (joined (writing ledger settings state events).batches)
+
+-- and so does a whole round
+abbrev pub WorkedAdds : {S : Type 0} → Ledger S → Type 0
+WorkedAdds {S} ledger = (settings : Settings) (moment : ℕ) (state : S) (events : List Event) (ns : List ℕ) (last : Journal) → let result = worked ledger settings moment state events (rulings settings last ns (data_in (writing ledger settings state events).items)) in result.after ≡ with_entries ledger state (joined result.batches)
+
+-- entries that a journal adds stand before it
+abbrev pub JournalAdds : Type 0
+JournalAdds = (journal : Journal) (entries : List Entry) → with_entries of_journal journal entries ≡ extended journal entries
+
+-- it is the journal of the round before its notices
+abbrev pub WritingAdvances : Type 0
+WritingAdvances = (settings : Settings) (journal : Journal) (events : List Event) → (writing of_journal settings journal events).after ≡ all_advanced settings journal events
+
+-- what is left for later are the data packets
+abbrev pub DataAreLeft : Type 0
+DataAreLeft = (settings : Settings) (previous : Option ℕ) (frames : List Frame) (journal : Journal) → data_in (writing of_journal settings journal (events_after previous frames)).items ≡ data_frames settings frames
+
+-- the journal of a round after so many of its batches
+abbrev pub after_batches : Settings → Journal → List Event → ℕ → Journal
+after_batches settings journal events k =
+    extended journal (joined (take k (writing of_journal settings journal events).batches))
+
+-- each end is the length after some of the batches, and that many entries are the journal after these
+abbrev pub EndsAreBatches : Type 0
+EndsAreBatches = (settings : Settings) (journal : Journal) (events : List Event) (n : ℕ) → Contains (ends settings journal events) n → (k : ℕ) × ((n ≡ length (after_batches settings journal events k)) × (first n (all_advanced settings journal events) ≡ after_batches settings journal events k))
+
+-- ### tables
+
+-- the first entries of a journal are the journal before further ones
+abbrev pub FirstOfMore : Type 0
+FirstOfMore = (journal : Journal) (entries : List Entry) → first (length journal) (extended journal entries) ≡ journal
+
+-- the first entries of a journal that a router can have are such a journal, if the static mappings are among them
+abbrev pub FirstIsProper : Type 0
+FirstIsProper = (settings : Settings) (journal : Journal) (n : ℕ) → IsProper settings journal → length (statics settings) ≤ n → IsProper settings (first n journal)
+
+-- a table that stands for the first n entries decides by them, at whatever moment
+abbrev pub FirstRules : Type 0
+FirstRules = (settings : Settings) (parts : Parts) (last : Journal) (n : ℕ) (frame : Frame) → Stands settings parts (first n last) → n ≤ length last → ruling_by settings parts frame ≡ ruling settings last n frame
+
+-- a journal that a round of events may begin with, at a moment
+pub record MayBegin (settings : Settings) (m : ℕ) (journal : Journal) (events : List Event) : Type 0 where
+  pub proper : IsProper settings journal
+  pub last : last_moment journal ≤ m
+  pub order : AreInOrder m events
+  pub room : length journal + 2048 * length events ≤ 2 ^ 62
+
+-- what was written, with the parts of the journal
+abbrev pub writing_tabled : Writing Journal → Writing Parts
+writing_tabled written =
+    record { items = written.items; batches = written.batches; after = parts_in written.after }
+
+-- the same of a round
+abbrev pub worked_tabled : Worked Journal → Worked Parts
+worked_tabled result = record {
+  lines = result.lines;
+  packets = result.packets;
+  batches = result.batches;
+  after = parts_in result.after;
+}
+
+-- a table writes as the journal
+abbrev pub TableWrites : Type 0
+TableWrites = (settings : Settings) (parts : Parts) (journal : Journal) (m : ℕ) (events : List Event) → Stands settings parts journal → MayBegin settings m journal events → let by_table = writing table settings parts events in let by_journal = writing of_journal settings journal events in (by_table ≡ writing_tabled by_journal) × Stands settings by_table.after by_journal.after
+
+-- a table that absorbed some of a round's batches stands for the journal after them
+abbrev pub BatchesStand : Type 0
+BatchesStand = (settings : Settings) (parts : Parts) (journal : Journal) (m : ℕ) (events : List Event) (k : ℕ) → Stands settings parts journal → MayBegin settings m journal events → Stands settings (with_entries table parts (joined (take k (writing table settings parts events).batches))) (after_batches settings journal events k)
+
+-- so its decisions are those of the round by that number
+abbrev pub BatchesRule : Type 0
+BatchesRule = (settings : Settings) (parts : Parts) (journal : Journal) (m : ℕ) (events : List Event) (k : ℕ) (frame : Frame) → Stands settings parts journal → MayBegin settings m journal events → let after = with_entries table parts (joined (take k (writing table settings parts events).batches)) in ruling_by settings after frame ≡ ruling settings (all_advanced settings journal events) after.count frame
+
+-- a round that a table works by the rulings of the journal is that of the journal, and then it stands for its journal
+abbrev pub TableRounds : Type 0
+TableRounds = (settings : Settings) (parts : Parts) (journal : Journal) (previous : Option ℕ) (m : ℕ) (frames : List Frame) (ns : List ℕ) → Stands settings parts journal → MayBegin settings m journal (events_after previous frames) → let by_table = worked table settings (closing_moment frames) parts (events_after previous frames) (rulings settings (all_advanced settings journal (events_after previous frames)) ns (data_frames settings frames)) in let by_journal = round settings previous frames journal ns in (by_table.lines ≡ by_journal.lines) × ((by_table.packets ≡ by_journal.packets) × Stands settings by_table.after by_journal.after)

@@ -1,0 +1,178 @@
+-- A round in the order in which it is worked: the writer's side, the data packets beside it, and then the notices.
+use Rattle.std.specs.Prelude.{ℕ, List, [], ◌∷◌, ◌++◌, drop, flat_map, fold, get_or, if◌then◌else◌}
+use Rattle.capture_io.specs.Frame.{Frame}
+use Rattle.lisp_settings.specs.declared.settings.Settings.{Settings}
+use Rattle.playback.specs.Events.{Event, Packet, Tick, Arrival}
+use Rattle.router_log.specs.Moments.{seconds}
+use Rattle.router_log.specs.declared.decision.Decision.{Decision}
+use Rattle.router_log.specs.declared.entry.Entry.{Entry}
+use Rattle.router_log.specs.declared.notice.Notice.{Notice}
+use Rattle.router_model.specs.Changes.{Change, Ledger, each, unchanged}
+use Rattle.router_model.specs.Course.{control}
+use Rattle.router_model.specs.Decide.{decide_by}
+use Rattle.router_model.specs.Hear.{Heard, hear_by}
+use Rattle.router_model.specs.Journal.{Journal}
+use Rattle.router_model.specs.Note.{noted}
+use Rattle.router_model.specs.Parts.{Parts, view_in}
+use Rattle.router_model.specs.Plain.{emit_packets, packet_of, packets_of}
+use Rattle.router_model.specs.Rounds.{Line, Told, decided, line_of}
+use Rattle.router_model.specs.Tick.{ticked}
+
+-- ### the writer's side
+
+-- what comes of an event before any data packet is decided
+pub data Item : Type 0 where
+  -- the packets of a second
+  Second : List Packet → Item
+  -- the line and the packets of a control message
+  Message : Line → List Packet → Item
+  -- a data packet, which is still to be decided
+  Data : Frame → Item
+
+-- the items of events, the entries of each second and control message as one batch, and what stands after them
+pub record Writing (S : Type 0) : Type 0 where
+  pub items : List Item
+  pub batches : List (List Entry)
+  pub after : S
+
+-- nothing was written
+abbrev pub unwritten : {S : Type 0} → S → Writing S
+unwritten state = record { items = []; batches = []; after = state }
+
+-- one, and then another
+abbrev pub then_written : {S : Type 0} → Writing S → Writing S → Writing S
+then_written one next = record {
+  items = one.items ++ next.items;
+  batches = one.batches ++ next.batches;
+  after = next.after;
+}
+
+-- a data packet is left for later
+abbrev pub left_for_later : {S : Type 0} → S → Frame → Writing S
+left_for_later state frame = record { items = Data frame ∷ []; batches = []; after = state }
+
+-- all batches, joined
+abbrev pub joined : List (List Entry) → List Entry
+joined batches = flat_map (λ batch. batch) batches
+
+module _ {S : Type 0} (ledger : Ledger S) where
+  -- entries more, the oldest of them at the head of the list
+  abbrev pub with_entries : S → List Entry → S
+  with_entries state entries = fold ledger.add state entries
+
+module _ {S : Type 0} (ledger : Ledger S) (settings : Settings) where
+  -- a second
+  abbrev pub second_written : ℕ → Change S → Writing S
+  second_written s change = record {
+    items = Second (emit_packets settings (seconds s) change.emits) ∷ [];
+    batches = change.entries ∷ [];
+    after = change.after;
+  }
+
+  -- a control message
+  abbrev pub message_written : ℕ → Frame → Heard S → Writing S
+  message_written n frame heard = record {
+    items = Message (line_of frame n heard.verdict) (emit_packets settings frame.moment heard.change.emits) ∷ [];
+    batches = heard.change.entries ∷ [];
+    after = heard.change.after;
+  }
+
+  -- an event
+  abbrev pub event_written : S → Event → Writing S
+  event_written state (Tick s) = second_written s (ticked ledger settings (seconds s) (unchanged state))
+  event_written state (Arrival frame) =
+      if control settings frame
+      then message_written (ledger.count state) frame (hear_by ledger settings frame.moment frame (unchanged state))
+      else left_for_later state frame
+
+  -- events in order
+  abbrev pub writing : S → List Event → Writing S
+  writing state [] = unwritten state
+  writing state (event ∷ events) =
+      then_written (event_written state event) (writing (event_written state event).after events)
+
+-- ### the data packets
+
+-- what became of a data packet: by how many entries it was decided, and the decision
+pub record Ruling : Type 0 where
+  pub n : ℕ
+  pub decision : Decision
+
+-- a data packet by the first n entries
+abbrev pub ruling : Settings → Journal → ℕ → Frame → Ruling
+ruling settings last n frame = record { n = n; decision = decided settings last n frame }
+
+-- the same by the parts that a table keeps
+abbrev pub ruling_by : Settings → Parts → Frame → Ruling
+ruling_by settings parts frame =
+    record { n = parts.count; decision = decide_by settings (view_in parts frame.moment) frame }
+
+-- data packets in order, each by its number
+abbrev pub rulings : Settings → Journal → List ℕ → List Frame → List Ruling
+rulings settings last ns [] = []
+rulings settings last ns (frame ∷ frames) =
+    ruling settings last (get_or ns 0 0) frame ∷ rulings settings last (drop 1 ns) frames
+
+-- the data packets among items
+abbrev pub data_in : List Item → List Frame
+data_in [] = []
+data_in (Second packets ∷ items) = data_in items
+data_in (Message line packets ∷ items) = data_in items
+data_in (Data frame ∷ items) = frame ∷ data_in items
+
+-- the lines of items in order, with what became of the data packets
+abbrev pub lines_by : List Item → List Ruling → List Line
+lines_by [] ruled = []
+lines_by (Second packets ∷ items) ruled = lines_by items ruled
+lines_by (Message line packets ∷ items) ruled = line ∷ lines_by items ruled
+lines_by (Data frame ∷ items) [] = lines_by items []
+lines_by (Data frame ∷ items) (one ∷ ruled) = line_of frame one.n one.decision.verdict ∷ lines_by items ruled
+
+-- the packets of items in order
+abbrev pub packets_by : List Item → List Ruling → List Packet
+packets_by [] ruled = []
+packets_by (Second packets ∷ items) ruled = packets ++ packets_by items ruled
+packets_by (Message line packets ∷ items) ruled = packets ++ packets_by items ruled
+packets_by (Data frame ∷ items) [] = packets_by items []
+packets_by (Data frame ∷ items) (one ∷ ruled) =
+    packets_of frame.moment (packet_of one.decision.verdict) ++ packets_by items ruled
+
+-- ### the notices
+
+-- those of data packets, in frame order
+abbrev pub notices_of : List Ruling → List Notice
+notices_of ruled = flat_map (λ one. one.decision.notices) ruled
+
+-- all that is told of items
+abbrev pub told_by : List Item → List Ruling → Told
+told_by items ruled =
+    record { lines = lines_by items ruled; packets = packets_by items ruled; notices = notices_of ruled }
+
+-- ### all together
+
+-- the lines and packets of a round, its batches, and what stands after it
+pub record Worked (S : Type 0) : Type 0 where
+  pub lines : List Line
+  pub packets : List Packet
+  pub batches : List (List Entry)
+  pub after : S
+
+module _ {S : Type 0} (ledger : Ledger S) (settings : Settings) where
+  -- the notices are noted together at a moment, as one batch
+  abbrev pub noting : ℕ → S → List Ruling → Change S
+  noting moment state ruled = each (noted ledger settings moment) (notices_of ruled) (unchanged state)
+
+  -- a round by what was written, what became of the data packets, and what their notices changed
+  abbrev pub put_together : ℕ → Writing S → List Ruling → Change S → Worked S
+  put_together moment written ruled change = record {
+    lines = lines_by written.items ruled;
+    packets = packets_by written.items ruled ++ emit_packets settings moment change.emits;
+    batches = written.batches ++ change.entries ∷ [];
+    after = change.after;
+  }
+
+  -- a round of events, whose last frame has that moment, by what became of the data packets
+  abbrev pub worked : ℕ → S → List Event → List Ruling → Worked S
+  worked moment state events ruled =
+      put_together moment (writing ledger settings state events) ruled
+      (noting moment (writing ledger settings state events).after ruled)
