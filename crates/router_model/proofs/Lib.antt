@@ -21,6 +21,7 @@ pub mod ReceivedLemmas
 pub mod ReplayLemmas
 pub mod RequestLemmas
 pub mod RunLemmas
+pub mod ShareLemmas
 pub mod SideLemmas
 pub mod SingleLemmas
 pub mod SortedLemmas

@@ -66,7 +66,7 @@ pub journal-adds : JournalAdds
 journal-adds journal [] = refl
 journal-adds journal (e ∷ entries) = journal-adds (e ∷ journal) entries
 
-extended-more : (journal : Journal) (entries more : List Entry) → extended journal (entries ++ more) ≡ extended (extended journal entries) more
+pub extended-more : (journal : Journal) (entries more : List Entry) → extended journal (entries ++ more) ≡ extended (extended journal entries) more
 extended-more journal [] more = refl
 extended-more journal (e ∷ entries) more = extended-more (e ∷ journal) entries more
 
@@ -120,7 +120,7 @@ sides-meet settings moment journal events ns =
 
 -- ### what is left for later
 
-data-append : (one next : List Item) → data_in (one ++ next) ≡ data_in one ++ data_in next
+pub data-append : (one next : List Item) → data_in (one ++ next) ≡ data_in one ++ data_in next
 data-append [] next = refl
 data-append (Second packets ∷ one) next = data-append one next
 data-append (Message line packets ∷ one) next = data-append one next
@@ -207,10 +207,10 @@ lies-first journal after entries batches n grown is =
     (1, sym is ∙ ap (λ (j : Journal). length j) (grown ∙ ap (extended journal) (sym (append-nil entries))))
 
 module _ (settings : Settings) where
-  tick-grows : (journal : Journal) (s : ℕ) → let change = ticked of_journal settings (seconds s) (unchanged journal) in change.after ≡ extended journal change.entries
+  pub tick-grows : (journal : Journal) (s : ℕ) → let change = ticked of_journal settings (seconds s) (unchanged journal) in change.after ≡ extended journal change.entries
   tick-grows journal s = grown-ticked of_journal settings (seconds s) journal (unchanged journal) refl ∙ journal-adds journal (ticked of_journal settings (seconds s) (unchanged journal)).entries
 
-  message-grows : (journal : Journal) (frame : Frame) → let change = (hear_by of_journal settings frame.moment frame (unchanged journal)).change in change.after ≡ extended journal change.entries
+  pub message-grows : (journal : Journal) (frame : Frame) → let change = (hear_by of_journal settings frame.moment frame (unchanged journal)).change in change.after ≡ extended journal change.entries
   message-grows journal frame = grown-heard of_journal settings frame.moment journal frame (unchanged journal) refl ∙ journal-adds journal (hear_by of_journal settings frame.moment frame (unchanged journal)).change.entries
 
   lengths-lie : (journal : Journal) (events : List Event) (n : ℕ) → Contains (lengths settings journal events) n → Lies journal (writing of_journal settings journal events).batches n

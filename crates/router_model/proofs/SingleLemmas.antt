@@ -2,7 +2,7 @@
 use Rattle.std.proofs.Common.{◌≡◌, ℕ, zero, suc, ◌+◌, ◌-◌, ◌≤◌, ◌<◌, not, Bool, true, false, cond, List, [], ◌∷◌, ◌++◌, drop, filter, flat_map, get_or, length, map, replicate, Option, Some, None, refl, sym, ap, subst, ◌∙◌, inl, inr, arith, append_assoc}
 use Rattle.std.specs.List.{All, Contains, range_with_len}
 use Rattle.std.proofs.lemmas.List.{append-nil, length-replicate}
-use Rattle.std.proofs.lemmas.List.Elements.{All-get_or, All-replicate, Contains-get_or}
+use Rattle.std.proofs.lemmas.List.Elements.{All-head, All-replicate, All-tail, Contains-get_or}
 use Rattle.capture_io.specs.Frame.{Frame}
 use Rattle.lisp_settings.specs.declared.settings.Settings.{Settings}
 use Rattle.playback.specs.Events.{Event, Outcome, Packet, Tick, Arrival, events, events_after, events_of, followed, idle, played, second_of, ticks}
@@ -139,3 +139,86 @@ pub singles-are-plain : SinglesArePlain
 singles-are-plain settings frames ns lawful =
     ap (λ r. rounds_from (started settings) None r ns) (cut-singly frames)
     ∙ all-plain (started settings) None frames ns (subst (λ r. AllLawful (started settings) None r ns) (cut-singly frames) lawful)
+
+-- ### no choice of numbers
+
+alike : (x : ℕ) (ms ns : List ℕ) → All (Contains (x ∷ [])) ms → All (Contains (x ∷ [])) ns → length ms ≡ length ns → ms ≡ ns
+alike x [] [] first next same = refl
+alike x [] (n ∷ ns) first next same = absurd (let bad : ⊥ = omega (arith, same) in bad)
+alike x (m ∷ ms) [] first next same = absurd (let bad : ⊥ = omega (arith, same) in bad)
+alike x (m ∷ ms) (n ∷ ns) first next same =
+    let one = only m (All-head (Contains (x ∷ [])) m ms first) in
+    let other = only n (All-head (Contains (x ∷ [])) n ns next) in
+    ap (λ k. k ∷ ms) (sym one ∙ other)
+    ∙ ap (λ l. n ∷ l) (alike x ms ns (All-tail (Contains (x ∷ [])) m ms first) (All-tail (Contains (x ∷ [])) n ns next) (omega (arith, same)))
+  where
+    only : (k : ℕ) → Contains (x ∷ []) k → x ≡ k
+    only k has = elim (one-of x [] k has) as (λ _. x ≡ k) [ inl is ↦ is | inr more ↦ absurd (none-of k more) ]
+
+empty-list : (ns : List ℕ) → length ns ≡ 0 → ns ≡ []
+empty-list [] none = refl
+empty-list (n ∷ ns) none = absurd (let bad : ⊥ = omega (arith, none) in bad)
+
+module _ (settings : Settings) (frame : Frame) where
+  -- numbers that a round of this frame may have, by its events
+  abbrev MayHave : List Event → Journal → List ℕ → Type 0
+  MayHave events journal ns = All (Contains (ends settings journal events)) ns × (length ns ≡ length (data_frames settings (frame ∷ [])))
+
+  frame-forced : (journal : Journal) (ms ns : List ℕ) → MayHave (Arrival frame ∷ []) journal ms → MayHave (Arrival frame ∷ []) journal ns → ms ≡ ns
+  frame-forced journal ms ns = by (control settings frame)
+    where
+      by : (b : Bool) → let list = length journal ∷ with_if b (length (cond b (hear settings journal frame.moment frame).change.after journal)) [] in let most = length (cond (not b) (frame ∷ []) []) in All (Contains list) ms × (length ms ≡ most) → All (Contains list) ns × (length ns ≡ most) → ms ≡ ns
+      by true one other = empty-list ms one.1 ∙ sym (empty-list ns other.1)
+      by false one other = alike (length journal) ms ns one.0 other.0 (one.1 ∙ sym other.1)
+
+  seconds-forced : (ss : List ℕ) (journal : Journal) (ms ns : List ℕ) → MayHave (behind_seconds ss frame) journal ms → MayHave (behind_seconds ss frame) journal ns → ms ≡ ns
+  seconds-forced [] journal ms ns one other = frame-forced journal ms ns one other
+  seconds-forced (s ∷ ss) journal ms ns one other =
+      seconds-forced ss (tick settings journal s).after ms ns one other
+
+single-forced : (settings : Settings) (previous : Option ℕ) (frame : Frame) (journal : Journal) (ms ns : List ℕ) → AreLawful settings previous (frame ∷ []) journal ms → AreLawful settings previous (frame ∷ []) journal ns → ms ≡ ns
+single-forced settings previous frame journal ms ns one other =
+    let behind = events-behind previous frame in
+    let same : events_after previous (frame ∷ []) ≡ behind_seconds behind.0 frame = events-one previous frame ∙ behind.1 in
+    seconds-forced settings frame behind.0 journal ms ns
+    (subst (λ events. All (Contains (ends settings journal events)) ms) same one.ends, one.each)
+    (subst (λ events. All (Contains (ends settings journal events)) ns) same other.ends, other.each)
+
+some-list : (ns : List (List ℕ)) → 0 < length ns → ns ≡ get_or ns 0 [] ∷ drop 1 ns
+some-list [] some = absurd (let bad : ⊥ = omega (arith, some) in bad)
+some-list (n ∷ ns) some = refl
+
+all-forced : (router : Router Journal) (previous : Option ℕ) (frames : List Frame) (ms ns : List (List ℕ)) → AllLawful router previous (singles frames) ms → AllLawful router previous (singles frames) ns → ms ≡ ns
+all-forced router previous [] ms ns one other = one ∙ sym other
+all-forced router previous (frame ∷ frames) ms ns one other =
+    let first : get_or ms 0 [] ≡ get_or ns 0 [] = single-forced router.settings previous frame router.memory (get_or ms 0 []) (get_or ns 0 []) one.1.0 other.1.0 in
+    some-list ms one.0
+    ∙ ap (λ l. l ∷ drop 1 ms) first
+    ∙ ap (λ l. get_or ns 0 [] ∷ l) (all-forced (after_round router (round router.settings previous (frame ∷ []) router.memory (get_or ns 0 []))).after (Some frame.moment) frames (drop 1 ms) (drop 1 ns)
+    (subst (λ l. AllLawful (after_round router (round router.settings previous (frame ∷ []) router.memory l)).after (Some frame.moment) (singles frames) (drop 1 ms)) first one.1.1) other.1.1)
+    ∙ sym (some-list ns other.0)
+
+pub singles-are-forced : SinglesAreForced
+singles-are-forced settings frames ms ns one other =
+    all-forced (started settings) None frames ms ns
+    (subst (λ r. AllLawful (started settings) None r ms) (cut-singly frames) one)
+    (subst (λ r. AllLawful (started settings) None r ns) (cut-singly frames) other)
+
+-- ### numbers for each round: its first length
+
+ends-some : (settings : Settings) (journal : Journal) (events : List Event) → 0 < length (ends settings journal events)
+ends-some settings journal [] = omega arith
+ends-some settings journal (Tick s ∷ events) = ends-some settings (advanced settings journal (Tick s)) events
+ends-some settings journal (Arrival frame ∷ events) = omega arith
+
+pub numbers-exist : NumbersExist
+numbers-exist router previous [] = ([], refl)
+numbers-exist router previous (frames ∷ others) =
+    let all : List ℕ = ends router.settings router.memory (events_after previous frames) in
+    let few : ℕ = length (data_frames router.settings frames) in
+    let ns : List ℕ = replicate few (get_or all 0 0) in
+    let rest = numbers-exist (after_round router (round router.settings previous frames router.memory ns)).after (Some (closing_moment frames)) others in
+    (ns ∷ rest.0, (omega arith, (record {
+      ends = All-replicate (Contains all) few (get_or all 0 0) (Contains-get_or all 0 0 (ends-some router.settings router.memory (events_after previous frames)));
+      each = length-replicate few (get_or all 0 0);
+    }, rest.1)))

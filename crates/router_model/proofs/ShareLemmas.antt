@@ -1,0 +1,205 @@
+-- Tables in rounds: they write as the journal, and what absorbed some batches decides by the first entries.
+use Rattle.std.proofs.Common.{◌≡◌, ℕ, zero, suc, ◌+◌, ◌-◌, ◌*◌, ◌≤◌, ◌&&◌, not, Bool, true, false, cond, List, [], ◌∷◌, ◌++◌, drop, filter, flat_map, get_or, length, map, take, Option, Some, None, refl, sym, ap, subst, ◌∙◌, arith, append_assoc}
+use Rattle.std.specs.List.{list_all}
+use Rattle.std.proofs.lemmas.List.{drop-append-le, length-append, length-drop}
+use Rattle.capture_io.specs.Frame.{Frame}
+use Rattle.lisp_settings.specs.declared.settings.Settings.{Settings}
+use Rattle.playback.specs.Events.{Event, Tick, Arrival, events_after, events_of, ticks}
+use Rattle.router_log.specs.Moments.{seconds}
+use Rattle.router_log.specs.declared.entry.Entry.{Entry}
+use Rattle.router_log.specs.declared.notice.Notice.{Notice}
+use Rattle.router_model.specs.Changes.{Change, each, journal as of_journal, unchanged}
+use Rattle.router_model.specs.Course.{control}
+use Rattle.router_model.specs.Decide.{decide_by}
+use Rattle.router_model.specs.Hear.{Heard, hear_by}
+use Rattle.router_model.specs.Journal.{Journal, extended, first, last_moment, statics}
+use Rattle.router_model.specs.Lifting.{AreInOrder, AreOctets, HasOctets, Ready, event_moment, heard_tabled, is_sound, tabled}
+use Rattle.router_model.specs.Note.{noted}
+use Rattle.router_model.specs.Parts.{Parts, Stands, parts_in, table, view_in}
+use Rattle.router_model.specs.Proper.{EachFits, IsProper}
+use Rattle.router_model.specs.Rounds.{Round, all_advanced, closing_moment, data_frames, decided, round}
+use Rattle.router_model.specs.Sharing.{BatchesRule, BatchesStand, FirstIsProper, FirstRules, MayBegin, TableRounds, TableWrites, after_batches, told_of, worked_tabled, writing_tabled}
+use Rattle.router_model.specs.Sides.{Item, Ruling, Worked, Writing, data_in, event_written, joined, left_for_later, message_written, noting, notices_of, put_together, ruling, ruling_by, rulings, second_written, then_written, with_entries, worked, writing}
+use Rattle.router_model.specs.Tick.{ticked}
+use Rattle.router_model.specs.View.{view}
+use Rattle.router_model.proofs.FollowLemmas.{requests-few, table-decides}
+use Rattle.router_model.proofs.GrowLemmas.{grown-heard, grown-ticked, with-more}
+use Rattle.router_model.proofs.HearLemmas.{fewer-ready, frames-lift, goes-each}
+use Rattle.router_model.proofs.NoteLemmas.{notes-lift}
+use Rattle.router_model.proofs.NoticeLemmas.{notices-sound}
+use Rattle.router_model.proofs.SideLemmas.{data-append, data-left, extended-more, first-batches, message-grows, on-batches, sides-meet, tick-grows, writing-advances}
+use Rattle.router_model.proofs.SoundLemmas.{frame-sound}
+use Rattle.router_model.proofs.StaticsLemmas.{length-extended}
+use Rattle.router_model.proofs.TickLemmas.{ticks-lift}
+
+-- ### the first entries
+
+fits-drop : (settings : Settings) (before : Journal) (k : ℕ) (entries : List Entry) → EachFits settings before entries → EachFits settings before (drop k entries)
+fits-drop settings before zero entries fit = fit
+fits-drop settings before (suc k) [] fit = tt
+fits-drop settings before (suc k) (e ∷ entries) fit = fits-drop settings before k entries fit.1
+
+pub first-is-proper : FirstIsProper
+first-is-proper settings journal n proper all =
+    let k : ℕ = length journal - n in
+    let long = ap (λ (j : Journal). length j) proper.whole in
+    let both = length-append proper.entries (statics settings) in
+    record {
+      entries = drop k proper.entries;
+      whole = ap (λ (j : Journal). drop k j) proper.whole ∙ drop-append-le k proper.entries (statics settings) (omega (arith, long, both, all));
+      fit = fits-drop settings (statics settings) k proper.entries proper.fit;
+    }
+
+pub first-rules : FirstRules
+first-rules settings parts last n frame stands few =
+    ap (λ k. record { n = k; decision = decide_by settings (view_in parts frame.moment) frame })
+    (ap (λ (p : Parts). p.count) stands.whole ∙ length-drop (length last - n) last ∙ (let same : length last - (length last - n) ≡ n = omega (arith, few) in same))
+    ∙ ap (λ d. record { n = n; decision = d }) (table-decides settings parts (first n last) frame.moment frame stands)
+
+-- ### a table writes as the journal
+
+-- frames of octets
+abbrev AllOctets : List Frame → Type 0
+AllOctets [] = Unit {0}
+AllOctets (frame ∷ frames) = AreOctets frame.octets × AllOctets frames
+
+octets-append : (one next : List Frame) → AllOctets one → AllOctets next → AllOctets (one ++ next)
+octets-append [] next first others = others
+octets-append (frame ∷ one) next first others = (first.0, octets-append one next first.1 others)
+
+-- a table wrote as the journal; there is room for the notices of what was left for later
+record Writes (settings : Settings) (m more : ℕ) (t : Writing Parts) (j : Writing Journal) : Type 0 where
+  same : t ≡ writing_tabled j
+  ready : Ready settings m (more + 5 * length (data_in j.items)) j.after
+  octets : AllOctets (data_in j.items)
+
+module _ (settings : Settings) (more : ℕ) (journal : Journal) where
+  second-writes : (s : ℕ) → Ready settings (seconds s) (more + 2048) journal → Writes settings (seconds s) more (event_written table settings (parts_in journal) (Tick s)) (event_written of_journal settings journal (Tick s))
+  second-writes s ready =
+      let few = requests-few settings journal (seconds s) ready.proper ready.last in
+      let goes = ticks-lift settings (seconds s) more (unchanged journal) (fewer-ready settings (seconds s) (more + 2048) _ journal (omega (arith, few)) ready) in
+      record { same = ap (second_written table settings s) goes.same; ready = fewer-ready settings (seconds s) more (more + 5 * 0) _ (omega arith) goes.ready; octets = tt }
+
+  frame-writes : (frame : Frame) → AreOctets frame.octets → Ready settings frame.moment (more + 2048) journal → Writes settings frame.moment more (event_written table settings (parts_in journal) (Arrival frame)) (event_written of_journal settings journal (Arrival frame))
+  frame-writes frame are ready = by (control settings frame)
+    where
+      by : (b : Bool) → Writes settings frame.moment more (cond b (message_written table settings (length journal) frame (hear_by table settings frame.moment frame (unchanged (parts_in journal)))) (left_for_later (parts_in journal) frame)) (cond b (message_written of_journal settings (length journal) frame (hear_by of_journal settings frame.moment frame (unchanged journal))) (left_for_later journal frame))
+      by true =
+          let hears = frames-lift settings frame.moment more 256 frame (unchanged journal) (frame-sound settings frame are) (fewer-ready settings frame.moment (more + 2048) (more + 256) journal (omega arith) ready) in
+          record { same = ap (message_written table settings (length journal) frame) hears.same; ready = fewer-ready settings frame.moment more (more + 5 * 0) _ (omega arith) hears.ready; octets = tt }
+      by false = record { same = refl; ready = fewer-ready settings frame.moment (more + 2048) (more + 5 * 1) journal (omega arith) ready; octets = (are, tt) }
+
+  event-writes : (event : Event) → HasOctets event → Ready settings (event_moment event) (more + 2048) journal → Writes settings (event_moment event) more (event_written table settings (parts_in journal) event) (event_written of_journal settings journal event)
+  event-writes (Tick s) are ready = second-writes s ready
+  event-writes (Arrival frame) are ready = frame-writes frame are ready
+
+-- the moment of the last of events, from a moment on
+abbrev latest : ℕ → List Event → ℕ
+latest m [] = m
+latest m (event ∷ events) = latest (event_moment event) events
+
+-- at a later moment
+later-ready : (settings : Settings) (m later more fewer : ℕ) (journal : Journal) → m ≤ later → fewer ≤ more → Ready settings m more journal → Ready settings later fewer journal
+later-ready settings m later more fewer journal less few ready = record {
+  proper = ready.proper;
+  last = (let last = ready.last in omega (arith, last, less));
+  room = (let room = ready.room in omega (arith, room, few));
+}
+
+all-writes : (settings : Settings) (more m : ℕ) (events : List Event) (journal : Journal) → AreInOrder m events → Ready settings m (more + 2048 * length events) journal → Writes settings (latest m events) more (writing table settings (parts_in journal) events) (writing of_journal settings journal events)
+all-writes settings more m [] journal order ready = record { same = refl; ready = ready; octets = tt }
+all-writes settings more m (event ∷ events) journal order ready =
+    let one = event-writes settings (more + 2048 * length events) journal event order.1.0 (later-ready settings m (event_moment event) (more + 2048 * suc (length events)) ((more + 2048 * length events) + 2048) journal order.0 (omega arith) ready) in
+    let j : Writing Journal = event_written of_journal settings journal event in
+    let next : Writing Journal = writing of_journal settings j.after events in
+    let left : ℕ = length (data_in j.items) in
+    let rest = all-writes settings (more + 5 * left) (event_moment event) events j.after order.1.1 (fewer-ready settings (event_moment event) ((more + 2048 * length events) + 5 * left) ((more + 5 * left) + 2048 * length events) j.after (omega arith) one.ready) in
+    let long = ap (λ (l : List Frame). length l) (data-append j.items next.items) ∙ length-append (data_in j.items) (data_in next.items) in
+    record {
+      same =
+        ap (λ (t : Writing Parts). then_written t (writing table settings t.after events)) one.same
+        ∙ ap (then_written (writing_tabled j)) rest.same;
+      ready = fewer-ready settings (latest (event_moment event) events) ((more + 5 * left) + 5 * length (data_in next.items)) (more + 5 * length (data_in (j.items ++ next.items))) next.after (omega (arith, long)) rest.ready;
+      octets = subst AllOctets (sym (data-append j.items next.items)) (octets-append (data_in j.items) (data_in next.items) one.octets rest.octets);
+    }
+
+may-write : (settings : Settings) (m : ℕ) (journal : Journal) (events : List Event) → MayBegin settings m journal events → Ready settings m (0 + 2048 * length events) journal
+may-write settings m journal events may = record { proper = may.proper; last = may.last; room = (let room = may.room in omega (arith, room)) }
+
+pub table-writes : TableWrites
+table-writes settings parts journal m events stands may =
+    subst (λ p. (writing table settings p events ≡ writing_tabled (writing of_journal settings journal events)) × Stands settings (writing table settings p events).after (writing of_journal settings journal events).after) (sym stands.whole)
+    (let writes = all-writes settings 0 m events journal may.order (may-write settings m journal events may) in
+    (writes.same, record { proper = writes.ready.proper; whole = ap (λ (t : Writing Parts). t.after) writes.same }))
+
+-- ### a table with some of the batches
+
+-- a table that absorbed batches stands for the journal with them
+record Stood (settings : Settings) (journal : Journal) (batches : List (List Entry)) : Type 0 where
+  same : with_entries table (parts_in journal) (joined batches) ≡ parts_in (extended journal (joined batches))
+  proper : IsProper settings (extended journal (joined batches))
+
+stood-on : (settings : Settings) (journal after : Journal) (entries : List Entry) (batches : List (List Entry)) → with_entries table (parts_in journal) entries ≡ parts_in after → after ≡ extended journal entries → Stood settings after batches → Stood settings journal (entries ∷ batches)
+stood-on settings journal after entries batches absorbed grown stood =
+    let on : extended journal (entries ++ joined batches) ≡ extended after (joined batches) = extended-more journal entries (joined batches) ∙ ap (λ j. extended j (joined batches)) (sym grown) in
+    record {
+      same =
+        with-more table (parts_in journal) entries (joined batches)
+        ∙ ap (λ p. with_entries table p (joined batches)) absorbed
+        ∙ stood.same
+        ∙ ap parts_in (sym on);
+      proper = subst (IsProper settings) (sym on) stood.proper;
+    }
+
+module _ (settings : Settings) where
+  -- the entries of a change that a table makes are absorbed
+  absorbed-by : (journal : Journal) (t : Change Parts) (j : Change Journal) → t ≡ tabled j → t.after ≡ with_entries table (parts_in journal) t.entries → with_entries table (parts_in journal) j.entries ≡ parts_in j.after
+  absorbed-by journal t j same grown =
+      ap (λ (c : Change Parts). with_entries table (parts_in journal) c.entries) (sym same) ∙ sym grown ∙ ap (λ (c : Change Parts). c.after) same
+
+  batches-stood : (m k : ℕ) (events : List Event) (journal : Journal) → AreInOrder m events → Ready settings m (0 + 2048 * length events) journal → Stood settings journal (take k (writing of_journal settings journal events).batches)
+  batches-stood m zero events journal order ready = record { same = refl; proper = ready.proper }
+  batches-stood m (suc k) [] journal order ready = record { same = refl; proper = ready.proper }
+  batches-stood m (suc k) (Tick s ∷ events) journal order ready =
+      let now = later-ready settings m (seconds s) (0 + 2048 * suc (length events)) ((0 + 2048 * length events) + 2048) journal order.0 (omega arith) ready in
+      let few = requests-few settings journal (seconds s) now.proper now.last in
+      let goes = ticks-lift settings (seconds s) (0 + 2048 * length events) (unchanged journal) (fewer-ready settings (seconds s) ((0 + 2048 * length events) + 2048) _ journal (omega (arith, few)) now) in
+      let change : Change Journal = ticked of_journal settings (seconds s) (unchanged journal) in
+      stood-on settings journal change.after change.entries (take k (writing of_journal settings change.after events).batches)
+      (absorbed-by journal (ticked table settings (seconds s) (unchanged (parts_in journal))) change goes.same (grown-ticked table settings (seconds s) (parts_in journal) (unchanged (parts_in journal)) refl))
+      (tick-grows settings journal s)
+      (batches-stood (seconds s) k events change.after order.1.1 goes.ready)
+  batches-stood m (suc k) (Arrival frame ∷ events) journal order ready =
+      let now = later-ready settings m frame.moment (0 + 2048 * suc (length events)) ((0 + 2048 * length events) + 256) journal order.0 (omega arith) ready in
+      let change : Change Journal = (hear_by of_journal settings frame.moment frame (unchanged journal)).change in
+      let hears = frames-lift settings frame.moment (0 + 2048 * length events) 256 frame (unchanged journal) (frame-sound settings frame order.1.0) now in
+      by (control settings frame)
+      (stood-on settings journal change.after change.entries (take k (writing of_journal settings change.after events).batches)
+      (absorbed-by journal (hear_by table settings frame.moment frame (unchanged (parts_in journal))).change change (ap (λ (h : Heard Parts). h.change) hears.same) (grown-heard table settings frame.moment (parts_in journal) frame (unchanged (parts_in journal)) refl))
+      (message-grows settings journal frame)
+      (batches-stood frame.moment k events change.after order.1.1 hears.ready))
+      (batches-stood frame.moment (suc k) events journal order.1.1 (fewer-ready settings frame.moment ((0 + 2048 * length events) + 256) (0 + 2048 * length events) journal (omega arith) now))
+    where
+      by : (b : Bool) → Stood settings journal ((hear_by of_journal settings frame.moment frame (unchanged journal)).change.entries ∷ take k (writing of_journal settings (hear_by of_journal settings frame.moment frame (unchanged journal)).change.after events).batches) → Stood settings journal (take (suc k) (writing of_journal settings journal events).batches) → let written = cond b (message_written of_journal settings (length journal) frame (hear_by of_journal settings frame.moment frame (unchanged journal))) (left_for_later journal frame) in Stood settings journal (take (suc k) (written.batches ++ (writing of_journal settings written.after events).batches))
+      by true heard left = heard
+      by false heard left = left
+
+pub batches-stand : BatchesStand
+batches-stand settings parts journal m events k stands may =
+    let writes = table-writes settings parts journal m events stands may in
+    let stood = batches-stood settings m k events journal may.order (may-write settings m journal events may) in
+    subst (λ batches. Stands settings (with_entries table parts (joined (take k batches))) (after_batches settings journal events k)) (sym (ap (λ (t : Writing Parts). t.batches) writes.0))
+    (subst (λ p. Stands settings (with_entries table p (joined (take k (writing of_journal settings journal events).batches))) (after_batches settings journal events k)) (sym stands.whole)
+    (record { proper = stood.proper; whole = stood.same }))
+
+pub batches-rule : BatchesRule
+batches-rule settings parts journal m events k frame stands may =
+    let after : Parts = with_entries table parts (joined (take k (writing table settings parts events).batches)) in
+    let now : Journal = after_batches settings journal events k in
+    let last : Journal = all_advanced settings journal events in
+    let stood : Stands settings after now = batches-stand settings parts journal m events k stands may in
+    let count : after.count ≡ length now = ap (λ (p : Parts). p.count) stood.whole in
+    let long = ap (λ (j : Journal). length j) (on-batches settings journal events k) ∙ length-extended now (joined (drop k (writing of_journal settings journal events).batches)) in
+    first-rules settings after last after.count frame
+    (subst (Stands settings after) (sym (ap (λ n. first n last) count ∙ first-batches settings journal events k)) stood)
+    (omega (arith, count, long))
