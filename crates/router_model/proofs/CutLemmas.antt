@@ -1,9 +1,9 @@
 -- The frames of a capture, cut into rounds.
-use Rattle.std.proofs.Common.{◌≡◌, ℕ, suc, ◌+◌, ◌≤◌, ◌<◌, ◌||◌, nat_le, nat_lt, Bool, true, false, cond, List, [], ◌∷◌, ◌++◌, length, map, refl, ap, ◌∙◌, arith}
+use Rattle.std.proofs.Common.{◌≡◌, ℕ, ◌+◌, ◌≤◌, ◌<◌, ◌||◌, nat_le, nat_lt, Bool, true, false, cond, List, [], ◌∷◌, length, refl, ap, ◌∙◌, arith}
 use Rattle.std.specs.List.{flat_map}
 use Rattle.std.proofs.lemmas.Bool.Decides.{nat_tests}
 use Rattle.capture_io.specs.Frame.{Frame}
-use Rattle.router_model.specs.Cut.{AreShort, AreWithin, Filling, StaysOpen, behind, cut_on, empty, in_front, is_full, octets_of, with_frame, with_frames}
+use Rattle.router_model.specs.Cut.{AreShort, AreWithin, Filling, behind, cut_on, empty, in_front, is_full, octets_of, with_frame}
 use Rattle.router_model.specs.Sharing.{CutKeeps, CutSingly, CutWithin, LastRoundCloses, RoundCloses, RoundStaysOpen}
 
 front-keeps : (b : Bool) (frame : Frame) (rounds : List (List Frame)) → flat_map (λ frames. frames) (in_front b frame rounds) ≡ frame ∷ flat_map (λ frames. frames) rounds

@@ -21,13 +21,12 @@ use Rattle.router_log.specs.declared.entry.Entry.{Entry}
 use Rattle.router_log.specs.declared.entry.Entry.TheVariants as entry
 use Rattle.router_log.specs.declared.notice.Notice.{Notice}
 use Rattle.router_log.specs.declared.notice.Notice.TheVariants as notice
-use Rattle.router_log.specs.declared.verdict.Reason.TheVariants.{Foreign, NoReplyPath, NotOurs, NotTunnel, Unexpected, Unfit, Unsolicited}
-use Rattle.router_log.specs.declared.verdict.Reason.TheVariants as reason
-use Rattle.router_model.specs.Changes.{Change, Ledger, asked, each, entered, has_room, may_ask, next_nonce, seen, unchanged}
+use Rattle.router_log.specs.declared.verdict.Reason.TheVariants.{Foreign, NotOurs, Unfit}
+use Rattle.router_model.specs.Changes.{Change, Ledger, asked, each, entered, has_room, may_ask, next_nonce, seen}
 use Rattle.router_model.specs.Course.{Course, Settled, Data, Control, Leaving, Datagram, course_of}
-use Rattle.router_model.specs.Hear.{Asker, Heard, Path, Range, Route, answered, answering, asked_again, carried, counted, course_heard, datagram_heard, drops, hear_by, is_asked_for, is_fit, is_static, message_heard, payload_heard, probe_replied, ranges_of, read_heard, renewable, renewed, replied, replied_to, reply_heard, reply_of, reply_path, requested, shortened, takes, tallied, taught, unless_refused}
+use Rattle.router_model.specs.Hear.{Asker, Heard, Path, Range, Route, answered, answering, asked_again, carried, counted, course_heard, datagram_heard, drops, hear_by, is_asked_for, is_fit, is_static, message_heard, payload_heard, probe_replied, ranges_of, read_heard, renewable, renewed, replied, replied_to, reply_heard, reply_of, reply_path, requested, shortened, tallied, taught, unless_refused}
 use Rattle.router_model.specs.Mappings.{exact, force}
-use Rattle.router_model.specs.Note.{is_echo, is_learnt, is_missing, is_news, noted, solicited}
+use Rattle.router_model.specs.Note.{is_echo, is_learnt, is_missing, is_news, noted}
 use Rattle.router_model.specs.Received.{message_in}
 use Rattle.router_model.specs.Sides.{with_entries}
 use Rattle.router_model.specs.Site.{ours}

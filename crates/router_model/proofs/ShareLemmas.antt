@@ -1,5 +1,5 @@
 -- Tables in rounds: they write as the journal, and what absorbed some batches decides by the first entries.
-use Rattle.std.proofs.Common.{◌≡◌, ℕ, zero, suc, ◌+◌, ◌-◌, ◌*◌, ◌≤◌, ◌&&◌, not, Bool, true, false, cond, List, [], ◌∷◌, ◌++◌, drop, filter, flat_map, get_or, length, map, take, Option, Some, None, refl, sym, ap, subst, ◌∙◌, arith, append_assoc}
+use Rattle.std.proofs.Common.{◌≡◌, ℕ, zero, suc, ◌+◌, ◌-◌, ◌*◌, ◌≤◌, Bool, true, false, cond, List, [], ◌∷◌, ◌++◌, drop, get_or, length, take, Option, Some, refl, sym, ap, subst, ◌∙◌, arith}
 use Rattle.std.specs.List.{list_all}
 use Rattle.std.proofs.lemmas.List.{drop-append-le, length-append, length-drop}
 use Rattle.capture_io.specs.Frame.{Frame}
@@ -8,18 +8,18 @@ use Rattle.playback.specs.Events.{Event, Tick, Arrival, events_after, events_of,
 use Rattle.router_log.specs.Moments.{seconds}
 use Rattle.router_log.specs.declared.entry.Entry.{Entry}
 use Rattle.router_log.specs.declared.notice.Notice.{Notice}
-use Rattle.router_model.specs.Changes.{Change, each, journal as of_journal, unchanged}
+use Rattle.router_model.specs.Changes.{Change, journal as of_journal, unchanged}
 use Rattle.router_model.specs.Course.{control}
 use Rattle.router_model.specs.Decide.{decide_by}
 use Rattle.router_model.specs.Hear.{Heard, hear_by}
-use Rattle.router_model.specs.Journal.{Journal, extended, first, last_moment, statics}
-use Rattle.router_model.specs.Lifting.{AreInOrder, AreOctets, HasOctets, Ready, event_moment, heard_tabled, is_sound, tabled}
+use Rattle.router_model.specs.Journal.{Journal, extended, first, statics}
+use Rattle.router_model.specs.Lifting.{AreInOrder, AreOctets, HasOctets, Ready, event_moment, is_sound, tabled}
 use Rattle.router_model.specs.Note.{noted}
 use Rattle.router_model.specs.Parts.{Parts, Stands, parts_in, table, view_in}
 use Rattle.router_model.specs.Proper.{EachFits, IsProper}
-use Rattle.router_model.specs.Rounds.{Round, all_advanced, closing_moment, data_frames, decided, round}
-use Rattle.router_model.specs.Sharing.{BatchesRule, BatchesStand, FirstIsProper, FirstRules, MayBegin, TableRounds, TableWrites, after_batches, told_of, worked_tabled, writing_tabled}
-use Rattle.router_model.specs.Sides.{Item, Ruling, Worked, Writing, data_in, event_written, joined, left_for_later, message_written, noting, notices_of, put_together, ruling, ruling_by, rulings, second_written, then_written, with_entries, worked, writing}
+use Rattle.router_model.specs.Rounds.{Round, all_advanced, closing_moment, data_frames, decided}
+use Rattle.router_model.specs.Sharing.{BatchesRule, BatchesStand, FirstIsProper, FirstRules, MayBegin, TableRounds, TableWrites, after_batches, worked_tabled, writing_tabled}
+use Rattle.router_model.specs.Sides.{Ruling, Worked, Writing, data_in, event_written, joined, left_for_later, message_written, noting, notices_of, put_together, rulings, second_written, then_written, with_entries, worked, writing}
 use Rattle.router_model.specs.Tick.{ticked}
 use Rattle.router_model.specs.View.{view}
 use Rattle.router_model.proofs.FollowLemmas.{requests-few, table-decides}
@@ -27,6 +27,7 @@ use Rattle.router_model.proofs.GrowLemmas.{grown-heard, grown-ticked, with-more}
 use Rattle.router_model.proofs.HearLemmas.{fewer-ready, frames-lift, goes-each}
 use Rattle.router_model.proofs.NoteLemmas.{notes-lift}
 use Rattle.router_model.proofs.NoticeLemmas.{notices-sound}
+use Rattle.router_model.proofs.PartsLemmas.{and_both}
 use Rattle.router_model.proofs.SideLemmas.{data-append, data-left, extended-more, first-batches, message-grows, on-batches, sides-meet, tick-grows, writing-advances}
 use Rattle.router_model.proofs.SoundLemmas.{frame-sound}
 use Rattle.router_model.proofs.StaticsLemmas.{length-extended}
@@ -117,8 +118,8 @@ all-writes settings more m (event ∷ events) journal order ready =
     let long = ap (λ (l : List Frame). length l) (data-append j.items next.items) ∙ length-append (data_in j.items) (data_in next.items) in
     record {
       same =
-        ap (λ (t : Writing Parts). then_written t (writing table settings t.after events)) one.same
-        ∙ ap (then_written (writing_tabled j)) rest.same;
+          ap (λ (t : Writing Parts). then_written t (writing table settings t.after events)) one.same
+          ∙ ap (then_written (writing_tabled j)) rest.same;
       ready = fewer-ready settings (latest (event_moment event) events) ((more + 5 * left) + 5 * length (data_in next.items)) (more + 5 * length (data_in (j.items ++ next.items))) next.after (omega (arith, long)) rest.ready;
       octets = subst AllOctets (sym (data-append j.items next.items)) (octets-append (data_in j.items) (data_in next.items) one.octets rest.octets);
     }
@@ -144,10 +145,10 @@ stood-on settings journal after entries batches absorbed grown stood =
     let on : extended journal (entries ++ joined batches) ≡ extended after (joined batches) = extended-more journal entries (joined batches) ∙ ap (λ j. extended j (joined batches)) (sym grown) in
     record {
       same =
-        with-more table (parts_in journal) entries (joined batches)
-        ∙ ap (λ p. with_entries table p (joined batches)) absorbed
-        ∙ stood.same
-        ∙ ap parts_in (sym on);
+          with-more table (parts_in journal) entries (joined batches)
+          ∙ ap (λ p. with_entries table p (joined batches)) absorbed
+          ∙ stood.same
+          ∙ ap parts_in (sym on);
       proper = subst (IsProper settings) (sym on) stood.proper;
     }
 
@@ -203,3 +204,81 @@ batches-rule settings parts journal m events k frame stands may =
     first-rules settings after last after.count frame
     (subst (Stands settings after) (sym (ap (λ n. first n last) count ∙ first-batches settings journal events k)) stood)
     (omega (arith, count, long))
+
+-- ### a whole round
+
+all-pass : {A : Type 0} (test : A → Bool) (one next : List A) → list_all test one ≡ true → list_all test next ≡ true → list_all test (one ++ next) ≡ true
+all-pass test [] next first others = others
+all-pass test (a ∷ one) next first others =
+    let parts = and_both (test a) (list_all test one) first in
+    rw (parts.0, all-pass test one next parts.1 others) refl
+
+-- the notices of decisions on frames of octets are sound, and at most five of each
+abbrev FewSound : ℕ → List Notice → Type 0
+FewSound frames notices = (list_all is_sound notices ≡ true) × (length notices ≤ 5 * frames)
+
+rulings-sound : (settings : Settings) (last : Journal) (ns : List ℕ) (frames : List Frame) → AllOctets frames → FewSound (length frames) (notices_of (rulings settings last ns frames))
+rulings-sound settings last ns [] are = (refl, omega arith)
+rulings-sound settings last ns (frame ∷ frames) are =
+    let one = notices-sound settings (view (first (get_or ns 0 0) last) frame.moment) frame are.0 in
+    let rest = rulings-sound settings last (drop 1 ns) frames are.1 in
+    let decision = decided settings last (get_or ns 0 0) frame in
+    let others = notices_of (rulings settings last (drop 1 ns) frames) in
+    let long = length-append decision.notices others in
+    let few = one.1 in
+    let rest_few = rest.1 in
+    (all-pass is_sound decision.notices others one.0 rest.0, omega (arith, long, few, rest_few))
+
+latest-append : (m : ℕ) (one next : List Event) → latest m (one ++ next) ≡ latest (latest m one) next
+latest-append m [] next = refl
+latest-append m (event ∷ one) next = latest-append (event_moment event) one next
+
+latest-closing : (m : ℕ) (previous : Option ℕ) (frame : Frame) (frames : List Frame) → latest m (events_after previous (frame ∷ frames)) ≡ closing_moment (frame ∷ frames)
+latest-closing m previous frame [] =
+    latest-append m (events_of previous frame) [] ∙ latest-append m (ticks previous frame.moment) (Arrival frame ∷ [])
+latest-closing m previous frame (next ∷ frames) =
+    latest-append m (events_of previous frame) (events_after (Some frame.moment) (next ∷ frames))
+    ∙ latest-closing (latest m (events_of previous frame)) (Some frame.moment) next frames
+
+-- a round by tables that decide as the journal
+module _ (settings : Settings) (journal : Journal) (events : List Event) (ns : List ℕ) where
+  abbrev by_journal : ℕ → Worked Journal
+  by_journal moment = let written = writing of_journal settings journal events in worked of_journal settings moment journal events (rulings settings written.after ns (data_in written.items))
+
+  abbrev by_table : ℕ → Worked Parts
+  by_table moment = let written = writing of_journal settings journal events in worked table settings moment (parts_in journal) events (rulings settings written.after ns (data_in written.items))
+
+  events-share : (m : ℕ) → MayBegin settings m journal events → (by_table (latest m events) ≡ worked_tabled (by_journal (latest m events))) × IsProper settings (by_journal (latest m events)).after
+  events-share m may =
+      let writes = all-writes settings 0 m events journal may.order (may-write settings m journal events may) in
+      let written : Writing Journal = writing of_journal settings journal events in
+      let ruled : List Ruling = rulings settings written.after ns (data_in written.items) in
+      let sound = rulings-sound settings written.after ns (data_in written.items) writes.octets in
+      let moment : ℕ = latest m events in
+      let few = sound.1 in
+      let goes =
+      goes-each settings moment (noted table settings moment) (noted of_journal settings moment) is_sound (λ more n change pass ready. notes-lift settings moment more n change pass ready) (notices_of ruled) sound.0 0 (unchanged (parts_in written.after)) (unchanged written.after)
+      (record { same = refl; ready = fewer-ready settings moment (0 + 5 * length (data_in written.items)) (0 + length (notices_of ruled)) written.after (omega (arith, few)) writes.ready }) in (
+        ap (λ (t : Writing Parts). put_together table settings moment t ruled (noting table settings moment t.after ruled)) writes.same
+            ∙ ap (put_together table settings moment (writing_tabled written) ruled) goes.same,
+        goes.ready.proper,
+      )
+
+pub table-rounds : TableRounds
+table-rounds settings parts journal previous m [] ns stands may = (refl, (refl, stands))
+table-rounds settings parts journal previous m (frame ∷ frames) ns stands may =
+    let events : List Event = events_after previous (frame ∷ frames) in
+    let closing : ℕ = closing_moment (frame ∷ frames) in
+    let written : Writing Journal = writing of_journal settings journal events in
+    let ruled : List Ruling = rulings settings (all_advanced settings journal events) ns (data_frames settings (frame ∷ frames)) in
+    let same_ruled : rulings settings written.after ns (data_in written.items) ≡ ruled = ap (λ j. rulings settings j ns (data_in written.items)) (writing-advances settings journal events) ∙ ap (rulings settings (all_advanced settings journal events) ns) (data-left of_journal settings previous (frame ∷ frames) journal) in
+    let shares = subst (λ t. (by_table settings journal events ns t ≡ worked_tabled (by_journal settings journal events ns t)) × IsProper settings (by_journal settings journal events ns t).after) (latest-closing m previous frame frames) (events-share settings journal events ns m may) in
+    let whole : worked table settings closing parts events ruled ≡ worked_tabled (by_journal settings journal events ns closing) = ap (λ p. worked table settings closing p events ruled) stands.whole ∙ ap (worked table settings closing (parts_in journal) events) (sym same_ruled) ∙ shares.0 in
+    let meet = sides-meet settings closing journal events ns in (
+      ap (λ (w : Worked Parts). w.lines) whole ∙ sym (ap (λ (r : Round). r.lines) meet),
+      (
+        ap (λ (w : Worked Parts). w.packets) whole ∙ sym (ap (λ (r : Round). r.packets) meet),
+        subst (Stands settings (worked table settings closing parts events ruled).after) (sym (ap (λ (r : Round). r.after) meet))
+            (record { proper = shares.1; whole = ap (λ (w : Worked Parts). w.after) whole }),
+      ),
+    )

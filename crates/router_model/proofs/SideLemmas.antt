@@ -1,22 +1,21 @@
 -- The writer's side of a round, the data packets beside it and the notices after it are the round.
-use Rattle.std.proofs.Common.{◌≡◌, ℕ, zero, suc, ◌+◌, ◌-◌, ◌≤◌, ◌<◌, not, Bool, true, false, cond, List, [], ◌∷◌, ◌++◌, drop, filter, flat_map, get_or, length, map, take, Option, Some, None, refl, sym, ap, subst, ◌∙◌, ◌⊎◌, inl, inr, arith, append_assoc}
+use Rattle.std.proofs.Common.{◌≡◌, ℕ, zero, suc, ◌+◌, ◌-◌, ◌<◌, not, Bool, true, false, cond, List, [], ◌∷◌, ◌++◌, drop, filter, get_or, length, map, take, Option, Some, None, refl, sym, ap, subst, ◌∙◌, ◌⊎◌, inl, inr, arith, append_assoc}
 use Rattle.std.specs.List.{Contains, range_with_len}
-use Rattle.std.proofs.lemmas.List.{append-nil, length-append, take-append-drop, drop-drop}
+use Rattle.std.proofs.lemmas.List.{append-nil, take-append-drop, drop-drop}
 use Rattle.std.proofs.lemmas.List.Concat.{flat_map-append}
 use Rattle.capture_io.specs.Frame.{Frame}
 use Rattle.lisp_settings.specs.declared.settings.Settings.{Settings}
 use Rattle.playback.specs.Events.{Event, Tick, Arrival, events_after, second_of, ticks}
 use Rattle.router_log.specs.Moments.{seconds}
 use Rattle.router_log.specs.declared.entry.Entry.{Entry}
-use Rattle.router_log.specs.declared.notice.Notice.{Notice}
 use Rattle.router_model.specs.Changes.{Change, Ledger, each, journal as of_journal, unchanged}
 use Rattle.router_model.specs.Course.{control}
 use Rattle.router_model.specs.Hear.{hear_by}
 use Rattle.router_model.specs.Journal.{Journal, extended, first}
 use Rattle.router_model.specs.Note.{noted}
-use Rattle.router_model.specs.Rounds.{Told, advanced, all_advanced, and_then, data_frames, decided, ends, extends, lengths, of_data, of_event, of_events, of_message, of_second, with_if, with_notices}
-use Rattle.router_model.specs.Sharing.{DataAreLeft, EndsAreBatches, FirstOfMore, JournalAdds, SidesMeet, WorkedAdds, WritingAdds, WritingAdvances, after_batches, told_of}
-use Rattle.router_model.specs.Sides.{Item, Second, Message, Data, Ruling, Writing, data_in, event_written, joined, left_for_later, lines_by, message_written, notices_of, packets_by, ruling, rulings, second_written, then_written, told_by, with_entries, writing}
+use Rattle.router_model.specs.Rounds.{advanced, all_advanced, and_then, data_frames, decided, ends, lengths, of_data, of_events, of_message, of_second, with_if, with_notices}
+use Rattle.router_model.specs.Sharing.{DataAreLeft, EndsAreBatches, FirstOfMore, JournalAdds, SidesMeet, WritingAdvances, after_batches}
+use Rattle.router_model.specs.Sides.{Item, Second, Message, Data, Ruling, Writing, data_in, event_written, joined, left_for_later, message_written, notices_of, rulings, told_by, with_entries, writing}
 use Rattle.router_model.specs.Tick.{ticked}
 use Rattle.router_model.proofs.GrowLemmas.{grown-each, grown-heard, grown-noted, grown-ticked, with-more}
 use Rattle.router_model.proofs.StaticsLemmas.{length-extended}
@@ -218,9 +217,10 @@ module _ (settings : Settings) where
   lengths-lie journal (Tick s ∷ events) n has =
       let change : Change Journal = ticked of_journal settings (seconds s) (unchanged journal) in
       let batches : List (List Entry) = (writing of_journal settings change.after events).batches in
-      elim (one-of (length change.after) (lengths settings change.after events) n has) as (λ _. Lies journal (change.entries ∷ batches) n)
-      [ inl is ↦ lies-first journal change.after change.entries batches n (tick-grows journal s) is
-      | inr more ↦ lies-on journal change.after change.entries batches n (tick-grows journal s) (lengths-lie change.after events n more) ]
+      elim (one-of (length change.after) (lengths settings change.after events) n has) as (λ _. Lies journal (change.entries ∷ batches) n) [
+        | inl is ↦ lies-first journal change.after change.entries batches n (tick-grows journal s) is
+        | inr more ↦ lies-on journal change.after change.entries batches n (tick-grows journal s) (lengths-lie change.after events n more)
+      ]
   lengths-lie journal (Arrival frame ∷ events) n has =
       by (control settings frame) has (lengths-lie (hear_by of_journal settings frame.moment frame (unchanged journal)).change.after events n) (lengths-lie journal events n)
     where
@@ -228,9 +228,10 @@ module _ (settings : Settings) where
       by true has heard left =
           let change : Change Journal = (hear_by of_journal settings frame.moment frame (unchanged journal)).change in
           let batches : List (List Entry) = (writing of_journal settings change.after events).batches in
-          elim (one-of (length change.after) (lengths settings change.after events) n has) as (λ _. Lies journal (change.entries ∷ batches) n)
-          [ inl is ↦ lies-first journal change.after change.entries batches n (message-grows journal frame) is
-          | inr more ↦ lies-on journal change.after change.entries batches n (message-grows journal frame) (heard more) ]
+          elim (one-of (length change.after) (lengths settings change.after events) n has) as (λ _. Lies journal (change.entries ∷ batches) n) [
+            | inl is ↦ lies-first journal change.after change.entries batches n (message-grows journal frame) is
+            | inr more ↦ lies-on journal change.after change.entries batches n (message-grows journal frame) (heard more)
+          ]
       by false has heard left = left has
 
   ends-lie : (journal : Journal) (events : List Event) (n : ℕ) → Contains (ends settings journal events) n → Lies journal (writing of_journal settings journal events).batches n

@@ -1,24 +1,23 @@
 -- With rounds of one frame the router with forwarders is the plain one.
-use Rattle.std.proofs.Common.{◌≡◌, ℕ, zero, suc, ◌+◌, ◌-◌, ◌≤◌, ◌<◌, not, Bool, true, false, cond, List, [], ◌∷◌, ◌++◌, drop, filter, flat_map, get_or, length, map, replicate, Option, Some, None, refl, sym, ap, subst, ◌∙◌, inl, inr, arith, append_assoc}
+use Rattle.std.proofs.Common.{◌≡◌, ℕ, suc, ◌-◌, ◌<◌, not, Bool, true, false, cond, List, [], ◌∷◌, ◌++◌, drop, get_or, length, map, replicate, Option, Some, None, refl, sym, ap, subst, ◌∙◌, inl, inr, arith, append_assoc}
 use Rattle.std.specs.List.{All, Contains, range_with_len}
 use Rattle.std.proofs.lemmas.List.{append-nil, length-replicate}
 use Rattle.std.proofs.lemmas.List.Elements.{All-head, All-replicate, All-tail, Contains-get_or}
 use Rattle.capture_io.specs.Frame.{Frame}
 use Rattle.lisp_settings.specs.declared.settings.Settings.{Settings}
-use Rattle.playback.specs.Events.{Event, Outcome, Packet, Tick, Arrival, events, events_after, events_of, followed, idle, played, second_of, ticks}
+use Rattle.playback.specs.Events.{Event, Outcome, Packet, Tick, Arrival, events, events_after, events_of, followed, idle, played, second_of}
 use Rattle.playback.proofs.EventLemmas.{played-append}
 use Rattle.router_log.specs.Moments.{seconds}
 use Rattle.router_log.specs.declared.decision.Decision.{Decision}
 use Rattle.router_log.specs.declared.notice.Notice.{Notice}
 use Rattle.router_model.specs.Changes.{Change, each, journal as of_journal, unchanged}
 use Rattle.router_model.specs.Course.{control}
-use Rattle.router_model.specs.Cut.{cut}
 use Rattle.router_model.specs.Decide.{decide}
 use Rattle.router_model.specs.Hear.{Heard, hear, hear_by}
 use Rattle.router_model.specs.Journal.{Journal, first}
 use Rattle.router_model.specs.Note.{noted}
-use Rattle.router_model.specs.Plain.{Router, after_data, after_decision, after_message, emit_packets, packet_of, packets_of, plain, started}
-use Rattle.router_model.specs.Rounds.{AllLawful, AreLawful, Lawful, Told, advanced, after_round, all_advanced, and_then, closing_moment, data_frames, decided, ends, lengths, nothing, of_data, of_events, of_message, round, round_of_events, rounds, rounds_from, with_if, with_notices}
+use Rattle.router_model.specs.Plain.{Router, after_decision, after_message, emit_packets, packet_of, packets_of, plain, started}
+use Rattle.router_model.specs.Rounds.{AllLawful, AreLawful, Told, advanced, after_round, all_advanced, and_then, closing_moment, data_frames, decided, ends, lengths, nothing, of_data, of_events, of_message, round, round_of_events, rounds_from, with_if, with_notices}
 use Rattle.router_model.specs.Sharing.{NumbersExist, SinglesAreForced, SinglesArePlain}
 use Rattle.router_model.specs.Tick.{tick}
 use Rattle.router_model.proofs.CutLemmas.{cut-singly}
@@ -217,8 +216,16 @@ numbers-exist router previous (frames ∷ others) =
     let all : List ℕ = ends router.settings router.memory (events_after previous frames) in
     let few : ℕ = length (data_frames router.settings frames) in
     let ns : List ℕ = replicate few (get_or all 0 0) in
-    let rest = numbers-exist (after_round router (round router.settings previous frames router.memory ns)).after (Some (closing_moment frames)) others in
-    (ns ∷ rest.0, (omega arith, (record {
-      ends = All-replicate (Contains all) few (get_or all 0 0) (Contains-get_or all 0 0 (ends-some router.settings router.memory (events_after previous frames)));
-      each = length-replicate few (get_or all 0 0);
-    }, rest.1)))
+    let rest = numbers-exist (after_round router (round router.settings previous frames router.memory ns)).after (Some (closing_moment frames)) others in (
+      ns ∷ rest.0,
+      (
+        omega arith,
+        (
+          record {
+            ends = All-replicate (Contains all) few (get_or all 0 0) (Contains-get_or all 0 0 (ends-some router.settings router.memory (events_after previous frames)));
+            each = length-replicate few (get_or all 0 0);
+          },
+          rest.1,
+        ),
+      ),
+    )

@@ -1,6 +1,5 @@
 -- The frames of a capture, cut into rounds.
-use Rattle.std.specs.Prelude.{◌≡◌, ℕ, suc, ◌+◌, ◌≤◌, ◌||◌, max, nat_le, nat_lt, Bool, true, false, List, [], ◌∷◌, fold, length, if◌then◌else◌}
-use Rattle.std.specs.List.{sum_by}
+use Rattle.std.specs.Prelude.{◌≡◌, ℕ, suc, ◌+◌, ◌≤◌, ◌||◌, nat_le, nat_lt, Bool, true, false, List, [], ◌∷◌, fold, length, if◌then◌else◌}
 use Rattle.capture_io.specs.Frame.{Frame}
 
 -- the frames of a round so far, and their octets

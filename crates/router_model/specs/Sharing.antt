@@ -1,5 +1,5 @@
 -- What is promised of rounds.
-use Rattle.std.specs.Prelude.{◌≡◌, ℕ, ◌+◌, ◌*◌, ◌^◌, ◌≤◌, false, true, List, [], ◌∷◌, ◌++◌, flat_map, length, map, take, Option, None}
+use Rattle.std.specs.Prelude.{◌≡◌, ℕ, ◌+◌, ◌*◌, ◌^◌, ◌≤◌, false, true, List, [], ◌∷◌, ◌++◌, flat_map, length, map, take, Option}
 use Rattle.std.specs.List.{Contains}
 use Rattle.capture_io.specs.Frame.{Frame}
 use Rattle.lisp_settings.specs.declared.settings.Settings.{Settings}
@@ -12,8 +12,8 @@ use Rattle.router_model.specs.Lifting.{AreInOrder}
 use Rattle.router_model.specs.Parts.{Parts, Stands, parts_in, table}
 use Rattle.router_model.specs.Plain.{Router, plain, started}
 use Rattle.router_model.specs.Proper.{IsProper}
-use Rattle.router_model.specs.Rounds.{AllLawful, Lawful, Round, all_advanced, closing_moment, data_frames, ends, round, round_of_events, rounds, rounds_from}
-use Rattle.router_model.specs.Sides.{Worked, Writing, data_in, joined, noting, ruling, ruling_by, rulings, with_entries, worked, writing}
+use Rattle.router_model.specs.Rounds.{AllLawful, Lawful, Round, all_advanced, closing_moment, data_frames, ends, round, round_of_events, rounds}
+use Rattle.router_model.specs.Sides.{Worked, Writing, data_in, joined, ruling, ruling_by, rulings, with_entries, worked, writing}
 
 -- ### how frames are cut
 

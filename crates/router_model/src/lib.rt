@@ -4,6 +4,7 @@
 #![tactic(auto)]
 
 mod laws;
+mod rounds;
 
 pub use laws::{
     captures_replay_plainly, closed_probes_hear_nothing, closed_requests_hear_nothing,
@@ -11,4 +12,9 @@ pub use laws::{
     messages_are_read, parts_answer, proper_journals_rise, tables_go_as_journals,
     tables_replay_plainly, the_journal_has_the_static_mappings, the_live_mapping_was_learnt_last,
     views_that_agree_decide_alike, what_stands_goes_on,
+};
+pub use rounds::{
+    batches_are_added, ends_lie_between_batches, first_entries_decide, rounds_close_when_full,
+    rounds_have_numbers, rounds_keep_the_frames, rounds_of_one_frame_are_plain,
+    sides_make_the_round, tables_share_a_round,
 };

@@ -1,0 +1,70 @@
+// Laws of rounds. Each function only states its law.
+ghost use Rattle.router_model.specs.Changes.{journal as of_journal};
+ghost use Rattle.router_model.specs.Parts.{table};
+ghost use Rattle.router_model.specs.Sharing.{BatchesRule, BatchesStand, CutKeeps, CutSingly, CutWithin, DataAreLeft, EndsAreBatches, FirstIsProper, FirstOfMore, FirstRules, JournalAdds, LastRoundCloses, NumbersExist, RoundCloses, RoundStaysOpen, SidesMeet, SinglesAreForced, SinglesArePlain, TableRounds, TableWrites, WorkedAdds, WritingAdds, WritingAdvances};
+
+/// Cutting loses no frame and moves none. A round has at most so many frames as its size, and at
+/// most 16 MiB beside the octets of one frame.
+pub fn rounds_keep_the_frames()
+    ensures all { CutKeeps }
+    ensures within { CutWithin }
+    ensures singly { CutSingly }
+{}
+
+/// A round that frames are added to is closed by the one that makes it full, or by the last frame.
+pub fn rounds_close_when_full()
+    ensures closes { RoundCloses }
+    ensures stays { RoundStaysOpen }
+    ensures last { LastRoundCloses }
+{}
+
+/// With rounds of one frame there is no choice of numbers, and the router with forwarders is the
+/// plain one.
+pub fn rounds_of_one_frame_are_plain()
+    ensures plain { SinglesArePlain }
+    ensures forced { SinglesAreForced }
+{}
+
+/// There are numbers for all rounds, whatever came before.
+pub fn rounds_have_numbers()
+    ensures { NumbersExist }
+{}
+
+/// What is written before data packets are decided, their decisions by numbers, and their notices,
+/// put together, are the round. What is left for later are its data packets.
+pub fn sides_make_the_round()
+    ensures meet { SidesMeet }
+    ensures advances { WritingAdvances }
+    ensures left { DataAreLeft }
+{}
+
+/// What is written leaves what stood before with its batches, and so does a whole round.
+pub fn batches_are_added()
+    ensures journal { JournalAdds }
+    ensures by_journal { WritingAdds of_journal }
+    ensures by_table { WritingAdds table }
+    ensures round_by_journal { WorkedAdds of_journal }
+    ensures round_by_table { WorkedAdds table }
+{}
+
+/// Each end of a round is the length of its journal after some of the batches, and so many entries
+/// are the journal after these.
+pub fn ends_lie_between_batches()
+    ensures first { FirstOfMore }
+    ensures ends { EndsAreBatches }
+{}
+
+/// A table that stands for the first entries of a journal decides by these, at whatever moment.
+pub fn first_entries_decide()
+    ensures proper { FirstIsProper }
+    ensures rules { FirstRules }
+{}
+
+/// A table writes as the journal. One that absorbed some of a round's batches stands for the journal
+/// after these, and decides by so many entries of the round's journal.
+pub fn tables_share_a_round()
+    ensures writes { TableWrites }
+    ensures stands { BatchesStand }
+    ensures decides { BatchesRule }
+    ensures rounds { TableRounds }
+{}
