@@ -8,7 +8,7 @@ use Rattle.lisp_settings.specs.declared.settings.OwnLocator.{OwnLocator}
 use Rattle.lisp_settings.specs.declared.settings.Settings.{Settings}
 use Rattle.locator_choice.specs.Choice.{chosen}
 use Rattle.locator_state.specs.Probes.{probe_up}
-use Rattle.playback.specs.Events.{Outcome, Packet, events, played}
+use Rattle.playback.specs.Events.{Outcome, Packet, events, events_after, played}
 use Rattle.request_queue.specs.Queue.{due}
 use Rattle.router_log.specs.Lines.{verdict_text}
 use Rattle.router_log.specs.declared.entry.Entry.{Entry}
@@ -23,6 +23,7 @@ use Rattle.router_model.specs.Hear.{hear}
 use Rattle.router_model.specs.Journal.{Journal, statics}
 use Rattle.router_model.specs.Observed.{observed}
 use Rattle.router_model.specs.Plain.{Router, plain, started}
+use Rattle.router_model.specs.Rounds.{ends, rounds}
 use Rattle.router_model.specs.Tick.{tick}
 use Rattle.router_model.specs.View.{view}
 use Rattle.router_examples.specs.Frames.{arp, encapsulated_in_100, framed, inbound, inbound_delivered, inward, just_before, packet, raw, seconds, tenths, wired, with_versions}
@@ -44,6 +45,24 @@ sent settings frames = (replayed settings frames).packets
 -- the journal at the end, its newest entry first
 abbrev pub kept : Settings → List Frame → Journal
 kept settings frames = (replayed settings frames).after.memory
+
+-- the outcome of a capture in rounds of a size, with the numbers of each
+abbrev pub shared : Settings → List Frame → ℕ → List (List ℕ) → Outcome (Router Journal)
+shared settings frames size ns = rounds settings frames size ns
+
+-- the lines that are said, and the packets and the journal
+abbrev pub said_in_rounds : Settings → List Frame → ℕ → List (List ℕ) → List ℕ
+said_in_rounds settings frames size ns = (shared settings frames size ns).lines
+
+abbrev pub sent_in_rounds : Settings → List Frame → ℕ → List (List ℕ) → List Packet
+sent_in_rounds settings frames size ns = (shared settings frames size ns).packets
+
+abbrev pub kept_in_rounds : Settings → List Frame → ℕ → List (List ℕ) → Journal
+kept_in_rounds settings frames size ns = (shared settings frames size ns).after.memory
+
+-- the ends of the round of these frames after a frame, by the journal before it
+abbrev pub ends_of : Settings → Journal → ℕ → List Frame → List ℕ
+ends_of settings before previous frames = ends settings before (events_after (Some previous) frames)
 
 -- lines, each with its end
 abbrev pub report : List (List ℕ) → List ℕ
