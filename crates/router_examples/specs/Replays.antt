@@ -236,6 +236,25 @@ exchange = packet ∷ reply ∷ packet ∷ []
 abbrev pub busy_exchange : List (List ℕ)
 busy_exchange = packet ∷ packet ∷ packet ∷ packet ∷ packet ∷ reply ∷ packet ∷ packet ∷ []
 
+-- numbers of these in rounds of four: all of the begin of their round, all of its end, some of both
+abbrev pub all_early : List (List ℕ)
+all_early = (0 ∷ 0 ∷ 0 ∷ 0 ∷ []) ∷ (1 ∷ 1 ∷ 1 ∷ []) ∷ []
+
+abbrev pub all_late : List (List ℕ)
+all_late = (0 ∷ 0 ∷ 0 ∷ 0 ∷ []) ∷ (3 ∷ 3 ∷ 3 ∷ []) ∷ []
+
+abbrev pub mixed : List (List ℕ)
+mixed = (0 ∷ 0 ∷ 0 ∷ 0 ∷ []) ∷ (3 ∷ 1 ∷ 3 ∷ []) ∷ []
+
+-- and in rounds of one
+abbrev pub by_ones : List (List ℕ)
+by_ones =
+    (0 ∷ []) ∷ (1 ∷ []) ∷ (1 ∷ []) ∷ (1 ∷ []) ∷ (1 ∷ []) ∷ [] ∷ (3 ∷ []) ∷ (3 ∷ []) ∷ []
+
+-- the journal after the first round of four
+abbrev pub after_the_first : Journal
+after_the_first = Asked (tenths 3) host (Some (V4 0x0a010005)) false 0x0102030405060708 ∷ []
+
 -- the first at the link of the router, beside an ARP frame, with what it sends, and with a packet that leaves its tunnel
 abbrev pub at_the_link : List Frame
 at_the_link =

@@ -41,7 +41,10 @@ pub use requests::{
     a_record_beside_is_passed_over, a_reply_comes_within_seven_seconds, a_reply_counts_once,
     a_reply_covers_what_was_asked, a_shorter_prefix_follows_a_longer_one,
 };
-pub use rounds::{a_round_may_be_decided_by_its_begin};
+pub use rounds::{
+    a_round_may_be_decided_by_its_begin, a_round_may_be_decided_by_its_end,
+    no_round_ends_within_a_reply, rounds_of_one_packet_are_plain,
+};
 pub use ticks::{
     a_request_goes_out_again_by_its_age, a_request_goes_out_three_times, a_request_is_due_twice,
     a_second_sends_a_request_again, requests_come_before_probes, requests_go_out_again_in_order,
