@@ -1,7 +1,8 @@
 -- Tables in rounds: they write as the journal, and what absorbed some batches decides by the first entries.
-use Rattle.std.proofs.Common.{◌≡◌, ℕ, zero, suc, ◌+◌, ◌-◌, ◌*◌, ◌≤◌, Bool, true, false, cond, List, [], ◌∷◌, ◌++◌, drop, get_or, length, take, Option, Some, refl, sym, ap, subst, ◌∙◌, arith}
-use Rattle.std.specs.List.{list_all}
-use Rattle.std.proofs.lemmas.List.{drop-append-le, length-append, length-drop}
+use Rattle.std.proofs.Common.{◌≡◌, ℕ, zero, suc, ◌+◌, ◌-◌, ◌*◌, ◌≤◌, Bool, true, false, cond, List, [], ◌∷◌, ◌++◌, drop, get_or, length, take, Option, Some, refl, sym, ap, subst, ◌∙◌, arith, map}
+use Rattle.std.specs.List.{All, Contains, list_all}
+use Rattle.std.proofs.lemmas.List.{drop-append-le, length-append, length-drop, length-map}
+use Rattle.std.proofs.lemmas.List.Elements.{All-map, All-weaker}
 use Rattle.capture_io.specs.Frame.{Frame}
 use Rattle.lisp_settings.specs.declared.settings.Settings.{Settings}
 use Rattle.playback.specs.Events.{Event, Tick, Arrival, events_after, events_of, ticks}
@@ -17,9 +18,9 @@ use Rattle.router_model.specs.Lifting.{AreInOrder, AreOctets, HasOctets, Ready, 
 use Rattle.router_model.specs.Note.{noted}
 use Rattle.router_model.specs.Parts.{Parts, Stands, parts_in, table, view_in}
 use Rattle.router_model.specs.Proper.{EachFits, IsProper}
-use Rattle.router_model.specs.Rounds.{Round, all_advanced, closing_moment, data_frames, decided}
-use Rattle.router_model.specs.Sharing.{BatchesRule, BatchesStand, FirstIsProper, FirstRules, MayBegin, TableRounds, TableWrites, after_batches, worked_tabled, writing_tabled}
-use Rattle.router_model.specs.Sides.{Ruling, Worked, Writing, data_in, event_written, joined, left_for_later, message_written, noting, notices_of, put_together, rulings, second_written, then_written, with_entries, worked, writing}
+use Rattle.router_model.specs.Rounds.{Round, all_advanced, closing_moment, data_frames, decided, ends, round}
+use Rattle.router_model.specs.Sharing.{BatchesRule, BatchesStand, FirstIsProper, FirstRules, MayBegin, TableRounds, TableWrites, TablesShare, after_batches, opening, parts_after, rulings_by, shared_round, worked_tabled, writing_tabled}
+use Rattle.router_model.specs.Sides.{Ruling, Worked, Writing, data_in, event_written, joined, left_for_later, message_written, noting, notices_of, put_together, rulings, second_written, then_written, with_entries, worked, writing, ruling}
 use Rattle.router_model.specs.Tick.{ticked}
 use Rattle.router_model.specs.View.{view}
 use Rattle.router_model.proofs.FollowLemmas.{requests-few, table-decides}
@@ -28,7 +29,7 @@ use Rattle.router_model.proofs.HearLemmas.{fewer-ready, frames-lift, goes-each}
 use Rattle.router_model.proofs.NoteLemmas.{notes-lift}
 use Rattle.router_model.proofs.NoticeLemmas.{notices-sound}
 use Rattle.router_model.proofs.PartsLemmas.{and_both}
-use Rattle.router_model.proofs.SideLemmas.{data-append, data-left, extended-more, first-batches, message-grows, on-batches, sides-meet, tick-grows, writing-advances}
+use Rattle.router_model.proofs.SideLemmas.{batches-are-ends, data-append, data-left, extended-more, first-batches, message-grows, on-batches, sides-meet, tick-grows, writing-advances}
 use Rattle.router_model.proofs.SoundLemmas.{frame-sound}
 use Rattle.router_model.proofs.StaticsLemmas.{length-extended}
 use Rattle.router_model.proofs.TickLemmas.{ticks-lift}
@@ -282,3 +283,44 @@ table-rounds settings parts journal previous m (frame ∷ frames) ns stands may 
             (record { proper = shares.1; whole = ap (λ (w : Worked Parts). w.after) whole }),
       ),
     )
+
+-- ### tables that decide beside the writer
+
+module _ (settings : Settings) (parts : Parts) (journal : Journal) (m : ℕ) (events : List Event) where
+  abbrev count_after : ℕ → ℕ
+  count_after k = (parts_after parts (writing table settings parts events).batches k).count
+
+  rulings-same : Stands settings parts journal → MayBegin settings m journal events → (ks : List ℕ) (frames : List Frame) → length ks ≡ length frames → rulings_by settings parts (writing table settings parts events).batches ks frames ≡ rulings settings (all_advanced settings journal events) (map count_after ks) frames
+  rulings-same stands may [] [] same = refl
+  rulings-same stands may [] (frame ∷ frames) same = absurd (let bad : ⊥ = omega (arith, same) in bad)
+  rulings-same stands may (k ∷ ks) [] same = absurd (let bad : ⊥ = omega (arith, same) in bad)
+  rulings-same stands may (k ∷ ks) (frame ∷ frames) same =
+      ap (λ r. r ∷ rulings_by settings parts (writing table settings parts events).batches ks frames) (batches-rule settings parts journal m events k frame stands may)
+      ∙ ap (λ l. ruling settings (all_advanced settings journal events) (count_after k) frame ∷ l) (rulings-same stands may ks frames (omega (arith, same)))
+
+  counts-end : Stands settings parts journal → MayBegin settings m journal events → (ks : List ℕ) → All (λ k. opening events ≤ k) ks → All (Contains (ends settings journal events)) (map count_after ks)
+  counts-end stands may ks all =
+      All-map (Contains (ends settings journal events)) count_after ks (All-weaker (λ k. opening events ≤ k) (λ k. Contains (ends settings journal events) (count_after k)) one ks all)
+    where
+      one : (k : ℕ) → opening events ≤ k → Contains (ends settings journal events) (count_after k)
+      one k less =
+          subst (Contains (ends settings journal events)) (sym (ap (λ (p : Parts). p.count) (batches-stand settings parts journal m events k stands may).whole))
+          (batches-are-ends settings journal events k less)
+
+pub tables-share : TablesShare
+tables-share settings parts journal previous m frames ks stands may all each =
+    let events : List Event = events_after previous frames in
+    let ns : List ℕ = map (count_after settings parts journal m events) ks in
+    let same = rulings-same settings parts journal m events stands may ks (data_frames settings frames) each in
+    let whole : shared_round settings previous frames parts ks ≡ worked table settings (closing_moment frames) parts events (rulings settings (all_advanced settings journal events) ns (data_frames settings frames)) = ap (worked table settings (closing_moment frames) parts events) same in
+    let does = table-rounds settings parts journal previous m frames ns stands may in
+    record {
+      ns = ns;
+      lawful = record {
+        ends = counts-end settings parts journal m events stands may ks all;
+        each = length-map ks (count_after settings parts journal m events) ∙ each;
+      };
+      lines = ap (λ (w : Worked Parts). w.lines) whole ∙ does.0;
+      packets = ap (λ (w : Worked Parts). w.packets) whole ∙ does.1.0;
+      stands = subst (λ (p : Parts). Stands settings p (round settings previous frames journal ns).after) (sym (ap (λ (w : Worked Parts). w.after) whole)) does.1.1;
+    }

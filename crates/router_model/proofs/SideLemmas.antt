@@ -1,11 +1,12 @@
 -- The writer's side of a round, the data packets beside it and the notices after it are the round.
-use Rattle.std.proofs.Common.{◌≡◌, ℕ, zero, suc, ◌+◌, ◌-◌, ◌<◌, not, Bool, true, false, cond, List, [], ◌∷◌, ◌++◌, drop, filter, get_or, length, map, take, Option, Some, None, refl, sym, ap, subst, ◌∙◌, ◌⊎◌, inl, inr, arith, append_assoc}
+use Rattle.std.proofs.Common.{◌≡◌, ◌≤◌, ℕ, zero, suc, ◌+◌, ◌-◌, ◌<◌, not, Bool, true, false, cond, List, [], ◌∷◌, ◌++◌, drop, filter, get_or, length, map, take, Option, Some, None, refl, sym, ap, subst, ◌∙◌, ◌⊎◌, inl, inr, arith, append_assoc}
 use Rattle.std.specs.List.{Contains, range_with_len}
 use Rattle.std.proofs.lemmas.List.{append-nil, take-append-drop, drop-drop}
 use Rattle.std.proofs.lemmas.List.Concat.{flat_map-append}
 use Rattle.capture_io.specs.Frame.{Frame}
 use Rattle.lisp_settings.specs.declared.settings.Settings.{Settings}
-use Rattle.playback.specs.Events.{Event, Tick, Arrival, events_after, second_of, ticks}
+use Rattle.playback.specs.Events.{Event, Tick, Arrival, arrivals, events_after, second_of, ticks}
+use Rattle.playback.proofs.EventLemmas.{arrivals-events}
 use Rattle.router_log.specs.Moments.{seconds}
 use Rattle.router_log.specs.declared.entry.Entry.{Entry}
 use Rattle.router_model.specs.Changes.{Change, Ledger, each, journal as of_journal, unchanged}
@@ -13,8 +14,8 @@ use Rattle.router_model.specs.Course.{control}
 use Rattle.router_model.specs.Hear.{hear_by}
 use Rattle.router_model.specs.Journal.{Journal, extended, first}
 use Rattle.router_model.specs.Note.{noted}
-use Rattle.router_model.specs.Rounds.{advanced, all_advanced, and_then, data_frames, decided, ends, lengths, of_data, of_events, of_message, of_second, with_if, with_notices}
-use Rattle.router_model.specs.Sharing.{DataAreLeft, EndsAreBatches, FirstOfMore, JournalAdds, SidesMeet, WritingAdvances, after_batches}
+use Rattle.router_model.specs.Rounds.{advanced, all_advanced, and_then, data_frames, decided, ends, lengths, of_data, of_events, of_message, of_second, with_if, with_notices, Line}
+use Rattle.router_model.specs.Sharing.{BatchesAreEnds, DataAreLeft, EndsAreBatches, EndsWithin, FilledAreBatches, FilledBehind, FirstOfMore, JournalAdds, SidesMeet, WritingAdvances, after_batches, filled, opening, LinesShow, shown}
 use Rattle.router_model.specs.Sides.{Item, Second, Message, Data, Ruling, Writing, data_in, event_written, joined, left_for_later, message_written, notices_of, rulings, told_by, with_entries, writing}
 use Rattle.router_model.specs.Tick.{ticked}
 use Rattle.router_model.proofs.GrowLemmas.{grown-each, grown-heard, grown-noted, grown-ticked, with-more}
@@ -266,3 +267,131 @@ pub ends-are-batches : EndsAreBatches
 ends-are-batches settings journal events n has =
     let lies = ends-lie settings journal events n has in
     (lies.0, (lies.1, ap (λ n. first n (all_advanced settings journal events)) lies.1 ∙ first-batches settings journal events lies.0))
+
+-- ### which numbers are ends
+
+pub ends-within : EndsWithin
+ends-within settings journal events n has =
+    let lies = ends-lie settings journal events n has in
+    let batches : List (List Entry) = (writing of_journal settings journal events).batches in
+    let long = ap (λ (j : Journal). length j) (on-batches settings journal events lies.0) ∙ length-extended (after_batches settings journal events lies.0) (joined (drop lies.0 batches)) in
+    let same = lies.1 in
+    (above journal events has, omega (arith, long, same))
+  where
+    above : (journal : Journal) (events : List Event) → Contains (ends settings journal events) n → get_or (ends settings journal events) 0 0 ≤ n
+    above journal [] has = elim (one-of (length journal) [] n has) as (λ _. length journal ≤ n) [ inl is ↦ omega (arith, is) | inr more ↦ absurd (none-of n more) ]
+    above journal (Tick s ∷ events) has = above (advanced settings journal (Tick s)) events has
+    above journal (Arrival frame ∷ events) has =
+        elim (one-of (length journal) (lengths settings journal (Arrival frame ∷ events)) n has) as (λ _. length journal ≤ n) [
+          | inl is ↦ omega (arith, is)
+          | inr more ↦ (let lies = lengths-lie settings journal (Arrival frame ∷ events) n more in let same = lies.1 in let long = length-extended journal (joined (take lies.0 (writing of_journal settings journal (Arrival frame ∷ events)).batches)) in omega (arith, same, long))
+        ]
+
+first-one : {A : Type 0} (x : A) (xs : List A) → Contains (x ∷ xs) x
+first-one x xs = (0, omega arith, refl)
+
+later-one : {A : Type 0} (x : A) (xs : List A) (y : A) → Contains xs y → Contains (x ∷ xs) y
+later-one x xs y has = let less = has.1 in (suc has.0, omega (arith, less), has.2)
+
+-- the length after some batches, by that of the first of them
+length-on : (journal after : Journal) (entries more : List Entry) → after ≡ extended journal entries → length (extended journal (entries ++ more)) ≡ length (extended after more)
+length-on journal after entries more grown = ap (λ (j : Journal). length j) (extended-more journal entries more ∙ ap (λ j. extended j more) (sym grown))
+
+module _ (settings : Settings) where
+  -- its length after so many batches
+  abbrev long : Journal → List Event → ℕ → ℕ
+  long journal events k = length (after_batches settings journal events k)
+
+  lengths-have : (k : ℕ) (events : List Event) (journal : Journal) → Contains (length journal ∷ lengths settings journal events) (long journal events k)
+  lengths-have zero events journal = first-one (length journal) (lengths settings journal events)
+  lengths-have (suc k) [] journal = first-one (length journal) []
+  lengths-have (suc k) (Tick s ∷ events) journal =
+      let change : Change Journal = ticked of_journal settings (seconds s) (unchanged journal) in
+      let rest : List ℕ = length change.after ∷ lengths settings change.after events in
+      subst (Contains (length journal ∷ rest)) (sym (length-on journal change.after change.entries (joined (take k (writing of_journal settings change.after events).batches)) (tick-grows settings journal s)))
+      (later-one (length journal) rest (long change.after events k) (lengths-have k events change.after))
+  lengths-have (suc k) (Arrival frame ∷ events) journal =
+      by (control settings frame)
+      (let change : Change Journal = (hear_by of_journal settings frame.moment frame (unchanged journal)).change in
+      let rest : List ℕ = length change.after ∷ lengths settings change.after events in
+      subst (Contains (length journal ∷ rest)) (sym (length-on journal change.after change.entries (joined (take k (writing of_journal settings change.after events).batches)) (message-grows settings journal frame)))
+      (later-one (length journal) rest (long change.after events k) (lengths-have k events change.after)))
+      (lengths-have (suc k) events journal)
+    where
+      by : (b : Bool) → let after = (hear_by of_journal settings frame.moment frame (unchanged journal)).change.after in Contains (length journal ∷ length after ∷ lengths settings after events) (length (extended journal ((hear_by of_journal settings frame.moment frame (unchanged journal)).change.entries ++ joined (take k (writing of_journal settings after events).batches)))) → Contains (length journal ∷ lengths settings journal events) (length (extended journal (joined (take (suc k) (writing of_journal settings journal events).batches)))) → let written = cond b (message_written of_journal settings (length journal) frame (hear_by of_journal settings frame.moment frame (unchanged journal))) (left_for_later journal frame) in let next = cond b (hear_by of_journal settings frame.moment frame (unchanged journal)).change.after journal in Contains (length journal ∷ with_if b (length next) (lengths settings next events)) (length (extended journal (joined (take (suc k) (written.batches ++ (writing of_journal settings written.after events).batches)))))
+      by true heard left = heard
+      by false heard left = left
+
+  ends-have : (k : ℕ) (events : List Event) (journal : Journal) → opening events ≤ k → Contains (ends settings journal events) (long journal events k)
+  ends-have zero [] journal less = first-one (length journal) []
+  ends-have (suc k) [] journal less = first-one (length journal) []
+  ends-have zero (Tick s ∷ events) journal less = absurd (let bad : ⊥ = omega (arith, less) in bad)
+  ends-have (suc k) (Tick s ∷ events) journal less =
+      let change : Change Journal = ticked of_journal settings (seconds s) (unchanged journal) in
+      subst (Contains (ends settings change.after events)) (sym (length-on journal change.after change.entries (joined (take k (writing of_journal settings change.after events).batches)) (tick-grows settings journal s)))
+      (ends-have k events change.after (omega (arith, less)))
+  ends-have zero (Arrival frame ∷ events) journal less = lengths-have zero (Arrival frame ∷ events) journal
+  ends-have (suc k) (Arrival frame ∷ events) journal less = lengths-have (suc k) (Arrival frame ∷ events) journal
+
+pub batches-are-ends : BatchesAreEnds
+batches-are-ends settings journal events k less = ends-have settings k events journal less
+
+-- ### batches that have entries
+
+pub filled-are-batches : FilledAreBatches
+filled-are-batches [] j = (j, refl)
+filled-are-batches ([] ∷ batches) j = let rest = filled-are-batches batches j in (suc rest.0, rest.1)
+filled-are-batches ((e ∷ entries) ∷ batches) zero = (0, refl)
+filled-are-batches ((e ∷ entries) ∷ batches) (suc j) =
+    let rest = filled-are-batches batches j in (suc rest.0, ap (λ l. (e ∷ entries) ++ l) rest.1)
+
+pub filled-behind : FilledBehind
+filled-behind batches zero j less = let rest = filled-are-batches batches j in (rest.0, (omega arith, rest.1))
+filled-behind [] (suc front) j less = absurd (let bad : ⊥ = omega (arith, less) in bad)
+filled-behind (batch ∷ batches) (suc front) j less =
+    let rest = filled-behind batches front j (omega (arith, less)) in
+    let behind = rest.1.0 in
+    (suc rest.0, (omega (arith, behind), append_assoc batch (joined (take front batches)) (joined (take j (filled (drop front batches)))) ∙ ap (λ l. batch ++ l) rest.1.1))
+
+-- ### what lines show
+
+empty-numbers : (ns : List ℕ) → length ns ≡ 0 → [] ≡ ns
+empty-numbers [] none = refl
+empty-numbers (n ∷ ns) none = absurd (let bad : ⊥ = omega (arith, none) in bad)
+
+module _ (settings : Settings) (last : Journal) where
+  -- there is a line for each frame, and they show the numbers
+  abbrev Shows : List Frame → List Line → List ℕ → Type 0
+  Shows frames lines ns = (length lines ≡ length frames) × (shown settings frames lines ≡ ns)
+
+  -- what lines show where the first of them is of a control message, or isn't
+  abbrev shown_with : Bool → List Frame → List Line → List ℕ
+  shown_with b frames [] = []
+  shown_with b frames (line ∷ lines) = with_if (not b) line.n (shown settings frames lines)
+
+  shown-by : (frame : Frame) (frames : List Frame) (lines : List Line) → shown settings (frame ∷ frames) lines ≡ shown_with (control settings frame) frames lines
+  shown-by frame frames [] = refl
+  shown-by frame frames (line ∷ lines) = refl
+
+  events-show : (events : List Event) (journal : Journal) (ns : List ℕ) → length ns ≡ length (data_frames settings (arrivals events)) → Shows (arrivals events) (of_events settings last journal ns events).lines ns
+  events-show [] journal ns each = (refl, empty-numbers ns each)
+  events-show (Tick s ∷ events) journal ns each = events-show events (advanced settings journal (Tick s)) ns each
+  events-show (Arrival frame ∷ events) journal ns each =
+      let shows =
+      by (control settings frame) ns each
+      (events-show events (hear_by of_journal settings frame.moment frame (unchanged journal)).change.after ns)
+      (λ ms few. events-show events journal ms few) in
+      (shows.0, shown-by frame (arrivals events) (of_events settings last journal ns (Arrival frame ∷ events)).lines ∙ shows.1)
+    where
+      by : (b : Bool) (ns : List ℕ) → length ns ≡ length (cond (not b) (frame ∷ data_frames settings (arrivals events)) (data_frames settings (arrivals events))) → (length ns ≡ length (data_frames settings (arrivals events)) → Shows (arrivals events) (of_events settings last (hear_by of_journal settings frame.moment frame (unchanged journal)).change.after ns events).lines ns) → ((ms : List ℕ) → length ms ≡ length (data_frames settings (arrivals events)) → Shows (arrivals events) (of_events settings last journal ms events).lines ms) → let lines = (and_then (cond b (of_message settings journal frame (hear_by of_journal settings frame.moment frame (unchanged journal))) (of_data settings frame (get_or ns 0 0) (decided settings last (get_or ns 0 0) frame))) (of_events settings last (cond b (hear_by of_journal settings frame.moment frame (unchanged journal)).change.after journal) (cond b ns (drop 1 ns)) events)).lines in (length lines ≡ suc (length (arrivals events))) × (shown_with b (arrivals events) lines ≡ ns)
+      by true ns each heard left = let rest = heard each in (ap (λ n. suc n) rest.0, rest.1)
+      by false [] each heard left = absurd (let bad : ⊥ = omega (arith, each) in bad)
+      by false (n ∷ ns) each heard left = let rest = left ns (omega (arith, each)) in (ap (λ n. suc n) rest.0, ap (λ l. n ∷ l) rest.1)
+
+pub lines-show : LinesShow
+lines-show settings previous frames journal ns each =
+    let events : List Event = events_after previous frames in
+    let all : Journal = all_advanced settings journal events in
+    let same = arrivals-events previous frames in
+    subst (λ fs. Shows settings all fs (of_events settings all journal ns events).lines ns) same
+    (events-show settings all events journal ns (each ∙ ap (λ fs. length (data_frames settings fs)) (sym same)))

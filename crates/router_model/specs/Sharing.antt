@@ -1,19 +1,20 @@
 -- What is promised of rounds.
-use Rattle.std.specs.Prelude.{◌≡◌, ℕ, ◌+◌, ◌*◌, ◌^◌, ◌≤◌, false, true, List, [], ◌∷◌, ◌++◌, flat_map, length, map, take, Option}
-use Rattle.std.specs.List.{Contains}
+use Rattle.std.specs.Prelude.{◌≡◌, ℕ, suc, ◌+◌, ◌*◌, ◌^◌, ◌≤◌, false, not, true, List, [], ◌∷◌, ◌++◌, drop, flat_map, get_or, length, map, take, Option}
+use Rattle.std.specs.List.{All, Contains}
 use Rattle.capture_io.specs.Frame.{Frame}
 use Rattle.lisp_settings.specs.declared.settings.Settings.{Settings}
-use Rattle.playback.specs.Events.{Event, events, events_after, played}
+use Rattle.playback.specs.Events.{Event, Tick, Arrival, events, events_after, played}
 use Rattle.router_log.specs.declared.entry.Entry.{Entry}
 use Rattle.router_model.specs.Changes.{Ledger, journal as of_journal}
+use Rattle.router_model.specs.Course.{control}
 use Rattle.router_model.specs.Cut.{AreShort, AreWithin, Filling, StaysOpen, cut, cut_on, is_full, with_frame, with_frames}
 use Rattle.router_model.specs.Journal.{Journal, extended, first, last_moment, statics}
 use Rattle.router_model.specs.Lifting.{AreInOrder}
 use Rattle.router_model.specs.Parts.{Parts, Stands, parts_in, table}
 use Rattle.router_model.specs.Plain.{Router, plain, started}
 use Rattle.router_model.specs.Proper.{IsProper}
-use Rattle.router_model.specs.Rounds.{AllLawful, Lawful, Round, all_advanced, closing_moment, data_frames, ends, round, round_of_events, rounds}
-use Rattle.router_model.specs.Sides.{Worked, Writing, data_in, joined, ruling, ruling_by, rulings, with_entries, worked, writing}
+use Rattle.router_model.specs.Rounds.{AllLawful, AreLawful, Lawful, Line, Round, all_advanced, closing_moment, data_frames, ends, round, round_of_events, rounds, with_if}
+use Rattle.router_model.specs.Sides.{Ruling, Worked, Writing, data_in, joined, ruling, ruling_by, rulings, with_entries, worked, writing}
 
 -- ### how frames are cut
 
@@ -94,6 +95,47 @@ after_batches settings journal events k =
 abbrev pub EndsAreBatches : Type 0
 EndsAreBatches = (settings : Settings) (journal : Journal) (events : List Event) (n : ℕ) → Contains (ends settings journal events) n → (k : ℕ) × ((n ≡ length (after_batches settings journal events k)) × (first n (all_advanced settings journal events) ≡ after_batches settings journal events k))
 
+-- no end is below the first length or above the last
+abbrev pub EndsWithin : Type 0
+EndsWithin = (settings : Settings) (journal : Journal) (events : List Event) (n : ℕ) → let all = ends settings journal events in Contains all n → (get_or all 0 0 ≤ n) × (n ≤ length (all_advanced settings journal events))
+
+-- the seconds before the first frame
+abbrev pub opening : List Event → ℕ
+opening [] = 0
+opening (Tick s ∷ events) = suc (opening events)
+opening (Arrival frame ∷ events) = 0
+
+-- the length after some of the batches is an end, if those of these seconds are among them
+abbrev pub BatchesAreEnds : Type 0
+BatchesAreEnds = (settings : Settings) (journal : Journal) (events : List Event) (k : ℕ) → opening events ≤ k → Contains (ends settings journal events) (length (after_batches settings journal events k))
+
+-- batches that have entries, as they are published
+abbrev pub filled : List (List Entry) → List (List Entry)
+filled [] = []
+filled ([] ∷ batches) = filled batches
+filled ((entry ∷ entries) ∷ batches) = (entry ∷ entries) ∷ filled batches
+
+-- some of these have the entries of some of all
+abbrev pub FilledAreBatches : Type 0
+FilledAreBatches = (batches : List (List Entry)) (j : ℕ) → (k : ℕ) × (joined (take j (filled batches)) ≡ joined (take k batches))
+
+-- the same behind the first batches
+abbrev pub FilledBehind : Type 0
+FilledBehind = (batches : List (List Entry)) (first j : ℕ) → first ≤ length batches → (k : ℕ) × ((first ≤ k) × (joined (take first batches) ++ joined (take j (filled (drop first batches))) ≡ joined (take k batches)))
+
+-- ### the report
+
+-- the numbers of data packets, as lines show them
+abbrev pub shown : Settings → List Frame → List Line → List ℕ
+shown settings [] lines = []
+shown settings (frame ∷ frames) [] = []
+shown settings (frame ∷ frames) (line ∷ lines) =
+    with_if (not (control settings frame)) line.n (shown settings frames lines)
+
+-- a round has a line for each frame, and they show its numbers
+abbrev pub LinesShow : Type 0
+LinesShow = (settings : Settings) (previous : Option ℕ) (frames : List Frame) (journal : Journal) (ns : List ℕ) → length ns ≡ length (data_frames settings frames) → let lines = (round settings previous frames journal ns).lines in (length lines ≡ length frames) × (shown settings frames lines ≡ ns)
+
 -- ### tables
 
 -- the first entries of a journal are the journal before further ones
@@ -144,3 +186,32 @@ BatchesRule = (settings : Settings) (parts : Parts) (journal : Journal) (m : ℕ
 -- a round that a table works by the rulings of the journal is that of the journal, and then it stands for its journal
 abbrev pub TableRounds : Type 0
 TableRounds = (settings : Settings) (parts : Parts) (journal : Journal) (previous : Option ℕ) (m : ℕ) (frames : List Frame) (ns : List ℕ) → Stands settings parts journal → MayBegin settings m journal (events_after previous frames) → let by_table = worked table settings (closing_moment frames) parts (events_after previous frames) (rulings settings (all_advanced settings journal (events_after previous frames)) ns (data_frames settings frames)) in let by_journal = round settings previous frames journal ns in (by_table.lines ≡ by_journal.lines) × ((by_table.packets ≡ by_journal.packets) × Stands settings by_table.after by_journal.after)
+
+-- the parts after so many batches
+abbrev pub parts_after : Parts → List (List Entry) → ℕ → Parts
+parts_after parts batches k = with_entries table parts (joined (take k batches))
+
+-- data packets in order, each by a table that absorbed so many batches
+abbrev pub rulings_by : Settings → Parts → List (List Entry) → List ℕ → List Frame → List Ruling
+rulings_by settings parts batches [] frames = []
+rulings_by settings parts batches (k ∷ ks) [] = []
+rulings_by settings parts batches (k ∷ ks) (frame ∷ frames) =
+    ruling_by settings (parts_after parts batches k) frame ∷ rulings_by settings parts batches ks frames
+
+-- a round by a table, and by tables that decide its data packets beside it
+abbrev pub shared_round : Settings → Option ℕ → List Frame → Parts → List ℕ → Worked Parts
+shared_round settings previous frames parts ks =
+    let events = events_after previous frames in
+    worked table settings (closing_moment frames) parts events
+    (rulings_by settings parts (writing table settings parts events).batches ks (data_frames settings frames))
+
+-- what it does is a round of the journal, by numbers that it may have, and then it stands for the journal of that round
+pub record Shares (settings : Settings) (previous : Option ℕ) (frames : List Frame) (journal : Journal) (result : Worked Parts) : Type 0 where
+  pub ns : List ℕ
+  pub lawful : AreLawful settings previous frames journal ns
+  pub lines : result.lines ≡ (round settings previous frames journal ns).lines
+  pub packets : result.packets ≡ (round settings previous frames journal ns).packets
+  pub stands : Stands settings result.after (round settings previous frames journal ns).after
+
+abbrev pub TablesShare : Type 0
+TablesShare = (settings : Settings) (parts : Parts) (journal : Journal) (previous : Option ℕ) (m : ℕ) (frames : List Frame) (ks : List ℕ) → Stands settings parts journal → MayBegin settings m journal (events_after previous frames) → All (λ k. opening (events_after previous frames) ≤ k) ks → length ks ≡ length (data_frames settings frames) → Shares settings previous frames journal (shared_round settings previous frames parts ks)

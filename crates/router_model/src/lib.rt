@@ -14,7 +14,7 @@ pub use laws::{
     views_that_agree_decide_alike, what_stands_goes_on,
 };
 pub use rounds::{
-    batches_are_added, ends_lie_between_batches, first_entries_decide, rounds_close_when_full,
-    rounds_have_numbers, rounds_keep_the_frames, rounds_of_one_frame_are_plain,
-    sides_make_the_round, tables_share_a_round,
+    batches_are_added, ends_lie_between_batches, first_entries_decide, lines_show_the_numbers,
+    rounds_close_when_full, rounds_have_numbers, rounds_keep_the_frames,
+    rounds_of_one_frame_are_plain, sides_make_the_round, tables_share_a_round,
 };

@@ -1,7 +1,7 @@
 // Laws of rounds. Each function only states its law.
 ghost use Rattle.router_model.specs.Changes.{journal as of_journal};
 ghost use Rattle.router_model.specs.Parts.{table};
-ghost use Rattle.router_model.specs.Sharing.{BatchesRule, BatchesStand, CutKeeps, CutSingly, CutWithin, DataAreLeft, EndsAreBatches, FirstIsProper, FirstOfMore, FirstRules, JournalAdds, LastRoundCloses, NumbersExist, RoundCloses, RoundStaysOpen, SidesMeet, SinglesAreForced, SinglesArePlain, TableRounds, TableWrites, WorkedAdds, WritingAdds, WritingAdvances};
+ghost use Rattle.router_model.specs.Sharing.{BatchesAreEnds, BatchesRule, BatchesStand, CutKeeps, CutSingly, CutWithin, DataAreLeft, EndsAreBatches, EndsWithin, FilledAreBatches, FilledBehind, FirstIsProper, FirstOfMore, FirstRules, JournalAdds, LastRoundCloses, LinesShow, NumbersExist, RoundCloses, RoundStaysOpen, SidesMeet, SinglesAreForced, SinglesArePlain, TableRounds, TableWrites, TablesShare, WorkedAdds, WritingAdds, WritingAdvances};
 
 /// Cutting loses no frame and moves none. A round has at most so many frames as its size, and at
 /// most 16 MiB beside the octets of one frame.
@@ -52,6 +52,15 @@ pub fn batches_are_added()
 pub fn ends_lie_between_batches()
     ensures first { FirstOfMore }
     ensures ends { EndsAreBatches }
+    ensures within { EndsWithin }
+    ensures batches { BatchesAreEnds }
+    ensures filled { FilledAreBatches }
+    ensures behind { FilledBehind }
+{}
+
+/// A round has a line for each frame, and the lines show the numbers of its data packets.
+pub fn lines_show_the_numbers()
+    ensures { LinesShow }
 {}
 
 /// A table that stands for the first entries of a journal decides by these, at whatever moment.
@@ -61,10 +70,13 @@ pub fn first_entries_decide()
 {}
 
 /// A table writes as the journal. One that absorbed some of a round's batches stands for the journal
-/// after these, and decides by so many entries of the round's journal.
+/// after these, and decides by so many entries of the round's journal. So a round by a table, and by
+/// tables beside it that absorbed at least the seconds before the first frame, is a round by numbers
+/// that it may have, and then the table stands for the journal of that round.
 pub fn tables_share_a_round()
     ensures writes { TableWrites }
     ensures stands { BatchesStand }
     ensures decides { BatchesRule }
     ensures rounds { TableRounds }
+    ensures shares { TablesShare }
 {}

@@ -1,4 +1,4 @@
-use Rattle.router_model.proofs.ShareLemmas.{batches-rule, batches-stand, table-rounds, table-writes}
+use Rattle.router_model.proofs.ShareLemmas.{batches-rule, batches-stand, table-rounds, table-writes, tables-share}
 use Rattle.router_model.proofs.rounds.tables_share_a_round.Goals as goal
 
 pub returns-clause-writes : goal.returns-clause-writes
@@ -12,3 +12,6 @@ returns-clause-decides c = batches-rule
 
 pub returns-clause-rounds : goal.returns-clause-rounds
 returns-clause-rounds c = table-rounds
+
+pub returns-clause-shares : goal.returns-clause-shares
+returns-clause-shares c = tables-share
