@@ -1,5 +1,5 @@
 -- Tables in rounds: they write as the journal, and what absorbed some batches decides by the first entries.
-use Rattle.std.proofs.Common.{◌≡◌, ℕ, zero, suc, ◌+◌, ◌-◌, ◌*◌, ◌≤◌, Bool, true, false, cond, List, [], ◌∷◌, ◌++◌, drop, get_or, length, take, Option, Some, refl, sym, ap, subst, ◌∙◌, arith, map}
+use Rattle.std.proofs.Common.{◌≡◌, ℕ, zero, suc, ◌+◌, ◌-◌, ◌*◌, ◌≤◌, Bool, true, false, cond, List, [], ◌∷◌, ◌++◌, drop, get_or, length, take, Option, Some, refl, sym, ap, subst, ◌∙◌, arith, map, max, ◌^◌}
 use Rattle.std.specs.List.{All, Contains, list_all}
 use Rattle.std.proofs.lemmas.List.{drop-append-le, length-append, length-drop, length-map}
 use Rattle.std.proofs.lemmas.List.Elements.{All-map, All-weaker}
@@ -13,13 +13,13 @@ use Rattle.router_model.specs.Changes.{Change, journal as of_journal, unchanged}
 use Rattle.router_model.specs.Course.{control}
 use Rattle.router_model.specs.Decide.{decide_by}
 use Rattle.router_model.specs.Hear.{Heard, hear_by}
-use Rattle.router_model.specs.Journal.{Journal, extended, first, statics}
+use Rattle.router_model.specs.Journal.{Journal, extended, first, statics, last_moment}
 use Rattle.router_model.specs.Lifting.{AreInOrder, AreOctets, HasOctets, Ready, event_moment, is_sound, tabled}
 use Rattle.router_model.specs.Note.{noted}
 use Rattle.router_model.specs.Parts.{Parts, Stands, parts_in, table, view_in}
 use Rattle.router_model.specs.Proper.{EachFits, IsProper}
 use Rattle.router_model.specs.Rounds.{Round, all_advanced, closing_moment, data_frames, decided, ends, round}
-use Rattle.router_model.specs.Sharing.{BatchesRule, BatchesStand, FirstIsProper, FirstRules, MayBegin, TableRounds, TableWrites, TablesShare, after_batches, opening, parts_after, rulings_by, shared_round, worked_tabled, writing_tabled}
+use Rattle.router_model.specs.Sharing.{BatchesRule, BatchesStand, FirstIsProper, FirstRules, MayBegin, TableRounds, TableWrites, TablesShare, after_batches, opening, parts_after, rulings_by, shared_round, worked_tabled, writing_tabled, RoundStays}
 use Rattle.router_model.specs.Sides.{Ruling, Worked, Writing, data_in, event_written, joined, left_for_later, message_written, noting, notices_of, put_together, rulings, second_written, then_written, with_entries, worked, writing, ruling}
 use Rattle.router_model.specs.Tick.{ticked}
 use Rattle.router_model.specs.View.{view}
@@ -249,21 +249,35 @@ module _ (settings : Settings) (journal : Journal) (events : List Event) (ns : L
   abbrev by_table : ℕ → Worked Parts
   by_table moment = let written = writing of_journal settings journal events in worked table settings moment (parts_in journal) events (rulings settings written.after ns (data_in written.items))
 
-  events-share : (m : ℕ) → MayBegin settings m journal events → (by_table (latest m events) ≡ worked_tabled (by_journal (latest m events))) × IsProper settings (by_journal (latest m events)).after
+  -- all that is known of the round
+  record EventsShare (m : ℕ) : Type 0 where
+    same : by_table (latest m events) ≡ worked_tabled (by_journal (latest m events))
+    proper : IsProper settings (by_journal (latest m events)).after
+    last : last_moment (by_journal (latest m events)).after ≤ latest m events
+    few : length (by_journal (latest m events)).after ≤ length journal + 2048 * length events
+
+  events-share : (m : ℕ) → MayBegin settings m journal events → EventsShare m
   events-share m may =
-      let writes = all-writes settings 0 m events journal may.order (may-write settings m journal events may) in
+      let room = may.room in
+      let more : ℕ = 2 ^ 62 - (length journal + 2048 * length events) in
+      let begins : Ready settings m (more + 2048 * length events) journal = record { proper = may.proper; last = may.last; room = omega (arith, room) } in
+      let writes = all-writes settings more m events journal may.order begins in
       let written : Writing Journal = writing of_journal settings journal events in
       let ruled : List Ruling = rulings settings written.after ns (data_in written.items) in
       let sound = rulings-sound settings written.after ns (data_in written.items) writes.octets in
       let moment : ℕ = latest m events in
       let few = sound.1 in
       let goes =
-      goes-each settings moment (noted table settings moment) (noted of_journal settings moment) is_sound (λ more n change pass ready. notes-lift settings moment more n change pass ready) (notices_of ruled) sound.0 0 (unchanged (parts_in written.after)) (unchanged written.after)
-      (record { same = refl; ready = fewer-ready settings moment (0 + 5 * length (data_in written.items)) (0 + length (notices_of ruled)) written.after (omega (arith, few)) writes.ready }) in (
-        ap (λ (t : Writing Parts). put_together table settings moment t ruled (noting table settings moment t.after ruled)) writes.same
-            ∙ ap (put_together table settings moment (writing_tabled written) ruled) goes.same,
-        goes.ready.proper,
-      )
+      goes-each settings moment (noted table settings moment) (noted of_journal settings moment) is_sound (λ more n change pass ready. notes-lift settings moment more n change pass ready) (notices_of ruled) sound.0 more (unchanged (parts_in written.after)) (unchanged written.after)
+      (record { same = refl; ready = fewer-ready settings moment (more + 5 * length (data_in written.items)) (more + length (notices_of ruled)) written.after (omega (arith, few)) writes.ready }) in
+      record {
+        same =
+          ap (λ (t : Writing Parts). put_together table settings moment t ruled (noting table settings moment t.after ruled)) writes.same
+          ∙ ap (put_together table settings moment (writing_tabled written) ruled) goes.same;
+        proper = goes.ready.proper;
+        last = goes.ready.last;
+        few = (let left = goes.ready.room in omega (arith, left, room));
+      }
 
 pub table-rounds : TableRounds
 table-rounds settings parts journal previous m [] ns stands may = (refl, (refl, stands))
@@ -273,7 +287,8 @@ table-rounds settings parts journal previous m (frame ∷ frames) ns stands may 
     let written : Writing Journal = writing of_journal settings journal events in
     let ruled : List Ruling = rulings settings (all_advanced settings journal events) ns (data_frames settings (frame ∷ frames)) in
     let same_ruled : rulings settings written.after ns (data_in written.items) ≡ ruled = ap (λ j. rulings settings j ns (data_in written.items)) (writing-advances settings journal events) ∙ ap (rulings settings (all_advanced settings journal events) ns) (data-left of_journal settings previous (frame ∷ frames) journal) in
-    let shares = subst (λ t. (by_table settings journal events ns t ≡ worked_tabled (by_journal settings journal events ns t)) × IsProper settings (by_journal settings journal events ns t).after) (latest-closing m previous frame frames) (events-share settings journal events ns m may) in
+    let share = events-share settings journal events ns m may in
+    let shares = subst (λ t. (by_table settings journal events ns t ≡ worked_tabled (by_journal settings journal events ns t)) × IsProper settings (by_journal settings journal events ns t).after) (latest-closing m previous frame frames) (share.same, share.proper) in
     let whole : worked table settings closing parts events ruled ≡ worked_tabled (by_journal settings journal events ns closing) = ap (λ p. worked table settings closing p events ruled) stands.whole ∙ ap (worked table settings closing (parts_in journal) events) (sym same_ruled) ∙ shares.0 in
     let meet = sides-meet settings closing journal events ns in (
       ap (λ (w : Worked Parts). w.lines) whole ∙ sym (ap (λ (r : Round). r.lines) meet),
@@ -281,6 +296,22 @@ table-rounds settings parts journal previous m (frame ∷ frames) ns stands may 
         ap (λ (w : Worked Parts). w.packets) whole ∙ sym (ap (λ (r : Round). r.packets) meet),
         subst (Stands settings (worked table settings closing parts events ruled).after) (sym (ap (λ (r : Round). r.after) meet))
             (record { proper = shares.1; whole = ap (λ (w : Worked Parts). w.after) whole }),
+      ),
+    )
+
+pub round-stays : RoundStays
+round-stays settings previous [] journal ns m may = (may.proper, (let last = may.last in omega (arith, last), omega arith))
+round-stays settings previous (frame ∷ frames) journal ns m may =
+    let events : List Event = events_after previous (frame ∷ frames) in
+    let closing : ℕ = closing_moment (frame ∷ frames) in
+    let share = events-share settings journal events ns m may in
+    let same = latest-closing m previous frame frames in
+    let after : (by_journal settings journal events ns (latest m events)).after ≡ (round settings previous (frame ∷ frames) journal ns).after = ap (λ t. (by_journal settings journal events ns t).after) same ∙ sym (ap (λ (r : Round). r.after) (sides-meet settings closing journal events ns)) in
+    let last = share.last in (
+      subst (IsProper settings) after share.proper,
+      (
+        subst (λ (j : Journal). last_moment j ≤ max m closing) after (omega (arith, last, same)),
+        subst (λ (j : Journal). length j ≤ length journal + 2048 * length events) after share.few,
       ),
     )
 

@@ -18,7 +18,7 @@ use Rattle.router_model.specs.Journal.{Journal, first}
 use Rattle.router_model.specs.Note.{noted}
 use Rattle.router_model.specs.Plain.{Router, after_decision, after_message, emit_packets, packet_of, packets_of, plain, started}
 use Rattle.router_model.specs.Rounds.{AllLawful, AreLawful, Told, advanced, after_round, all_advanced, and_then, closing_moment, data_frames, decided, ends, lengths, nothing, of_data, of_events, of_message, round, round_of_events, rounds_from, with_if, with_notices}
-use Rattle.router_model.specs.Sharing.{NumbersExist, SinglesAreForced, SinglesArePlain}
+use Rattle.router_model.specs.Sharing.{NumbersExist, SinglesAreForced, SinglesArePlain, RoundsFollow, LawfulFollow, previous_after}
 use Rattle.router_model.specs.Tick.{tick}
 use Rattle.router_model.proofs.CutLemmas.{cut-singly}
 use Rattle.router_model.proofs.SideLemmas.{none-of, one-of}
@@ -229,3 +229,31 @@ numbers-exist router previous (frames ∷ others) =
         ),
       ),
     )
+
+-- ### rounds one after another
+
+followed-assoc : {S : Type 0} (a b c : Outcome S) → followed (followed a b) c ≡ followed a (followed b c)
+followed-assoc a b c =
+    ap (λ l. record (followed (followed a b) c) { lines = l }) (append_assoc a.lines b.lines c.lines)
+    ∙ ap (λ p. record (followed a (followed b c)) { packets = p }) (append_assoc a.packets b.packets c.packets)
+
+no-numbers : (ms : List (List ℕ)) → length ms ≡ 0 → [] ≡ ms
+no-numbers [] none = refl
+no-numbers (m ∷ ms) none = absurd (let bad : ⊥ = omega (arith, none) in bad)
+
+pub rounds-follow : RoundsFollow
+rounds-follow router previous [] next ms ns same =
+    subst (λ l. rounds_from router previous next (l ++ ns) ≡ followed (idle router) (rounds_from router previous next ns)) (no-numbers ms same) refl
+rounds-follow router previous (frames ∷ one) next [] ns same = absurd (let bad : ⊥ = omega (arith, same) in bad)
+rounds-follow router previous (frames ∷ one) next (m ∷ ms) ns same =
+    let first : Outcome (Router Journal) = after_round router (round router.settings previous frames router.memory m) in
+    let before : Outcome (Router Journal) = rounds_from first.after (Some (closing_moment frames)) one ms in
+    ap (followed first) (rounds-follow first.after (Some (closing_moment frames)) one next ms ns (omega (arith, same)))
+    ∙ sym (followed-assoc first before (rounds_from before.after (previous_after (Some (closing_moment frames)) one) next ns))
+
+pub lawful-follow : LawfulFollow
+lawful-follow router previous [] next ms ns first others =
+    subst (λ l. AllLawful router previous next (l ++ ns)) (sym first) others
+lawful-follow router previous (frames ∷ one) next [] ns first others = absurd (let some = first.0 in let bad : ⊥ = omega (arith, some) in bad)
+lawful-follow router previous (frames ∷ one) next (m ∷ ms) ns first others =
+    (omega arith, (first.1.0, lawful-follow (after_round router (round router.settings previous frames router.memory m)).after (Some (closing_moment frames)) one next ms ns first.1.1 others))

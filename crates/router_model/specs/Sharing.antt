@@ -1,9 +1,9 @@
 -- What is promised of rounds.
-use Rattle.std.specs.Prelude.{◌≡◌, ℕ, suc, ◌+◌, ◌*◌, ◌^◌, ◌≤◌, false, not, true, List, [], ◌∷◌, ◌++◌, drop, flat_map, get_or, length, map, take, Option}
+use Rattle.std.specs.Prelude.{◌≡◌, ℕ, suc, ◌+◌, ◌*◌, ◌^◌, ◌≤◌, false, not, true, List, [], ◌∷◌, ◌++◌, drop, flat_map, get_or, length, map, take, Option, max, Some}
 use Rattle.std.specs.List.{All, Contains}
 use Rattle.capture_io.specs.Frame.{Frame}
 use Rattle.lisp_settings.specs.declared.settings.Settings.{Settings}
-use Rattle.playback.specs.Events.{Event, Tick, Arrival, events, events_after, played}
+use Rattle.playback.specs.Events.{Event, Tick, Arrival, events, events_after, played, followed}
 use Rattle.router_log.specs.declared.entry.Entry.{Entry}
 use Rattle.router_model.specs.Changes.{Ledger, journal as of_journal}
 use Rattle.router_model.specs.Course.{control}
@@ -13,7 +13,7 @@ use Rattle.router_model.specs.Lifting.{AreInOrder}
 use Rattle.router_model.specs.Parts.{Parts, Stands, parts_in, table}
 use Rattle.router_model.specs.Plain.{Router, plain, started}
 use Rattle.router_model.specs.Proper.{IsProper}
-use Rattle.router_model.specs.Rounds.{AllLawful, AreLawful, Lawful, Line, Round, all_advanced, closing_moment, data_frames, ends, round, round_of_events, rounds, with_if}
+use Rattle.router_model.specs.Rounds.{AllLawful, AreLawful, Lawful, Line, Round, all_advanced, closing_moment, data_frames, ends, round, round_of_events, rounds, with_if, rounds_from}
 use Rattle.router_model.specs.Sides.{Ruling, Worked, Writing, data_in, joined, ruling, ruling_by, rulings, with_entries, worked, writing}
 
 -- ### how frames are cut
@@ -55,6 +55,21 @@ SinglesAreForced = (settings : Settings) (frames : List Frame) (ms ns : List (Li
 -- rounds of each size have numbers
 abbrev pub NumbersExist : Type 0
 NumbersExist = (router : Router Journal) (previous : Option ℕ) (frames : List (List Frame)) → (ns : List (List ℕ)) × AllLawful router previous frames ns
+
+-- ### rounds one after another
+
+-- the moment of the frame before the next round
+abbrev pub previous_after : Option ℕ → List (List Frame) → Option ℕ
+previous_after previous [] = previous
+previous_after previous (frames ∷ others) = previous_after (Some (closing_moment frames)) others
+
+-- rounds go on where those before them ended
+abbrev pub RoundsFollow : Type 0
+RoundsFollow = (router : Router Journal) (previous : Option ℕ) (one next : List (List Frame)) (ms ns : List (List ℕ)) → length ms ≡ length one → let before = rounds_from router previous one ms in rounds_from router previous (one ++ next) (ms ++ ns) ≡ followed before (rounds_from before.after (previous_after previous one) next ns)
+
+-- and so do their numbers
+abbrev pub LawfulFollow : Type 0
+LawfulFollow = (router : Router Journal) (previous : Option ℕ) (one next : List (List Frame)) (ms ns : List (List ℕ)) → AllLawful router previous one ms → AllLawful (rounds_from router previous one ms).after (previous_after previous one) next ns → AllLawful router previous (one ++ next) (ms ++ ns)
 
 -- ### the parts of a round
 
@@ -156,6 +171,11 @@ pub record MayBegin (settings : Settings) (m : ℕ) (journal : Journal) (events 
   pub last : last_moment journal ≤ m
   pub order : AreInOrder m events
   pub room : length journal + 2048 * length events ≤ 2 ^ 62
+
+-- the journal after a round is one that a router can have; its last entry isn't later than the round's last frame, and
+-- at most 2,048 entries came for each event
+abbrev pub RoundStays : Type 0
+RoundStays = (settings : Settings) (previous : Option ℕ) (frames : List Frame) (journal : Journal) (ns : List ℕ) (m : ℕ) → MayBegin settings m journal (events_after previous frames) → let after = (round settings previous frames journal ns).after in IsProper settings after × ((last_moment after ≤ max m (closing_moment frames)) × (length after ≤ length journal + 2048 * length (events_after previous frames)))
 
 -- what was written, with the parts of the journal
 abbrev pub writing_tabled : Writing Journal → Writing Parts

@@ -1,7 +1,7 @@
 // Laws of rounds. Each function only states its law.
 ghost use Rattle.router_model.specs.Changes.{journal as of_journal};
 ghost use Rattle.router_model.specs.Parts.{table};
-ghost use Rattle.router_model.specs.Sharing.{BatchesAreEnds, BatchesRule, BatchesStand, CutKeeps, CutSingly, CutWithin, DataAreLeft, EndsAreBatches, EndsWithin, FilledAreBatches, FilledBehind, FirstIsProper, FirstOfMore, FirstRules, JournalAdds, LastRoundCloses, LinesShow, NumbersExist, RoundCloses, RoundStaysOpen, SidesMeet, SinglesAreForced, SinglesArePlain, TableRounds, TableWrites, TablesShare, WorkedAdds, WritingAdds, WritingAdvances};
+ghost use Rattle.router_model.specs.Sharing.{BatchesAreEnds, BatchesRule, BatchesStand, CutKeeps, CutSingly, CutWithin, DataAreLeft, EndsAreBatches, EndsWithin, FilledAreBatches, FilledBehind, FirstIsProper, FirstOfMore, FirstRules, JournalAdds, LastRoundCloses, LawfulFollow, LinesShow, NumbersExist, RoundCloses, RoundStays, RoundStaysOpen, RoundsFollow, SidesMeet, SinglesAreForced, SinglesArePlain, TableRounds, TableWrites, TablesShare, WorkedAdds, WritingAdds, WritingAdvances};
 
 /// Cutting loses no frame and moves none. A round has at most so many frames as its size, and at
 /// most 16 MiB beside the octets of one frame.
@@ -23,6 +23,17 @@ pub fn rounds_close_when_full()
 pub fn rounds_of_one_frame_are_plain()
     ensures plain { SinglesArePlain }
     ensures forced { SinglesAreForced }
+{}
+
+/// Rounds go on where those before them ended, and so do their numbers.
+pub fn rounds_follow_each_other()
+    ensures rounds { RoundsFollow }
+    ensures lawful { LawfulFollow }
+{}
+
+/// A journal stays one that a router can have, in order and with room.
+pub fn rounds_leave_proper_journals()
+    ensures { RoundStays }
 {}
 
 /// There are numbers for all rounds, whatever came before.

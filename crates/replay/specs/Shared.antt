@@ -1,0 +1,80 @@
+-- What a run with forwarders answers, by its words, the files, and the numbers that its report shows.
+use Rattle.std.specs.Prelude.{◌≡◌, ℕ, zero, suc, ◌==◌, List, [], ◌∷◌, ◌++◌, length, Option, Some, None, Result, Ok, Err, if◌then◌else◌}
+use Rattle.octets.specs.Rules.{first_failing}
+use Rattle.command_words.specs.Words.{words_of}
+use Rattle.command_words.specs.declared.words.Words.{Words}
+use Rattle.command_words.specs.declared.words.Words.TheVariants.{Replay, Show, Trial}
+use Rattle.desk.specs.declared.file.NamedFile.{NamedFile}
+use Rattle.desk.specs.World.{Shown, content}
+use Rattle.capture_io.specs.Frames.{Run, capture}
+use Rattle.capture_io.specs.Capture.{header_rules}
+use Rattle.capture_io.specs.Output.{out_header}
+use Rattle.capture_io.specs.declared.fault.CaptureFault.{CaptureFault}
+use Rattle.lisp_settings.specs.Settings.{settings_of}
+use Rattle.lisp_settings.specs.declared.fault.SettingsFault.{SettingsFault}
+use Rattle.lisp_settings.specs.declared.settings.Settings.{Settings}
+use Rattle.playback.specs.Events.{Outcome, records_of}
+use Rattle.router_model.specs.Journal.{Journal}
+use Rattle.router_model.specs.Plain.{Router}
+use Rattle.router_model.specs.Rounds.{Lawful, rounds}
+use Rattle.replay.specs.Answer.{Answer, Gives, after_header, after_words, closing, replayed, status_of, told_off}
+use Rattle.replay.specs.Lines.{end_line, settings_line}
+use Rattle.replay.specs.declared.status.Status.{Status}
+use Rattle.replay.specs.declared.status.Status.TheVariants.{Settings as BadSettings}
+
+-- the answer to the frames of a capture, by what was said and written for them
+abbrev pub answer_by : Outcome (Router Journal) → List ℕ → Run → Answer
+answer_by outcome output run = record {
+  status = status_of run.fault;
+  said =
+    outcome.lines
+    ++ closing run.fault (end_line (length run.frames) (length outcome.packets) (length outcome.after.memory));
+  made = record { name = output; octets = out_header ++ records_of outcome.packets } ∷ [];
+}
+
+-- the frames of a capture, replayed in rounds of a size with these numbers
+unfoldable pub shared : List ℕ → ℕ → List (List ℕ) → Settings → Run → Answer
+shared output size ns settings run = answer_by (rounds settings run.frames size ns) output run
+
+-- the answer to a replay, by its settings
+abbrev pub after_settings_by : (Settings → Run → Answer) → List ℕ → Result Settings SettingsFault → Answer
+after_settings_by frames file (Err fault) = told_off BadSettings (settings_line fault)
+after_settings_by frames file (Ok settings) = after_header (frames settings) file (first_failing (header_rules file))
+
+-- the answer to what words say: without forwarders that of the plain router
+abbrev pub after_words_by : List NamedFile → List (List ℕ) → Option Words → Answer
+after_words_by files ns (Some (Replay settings input output workers round)) =
+    after_settings_by (λ s. if workers == 0 then replayed s output else shared output round ns s)
+    (content input files) (settings_of (content settings files))
+after_words_by files ns words = after_words files words
+
+-- the answer to words, where these files are there
+unfoldable pub answer_with : List (List ℕ) → List NamedFile → List (List ℕ) → Answer
+answer_with words files ns = after_words_by files ns (words_of words)
+
+-- numbers that the capture of a file may have, where its header has no fault
+abbrev pub AreNumbersOf : Settings → ℕ → List (List ℕ) → List ℕ → Option CaptureFault → Type 0
+AreNumbersOf settings size ns file (Some fault) = ns ≡ []
+AreNumbersOf settings size ns file None = Lawful settings (capture file).frames size ns
+
+-- where the settings have none
+abbrev pub AreNumbers : ℕ → List (List ℕ) → List ℕ → Result Settings SettingsFault → Type 0
+AreNumbers size ns file (Err fault) = ns ≡ []
+AreNumbers size ns file (Ok settings) = AreNumbersOf settings size ns file (first_failing (header_rules file))
+
+-- without forwarders none are chosen
+abbrev pub AreChosen : ℕ → ℕ → List (List ℕ) → List ℕ → Result Settings SettingsFault → Type 0
+AreChosen zero size ns file settings = ns ≡ []
+AreChosen (suc workers) size ns file settings = AreNumbers size ns file settings
+
+-- numbers that a run of words may have
+abbrev pub MayHave : List NamedFile → List (List ℕ) → Option Words → Type 0
+MayHave files ns (Some (Replay settings input output workers round)) =
+    AreChosen workers round ns (content input files) (settings_of (content settings files))
+MayHave files ns words = ns ≡ []
+
+-- a run ends by an answer with numbers that it may have, and leaves what that says
+pub record GivesWith (words : List (List ℕ)) (files : List NamedFile) (s : Status) (old : Shown) (new : Option Shown) : Type 0 where
+  pub ns : List (List ℕ)
+  pub lawful : MayHave files ns (words_of words)
+  pub gives : Gives (answer_with words files ns) s old new
