@@ -1,8 +1,8 @@
 -- Tables in rounds: they write as the journal, and what absorbed some batches decides by the first entries.
 use Rattle.std.proofs.Common.{◌≡◌, ℕ, zero, suc, ◌+◌, ◌-◌, ◌*◌, ◌≤◌, Bool, true, false, cond, List, [], ◌∷◌, ◌++◌, drop, get_or, length, take, Option, Some, refl, sym, ap, subst, ◌∙◌, arith, map, max, ◌^◌}
-use Rattle.std.specs.List.{All, Contains, list_all}
-use Rattle.std.proofs.lemmas.List.{drop-append-le, length-append, length-drop, length-map}
-use Rattle.std.proofs.lemmas.List.Elements.{All-map, All-weaker}
+use Rattle.std.specs.List.{All, Contains, list_all, AllZip}
+use Rattle.std.proofs.lemmas.List.{drop-append-le, length-append, length-drop, length-map, take_all}
+use Rattle.std.proofs.lemmas.List.Elements.{All-map, All-weaker, All-cons, All-nil}
 use Rattle.capture_io.specs.Frame.{Frame}
 use Rattle.lisp_settings.specs.declared.settings.Settings.{Settings}
 use Rattle.playback.specs.Events.{Event, Tick, Arrival, events_after, events_of, ticks}
@@ -19,8 +19,8 @@ use Rattle.router_model.specs.Note.{noted}
 use Rattle.router_model.specs.Parts.{Parts, Stands, parts_in, table, view_in}
 use Rattle.router_model.specs.Proper.{EachFits, IsProper}
 use Rattle.router_model.specs.Rounds.{Round, all_advanced, closing_moment, data_frames, decided, ends, round}
-use Rattle.router_model.specs.Sharing.{BatchesRule, BatchesStand, FirstIsProper, FirstRules, MayBegin, TableRounds, TableWrites, TablesShare, after_batches, opening, parts_after, rulings_by, shared_round, worked_tabled, writing_tabled, RoundStays}
-use Rattle.router_model.specs.Sides.{Ruling, Worked, Writing, data_in, event_written, joined, left_for_later, message_written, noting, notices_of, put_together, rulings, second_written, then_written, with_entries, worked, writing, ruling}
+use Rattle.router_model.specs.Sharing.{BatchesRule, BatchesStand, FirstIsProper, FirstRules, MayBegin, TableRounds, TableWrites, TablesShare, after_batches, opening, parts_after, worked_tabled, writing_tabled, RoundStays, IsRuled, AllBatches}
+use Rattle.router_model.specs.Sides.{Ruling, Worked, Writing, data_in, event_written, joined, left_for_later, message_written, noting, notices_of, put_together, rulings, second_written, then_written, with_entries, worked, writing, ruling, ruling_by}
 use Rattle.router_model.specs.Tick.{ticked}
 use Rattle.router_model.specs.View.{view}
 use Rattle.router_model.proofs.FollowLemmas.{requests-few, table-decides}
@@ -29,7 +29,7 @@ use Rattle.router_model.proofs.HearLemmas.{fewer-ready, frames-lift, goes-each}
 use Rattle.router_model.proofs.NoteLemmas.{notes-lift}
 use Rattle.router_model.proofs.NoticeLemmas.{notices-sound}
 use Rattle.router_model.proofs.PartsLemmas.{and_both}
-use Rattle.router_model.proofs.SideLemmas.{batches-are-ends, data-append, data-left, extended-more, first-batches, message-grows, on-batches, sides-meet, tick-grows, writing-advances}
+use Rattle.router_model.proofs.SideLemmas.{batches-are-ends, data-append, data-left, extended-more, first-batches, message-grows, on-batches, sides-meet, tick-grows, writing-advances, writing-adds}
 use Rattle.router_model.proofs.SoundLemmas.{frame-sound}
 use Rattle.router_model.proofs.StaticsLemmas.{length-extended}
 use Rattle.router_model.proofs.TickLemmas.{ticks-lift}
@@ -272,8 +272,8 @@ module _ (settings : Settings) (journal : Journal) (events : List Event) (ns : L
       (record { same = refl; ready = fewer-ready settings moment (more + 5 * length (data_in written.items)) (more + length (notices_of ruled)) written.after (omega (arith, few)) writes.ready }) in
       record {
         same =
-          ap (λ (t : Writing Parts). put_together table settings moment t ruled (noting table settings moment t.after ruled)) writes.same
-          ∙ ap (put_together table settings moment (writing_tabled written) ruled) goes.same;
+            ap (λ (t : Writing Parts). put_together table settings moment t ruled (noting table settings moment t.after ruled)) writes.same
+            ∙ ap (put_together table settings moment (writing_tabled written) ruled) goes.same;
         proper = goes.ready.proper;
         last = goes.ready.last;
         few = (let left = goes.ready.room in omega (arith, left, room));
@@ -317,6 +317,34 @@ round-stays settings previous (frame ∷ frames) journal ns m may =
 
 -- ### tables that decide beside the writer
 
+-- data packets in order, each by a table that absorbed so many batches
+abbrev rulings_by : Settings → Parts → List (List Entry) → List ℕ → List Frame → List Ruling
+rulings_by settings parts batches [] frames = []
+rulings_by settings parts batches (k ∷ ks) [] = []
+rulings_by settings parts batches (k ∷ ks) (frame ∷ frames) =
+    ruling_by settings (parts_after parts batches k) frame ∷ rulings_by settings parts batches ks frames
+
+-- how many batches each of these tables absorbed
+record Counts (settings : Settings) (parts : Parts) (batches : List (List Entry)) (first : ℕ) (frames : List Frame) (ruled : List Ruling) : Type 0 where
+  ks : List ℕ
+  late : All (λ k. first ≤ k) ks
+  each : length ks ≡ length frames
+  are : rulings_by settings parts batches ks frames ≡ ruled
+
+counts-of : (settings : Settings) (parts : Parts) (batches : List (List Entry)) (from : ℕ) (frames : List Frame) (ruled : List Ruling) → AllZip (IsRuled settings parts batches from) frames ruled → Counts settings parts batches from frames ruled
+counts-of settings parts batches from [] [] all = record { ks = []; late = All-nil (λ k. from ≤ k); each = refl; are = refl }
+counts-of settings parts batches from [] (one ∷ ruled) all = absurd all
+counts-of settings parts batches from (frame ∷ frames) [] all = absurd all
+counts-of settings parts batches from (frame ∷ frames) (one ∷ ruled) all =
+    let is = all.0 in
+    let rest = counts-of settings parts batches from frames ruled all.1 in
+    record {
+      ks = is.k ∷ rest.ks;
+      late = All-cons (λ k. from ≤ k) is.k rest.ks is.late rest.late;
+      each = ap (λ n. suc n) rest.each;
+      are = ap (λ r. r ∷ rulings_by settings parts batches rest.ks frames) (sym is.is) ∙ ap (λ l. one ∷ l) rest.are;
+    }
+
 module _ (settings : Settings) (parts : Parts) (journal : Journal) (m : ℕ) (events : List Event) where
   abbrev count_after : ℕ → ℕ
   count_after k = (parts_after parts (writing table settings parts events).batches k).count
@@ -339,19 +367,27 @@ module _ (settings : Settings) (parts : Parts) (journal : Journal) (m : ℕ) (ev
           (batches-are-ends settings journal events k less)
 
 pub tables-share : TablesShare
-tables-share settings parts journal previous m frames ks stands may all each =
+tables-share settings parts journal previous m frames ruled stands may all =
     let events : List Event = events_after previous frames in
-    let ns : List ℕ = map (count_after settings parts journal m events) ks in
-    let same = rulings-same settings parts journal m events stands may ks (data_frames settings frames) each in
-    let whole : shared_round settings previous frames parts ks ≡ worked table settings (closing_moment frames) parts events (rulings settings (all_advanced settings journal events) ns (data_frames settings frames)) = ap (worked table settings (closing_moment frames) parts events) same in
+    let batches : List (List Entry) = (writing table settings parts events).batches in
+    let counts = counts-of settings parts batches (opening events) (data_frames settings frames) ruled all in
+    let ns : List ℕ = map (count_after settings parts journal m events) counts.ks in
+    let same = sym counts.are ∙ rulings-same settings parts journal m events stands may counts.ks (data_frames settings frames) counts.each in
+    let whole : worked table settings (closing_moment frames) parts events ruled ≡ worked table settings (closing_moment frames) parts events (rulings settings (all_advanced settings journal events) ns (data_frames settings frames)) = ap (worked table settings (closing_moment frames) parts events) same in
     let does = table-rounds settings parts journal previous m frames ns stands may in
     record {
       ns = ns;
       lawful = record {
-        ends = counts-end settings parts journal m events stands may ks all;
-        each = length-map ks (count_after settings parts journal m events) ∙ each;
+        ends = counts-end settings parts journal m events stands may counts.ks counts.late;
+        each = length-map counts.ks (count_after settings parts journal m events) ∙ counts.each;
       };
       lines = ap (λ (w : Worked Parts). w.lines) whole ∙ does.0;
       packets = ap (λ (w : Worked Parts). w.packets) whole ∙ does.1.0;
       stands = subst (λ (p : Parts). Stands settings p (round settings previous frames journal ns).after) (sym (ap (λ (w : Worked Parts). w.after) whole)) does.1.1;
     }
+
+pub all-batches : AllBatches
+all-batches settings parts events =
+    let written : Writing Parts = writing table settings parts events in
+    ap (λ l. with_entries table parts (joined l)) (take_all (length written.batches) written.batches (omega arith))
+    ∙ sym (writing-adds table settings parts events)

@@ -14,12 +14,18 @@ use Rattle.router_model.specs.Course.{control}
 use Rattle.router_model.specs.Hear.{hear_by}
 use Rattle.router_model.specs.Journal.{Journal, extended, first}
 use Rattle.router_model.specs.Note.{noted}
-use Rattle.router_model.specs.Rounds.{advanced, all_advanced, and_then, data_frames, decided, ends, lengths, of_data, of_events, of_message, of_second, with_if, with_notices, Line}
-use Rattle.router_model.specs.Sharing.{BatchesAreEnds, DataAreLeft, EndsAreBatches, EndsWithin, FilledAreBatches, FilledBehind, FirstOfMore, JournalAdds, SidesMeet, WritingAdvances, after_batches, filled, opening, LinesShow, shown}
-use Rattle.router_model.specs.Sides.{Item, Second, Message, Data, Ruling, Writing, data_in, event_written, joined, left_for_later, message_written, notices_of, rulings, told_by, with_entries, writing}
+use Rattle.router_model.specs.Plain.{packet_of, packets_of}
+use Rattle.router_model.specs.Rounds.{advanced, all_advanced, and_then, data_frames, decided, ends, lengths, of_data, of_events, of_message, of_second, with_if, with_notices, Line, Told, line_of}
+use Rattle.router_model.specs.Sharing.{BatchesAreEnds, DataAreLeft, EndsAreBatches, EndsWithin, FilledAreBatches, FilledBehind, FirstOfMore, JournalAdds, SidesMeet, WritingAdvances, after_batches, filled, opening, LinesShow, shown, WritingFollows, ToldFollows}
+use Rattle.router_model.specs.Sides.{Item, Second, Message, Data, Ruling, Writing, data_in, event_written, joined, left_for_later, message_written, notices_of, rulings, told_by, with_entries, writing, then_written}
 use Rattle.router_model.specs.Tick.{ticked}
 use Rattle.router_model.proofs.GrowLemmas.{grown-each, grown-heard, grown-noted, grown-ticked, with-more}
 use Rattle.router_model.proofs.StaticsLemmas.{length-extended}
+
+then-assoc : {S : Type 0} (a b c : Writing S) → then_written (then_written a b) c ≡ then_written a (then_written b c)
+then-assoc a b c =
+    ap (λ l. record (then_written (then_written a b) c) { items = l }) (append_assoc a.items b.items c.items)
+    ∙ ap (λ l. record (then_written a (then_written b c)) { batches = l }) (append_assoc a.batches b.batches c.batches)
 
 -- ### batches
 
@@ -69,6 +75,15 @@ journal-adds journal (e ∷ entries) = journal-adds (e ∷ journal) entries
 pub extended-more : (journal : Journal) (entries more : List Entry) → extended journal (entries ++ more) ≡ extended (extended journal entries) more
 extended-more journal [] more = refl
 extended-more journal (e ∷ entries) more = extended-more (e ∷ journal) entries more
+
+-- events one after another
+pub writing-follows : {S : Type 0} (ledger : Ledger S) → WritingFollows ledger
+writing-follows ledger settings state [] next = refl
+writing-follows ledger settings state (event ∷ one) next =
+    let first = event_written ledger settings state event in
+    let second = writing ledger settings first.after one in
+    ap (then_written first) (writing-follows ledger settings first.after one next)
+    ∙ sym (then-assoc first second (writing ledger settings second.after next))
 
 -- ### the journal of a round
 
@@ -395,3 +410,33 @@ lines-show settings previous frames journal ns each =
     let same = arrivals-events previous frames in
     subst (λ fs. Shows settings all fs (of_events settings all journal ns events).lines ns) same
     (events-show settings all events journal ns (each ∙ ap (λ fs. length (data_frames settings fs)) (sym same)))
+
+-- ### what is told of items, one after another
+
+and-assoc : (a b c : Told) → and_then (and_then a b) c ≡ and_then a (and_then b c)
+and-assoc a b c =
+    ap (λ l. record (and_then (and_then a b) c) { lines = l }) (append_assoc a.lines b.lines c.lines)
+    ∙ ap (λ l. record (and_then a (and_then b c)) { packets = (a.packets ++ b.packets) ++ c.packets; notices = l }) (append_assoc a.notices b.notices c.notices)
+    ∙ ap (λ l. record (and_then a (and_then b c)) { packets = l }) (append_assoc a.packets b.packets c.packets)
+
+no-rulings : (ruled : List Ruling) → length ruled ≡ 0 → [] ≡ ruled
+no-rulings [] none = refl
+no-rulings (one ∷ ruled) none = absurd (let bad : ⊥ = omega (arith, none) in bad)
+
+pub told-follows : ToldFollows
+told-follows [] next first others same =
+    subst (λ l. told_by next (l ++ others) ≡ and_then (told_by [] l) (told_by next others)) (no-rulings first same) refl
+told-follows (Second packets ∷ one) next first others same =
+    let told : Told = record { lines = []; packets = packets; notices = [] } in
+    ap (and_then told) (told-follows one next first others same) ∙ sym (and-assoc told (told_by one first) (told_by next others))
+told-follows (Message line packets ∷ one) next first others same =
+    let told : Told = record { lines = line ∷ []; packets = packets; notices = [] } in
+    ap (and_then told) (told-follows one next first others same) ∙ sym (and-assoc told (told_by one first) (told_by next others))
+told-follows (Data frame ∷ one) next [] others same = absurd (let bad : ⊥ = omega (arith, same) in bad)
+told-follows (Data frame ∷ one) next (r ∷ first) others same =
+    let told : Told = record {
+      lines = line_of frame r.n r.decision.verdict ∷ [];
+      packets = packets_of frame.moment (packet_of r.decision.verdict);
+      notices = r.decision.notices;
+    } in
+    ap (and_then told) (told-follows one next first others (omega (arith, same))) ∙ sym (and-assoc told (told_by one first) (told_by next others))

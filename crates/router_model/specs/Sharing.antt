@@ -1,6 +1,6 @@
 -- What is promised of rounds.
 use Rattle.std.specs.Prelude.{◌≡◌, ℕ, suc, ◌+◌, ◌*◌, ◌^◌, ◌≤◌, false, not, true, List, [], ◌∷◌, ◌++◌, drop, flat_map, get_or, length, map, take, Option, max, Some}
-use Rattle.std.specs.List.{All, Contains}
+use Rattle.std.specs.List.{Contains, AllZip}
 use Rattle.capture_io.specs.Frame.{Frame}
 use Rattle.lisp_settings.specs.declared.settings.Settings.{Settings}
 use Rattle.playback.specs.Events.{Event, Tick, Arrival, events, events_after, played, followed}
@@ -13,8 +13,8 @@ use Rattle.router_model.specs.Lifting.{AreInOrder}
 use Rattle.router_model.specs.Parts.{Parts, Stands, parts_in, table}
 use Rattle.router_model.specs.Plain.{Router, plain, started}
 use Rattle.router_model.specs.Proper.{IsProper}
-use Rattle.router_model.specs.Rounds.{AllLawful, AreLawful, Lawful, Line, Round, all_advanced, closing_moment, data_frames, ends, round, round_of_events, rounds, with_if, rounds_from}
-use Rattle.router_model.specs.Sides.{Ruling, Worked, Writing, data_in, joined, ruling, ruling_by, rulings, with_entries, worked, writing}
+use Rattle.router_model.specs.Rounds.{AllLawful, AreLawful, Lawful, Line, Round, all_advanced, closing_moment, data_frames, ends, round, round_of_events, rounds, with_if, rounds_from, and_then}
+use Rattle.router_model.specs.Sides.{Ruling, Worked, Writing, data_in, joined, ruling, ruling_by, rulings, with_entries, worked, writing, Item, then_written, told_by}
 
 -- ### how frames are cut
 
@@ -84,6 +84,17 @@ SidesMeet = (settings : Settings) (moment : ℕ) (journal : Journal) (events : L
 -- what is written leaves the state with its batches
 abbrev pub WritingAdds : {S : Type 0} → Ledger S → Type 0
 WritingAdds {S} ledger = (settings : Settings) (state : S) (events : List Event) → (writing ledger settings state events).after ≡ with_entries ledger state (joined (writing ledger settings state events).batches)
+
+-- events are written one after another, and so are entries
+abbrev pub WritingFollows : {S : Type 0} → Ledger S → Type 0
+WritingFollows {S} ledger = (settings : Settings) (state : S) (one next : List Event) → let first = writing ledger settings state one in writing ledger settings state (one ++ next) ≡ then_written first (writing ledger settings first.after next)
+
+abbrev pub EntriesFollow : {S : Type 0} → Ledger S → Type 0
+EntriesFollow {S} ledger = (state : S) (one next : List Entry) → with_entries ledger state (one ++ next) ≡ with_entries ledger (with_entries ledger state one) next
+
+-- what is told of items is told one after another
+abbrev pub ToldFollows : Type 0
+ToldFollows = (one next : List Item) (first others : List Ruling) → length first ≡ length (data_in one) → told_by (one ++ next) (first ++ others) ≡ and_then (told_by one first) (told_by next others)
 
 -- and so does a whole round
 abbrev pub WorkedAdds : {S : Type 0} → Ledger S → Type 0
@@ -211,21 +222,14 @@ TableRounds = (settings : Settings) (parts : Parts) (journal : Journal) (previou
 abbrev pub parts_after : Parts → List (List Entry) → ℕ → Parts
 parts_after parts batches k = with_entries table parts (joined (take k batches))
 
--- data packets in order, each by a table that absorbed so many batches
-abbrev pub rulings_by : Settings → Parts → List (List Entry) → List ℕ → List Frame → List Ruling
-rulings_by settings parts batches [] frames = []
-rulings_by settings parts batches (k ∷ ks) [] = []
-rulings_by settings parts batches (k ∷ ks) (frame ∷ frames) =
-    ruling_by settings (parts_after parts batches k) frame ∷ rulings_by settings parts batches ks frames
+-- what became of a data packet by a table that absorbed some batches, and those of the first seconds among them
+pub record IsRuled (settings : Settings) (parts : Parts) (batches : List (List Entry)) (first : ℕ) (frame : Frame) (one : Ruling) : Type 0 where
+  pub k : ℕ
+  pub late : first ≤ k
+  pub is : one ≡ ruling_by settings (parts_after parts batches k) frame
 
--- a round by a table, and by tables that decide its data packets beside it
-abbrev pub shared_round : Settings → Option ℕ → List Frame → Parts → List ℕ → Worked Parts
-shared_round settings previous frames parts ks =
-    let events = events_after previous frames in
-    worked table settings (closing_moment frames) parts events
-    (rulings_by settings parts (writing table settings parts events).batches ks (data_frames settings frames))
-
--- what it does is a round of the journal, by numbers that it may have, and then it stands for the journal of that round
+-- what a round does is a round of the journal, by numbers that it may have, and then it stands for the journal of that
+-- round
 pub record Shares (settings : Settings) (previous : Option ℕ) (frames : List Frame) (journal : Journal) (result : Worked Parts) : Type 0 where
   pub ns : List ℕ
   pub lawful : AreLawful settings previous frames journal ns
@@ -233,5 +237,10 @@ pub record Shares (settings : Settings) (previous : Option ℕ) (frames : List F
   pub packets : result.packets ≡ (round settings previous frames journal ns).packets
   pub stands : Stands settings result.after (round settings previous frames journal ns).after
 
+-- so does a table that works a round, where such tables decided its data packets beside it
 abbrev pub TablesShare : Type 0
-TablesShare = (settings : Settings) (parts : Parts) (journal : Journal) (previous : Option ℕ) (m : ℕ) (frames : List Frame) (ks : List ℕ) → Stands settings parts journal → MayBegin settings m journal (events_after previous frames) → All (λ k. opening (events_after previous frames) ≤ k) ks → length ks ≡ length (data_frames settings frames) → Shares settings previous frames journal (shared_round settings previous frames parts ks)
+TablesShare = (settings : Settings) (parts : Parts) (journal : Journal) (previous : Option ℕ) (m : ℕ) (frames : List Frame) (ruled : List Ruling) → let events = events_after previous frames in Stands settings parts journal → MayBegin settings m journal events → AllZip (IsRuled settings parts (writing table settings parts events).batches (opening events)) (data_frames settings frames) ruled → Shares settings previous frames journal (worked table settings (closing_moment frames) parts events ruled)
+
+-- with all batches it is what was written
+abbrev pub AllBatches : Type 0
+AllBatches = (settings : Settings) (parts : Parts) (events : List Event) → let written = writing table settings parts events in parts_after parts written.batches (length written.batches) ≡ written.after

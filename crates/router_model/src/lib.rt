@@ -15,6 +15,7 @@ pub use laws::{
 };
 pub use rounds::{
     batches_are_added, ends_lie_between_batches, first_entries_decide, lines_show_the_numbers,
-    rounds_close_when_full, rounds_follow_each_other, rounds_have_numbers, rounds_keep_the_frames, rounds_leave_proper_journals,
+    rounds_are_worked_step_by_step, rounds_close_when_full, rounds_follow_each_other,
+    rounds_have_numbers, rounds_keep_the_frames, rounds_leave_proper_journals,
     rounds_of_one_frame_are_plain, sides_make_the_round, tables_share_a_round,
 };

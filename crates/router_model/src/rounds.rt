@@ -1,7 +1,7 @@
 // Laws of rounds. Each function only states its law.
 ghost use Rattle.router_model.specs.Changes.{journal as of_journal};
 ghost use Rattle.router_model.specs.Parts.{table};
-ghost use Rattle.router_model.specs.Sharing.{BatchesAreEnds, BatchesRule, BatchesStand, CutKeeps, CutSingly, CutWithin, DataAreLeft, EndsAreBatches, EndsWithin, FilledAreBatches, FilledBehind, FirstIsProper, FirstOfMore, FirstRules, JournalAdds, LastRoundCloses, LawfulFollow, LinesShow, NumbersExist, RoundCloses, RoundStays, RoundStaysOpen, RoundsFollow, SidesMeet, SinglesAreForced, SinglesArePlain, TableRounds, TableWrites, TablesShare, WorkedAdds, WritingAdds, WritingAdvances};
+ghost use Rattle.router_model.specs.Sharing.{BatchesAreEnds, BatchesRule, BatchesStand, CutKeeps, CutSingly, CutWithin, DataAreLeft, EndsAreBatches, EndsWithin, FilledAreBatches, FilledBehind, FirstIsProper, FirstOfMore, FirstRules, JournalAdds, LastRoundCloses, LawfulFollow, LinesShow, NumbersExist, RoundCloses, RoundStays, RoundStaysOpen, RoundsFollow, SidesMeet, SinglesAreForced, SinglesArePlain, TableRounds, TableWrites, TablesShare, WorkedAdds, WritingAdds, WritingAdvances, AllBatches, WritingFollows, EntriesFollow, ToldFollows};
 
 /// Cutting loses no frame and moves none. A round has at most so many frames as its size, and at
 /// most 16 MiB beside the octets of one frame.
@@ -58,6 +58,15 @@ pub fn batches_are_added()
     ensures round_by_table { WorkedAdds table }
 {}
 
+/// Events are written one after another, and entries are added so; so is what is told of items.
+pub fn rounds_are_worked_step_by_step()
+    ensures journal { WritingFollows of_journal }
+    ensures table { WritingFollows table }
+    ensures journal_entries { EntriesFollow of_journal }
+    ensures table_entries { EntriesFollow table }
+    ensures told { ToldFollows }
+{}
+
 /// Each end of a round is the length of its journal after some of the batches, and so many entries
 /// are the journal after these.
 pub fn ends_lie_between_batches()
@@ -90,4 +99,5 @@ pub fn tables_share_a_round()
     ensures decides { BatchesRule }
     ensures rounds { TableRounds }
     ensures shares { TablesShare }
+    ensures all { AllBatches }
 {}

@@ -1,4 +1,4 @@
-use Rattle.router_model.proofs.ShareLemmas.{batches-rule, batches-stand, table-rounds, table-writes, tables-share}
+use Rattle.router_model.proofs.ShareLemmas.{all-batches, batches-rule, batches-stand, table-rounds, table-writes, tables-share}
 use Rattle.router_model.proofs.rounds.tables_share_a_round.Goals as goal
 
 pub returns-clause-writes : goal.returns-clause-writes
@@ -15,3 +15,6 @@ returns-clause-rounds c = table-rounds
 
 pub returns-clause-shares : goal.returns-clause-shares
 returns-clause-shares c = tables-share
+
+pub returns-clause-all : goal.returns-clause-all
+returns-clause-all c = all-batches
