@@ -27,8 +27,8 @@ abbrev pub answer_by : Outcome (Router Journal) → List ℕ → Run → Answer
 answer_by outcome output run = record {
   status = status_of run.fault;
   said =
-    outcome.lines
-    ++ closing run.fault (end_line (length run.frames) (length outcome.packets) (length outcome.after.memory));
+      outcome.lines
+      ++ closing run.fault (end_line (length run.frames) (length outcome.packets) (length outcome.after.memory));
   made = record { name = output; octets = out_header ++ records_of outcome.packets } ∷ [];
 }
 

@@ -120,7 +120,7 @@ later-seconds from to later =
     let d = mod-lt to (let some : 0 < 1000000000 = omega arith in some) in
     (omega (arith, a, c), omega (arith, a, b, c, d, later))
 
-after-order : (m : ℕ) (frames : List Frame) → FramesInOrder m frames → AreInOrder m (events_after (Some m) frames)
+pub after-order : (m : ℕ) (frames : List Frame) → FramesInOrder m frames → AreInOrder m (events_after (Some m) frames)
 after-order m [] order = tt
 after-order m (frame ∷ frames) order =
     let bounds = later-seconds m frame.moment order.0 in

@@ -1,5 +1,5 @@
 -- Tables in rounds: they write as the journal, and what absorbed some batches decides by the first entries.
-use Rattle.std.proofs.Common.{◌≡◌, ℕ, zero, suc, ◌+◌, ◌-◌, ◌*◌, ◌≤◌, Bool, true, false, cond, List, [], ◌∷◌, ◌++◌, drop, get_or, length, take, Option, Some, refl, sym, ap, subst, ◌∙◌, arith, map, max, ◌^◌}
+use Rattle.std.proofs.Common.{◌≡◌, ℕ, zero, suc, ◌+◌, ◌-◌, ◌*◌, ◌≤◌, Bool, true, false, cond, List, [], ◌∷◌, ◌++◌, drop, get_or, length, take, Option, Some, refl, sym, ap, subst, ◌∙◌, arith, map, max, ◌^◌, None}
 use Rattle.std.specs.List.{All, Contains, list_all, AllZip}
 use Rattle.std.proofs.lemmas.List.{drop-append-le, length-append, length-drop, length-map, take_all}
 use Rattle.std.proofs.lemmas.List.Elements.{All-map, All-weaker, All-cons, All-nil}
@@ -19,7 +19,7 @@ use Rattle.router_model.specs.Note.{noted}
 use Rattle.router_model.specs.Parts.{Parts, Stands, parts_in, table, view_in}
 use Rattle.router_model.specs.Proper.{EachFits, IsProper}
 use Rattle.router_model.specs.Rounds.{Round, all_advanced, closing_moment, data_frames, decided, ends, round}
-use Rattle.router_model.specs.Sharing.{BatchesRule, BatchesStand, FirstIsProper, FirstRules, MayBegin, TableRounds, TableWrites, TablesShare, after_batches, opening, parts_after, worked_tabled, writing_tabled, RoundStays, IsRuled, AllBatches}
+use Rattle.router_model.specs.Sharing.{BatchesRule, BatchesStand, FirstIsProper, FirstRules, MayBegin, TableRounds, TableWrites, TablesShare, after_batches, opening, parts_after, worked_tabled, writing_tabled, RoundStays, IsRuled, AllBatches, RoundInOrder}
 use Rattle.router_model.specs.Sides.{Ruling, Worked, Writing, data_in, event_written, joined, left_for_later, message_written, noting, notices_of, put_together, rulings, second_written, then_written, with_entries, worked, writing, ruling, ruling_by}
 use Rattle.router_model.specs.Tick.{ticked}
 use Rattle.router_model.specs.View.{view}
@@ -29,6 +29,7 @@ use Rattle.router_model.proofs.HearLemmas.{fewer-ready, frames-lift, goes-each}
 use Rattle.router_model.proofs.NoteLemmas.{notes-lift}
 use Rattle.router_model.proofs.NoticeLemmas.{notices-sound}
 use Rattle.router_model.proofs.PartsLemmas.{and_both}
+use Rattle.router_model.proofs.ReplayLemmas.{after-order}
 use Rattle.router_model.proofs.SideLemmas.{batches-are-ends, data-append, data-left, extended-more, first-batches, message-grows, on-batches, sides-meet, tick-grows, writing-advances, writing-adds}
 use Rattle.router_model.proofs.SoundLemmas.{frame-sound}
 use Rattle.router_model.proofs.StaticsLemmas.{length-extended}
@@ -298,6 +299,11 @@ table-rounds settings parts journal previous m (frame ∷ frames) ns stands may 
             (record { proper = shares.1; whole = ap (λ (w : Worked Parts). w.after) whole }),
       ),
     )
+
+pub round-in-order : RoundInOrder
+round-in-order previous [] order = tt
+round-in-order None (frame ∷ frames) order = (order.0, (order.1.0, after-order frame.moment frames order.1.1))
+round-in-order (Some m) (frame ∷ frames) order = after-order m (frame ∷ frames) order
 
 pub round-stays : RoundStays
 round-stays settings previous [] journal ns m may = (may.proper, (let last = may.last in omega (arith, last), omega arith))

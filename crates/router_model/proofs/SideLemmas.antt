@@ -16,7 +16,7 @@ use Rattle.router_model.specs.Journal.{Journal, extended, first}
 use Rattle.router_model.specs.Note.{noted}
 use Rattle.router_model.specs.Plain.{packet_of, packets_of}
 use Rattle.router_model.specs.Rounds.{advanced, all_advanced, and_then, data_frames, decided, ends, lengths, of_data, of_events, of_message, of_second, with_if, with_notices, Line, Told, line_of}
-use Rattle.router_model.specs.Sharing.{BatchesAreEnds, DataAreLeft, EndsAreBatches, EndsWithin, FilledAreBatches, FilledBehind, FirstOfMore, JournalAdds, SidesMeet, WritingAdvances, after_batches, filled, opening, LinesShow, shown, WritingFollows, ToldFollows}
+use Rattle.router_model.specs.Sharing.{BatchesAreEnds, DataAreLeft, EndsAreBatches, EndsWithin, FilledAreBatches, FilledBehind, FirstOfMore, JournalAdds, SidesMeet, WritingAdvances, after_batches, filled, opening, LinesShow, shown, WritingFollows, ToldFollows, OpeningWithin}
 use Rattle.router_model.specs.Sides.{Item, Second, Message, Data, Ruling, Writing, data_in, event_written, joined, left_for_later, message_written, notices_of, rulings, told_by, with_entries, writing, then_written}
 use Rattle.router_model.specs.Tick.{ticked}
 use Rattle.router_model.proofs.GrowLemmas.{grown-each, grown-heard, grown-noted, grown-ticked, with-more}
@@ -350,6 +350,12 @@ module _ (settings : Settings) where
 
 pub batches-are-ends : BatchesAreEnds
 batches-are-ends settings journal events k less = ends-have settings k events journal less
+
+pub opening-within : {S : Type 0} (ledger : Ledger S) → OpeningWithin ledger
+opening-within ledger settings state [] = omega arith
+opening-within ledger settings state (Tick s ∷ events) =
+    let rest = opening-within ledger settings (event_written ledger settings state (Tick s)).after events in omega (arith, rest)
+opening-within ledger settings state (Arrival frame ∷ events) = omega arith
 
 -- ### batches that have entries
 

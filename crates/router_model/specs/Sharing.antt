@@ -1,5 +1,5 @@
 -- What is promised of rounds.
-use Rattle.std.specs.Prelude.{◌≡◌, ℕ, suc, ◌+◌, ◌*◌, ◌^◌, ◌≤◌, false, not, true, List, [], ◌∷◌, ◌++◌, drop, flat_map, get_or, length, map, take, Option, max, Some}
+use Rattle.std.specs.Prelude.{◌≡◌, ℕ, suc, ◌+◌, ◌*◌, ◌^◌, ◌≤◌, false, not, true, List, [], ◌∷◌, ◌++◌, drop, flat_map, get_or, length, map, take, Option, max, Some, unwrap_or}
 use Rattle.std.specs.List.{Contains, AllZip}
 use Rattle.capture_io.specs.Frame.{Frame}
 use Rattle.lisp_settings.specs.declared.settings.Settings.{Settings}
@@ -9,7 +9,7 @@ use Rattle.router_model.specs.Changes.{Ledger, journal as of_journal}
 use Rattle.router_model.specs.Course.{control}
 use Rattle.router_model.specs.Cut.{AreShort, AreWithin, Filling, StaysOpen, cut, cut_on, is_full, with_frame, with_frames}
 use Rattle.router_model.specs.Journal.{Journal, extended, first, last_moment, statics}
-use Rattle.router_model.specs.Lifting.{AreInOrder}
+use Rattle.router_model.specs.Lifting.{AreInOrder, FramesInOrder}
 use Rattle.router_model.specs.Parts.{Parts, Stands, parts_in, table}
 use Rattle.router_model.specs.Plain.{Router, plain, started}
 use Rattle.router_model.specs.Proper.{IsProper}
@@ -135,6 +135,10 @@ opening (Arrival frame ∷ events) = 0
 abbrev pub BatchesAreEnds : Type 0
 BatchesAreEnds = (settings : Settings) (journal : Journal) (events : List Event) (k : ℕ) → opening events ≤ k → Contains (ends settings journal events) (length (after_batches settings journal events k))
 
+-- as they are among all
+abbrev pub OpeningWithin : {S : Type 0} → Ledger S → Type 0
+OpeningWithin {S} ledger = (settings : Settings) (state : S) (events : List Event) → opening events ≤ length (writing ledger settings state events).batches
+
 -- batches that have entries, as they are published
 abbrev pub filled : List (List Entry) → List (List Entry)
 filled [] = []
@@ -182,6 +186,10 @@ pub record MayBegin (settings : Settings) (m : ℕ) (journal : Journal) (events 
   pub last : last_moment journal ≤ m
   pub order : AreInOrder m events
   pub room : length journal + 2048 * length events ≤ 2 ^ 62
+
+-- the events of frames in order are in order, from the moment of the frame before them on
+abbrev pub RoundInOrder : Type 0
+RoundInOrder = (previous : Option ℕ) (frames : List Frame) → FramesInOrder (unwrap_or previous 0) frames → AreInOrder (unwrap_or previous 0) (events_after previous frames)
 
 -- the journal after a round is one that a router can have; its last entry isn't later than the round's last frame, and
 -- at most 2,048 entries came for each event

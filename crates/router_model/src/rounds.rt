@@ -1,7 +1,7 @@
 // Laws of rounds. Each function only states its law.
 ghost use Rattle.router_model.specs.Changes.{journal as of_journal};
 ghost use Rattle.router_model.specs.Parts.{table};
-ghost use Rattle.router_model.specs.Sharing.{BatchesAreEnds, BatchesRule, BatchesStand, CutKeeps, CutSingly, CutWithin, DataAreLeft, EndsAreBatches, EndsWithin, FilledAreBatches, FilledBehind, FirstIsProper, FirstOfMore, FirstRules, JournalAdds, LastRoundCloses, LawfulFollow, LinesShow, NumbersExist, RoundCloses, RoundStays, RoundStaysOpen, RoundsFollow, SidesMeet, SinglesAreForced, SinglesArePlain, TableRounds, TableWrites, TablesShare, WorkedAdds, WritingAdds, WritingAdvances, AllBatches, WritingFollows, EntriesFollow, ToldFollows};
+ghost use Rattle.router_model.specs.Sharing.{BatchesAreEnds, BatchesRule, BatchesStand, CutKeeps, CutSingly, CutWithin, DataAreLeft, EndsAreBatches, EndsWithin, FilledAreBatches, FilledBehind, FirstIsProper, FirstOfMore, FirstRules, JournalAdds, LastRoundCloses, LawfulFollow, LinesShow, NumbersExist, RoundCloses, RoundStays, RoundStaysOpen, RoundsFollow, SidesMeet, SinglesAreForced, SinglesArePlain, TableRounds, TableWrites, TablesShare, WorkedAdds, WritingAdds, WritingAdvances, AllBatches, WritingFollows, EntriesFollow, ToldFollows, OpeningWithin, RoundInOrder};
 
 /// Cutting loses no frame and moves none. A round has at most so many frames as its size, and at
 /// most 16 MiB beside the octets of one frame.
@@ -33,7 +33,8 @@ pub fn rounds_follow_each_other()
 
 /// A journal stays one that a router can have, in order and with room.
 pub fn rounds_leave_proper_journals()
-    ensures { RoundStays }
+    ensures order { RoundInOrder }
+    ensures stays { RoundStays }
 {}
 
 /// There are numbers for all rounds, whatever came before.
@@ -74,6 +75,8 @@ pub fn ends_lie_between_batches()
     ensures ends { EndsAreBatches }
     ensures within { EndsWithin }
     ensures batches { BatchesAreEnds }
+    ensures opening_of_journal { OpeningWithin of_journal }
+    ensures opening_of_table { OpeningWithin table }
     ensures filled { FilledAreBatches }
     ensures behind { FilledBehind }
 {}

@@ -1,4 +1,6 @@
-use Rattle.router_model.proofs.SideLemmas.{batches-are-ends, ends-are-batches, ends-within, filled-are-batches, filled-behind, first-of-more}
+use Rattle.router_model.specs.Changes.{journal as of_journal}
+use Rattle.router_model.specs.Parts.{table}
+use Rattle.router_model.proofs.SideLemmas.{opening-within, batches-are-ends, ends-are-batches, ends-within, filled-are-batches, filled-behind, first-of-more}
 use Rattle.router_model.proofs.rounds.ends_lie_between_batches.Goals as goal
 
 pub returns-clause-first : goal.returns-clause-first
@@ -18,3 +20,9 @@ returns-clause-filled c = filled-are-batches
 
 pub returns-clause-behind : goal.returns-clause-behind
 returns-clause-behind c = filled-behind
+
+pub returns-clause-opening_of_journal : goal.returns-clause-opening_of_journal
+returns-clause-opening_of_journal c = opening-within of_journal
+
+pub returns-clause-opening_of_table : goal.returns-clause-opening_of_table
+returns-clause-opening_of_table c = opening-within table
