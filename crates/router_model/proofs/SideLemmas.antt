@@ -5,7 +5,7 @@ use Rattle.std.proofs.lemmas.List.{append-nil, take-append-drop, drop-drop}
 use Rattle.std.proofs.lemmas.List.Concat.{flat_map-append}
 use Rattle.capture_io.specs.Frame.{Frame}
 use Rattle.lisp_settings.specs.declared.settings.Settings.{Settings}
-use Rattle.playback.specs.Events.{Event, Tick, Arrival, arrivals, events_after, second_of, ticks}
+use Rattle.playback.specs.Events.{Event, Tick, Arrival, arrivals, events_after, second_of, ticks, events_of}
 use Rattle.playback.proofs.EventLemmas.{arrivals-events}
 use Rattle.router_log.specs.Moments.{seconds}
 use Rattle.router_log.specs.declared.entry.Entry.{Entry}
@@ -16,7 +16,7 @@ use Rattle.router_model.specs.Journal.{Journal, extended, first}
 use Rattle.router_model.specs.Note.{noted}
 use Rattle.router_model.specs.Plain.{packet_of, packets_of}
 use Rattle.router_model.specs.Rounds.{advanced, all_advanced, and_then, data_frames, decided, ends, lengths, of_data, of_events, of_message, of_second, with_if, with_notices, Line, Told, line_of}
-use Rattle.router_model.specs.Sharing.{BatchesAreEnds, DataAreLeft, EndsAreBatches, EndsWithin, FilledAreBatches, FilledBehind, FirstOfMore, JournalAdds, SidesMeet, WritingAdvances, after_batches, filled, opening, LinesShow, shown, WritingFollows, ToldFollows, OpeningWithin}
+use Rattle.router_model.specs.Sharing.{BatchesAreEnds, DataAreLeft, EndsAreBatches, EndsWithin, FilledAreBatches, FilledBehind, FirstOfMore, JournalAdds, SidesMeet, WritingAdvances, after_batches, filled, opening, LinesShow, shown, WritingFollows, ToldFollows, OpeningWithin, EventsFollow, LastCloses, moment_after}
 use Rattle.router_model.specs.Sides.{Item, Second, Message, Data, Ruling, Writing, data_in, event_written, joined, left_for_later, message_written, notices_of, rulings, told_by, with_entries, writing, then_written}
 use Rattle.router_model.specs.Tick.{ticked}
 use Rattle.router_model.proofs.GrowLemmas.{grown-each, grown-heard, grown-noted, grown-ticked, with-more}
@@ -84,6 +84,17 @@ writing-follows ledger settings state (event ∷ one) next =
     let second = writing ledger settings first.after one in
     ap (then_written first) (writing-follows ledger settings first.after one next)
     ∙ sym (then-assoc first second (writing ledger settings second.after next))
+
+-- frames one after another
+pub events-follow : EventsFollow
+events-follow previous [] next = refl
+events-follow previous (frame ∷ one) next =
+    ap (λ l. events_of previous frame ++ l) (events-follow (Some frame.moment) one next)
+    ∙ sym (append_assoc (events_of previous frame) (events_after (Some frame.moment) one) (events_after (moment_after (Some frame.moment) one) next))
+
+pub last-closes : LastCloses
+last-closes previous frame [] = refl
+last-closes previous frame (next ∷ frames) = last-closes (Some frame.moment) next frames
 
 -- ### the journal of a round
 

@@ -92,6 +92,19 @@ WritingFollows {S} ledger = (settings : Settings) (state : S) (one next : List E
 abbrev pub EntriesFollow : {S : Type 0} → Ledger S → Type 0
 EntriesFollow {S} ledger = (state : S) (one next : List Entry) → with_entries ledger state (one ++ next) ≡ with_entries ledger (with_entries ledger state one) next
 
+-- the moment of the frame before the next one
+abbrev pub moment_after : Option ℕ → List Frame → Option ℕ
+moment_after previous [] = previous
+moment_after previous (frame ∷ frames) = moment_after (Some frame.moment) frames
+
+-- events come one frame after another
+abbrev pub EventsFollow : Type 0
+EventsFollow = (previous : Option ℕ) (one next : List Frame) → events_after previous (one ++ next) ≡ events_after previous one ++ events_after (moment_after previous one) next
+
+-- the last of them closes the round
+abbrev pub LastCloses : Type 0
+LastCloses = (previous : Option ℕ) (frame : Frame) (frames : List Frame) → moment_after previous (frame ∷ frames) ≡ Some (closing_moment (frame ∷ frames))
+
 -- what is told of items is told one after another
 abbrev pub ToldFollows : Type 0
 ToldFollows = (one next : List Item) (first others : List Ruling) → length first ≡ length (data_in one) → told_by (one ++ next) (first ++ others) ≡ and_then (told_by one first) (told_by next others)

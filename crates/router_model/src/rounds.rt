@@ -1,7 +1,7 @@
 // Laws of rounds. Each function only states its law.
 ghost use Rattle.router_model.specs.Changes.{journal as of_journal};
 ghost use Rattle.router_model.specs.Parts.{table};
-ghost use Rattle.router_model.specs.Sharing.{BatchesAreEnds, BatchesRule, BatchesStand, CutKeeps, CutSingly, CutWithin, DataAreLeft, EndsAreBatches, EndsWithin, FilledAreBatches, FilledBehind, FirstIsProper, FirstOfMore, FirstRules, JournalAdds, LastRoundCloses, LawfulFollow, LinesShow, NumbersExist, RoundCloses, RoundStays, RoundStaysOpen, RoundsFollow, SidesMeet, SinglesAreForced, SinglesArePlain, TableRounds, TableWrites, TablesShare, WorkedAdds, WritingAdds, WritingAdvances, AllBatches, WritingFollows, EntriesFollow, ToldFollows, OpeningWithin, RoundInOrder};
+ghost use Rattle.router_model.specs.Sharing.{BatchesAreEnds, BatchesRule, BatchesStand, CutKeeps, CutSingly, CutWithin, DataAreLeft, EndsAreBatches, EndsWithin, FilledAreBatches, FilledBehind, FirstIsProper, FirstOfMore, FirstRules, JournalAdds, LastRoundCloses, LawfulFollow, LinesShow, NumbersExist, RoundCloses, RoundStays, RoundStaysOpen, RoundsFollow, SidesMeet, SinglesAreForced, SinglesArePlain, TableRounds, TableWrites, TablesShare, WorkedAdds, WritingAdds, WritingAdvances, AllBatches, WritingFollows, EntriesFollow, ToldFollows, OpeningWithin, RoundInOrder, EventsFollow, LastCloses};
 
 /// Cutting loses no frame and moves none. A round has at most so many frames as its size, and at
 /// most 16 MiB beside the octets of one frame.
@@ -66,6 +66,8 @@ pub fn rounds_are_worked_step_by_step()
     ensures journal_entries { EntriesFollow of_journal }
     ensures table_entries { EntriesFollow table }
     ensures told { ToldFollows }
+    ensures events { EventsFollow }
+    ensures last { LastCloses }
 {}
 
 /// Each end of a round is the length of its journal after some of the batches, and so many entries
