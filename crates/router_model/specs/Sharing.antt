@@ -85,6 +85,14 @@ SidesMeet = (settings : Settings) (moment : ℕ) (journal : Journal) (events : L
 abbrev pub WritingAdds : {S : Type 0} → Ledger S → Type 0
 WritingAdds {S} ledger = (settings : Settings) (state : S) (events : List Event) → (writing ledger settings state events).after ≡ with_entries ledger state (joined (writing ledger settings state events).batches)
 
+-- and so does a whole round, whatever became of its data packets
+abbrev pub WorkedAdds : {S : Type 0} → Ledger S → Type 0
+WorkedAdds {S} ledger = (settings : Settings) (moment : ℕ) (state : S) (events : List Event) (ruled : List Ruling) → let result = worked ledger settings moment state events ruled in result.after ≡ with_entries ledger state (joined result.batches)
+
+-- entries that a journal adds stand before it
+abbrev pub JournalAdds : Type 0
+JournalAdds = (journal : Journal) (entries : List Entry) → with_entries of_journal journal entries ≡ extended journal entries
+
 -- events are written one after another, and so are entries
 abbrev pub WritingFollows : {S : Type 0} → Ledger S → Type 0
 WritingFollows {S} ledger = (settings : Settings) (state : S) (one next : List Event) → let first = writing ledger settings state one in writing ledger settings state (one ++ next) ≡ then_written first (writing ledger settings first.after next)
@@ -108,14 +116,6 @@ LastCloses = (previous : Option ℕ) (frame : Frame) (frames : List Frame) → m
 -- what is told of items is told one after another
 abbrev pub ToldFollows : Type 0
 ToldFollows = (one next : List Item) (first others : List Ruling) → length first ≡ length (data_in one) → told_by (one ++ next) (first ++ others) ≡ and_then (told_by one first) (told_by next others)
-
--- and so does a whole round
-abbrev pub WorkedAdds : {S : Type 0} → Ledger S → Type 0
-WorkedAdds {S} ledger = (settings : Settings) (moment : ℕ) (state : S) (events : List Event) (ns : List ℕ) (last : Journal) → let result = worked ledger settings moment state events (rulings settings last ns (data_in (writing ledger settings state events).items)) in result.after ≡ with_entries ledger state (joined result.batches)
-
--- entries that a journal adds stand before it
-abbrev pub JournalAdds : Type 0
-JournalAdds = (journal : Journal) (entries : List Entry) → with_entries of_journal journal entries ≡ extended journal entries
 
 -- it is the journal of the round before its notices
 abbrev pub WritingAdvances : Type 0

@@ -1,6 +1,5 @@
 use Rattle.router_model.specs.Changes.{journal as of_journal}
 use Rattle.router_model.specs.Parts.{table}
-use Rattle.router_model.specs.Sides.{data_in, rulings, writing}
 use Rattle.router_model.proofs.SideLemmas.{journal-adds, worked-adds, writing-adds}
 use Rattle.router_model.proofs.rounds.batches_are_added.Goals as goal
 
@@ -14,7 +13,7 @@ pub returns-clause-by_table : goal.returns-clause-by_table
 returns-clause-by_table c = λ settings state events. writing-adds table settings state events
 
 pub returns-clause-round_by_journal : goal.returns-clause-round_by_journal
-returns-clause-round_by_journal c = λ settings moment state events ns last. worked-adds of_journal settings moment state events (rulings settings last ns (data_in (writing of_journal settings state events).items))
+returns-clause-round_by_journal c = worked-adds of_journal
 
 pub returns-clause-round_by_table : goal.returns-clause-round_by_table
-returns-clause-round_by_table c = λ settings moment state events ns last. worked-adds table settings moment state events (rulings settings last ns (data_in (writing table settings state events).items))
+returns-clause-round_by_table c = worked-adds table
