@@ -68,7 +68,7 @@ carried-is (entry ∷ later) s h d heard came = by entry heard came (carried-is 
         at_data false is = rest s h d heard is
     by _ heard came rest = rest s h d heard came
 
-starts-scanned : (later : List Entry) (journal : Journal) → scanned start_kind any later journal ≡ starts later journal
+pub starts-scanned : (later : List Entry) (journal : Journal) → scanned start_kind any later journal ≡ starts later journal
 starts-scanned later [] = refl
 starts-scanned later (entry ∷ older) = by entry (starts-scanned (entry ∷ later) older)
   where
@@ -114,7 +114,7 @@ wished _ i is = cc
 pub wishes-keep : Keeps wish_kind wish_counts
 wishes-keep = aged-keeps begun_wish (λ entry w. Some w) wished_at 2 (same-still wished_at)
 
-wishes-scanned : (later : List Entry) (journal : Journal) → scanned wish_kind any later journal ≡ wishes journal
+pub wishes-scanned : (later : List Entry) (journal : Journal) → scanned wish_kind any later journal ≡ wishes journal
 wishes-scanned later [] = refl
 wishes-scanned later (entry ∷ older) = by entry (wishes-scanned (entry ∷ later) older)
   where
@@ -138,7 +138,7 @@ solicited_at solicit = solicit.moment
 pub solicits-keep : Keeps solicit_kind solicit_counts
 solicits-keep = aged-keeps begun_solicit (λ entry s. Some s) solicited_at 10 (same-still solicited_at)
 
-solicits-scanned : (later : List Entry) (journal : Journal) → scanned solicit_kind any later journal ≡ solicits journal
+pub solicits-scanned : (later : List Entry) (journal : Journal) → scanned solicit_kind any later journal ≡ solicits journal
 solicits-scanned later [] = refl
 solicits-scanned later (entry ∷ older) = by entry (solicits-scanned (entry ∷ later) older)
   where

@@ -9,6 +9,8 @@ pub mod FollowLemmas
 pub mod ForceLemmas
 pub mod GrowLemmas
 pub mod HearLemmas
+pub mod InstanceLemmas
+pub mod IsolationLemmas
 pub mod KeptLemmas
 pub mod KeyLemmas
 pub mod LiftLemmas

@@ -24,16 +24,16 @@ use Rattle.router_model.proofs.KeptLemmas.{Keeps, filter_map-Some}
 use Rattle.router_model.proofs.KeyLemmas.{all-changed, all-dropped, changed-keeps, drop_key, dropped-apart, dropped-is, filter_map-alike, filter_map-others, only_if-is, others, others-dropped}
 use Rattle.router_model.proofs.SortedLemmas.{IsAscending, IsAscending-with, found-with, puts_in_order}
 
-abbrev eid_of : Mapping → Eid
+abbrev pub eid_of : Mapping → Eid
 eid_of mapping = mapping.eid
 
-step-keeps : {A : Type 0} (f : Mapping → A) → ((bits width : ℕ) (x : Mapping) → f (with_bits bits width x) ≡ f x) → (entry : Entry) (i j : Mapping) → mapping_step entry i ≡ Some j → f j ≡ f i
+pub step-keeps : {A : Type 0} (f : Mapping → A) → ((bits width : ℕ) (x : Mapping) → f (with_bits bits width x) ≡ f x) → (entry : Entry) (i j : Mapping) → mapping_step entry i ≡ Some j → f j ≡ f i
 step-keeps f stays (Learned moment mapping fixed) i j is = ap f (dropped-is eid_of same_eid mapping.eid i j is)
 step-keeps f stays (Bits moment eid bits width) i j is = changed-keeps eid_of same_eid f eid (with_bits bits width) (stays bits width) i j is
 step-keeps f stays _ i j is = sym (ap f (same_Some i j is))
 
 -- what a mapping takes the place of is gone
-step-drops : (entry : Entry) (x i j : Mapping) → begun_mapping entry ≡ Some x → mapping_step entry i ≡ Some j → same_eid j.eid x.eid ≡ false
+pub step-drops : (entry : Entry) (x i j : Mapping) → begun_mapping entry ≡ Some x → mapping_step entry i ≡ Some j → same_eid j.eid x.eid ≡ false
 step-drops (Learned moment mapping fixed) x i j made is = by (fixed || not (mapping.ttl == 0)) made
   where
     by : (b : Bool) → cond b (Some (fresh moment mapping fixed)) None ≡ Some x → same_eid j.eid x.eid ≡ false

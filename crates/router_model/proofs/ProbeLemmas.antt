@@ -73,7 +73,7 @@ carried-is (entry ∷ later) p = by entry (carried-is later)
         done false = h p
     by _ h = h p
 
-probes-scanned : (later : List Entry) (journal : Journal) → scanned probe_kind any later journal ≡ probes later journal
+pub probes-scanned : (later : List Entry) (journal : Journal) → scanned probe_kind any later journal ≡ probes later journal
 probes-scanned later [] = refl
 probes-scanned later (entry ∷ older) = by entry (probes-scanned (entry ∷ later) older)
   where

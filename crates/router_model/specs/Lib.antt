@@ -7,6 +7,7 @@ pub mod Decide
 pub mod Emits
 pub mod Hear
 pub mod Hosts
+pub mod Isolation
 pub mod Journal
 pub mod Kept
 pub mod Lifting

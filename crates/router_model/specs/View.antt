@@ -63,10 +63,14 @@ view_of now mappings requests o drawn = record {
   drawn = drawn;
 }
 
+-- the journal, seen at exactly that moment
+abbrev pub seen_at : Journal → ℕ → View
+seen_at journal now =
+    view_of now (live_mappings now journal) (open_requests now journal) (observed journal) (drawn journal)
+
 -- the journal, seen at m
 unfoldable pub view : Journal → ℕ → View
-view journal m =
-    view_of (at journal m) (live_mappings (at journal m) journal) (open_requests (at journal m) journal) (observed journal) (drawn journal)
+view journal m = seen_at journal (at journal m)
 
 -- two views answer each question alike
 pub record Agrees (v w : View) : Type 0 where

@@ -14,6 +14,7 @@ ghost use Rattle.router_log.specs.declared.verdict.Verdict.TheVariants.{Drop};
 ghost use Rattle.router_model.specs.Changes.{journal as of_journal, unchanged};
 ghost use Rattle.router_model.specs.Decide.{decide_by};
 ghost use Rattle.router_model.specs.Hear.{drops, hear, reply_heard};
+ghost use Rattle.router_model.specs.Isolation.{AgreesDecides, DecisionIsolated, MomentIsolated, NoneAsks, RisingIsolated, TableIsolated, TablesAlike};
 ghost use Rattle.router_model.specs.Journal.{Journal, statics};
 ghost use Rattle.router_model.specs.Lifting.{AllAbsorbed, BitsKept, EntryAbsorbed, EventsInOrder, LiveIsExact, NoticesSound, PartsAnswer, ProperRises, ReadFits, ReadInOrder, RunReplays, StandingAbsorbs, StandingAdmits, StandingSees, StaticsStand, TableDecides, TableHears, TableNotes, TableReplays, TableTicks};
 ghost use Rattle.router_model.specs.Received.{message_in};
@@ -124,4 +125,24 @@ pub fn captures_replay_plainly()
 /// Of the live mappings of a journal that of an EID is the one last learnt for it, if that is live.
 pub fn the_live_mapping_was_learnt_last()
     ensures { LiveIsExact }
+{}
+
+/// A decision on a frame of an instance asks a view only for mappings of that instance, and for what is known of
+/// locators. One on a frame of no instance asks nothing.
+pub fn decisions_ask_of_one_instance()
+    ensures one { AgreesDecides }
+    ensures none { NoneAsks }
+{}
+
+/// What a journal tells of other instances counts in no decision on a frame of an instance.
+pub fn decisions_are_isolated()
+    ensures moment { MomentIsolated }
+    ensures decision { DecisionIsolated }
+    ensures rising { RisingIsolated }
+{}
+
+/// So it is for tables that stand for journals.
+pub fn tables_are_isolated()
+    ensures one { TableIsolated }
+    ensures two { TablesAlike }
 {}

@@ -1,0 +1,102 @@
+-- Isolation of instances (RFC 8060, section 4.1): what a journal is to one of them, and of which a frame is.
+use Rattle.std.specs.Prelude.{◌≡◌, ℕ, ◌==◌, max, Bool, true, [], ◌∷◌, Option, Some, None, if◌then◌else◌}
+use Rattle.ip_headers.specs.Ip.{dest_of, payload_place}
+use Rattle.ip_headers.specs.Udp.{payload_in, udp_at}
+use Rattle.ip_headers.specs.declared.addr.Addr.{Addr}
+use Rattle.lisp_header.specs.Header.{header_at as lisp_header_at}
+use Rattle.capture_io.specs.Frame.{Frame}
+use Rattle.capture_io.specs.Link.{link_vlan}
+use Rattle.lisp_settings.specs.declared.settings.Settings.{Settings}
+use Rattle.router_log.specs.declared.entry.Entry.{Entry}
+use Rattle.router_log.specs.declared.entry.Entry.TheVariants.{Learned, Asked, Retried, Answered, Bits}
+use Rattle.router_model.specs.Course.{FramePacket, frame_packet}
+use Rattle.router_model.specs.Decide.{decide, decide_by, iid_of}
+use Rattle.router_model.specs.Journal.{Journal, IsRising, at}
+use Rattle.router_model.specs.Mappings.{force}
+use Rattle.router_model.specs.Parts.{Parts, Stands, parts_in, view_in}
+use Rattle.router_model.specs.Site.{instance_of, is_own}
+use Rattle.router_model.specs.View.{View, seen_at}
+
+-- ### the journal of an instance
+
+-- the instance of the last request with a nonce
+abbrev pub asked_in : ℕ → Journal → Option ℕ
+asked_in nonce [] = None
+asked_in nonce (Asked moment eid source invoked asked ∷ before) = if asked == nonce then Some eid.iid else asked_in nonce before
+asked_in nonce (_ ∷ before) = asked_in nonce before
+
+-- the instance that an entry is of, behind those before it. What is sent again or answered is the last request with its
+-- nonce. What tells of a locator is of no instance.
+abbrev pub told_of : Entry → Journal → Option ℕ
+told_of (Learned moment mapping fixed) before = Some mapping.eid.iid
+told_of (Asked moment eid source invoked nonce) before = Some eid.iid
+told_of (Retried moment nonce) before = asked_in nonce before
+told_of (Answered moment nonce) before = asked_in nonce before
+told_of (Bits moment eid bits width) before = Some eid.iid
+told_of _ before = None
+
+-- it is of no other instance
+abbrev pub counts_in : ℕ → Option ℕ → Bool
+counts_in i None = true
+counts_in i (Some iid) = iid == i
+
+-- the journal without what is of other instances
+abbrev pub of_instance : Journal → ℕ → Journal
+of_instance [] i = []
+of_instance (entry ∷ before) i =
+    if counts_in i (told_of entry before) then entry ∷ of_instance before i else of_instance before i
+
+-- ### the instance of a frame
+
+-- the instance in the LISP header of a packet with a datagram, 0 without one
+abbrev pub tunnel_instance : FramePacket → ℕ
+tunnel_instance packet =
+    iid_of (lisp_header_at (payload_in packet.octets (udp_at (payload_place packet.header) packet.octets)))
+
+-- the instance of a packet that came in a VLAN: to an own locator that of its LISP header, else that of the VLAN, if
+-- it is attached
+abbrev pub packet_instance : Settings → ℕ → FramePacket → Option ℕ
+packet_instance settings vlan packet =
+    if is_own settings.locators (dest_of packet.header) then Some (tunnel_instance packet)
+    else instance_of settings.attachments vlan
+
+-- the instance of a frame
+abbrev pub frame_instance : Settings → Frame → Option ℕ
+frame_instance settings frame = packet_instance settings (link_vlan frame) (frame_packet frame)
+
+-- ### what is promised
+
+-- two views answer alike what a decision asks for a frame of an instance
+pub record AgreesIn (i : ℕ) (v w : View) : Type 0 where
+  pub in_force : (addr : Addr) (len : ℕ) → force v.mappings i addr len ≡ force w.mappings i addr len
+  pub up : (rloc : Addr) → v.up rloc ≡ w.up rloc
+  pub echo_out : (rloc : Addr) → v.echo_out rloc ≡ w.echo_out rloc
+  pub may_start : (rloc : Addr) → v.may_start rloc ≡ w.may_start rloc
+
+-- then they decide alike on such a frame
+abbrev pub AgreesDecides : Type 0
+AgreesDecides = (settings : Settings) (i : ℕ) (v w : View) (frame : Frame) → AgreesIn i v w → frame_instance settings frame ≡ Some i → decide_by settings v frame ≡ decide_by settings w frame
+
+-- a frame of no instance asks nothing
+abbrev pub NoneAsks : Type 0
+NoneAsks = (settings : Settings) (v w : View) (frame : Frame) → frame_instance settings frame ≡ None → decide_by settings v frame ≡ decide_by settings w frame
+
+-- what is of other instances counts in no decision on a frame of an instance: as of each moment
+abbrev pub MomentIsolated : Type 0
+MomentIsolated = (settings : Settings) (journal : Journal) (i now : ℕ) (frame : Frame) → frame_instance settings frame ≡ Some i → decide_by settings (seen_at journal now) frame ≡ decide_by settings (seen_at (of_instance journal i) now) frame
+
+-- wherever both journals are asked as of one moment
+abbrev pub DecisionIsolated : Type 0
+DecisionIsolated = (settings : Settings) (journal : Journal) (i m n : ℕ) (frame : Frame) → frame_instance settings frame ≡ Some i → at journal m ≡ at (of_instance journal i) n → decide settings journal m frame ≡ decide settings (of_instance journal i) n frame
+
+-- and so at that moment, where moments don't fall
+abbrev pub RisingIsolated : Type 0
+RisingIsolated = (settings : Settings) (journal : Journal) (i m : ℕ) (frame : Frame) → IsRising journal → frame_instance settings frame ≡ Some i → decide settings journal m frame ≡ decide settings (of_instance journal i) (at journal m) frame
+
+-- a table that stands for a journal decides as the parts of the journal of an instance
+abbrev pub TableIsolated : Type 0
+TableIsolated = (settings : Settings) (parts : Parts) (journal : Journal) (i m : ℕ) (frame : Frame) → Stands settings parts journal → frame_instance settings frame ≡ Some i → decide_by settings (view_in parts m) frame ≡ decide_by settings (view_in (parts_in (of_instance journal i)) (max m parts.now)) frame
+
+-- two tables that stand for journals that are one to an instance decide alike, asked as of one moment
+abbrev pub TablesAlike : Type 0
+TablesAlike = (settings : Settings) (one other : Parts) (mine theirs : Journal) (i m n : ℕ) (frame : Frame) → Stands settings one mine → Stands settings other theirs → of_instance mine i ≡ of_instance theirs i → max m one.now ≡ max n other.now → frame_instance settings frame ≡ Some i → decide_by settings (view_in one m) frame ≡ decide_by settings (view_in other n) frame
