@@ -33,7 +33,7 @@ followed-still : {S : Type 0} (o : Outcome S) → followed o (idle o.after) ≡ 
 followed-still o = ap₂ (outcome_with o.after) (append-nil o.lines) (append-nil o.packets)
 
 -- an event alone
-played-one : {S : Type 0} (step : S → Event → Outcome S) (state : S) (event : Event) → played step state (event ∷ []) ≡ step state event
+pub played-one : {S : Type 0} (step : S → Event → Outcome S) (state : S) (event : Event) → played step state (event ∷ []) ≡ step state event
 played-one step state event = followed-still (step state event)
 
 -- seconds in a row, and the one after them

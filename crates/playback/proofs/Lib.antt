@@ -1,3 +1,4 @@
 pub mod EventLemmas
+pub mod FrontLemmas
 pub mod PlayLemmas
 pub mod WrittenLemmas

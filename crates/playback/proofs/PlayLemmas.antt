@@ -31,7 +31,7 @@ written-written (Some id) a b writers =
     (λ file. ap (λ (o : List ℕ). record file { octets = o }) (append_assoc file.octets a b))
 
 -- no octets
-written-none : (file : Option ℕ) (writers : List (ℕ × NamedFile)) → written file [] writers ≡ writers
+pub written-none : (file : Option ℕ) (writers : List (ℕ × NamedFile)) → written file [] writers ≡ writers
 written-none None writers = refl
 written-none (Some id) writers = changed_at-same id (extended []) writers (λ file. ap (λ (o : List ℕ). record file { octets = o }) (append-nil file.octets))
 
@@ -49,7 +49,7 @@ after_output-none file w =
     ap₂ made (append-nil w.said) (written-none file w.writers)
 
 -- the same of what others see
-with_output-twice : (file : Option ℕ) (a b c d : List ℕ) (s : Shown)
+pub with_output-twice : (file : Option ℕ) (a b c d : List ℕ) (s : Shown)
     → with_output file b d (with_output file a c s) ≡ with_output file (a ++ b) (c ++ d) s
 with_output-twice file a b c d s =
     let made : List ℕ → List (ℕ × NamedFile) → Shown = λ said writers. record s { said = said; writers = writers } in
@@ -61,7 +61,7 @@ with_output-none file s =
     ap₂ made (append-nil s.said) (written-none file s.writers)
 
 -- records of packets after packets
-records_of-append : (a b : List Packet) → records_of (a ++ b) ≡ records_of a ++ records_of b
+pub records_of-append : (a b : List Packet) → records_of (a ++ b) ≡ records_of a ++ records_of b
 records_of-append a b = flat_map-append (λ (packet : Packet). packet_record packet.moment packet.octets) a b
 
 -- an outcome, and then another

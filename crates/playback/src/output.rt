@@ -1,9 +1,10 @@
 // What is said and written, gathered and handed on in pieces.
-ghost use Rattle.std.specs.Prelude.{◌≡◌, ◌<◌, ◌≤◌, ◌+◌, ◌*◌, ◌-◌, ◌^◌, ◌++◌, [], length, option_map, IsErrOf, OnOk};
+ghost use Rattle.std.specs.Prelude.{◌≡◌, ◌<◌, ◌≤◌, ◌+◌, ◌*◌, ◌-◌, ◌^◌, ◌++◌, [], length, option_map, IsErrOf, OnErr, OnOk};
 ghost use Rattle.desk.specs.declared.fault.DeskFault.TheVariants.{Failed};
 ghost use Rattle.desk.specs.Causes.{HasCause, StaysSteady};
 ghost use Rattle.desk.specs.World.{after_say, after_write};
 ghost use Rattle.capture_io.specs.Output.{packet_record};
+ghost use Rattle.playback.specs.Front.{Breaks, Hands};
 ghost use Rattle.playback.specs.Playing.{after_output, handed_on, MayWrite};
 
 use capture_io::{MOST_FRAME_OCTETS, write_packet};
@@ -66,6 +67,10 @@ pub(crate) fn hand_on_full<D: Desk>(
     ensures told { OnOk result (
         handed_on (option_map (λ id. id.number) file) output.new (D.told desk.new)
         ≡ handed_on (option_map (λ id. id.number) file) output.old (D.told desk.old)) }
+    ensures hands { OnOk result (Hands (option_map (λ id. id.number) file)
+        output.old (D.told desk.old) output.new (D.told desk.new)) }
+    ensures breaks { OnErr result (Breaks (option_map (λ id. id.number) file)
+        output.old (D.told desk.old) (D.told desk.new)) }
     ensures written { output.new.written ≡ output.old.written }
     ensures cause { HasCause (D.faults desk.old) (D.faults desk.new) result }
     ensures given { D.given desk.new ≡ D.given desk.old }
@@ -87,6 +92,8 @@ pub(crate) fn hand_on<D: Desk>(
 ) -> Result<(), DeskFault>
     ensures told { OnOk result (D.told desk.new
         ≡ handed_on (option_map (λ id. id.number) file) output.old (D.told desk.old)) }
+    ensures breaks { OnErr result (Breaks (option_map (λ id. id.number) file)
+        output.old (D.told desk.old) (D.told desk.new)) }
     ensures lines { OnOk result (output.new.lines ≡ []) }
     ensures records { OnOk result (output.new.records ≡ []) }
     ensures written { output.new.written ≡ output.old.written }

@@ -1,5 +1,5 @@
 // The frames of a capture, one after another, through a machine.
-ghost use Rattle.std.specs.Prelude.{◌≡◌, ◌<◌, ◌≤◌, ◌+◌, ◌*◌, ◌^◌, None, Some, IfOk, IfSome, IsErrOf, OnOk, length, option_map, unwrap_or};
+ghost use Rattle.std.specs.Prelude.{◌≡◌, ◌<◌, ◌≤◌, ◌+◌, ◌*◌, ◌^◌, None, Some, IfOk, IfSome, IsErrOf, OnErr, OnOk, length, option_map, unwrap_or};
 ghost use Rattle.std.specs.List.{All};
 ghost use Rattle.desk.specs.declared.fault.DeskFault.TheVariants.{Failed};
 ghost use Rattle.desk.specs.Causes.{HasCause, StaysSteady};
@@ -8,6 +8,7 @@ ghost use Rattle.capture_io.specs.Capture.{begin};
 ghost use Rattle.capture_io.specs.Frames.{read_on};
 ghost use Rattle.capture_io.specs.Reading.{beginning};
 ghost use Rattle.playback.specs.Events.{events_of, played};
+ghost use Rattle.playback.specs.Front.{CutRun, Goes};
 ghost use Rattle.playback.specs.Playing.{most_packets, outcome_of, with_outcome, Ends, IsRead, MayWrite, Plays};
 
 use crate::machine::{Machine, Progress};
@@ -50,6 +51,11 @@ pub fn play<D: Desk, M: Machine>(
     ensures state { OnOk result (IfSome (D.told desk.old) (λ w.
         let run = read_on reader.format begin (left_of reader.id w) in
         M.state machine.new ≡ (outcome_of M.step (M.state machine.old) run).after)) }
+
+    // After a fault a beginning of that was said and written.
+    ensures cut { OnErr result (IfSome (D.told desk.old) (λ w.
+        CutRun M.step (M.state machine.old) (option_map (λ id. id.number) file) (shown_of w)
+        (read_on reader.format begin (left_of reader.id w)) (D.told desk.new))) }
     ensures cause { HasCause (D.faults desk.old) (D.faults desk.new) result }
     ensures given { D.given desk.new ≡ D.given desk.old }
     ensures steady { StaysSteady (D.steady desk.old) (D.steady desk.new)
@@ -115,6 +121,9 @@ fn play_frame<D: Desk, M: Machine>(
         output.old (D.told desk.old) output.new (D.told desk.new)) }
     ensures state { OnOk result (M.state machine.new
         ≡ (played M.step (M.state machine.old) (events_of progress.moment frame.now)).after) }
+    ensures goes { Goes M.step (option_map (λ id. id.number) file) (M.state machine.old)
+        (events_of progress.moment frame.now)
+        output.old (D.told desk.old) result output.new (D.told desk.new) }
     ensures room { OnOk result (output.new.written ≤ most_packets
         (record { frames = frame.now.number; moment = Some frame.now.moment })) }
     ensures cause { HasCause (D.faults desk.old) (D.faults desk.new) result }

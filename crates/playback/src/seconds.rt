@@ -1,8 +1,9 @@
 // The seconds between the frames of a capture, one after another, through a machine.
-ghost use Rattle.std.specs.Prelude.{◌≡◌, ◌<◌, ◌≤◌, ◌+◌, ◌*◌, ◌^◌, Some, IfOk, IsErrOf, OnOk, option_map, unwrap_or};
+ghost use Rattle.std.specs.Prelude.{◌≡◌, ◌<◌, ◌≤◌, ◌+◌, ◌*◌, ◌^◌, ◌∷◌, [], Some, IfOk, IsErrOf, OnOk, option_map, unwrap_or};
 ghost use Rattle.desk.specs.declared.fault.DeskFault.TheVariants.{Failed};
 ghost use Rattle.desk.specs.Causes.{HasCause, StaysSteady};
 ghost use Rattle.playback.specs.Events.{played, second_of, ticks, Tick};
+ghost use Rattle.playback.specs.Front.{Goes};
 ghost use Rattle.playback.specs.Playing.{most_packets, MayWrite, Plays};
 
 use crate::machine::{Machine, Progress};
@@ -34,6 +35,9 @@ pub(crate) fn play_seconds<D: Desk, M: Machine>(
         output.old (D.told desk.old) output.new (D.told desk.new)) }
     ensures state { OnOk result (M.state machine.new
         ≡ (played M.step (M.state machine.old) (ticks progress.moment moment)).after) }
+    ensures goes { Goes M.step (option_map (λ id. id.number) file) (M.state machine.old)
+        (ticks progress.moment moment)
+        output.old (D.told desk.old) result output.new (D.told desk.new) }
     ensures room { IfOk result (λ reached. output.new.written ≤ most_packets reached) }
     ensures cause { HasCause (D.faults desk.old) (D.faults desk.new) result }
     ensures given { D.given desk.new ≡ D.given desk.old }
@@ -74,6 +78,9 @@ fn play_second<D: Desk, M: Machine>(
         output.old (D.told desk.old) output.new (D.told desk.new)) }
     ensures state { OnOk result (M.state machine.new
         ≡ (M.step (M.state machine.old) (Tick second)).after) }
+    ensures goes { Goes M.step (option_map (λ id. id.number) file) (M.state machine.old)
+        (Tick second ∷ [])
+        output.old (D.told desk.old) result output.new (D.told desk.new) }
     ensures few { OnOk result (output.new.written ≤ output.old.written + 2048) }
     ensures cause { HasCause (D.faults desk.old) (D.faults desk.new) result }
     ensures given { D.given desk.new ≡ D.given desk.old }

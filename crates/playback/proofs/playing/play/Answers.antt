@@ -5,6 +5,7 @@ use Rattle.capture_io.specs.Frame.{Frame}
 use Rattle.capture_io.specs.Reading.{Reading, passed}
 use Rattle.capture_io.specs.declared.position.Position.{Position}
 use Rattle.desk.specs.declared.desk.FileId.{FileId}
+use Rattle.playback.proofs.FrontLemmas.{cut_handing, cut_playing, cut_reading, on_err_always, passing-first, passing-on}
 use Rattle.playback.proofs.PlayLemmas.{at_end, at_fault, begins, ends, ends_read, goes_on}
 use Rattle.playback.proofs.playing.play.Goals as goal
 
@@ -22,6 +23,7 @@ loop-output-init g c =
       few = rw new.written (omega arith);
       ready = c.requires.ready;
       going = rw new.written (begins g.M.Machine.step c.args.reader.id (option_map (λ id. id.number) c.args.file) c.args.reader.format (g.M.Machine.state c.args.machine.now) c.args.reader.position c.new-output.result (g.D.Desk.told c.args.desk.now) position new.lines new.records);
+      passing = passing-first g.M.Machine.step c.args.reader.id (option_map (λ id. id.number) c.args.file) c.args.reader.format (g.M.Machine.state c.args.machine.now) c.args.reader.position c.new-output.result (g.D.Desk.told c.args.desk.now) position new.lines new.records;
       given = refl;
       steady = λ steady. steady;
       faults = omega arith;
@@ -43,6 +45,9 @@ loop-output-preserved g c =
     let count = step.1.number in
     let going = goes_on g.M.Machine.step c.args.reader.id (option_map (λ id. id.number) c.args.file) c.args.reader.format (g.M.Machine.state c.args.machine.now) c.loop-output.reader.position (g.M.Machine.state c.loop-output.machine)
     (g.D.Desk.told c.args.desk.now) (g.D.Desk.told c.loop-output.desk) (g.D.Desk.told c.next_frame.new.desk) (g.D.Desk.told c.play_frame.new.desk) c.loop-output.output c.play_frame.new.output f inv.going next count (record { moment = step.1.moment; octets = step.1.octets }) told plays in
+    let goes = rw inv.moment at done.goes in
+    let passing = passing-on g.M.Machine.step c.args.reader.id (option_map (λ id. id.number) c.args.file) c.args.reader.format (g.M.Machine.state c.args.machine.now) c.loop-output.reader.position (g.M.Machine.state c.loop-output.machine)
+    (g.D.Desk.told c.args.desk.now) (g.D.Desk.told c.loop-output.desk) (g.D.Desk.told c.next_frame.new.desk) (g.D.Desk.told c.play_frame.new.desk) c.loop-output.output c.play_frame.new.output f inv.passing next (record { moment = step.1.moment; octets = step.1.octets }) told plays goes in
     record {
       fault = ap (λ (r : Reading). r.fault) step.0 ∙ inv.fault;
       id = ap (λ (r : Reading). r.id) step.0 ∙ inv.id;
@@ -52,6 +57,7 @@ loop-output-preserved g c =
       few = rw (number, moment) done.room;
       ready = rw (number, moment) done.ready;
       going = rw (position, state) going;
+      passing = rw (position, state) passing;
       given = done.given ∙ c.in_ok-frame.ensures.given ∙ inv.given;
       steady = λ steady. done.steady.stays (c.in_ok-frame.ensures.steady.stays (inv.steady steady));
       faults = omega (arith, inv.faults, c.in_ok-frame.ensures.cause.later, done.cause.later);
@@ -140,3 +146,36 @@ returns-in-Fault-clause-state g c =
     let all = ends g.M.Machine.step c.args.reader.id file c.args.reader.format (g.M.Machine.state c.args.machine.now) c.loop-output.reader.position (g.M.Machine.state c.loop-output.machine)
     (g.D.Desk.told c.args.desk.now) (g.D.Desk.told c.loop-output.desk) (g.D.Desk.told c.next_frame.new.desk) _ c.loop-output.output (Some c.in-Fault.fault) inv.going over c.in_ok-frame.ensures.shown handed.told in
     IfSome_then (g.D.Desk.told c.args.desk.now) all (λ w h. h.2)
+
+pub returns-in_err-frame-clause-cut : goal.returns-in_err-frame-clause-cut
+returns-in_err-frame-clause-cut g c =
+    let inv = c.loop-output.invariant in
+    on_err_always c.from_residual.result
+    (cut_reading g.M.Machine.step c.args.reader.id (option_map (λ id. id.number) c.args.file) c.args.reader.format (g.M.Machine.state c.args.machine.now) c.loop-output.reader.position (g.M.Machine.state c.loop-output.machine)
+    (g.D.Desk.told c.args.desk.now) (g.D.Desk.told c.loop-output.desk) (g.D.Desk.told c.next_frame.new.desk) c.loop-output.output inv.passing c.in_err-frame.ensures.shown)
+
+pub returns-in_err-play_frame-in-Frame-clause-cut : goal.returns-in_err-play_frame-in-Frame-clause-cut
+returns-in_err-play_frame-in-Frame-clause-cut g c =
+    let inv = c.loop-output.invariant in
+    let f = c.in-Frame.frame in
+    let step = rw c.in-Frame.is at c.in_ok-frame.ensures.frame in
+    let next = rw (c.in-Frame.is, inv.id, inv.format) at c.in_ok-frame.ensures.outcome in
+    let goes = rw inv.moment at c.in_err-play_frame-in-Frame.ensures.goes in
+    on_err_always c.from_residual-in_err-play_frame-in-Frame.result
+    (cut_playing g.M.Machine.step c.args.reader.id (option_map (λ id. id.number) c.args.file) c.args.reader.format (g.M.Machine.state c.args.machine.now) c.loop-output.reader.position (g.M.Machine.state c.loop-output.machine)
+    (g.D.Desk.told c.args.desk.now) (g.D.Desk.told c.loop-output.desk) (g.D.Desk.told c.next_frame.new.desk) (g.D.Desk.told c.play_frame.new.desk) c.loop-output.output f inv.passing next
+    (record { moment = step.1.moment; octets = step.1.octets }) c.in_ok-frame.ensures.shown goes)
+
+pub returns-in_err-hand_on-in-End-clause-cut : goal.returns-in_err-hand_on-in-End-clause-cut
+returns-in_err-hand_on-in-End-clause-cut g c =
+    let inv = c.loop-output.invariant in
+    on_err_always c.from_residual-in_err-hand_on-in-End.result
+    (cut_handing g.M.Machine.step c.args.reader.id (option_map (λ id. id.number) c.args.file) c.args.reader.format (g.M.Machine.state c.args.machine.now) c.loop-output.reader.position (g.M.Machine.state c.loop-output.machine)
+    (g.D.Desk.told c.args.desk.now) (g.D.Desk.told c.loop-output.desk) (g.D.Desk.told c.next_frame.new.desk) (g.D.Desk.told c.hand_on.new.desk) c.loop-output.output inv.passing c.in_ok-frame.ensures.shown c.in_err-hand_on-in-End.ensures.breaks)
+
+pub returns-in_err-hand_on-in-Fault-clause-cut : goal.returns-in_err-hand_on-in-Fault-clause-cut
+returns-in_err-hand_on-in-Fault-clause-cut g c =
+    let inv = c.loop-output.invariant in
+    on_err_always c.from_residual-in_err-hand_on-in-Fault.result
+    (cut_handing g.M.Machine.step c.args.reader.id (option_map (λ id. id.number) c.args.file) c.args.reader.format (g.M.Machine.state c.args.machine.now) c.loop-output.reader.position (g.M.Machine.state c.loop-output.machine)
+    (g.D.Desk.told c.args.desk.now) (g.D.Desk.told c.loop-output.desk) (g.D.Desk.told c.next_frame.new.desk) (g.D.Desk.told c.hand_on-in-Fault.new.desk) c.loop-output.output inv.passing c.in_ok-frame.ensures.shown c.in_err-hand_on-in-Fault.ensures.breaks)

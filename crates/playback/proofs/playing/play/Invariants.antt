@@ -1,6 +1,7 @@
 use Rattle.std.proofs.Common.{◌≡◌, ◌≤◌, ◌-◌, None, IsTrue}
 use Rattle.std.specs.Option.{option_map}
 use Rattle.playback.specs.Playing.{handed_on, most_packets}
+use Rattle.playback.proofs.FrontLemmas.{Passing}
 use Rattle.playback.proofs.PlayLemmas.{Ongoing}
 use Rattle.playback.proofs.playing.play.Given as goal
 
@@ -14,6 +15,7 @@ invariant-loop-output g l = record {
   few : l.output.written ≤ most_packets l.progress;
   ready : g.M.Machine.IsReady l.progress l.machine;
   going : Ongoing g.M.Machine.step l.fn.reader.id (option_map (λ id. id.number) l.file) l.fn.reader.format (g.M.Machine.state l.fn.machine) l.reader.position (g.M.Machine.state l.machine) l.output.written (g.D.Desk.told l.fn.desk) (handed_on (option_map (λ id. id.number) l.file) l.output (g.D.Desk.told l.desk));
+  passing : Passing g.M.Machine.step l.fn.reader.id (option_map (λ id. id.number) l.file) l.fn.reader.format (g.M.Machine.state l.fn.machine) l.reader.position (g.M.Machine.state l.machine) l.output (g.D.Desk.told l.fn.desk) (g.D.Desk.told l.desk);
   given : g.D.Desk.given l.desk ≡ g.D.Desk.given l.fn.desk;
   steady : IsTrue (g.D.Desk.steady l.fn.desk) → IsTrue (g.D.Desk.steady l.desk);
   faults : g.D.Desk.faults l.fn.desk ≤ g.D.Desk.faults l.desk;
