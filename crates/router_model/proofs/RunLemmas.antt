@@ -15,7 +15,7 @@ use Rattle.router_model.proofs.ReplayLemmas.{events-order, table-replays}
 use Rattle.router_model.proofs.StaticsLemmas.{length-statics}
 
 -- frames that were read, and whose moments don't fall
-in_order : (m : ℕ) (frames : List Frame) → All IsRead frames → AreLater m frames → FramesInOrder m frames
+pub in_order : (m : ℕ) (frames : List Frame) → All IsRead frames → AreLater m frames → FramesInOrder m frames
 in_order m [] read later = tt
 in_order m (frame ∷ frames) read later =
     (later.0, ((All-head IsRead frame frames read).octets, in_order frame.moment frames (All-tail IsRead frame frames read) later.1))
@@ -55,7 +55,7 @@ count_after m (frame ∷ frames) early read later =
     let rises = second_later m frame.moment later.0 in
     omega (arith, rest, one, rises)
 
-count : (frames : List Frame) → All IsRead frames → AreLater 0 frames → length (events frames) ≤ 2 ^ 32 + length frames
+pub count : (frames : List Frame) → All IsRead frames → AreLater 0 frames → length (events frames) ≤ 2 ^ 32 + length frames
 count [] read later = omega arith
 count (frame ∷ frames) read later =
     let rest = count_after frame.moment frames (All-head IsRead frame frames read).moment (All-tail IsRead frame frames read) later.1 in
