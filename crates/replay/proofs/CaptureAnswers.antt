@@ -55,7 +55,7 @@ shown-after_open id name None new opened = ap shown opened
 shown-after_open id name (Some w) new opened = ap shown opened
 
 -- a capture whose header obeys its rules: what holds of the run that is left holds of the file's
-capture_goes_on : (P : Run → Shown → Type 0) (id : ℕ) (input : List ℕ) (old mid now : Option World) (r : Reading)
+pub capture_goes_on : (P : Run → Shown → Type 0) (id : ℕ) (input : List ℕ) (old mid now : Option World) (r : Reading)
     → IfSome old (λ w. found_at id w.readers ≡ None) → mid ≡ option_map (after_open id input) old
     → IfSome mid (λ w. Ok r ≡ started id (left_of id w)) → now ≡ option_map (after_read id 24) mid → r ≡ beginning id r.format
     → IfSome now (λ w. P (read_on r.format begin (left_of r.id w)) (shown_of w))
@@ -75,7 +75,7 @@ capture_goes_on P id input (Some w) mid now r fresh opened is read fresh_reader 
     (sym none, subst (λ (x : Run). P x (shown_of w)) run here)
 
 -- a capture whose header fails one
-capture_stops : (id : ℕ) (input : List ℕ) (old mid now : Option World) (f : CaptureFault)
+pub capture_stops : (id : ℕ) (input : List ℕ) (old mid now : Option World) (f : CaptureFault)
     → IfSome old (λ w. found_at id w.readers ≡ None) → mid ≡ option_map (after_open id input) old
     → IfSome mid (λ w. Err f ≡ started id (left_of id w)) → shown now ≡ shown mid
     → IfSome old (λ w. (first_failing (header_rules (content input w.files)) ≡ Some f) × (shown now ≡ Some (shown_of w)))

@@ -1,5 +1,6 @@
 pub mod AnswerCases
 pub mod CaptureAnswers
+pub mod FrontCases
 pub mod MessageLemmas
 pub mod NotingLemmas
 pub mod PieceLemmas

@@ -1,4 +1,5 @@
 pub mod Answer
+pub mod Front
 pub mod Lines
 pub mod Messages
 pub mod Readings

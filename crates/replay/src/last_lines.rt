@@ -1,9 +1,10 @@
 // The last lines of runs, and what is said at their end.
-ghost use Rattle.std.specs.Prelude.{◌≡◌, ◌++◌, ◌∷◌, [], codes, IfOk, IsErrOf, OnOk, option_map};
+ghost use Rattle.std.specs.Prelude.{◌≡◌, ◌++◌, ◌∷◌, [], codes, IfOk, IsErrOf, OnErr, OnOk, option_map};
 ghost use Rattle.desk.specs.declared.fault.DeskFault.TheVariants.{Failed};
 ghost use Rattle.desk.specs.Causes.{HasCause, StaysSteady};
 ghost use Rattle.desk.specs.World.{after_say};
 ghost use Rattle.replay.specs.Answer.{closing, status_of};
+ghost use Rattle.replay.specs.Front.{SaysPart};
 ghost use Rattle.replay.specs.Lines.{count_line, end_line, fault_line, fault_text, settings_line, settings_text};
 ghost use Rattle.replay.specs.declared.status.Status.TheVariants.{Usage, Settings as BadSettings, Capture};
 
@@ -20,6 +21,7 @@ pub(crate) fn refuse_words<D: Desk>(alloc: Global, desk: &mut D) -> Result<Statu
     ensures status { IfOk result (λ s. s ≡ Usage) }
     ensures told { OnOk result (D.told desk.new
         ≡ option_map (after_say (codes "usage\n")) (D.told desk.old)) }
+    ensures part { OnErr result (SaysPart (codes "usage\n") (D.told desk.old) (D.told desk.new)) }
     ensures cause { HasCause (D.faults desk.old) (D.faults desk.new) result }
     ensures steady { StaysSteady (D.steady desk.old) (D.steady desk.new)
         Unit (IsErrOf result Failed) }
@@ -37,6 +39,7 @@ pub(crate) fn refuse_settings<D: Desk>(
     ensures status { IfOk result (λ s. s ≡ BadSettings) }
     ensures told { OnOk result (D.told desk.new
         ≡ option_map (after_say (settings_line fault.now)) (D.told desk.old)) }
+    ensures part { OnErr result (SaysPart (settings_line fault.now) (D.told desk.old) (D.told desk.new)) }
     ensures cause { HasCause (D.faults desk.old) (D.faults desk.new) result }
     ensures steady { StaysSteady (D.steady desk.old) (D.steady desk.new)
         Unit (IsErrOf result Failed) }
@@ -56,6 +59,7 @@ pub(crate) fn close<D: Desk>(
     ensures status { IfOk result (λ s. s ≡ status_of fault) }
     ensures told { OnOk result (D.told desk.new
         ≡ option_map (after_say (closing fault line.now)) (D.told desk.old)) }
+    ensures part { OnErr result (SaysPart (closing fault line.now) (D.told desk.old) (D.told desk.new)) }
     ensures cause { HasCause (D.faults desk.old) (D.faults desk.new) result }
     ensures steady { StaysSteady (D.steady desk.old) (D.steady desk.new)
         Unit (IsErrOf result Failed) }
@@ -78,6 +82,7 @@ pub(crate) fn refuse_capture<D: Desk>(
     ensures status { IfOk result (λ s. s ≡ Capture) }
     ensures told { OnOk result (D.told desk.new
         ≡ option_map (after_say (fault_line fault)) (D.told desk.old)) }
+    ensures part { OnErr result (SaysPart (fault_line fault) (D.told desk.old) (D.told desk.new)) }
     ensures cause { HasCause (D.faults desk.old) (D.faults desk.new) result }
     ensures steady { StaysSteady (D.steady desk.old) (D.steady desk.new)
         Unit (IsErrOf result Failed) }

@@ -1,9 +1,10 @@
 // The output file, made with its header.
-ghost use Rattle.std.specs.Prelude.{◌≡◌, ◌++◌, ◌∷◌, [], option_map, None, IfOk, IfSome, IsErrOf};
+ghost use Rattle.std.specs.Prelude.{◌≡◌, ◌++◌, ◌∷◌, [], option_map, None, IfOk, IfSome, IsErrOf, OnErr};
 ghost use Rattle.desk.specs.declared.fault.DeskFault.TheVariants.{Failed};
 ghost use Rattle.desk.specs.Causes.{HasCause, StaysSteady};
 ghost use Rattle.desk.specs.World.{found_at, after_make, after_write, to_write};
 ghost use Rattle.capture_io.specs.Output.{out_header};
+ghost use Rattle.replay.specs.Front.{MakesPart};
 
 use capture_io::write_header;
 use desk::{Desk, DeskFault, FileId};
@@ -18,6 +19,7 @@ pub(crate) fn make_output<D: Desk>(
 ) -> Result<FileId, DeskFault>
     ensures told { IfOk result (λ id. D.told desk.new ≡ option_map (λ w.
         after_write id.number out_header (after_make id.number name.now w)) (D.told desk.old)) }
+    ensures part { OnErr result (MakesPart name.now (D.told desk.old) (D.told desk.new)) }
     ensures fresh { IfOk result (λ id. IfSome (D.told desk.old) (λ w.
         found_at id.number w.writers ≡ None)) }
     ensures given { IfOk result (λ id. D.given desk.new ≡ D.given desk.old

@@ -1,5 +1,5 @@
 // A capture, replayed by the settings.
-ghost use Rattle.std.specs.Prelude.{◌≡◌, ◌≤◌, ◌+◌, ◌*◌, unwrap_or, IfOk, IfSome, IsErrOf, IsTrue};
+ghost use Rattle.std.specs.Prelude.{◌≡◌, ◌≤◌, ◌+◌, ◌*◌, unwrap_or, IfOk, IfSome, IsErrOf, IsTrue, OnErr};
 ghost use Rattle.octets.specs.Rules.{first_failing};
 ghost use Rattle.desk.specs.declared.fault.DeskFault.TheVariants.{Failed};
 ghost use Rattle.desk.specs.Causes.{HasCause, StaysSteady};
@@ -14,6 +14,7 @@ ghost use Rattle.router_model.specs.Parts.{Parts, table};
 ghost use Rattle.router_model.specs.Plain.{Router, after_event};
 ghost use Rattle.replay.specs.Taking.{router_of};
 ghost use Rattle.replay.specs.Answer.{after_header, after_settings, is_end, is_of_form, replayed, Gives};
+ghost use Rattle.replay.specs.Front.{part_after_header, part_after_settings, replayed_part, EndsFront};
 ghost use Rattle.replay.specs.Readings.{HasReplayed, HasReplayedFile};
 
 use crate::Status;
@@ -92,6 +93,10 @@ pub(crate) fn replay_capture<D: Desk>(
         Gives (after_settings output.now (content input.now w.files)
         (settings_of (content settings.now w.files))) s (shown_of w) (shown (D.told desk.new)))) }
     ensures form { IfOk result (λ s. IsTrue (is_of_form s)) }
+    ensures front { OnErr result (IfSome (D.told desk.old) (λ w.
+        let file = content input.now w.files in
+        EndsFront (after_settings output.now file (settings_of (content settings.now w.files)))
+        (part_after_settings output.now file (settings_of (content settings.now w.files))) (shown_of w) (D.told desk.new))) }
     ensures cause { HasCause (D.faults desk.old) (D.faults desk.new) result }
     ensures steady { StaysSteady (D.steady desk.old) (D.steady desk.new)
         (IsThere settings.now (D.told desk.old) × IsThere input.now (D.told desk.old)) (IsErrOf result Failed) }
@@ -115,6 +120,10 @@ fn replay_by<D: Desk>(
         Gives (after_header (replayed settings.now output.now) file
         (first_failing (header_rules file))) s (shown_of w) (shown (D.told desk.new)))) }
     ensures end { IfOk result (λ s. IsTrue (is_end s)) }
+    ensures front { OnErr result (IfSome (D.told desk.old) (λ w.
+        let file = content input.now w.files in
+        EndsFront (after_header (replayed settings.now output.now) file (first_failing (header_rules file)))
+        (part_after_header (replayed_part settings.now output.now) file (first_failing (header_rules file))) (shown_of w) (D.told desk.new))) }
     ensures cause { HasCause (D.faults desk.old) (D.faults desk.new) result }
     ensures steady { StaysSteady (D.steady desk.old) (D.steady desk.new)
         (IsThere input.now (D.told desk.old)) (IsErrOf result Failed) }
@@ -141,6 +150,10 @@ pub(crate) fn replay_file<D: Desk>(
     ensures answer { IfOk result (λ counts. IfSome (D.told desk.old) (λ w.
         HasReplayedFile settings.now output.now (content input.now w.files) counts
         (shown_of w) (shown (D.told desk.new)))) }
+    ensures front { OnErr result (IfSome (D.told desk.old) (λ w.
+        let file = content input.now w.files in
+        EndsFront (after_header (replayed settings.now output.now) file (first_failing (header_rules file)))
+        (part_after_header (replayed_part settings.now output.now) file (first_failing (header_rules file))) (shown_of w) (D.told desk.new))) }
     ensures cause { HasCause (D.faults desk.old) (D.faults desk.new) result }
     ensures steady { StaysSteady (D.steady desk.old) (D.steady desk.new)
         (IsThere input.now (D.told desk.old)) (IsErrOf result Failed) }
@@ -169,6 +182,10 @@ fn replay_frames<D: Desk>(
         HasReplayed settings.now output.now
         (read_on reader.format begin (left_of reader.id w)) counts
         (shown_of w) (shown (D.told desk.new)))) }
+    ensures front { OnErr result (IfSome (D.told desk.old) (λ w.
+        let run = read_on reader.format begin (left_of reader.id w) in
+        EndsFront (replayed settings.now output.now run) (replayed_part settings.now output.now run)
+        (shown_of w) (D.told desk.new))) }
     ensures cause { HasCause (D.faults desk.old) (D.faults desk.new) result }
     ensures steady { StaysSteady (D.steady desk.old) (D.steady desk.new)
         (IsGiven reader.id to_read (D.given desk.old)) (IsErrOf result Failed) }

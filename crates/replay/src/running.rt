@@ -1,5 +1,5 @@
 // The run: the top call.
-ghost use Rattle.std.specs.Prelude.{◌≡◌, ◌↔◌, ◌⊎◌, None, Some, false, map, string_bytes, IfOk, IfSome, IsErrOf, IsSomeAnd, IsTrue};
+ghost use Rattle.std.specs.Prelude.{◌≡◌, ◌↔◌, ◌⊎◌, None, Some, false, true, map, string_bytes, IfOk, IfSome, IsErrOf, IsSomeAnd, IsTrue, OnErr};
 ghost use Rattle.octets.specs.Causes.{Rose};
 ghost use Rattle.desk.specs.declared.fault.DeskFault.TheVariants.{Failed};
 ghost use Rattle.desk.specs.Causes.{HasCause, StaysSteady};
@@ -7,6 +7,7 @@ ghost use Rattle.desk.specs.World.{shown, shown_of};
 ghost use Rattle.replay.specs.declared.status.Status.TheVariants.{Done, Usage, Host, Memory};
 ghost use Rattle.command_words.specs.Words.{words_of, HasFewMappings};
 ghost use Rattle.replay.specs.Answer.{after_words, answer, is_of_form, is_outside, names_read, AreThere, Gives, Leaves};
+ghost use Rattle.replay.specs.Front.{part, part_after_words, EndsFront, LeavesFront};
 
 use crate::last_lines::refuse_words;
 use crate::replaying::replay_capture;
@@ -26,6 +27,13 @@ pub fn run<D: Desk>(alloc: Global, words: &[Word], desk: &mut D) -> Status
     ensures left { is_outside result ≡ false → IfSome (shown (D.told desk.old)) (λ old.
         IsSomeAnd (shown (D.told desk.new))
         (Leaves (answer (map string_bytes words.now) old.files) old)) }
+
+    // After `Host` or `Memory` a beginning of that report was said, and no output was made, or one with a
+    // beginning of that output. Each packet that was written was reported before.
+    ensures front { is_outside result ≡ true → IfSome (shown (D.told desk.old)) (λ old.
+        IsSomeAnd (shown (D.told desk.new))
+        (LeavesFront (answer (map string_bytes words.now) old.files)
+        (part (map string_bytes words.now) old.files) old)) }
 
     // The causes, also where the desk tells nothing.
     ensures usage { is_outside result ≡ false
@@ -57,6 +65,9 @@ fn answer_words<D: Desk>(alloc: Global, words: &[Word], desk: &mut D) -> Result<
     ensures answer { IfOk result (λ s. IfSome (D.told desk.old) (λ w.
         Gives (answer (map string_bytes words.now) w.files) s (shown_of w)
         (shown (D.told desk.new)))) }
+    ensures front { OnErr result (IfSome (D.told desk.old) (λ w.
+        EndsFront (answer (map string_bytes words.now) w.files)
+        (part (map string_bytes words.now) w.files) (shown_of w) (D.told desk.new))) }
     ensures inside { IfOk result (λ s. is_outside s ≡ false) }
     ensures usage { IfOk result (λ s.
         (s ≡ Usage) ↔ (words_of (map string_bytes words.now) ≡ None)) }
@@ -76,6 +87,9 @@ fn do_words<D: Desk>(alloc: Global, desk: &mut D, words: &Words) -> Result<Statu
     requires { HasFewMappings words.now }
     ensures answer { IfOk result (λ s. IfSome (D.told desk.old) (λ w.
         Gives (after_words w.files (Some words.now)) s (shown_of w) (shown (D.told desk.new)))) }
+    ensures front { OnErr result (IfSome (D.told desk.old) (λ w.
+        EndsFront (after_words w.files (Some words.now)) (part_after_words w.files (Some words.now))
+        (shown_of w) (D.told desk.new))) }
     ensures form { IfOk result (λ s. IsTrue (is_of_form s)) }
     ensures cause { HasCause (D.faults desk.old) (D.faults desk.new) result }
     ensures steady { StaysSteady (D.steady desk.old) (D.steady desk.new)

@@ -1,5 +1,5 @@
 // The messages of a capture, shown.
-ghost use Rattle.std.specs.Prelude.{◌≡◌, IfOk, IfSome, IsErrOf, IsTrue};
+ghost use Rattle.std.specs.Prelude.{◌≡◌, IfOk, IfSome, IsErrOf, IsTrue, OnErr};
 ghost use Rattle.octets.specs.Rules.{first_failing};
 ghost use Rattle.desk.specs.declared.fault.DeskFault.TheVariants.{Failed};
 ghost use Rattle.desk.specs.Causes.{HasCause, StaysSteady};
@@ -8,6 +8,7 @@ ghost use Rattle.capture_io.specs.Capture.{begin, header_rules};
 ghost use Rattle.capture_io.specs.Frames.{read_on};
 ghost use Rattle.capture_io.specs.Reading.{beginning};
 ghost use Rattle.replay.specs.Answer.{after_header, is_end, messages_shown, Gives};
+ghost use Rattle.replay.specs.Front.{part_after_header, shown_part, EndsFront};
 ghost use Rattle.replay.specs.Show.{showing};
 
 use crate::Status;
@@ -64,6 +65,10 @@ pub(crate) fn show_capture<D: Desk>(
         Gives (after_header messages_shown file
         (first_failing (header_rules file))) s (shown_of w) (shown (D.told desk.new)))) }
     ensures end { IfOk result (λ s. IsTrue (is_end s)) }
+    ensures front { OnErr result (IfSome (D.told desk.old) (λ w.
+        let file = content input.now w.files in
+        EndsFront (after_header messages_shown file (first_failing (header_rules file)))
+        (part_after_header shown_part file (first_failing (header_rules file))) (shown_of w) (D.told desk.new))) }
     ensures cause { HasCause (D.faults desk.old) (D.faults desk.new) result }
     ensures steady { StaysSteady (D.steady desk.old) (D.steady desk.new)
         (IsThere input.now (D.told desk.old)) (IsErrOf result Failed) }
@@ -89,6 +94,9 @@ fn show_frames<D: Desk>(
         Gives (messages_shown (read_on reader.format begin (left_of reader.id w))) s (shown_of w)
         (shown (D.told desk.new)))) }
     ensures end { IfOk result (λ s. IsTrue (is_end s)) }
+    ensures front { OnErr result (IfSome (D.told desk.old) (λ w.
+        let run = read_on reader.format begin (left_of reader.id w) in
+        EndsFront (messages_shown run) (shown_part run) (shown_of w) (D.told desk.new))) }
     ensures cause { HasCause (D.faults desk.old) (D.faults desk.new) result }
     ensures steady { StaysSteady (D.steady desk.old) (D.steady desk.new)
         (IsGiven reader.id to_read (D.given desk.old)) (IsErrOf result Failed) }

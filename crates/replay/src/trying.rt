@@ -1,5 +1,5 @@
 // An input that is made from a number, replayed.
-ghost use Rattle.std.specs.Prelude.{◌≡◌, ◌≤◌, ◌++◌, ◌∷◌, [], None, OnOk, IfOk, IsErrOf, codes, option_map};
+ghost use Rattle.std.specs.Prelude.{◌≡◌, ◌≤◌, ◌++◌, ◌∷◌, [], None, OnErr, OnOk, IfOk, IsErrOf, codes, option_map};
 ghost use Rattle.desk.specs.declared.fault.DeskFault.TheVariants.{Failed};
 ghost use Rattle.desk.specs.Causes.{HasCause, StaysSteady};
 ghost use Rattle.desk.specs.World.{after_say};
@@ -10,6 +10,7 @@ ghost use Rattle.capture_io.specs.Capture.{header_rules};
 ghost use Rattle.capture_io.specs.Frames.{capture};
 ghost use Rattle.playback.specs.Written.{frames_of};
 ghost use Rattle.trial_input.specs.Trial.{trial_packets};
+ghost use Rattle.replay.specs.Front.{SaysPart};
 ghost use Rattle.replay.specs.Trial.{hash_text, trial_file, trial_line, trial_text};
 ghost use Rattle.trial_input.specs.declared.settings.TheConstants.{MOST_MAPPINGS};
 
@@ -33,6 +34,7 @@ pub(crate) fn try_number<D: Desk>(alloc: Global, desk: &mut D, n: u32) -> Result
     ensures status { IfOk result (λ s. s ≡ Done) }
     ensures told { OnOk result (D.told desk.new
         ≡ option_map (after_say (trial_text n)) (D.told desk.old)) }
+    ensures part { OnErr result (SaysPart (trial_text n) (D.told desk.old) (D.told desk.new)) }
     ensures cause { HasCause (D.faults desk.old) (D.faults desk.new) result }
     ensures steady { StaysSteady (D.steady desk.old) (D.steady desk.new)
         Unit (IsErrOf result Failed) }

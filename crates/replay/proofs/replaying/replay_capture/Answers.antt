@@ -9,6 +9,11 @@ use Rattle.replay.specs.Answer.{after_header, after_settings, replayed, told_off
 use Rattle.replay.specs.Lines.{settings_line}
 use Rattle.replay.specs.declared.status.Status.{Status}
 use Rattle.replay.specs.declared.status.Status.TheVariants as status
+use Rattle.std.proofs.lemmas.Option.{IfSome_then}
+use Rattle.std.proofs.lemmas.Result.{on_err_weaker}
+use Rattle.playback.proofs.FrontLemmas.{on_err_always}
+use Rattle.replay.specs.Front.{EndsFront, part_after_header, part_after_settings, replayed_part}
+use Rattle.replay.proofs.FrontCases.{front_as, front_says, front_still, settings-zero}
 use Rattle.replay.proofs.AnswerCases.{gives_as, ok_both, said_line, shown_stays}
 use Rattle.replay.proofs.replaying.replay_capture.Goals as goal
 
@@ -34,3 +39,32 @@ returns-in-Ok-clause-answer g c =
     IfSome_both old c.in_ok-settings.ensures.value gives (λ w value given.
     let after = after_settings c.args.output.now (content c.args.input.now w.files) in
     gives_as (after (Ok c.in-Ok.settings)) (after (settings_of (content c.args.settings.now w.files))) s (shown_of w) (shown new) (ap after (sym c.in-Ok.is ∙ value)) given)) c.replay_by.ensures.answer
+
+pub returns-in_err-settings-clause-front : goal.returns-in_err-settings-clause-front
+returns-in_err-settings-clause-front g c =
+    on_err_always c.from_residual.result
+    (front_still (λ w. after_settings c.args.output.now (content c.args.input.now w.files) (settings_of (content c.args.settings.now w.files)))
+    (λ w. part_after_settings c.args.output.now (content c.args.input.now w.files) (settings_of (content c.args.settings.now w.files)))
+    (g.D.Desk.told c.args.desk.now) (g.D.Desk.told c.load_settings.new.desk) (λ w. settings-zero c.args.output.now (content c.args.input.now w.files) (settings_of (content c.args.settings.now w.files))) c.in_err-settings.ensures.shown)
+
+pub returns-in-Err-clause-front : goal.returns-in-Err-clause-front
+returns-in-Err-clause-front g c =
+    let old = g.D.Desk.told c.args.desk.now in
+    on_err_weaker c.refuse_settings.result (λ says.
+    front_says (λ w. after_settings c.args.output.now (content c.args.input.now w.files) (settings_of (content c.args.settings.now w.files)))
+    (λ w. part_after_settings c.args.output.now (content c.args.input.now w.files) (settings_of (content c.args.settings.now w.files)))
+    (settings_line c.in-Err.fault) old (g.D.Desk.told c.load_settings.new.desk) (g.D.Desk.told c.refuse_settings.new.desk) (λ w. settings-zero c.args.output.now (content c.args.input.now w.files) (settings_of (content c.args.settings.now w.files))) c.in_ok-settings.ensures.shown
+    (IfSome_then old c.in_ok-settings.ensures.value (λ w value. ap (λ r. (after_settings c.args.output.now (content c.args.input.now w.files) r).said) (sym (sym c.in-Err.is ∙ value))))
+    says) c.refuse_settings.ensures.part
+
+pub returns-in-Ok-clause-front : goal.returns-in-Ok-clause-front
+returns-in-Ok-clause-front g c =
+    let old = g.D.Desk.told c.args.desk.now in
+    let new = g.D.Desk.told c.replay_by.new.desk in
+    on_err_weaker c.replay_by.result (λ ends.
+    let moved = shown_stays (λ (o : Shown). EndsFront (after_header (replayed c.in-Ok.settings c.args.output.now) (content c.args.input.now o.files) (first_failing (header_rules (content c.args.input.now o.files)))) (part_after_header (replayed_part c.in-Ok.settings c.args.output.now) (content c.args.input.now o.files) (first_failing (header_rules (content c.args.input.now o.files)))) o new) old (g.D.Desk.told c.load_settings.new.desk) c.in_ok-settings.ensures.shown ends in
+    IfSome_both old c.in_ok-settings.ensures.value moved (λ w value given.
+    let after = after_settings c.args.output.now (content c.args.input.now w.files) in
+    let parts = part_after_settings c.args.output.now (content c.args.input.now w.files) in
+    let same = sym c.in-Ok.is ∙ value in
+    front_as (after (Ok c.in-Ok.settings)) (after (settings_of (content c.args.settings.now w.files))) (parts (Ok c.in-Ok.settings)) (parts (settings_of (content c.args.settings.now w.files))) (shown_of w) new (ap after same) (ap parts same) given)) c.replay_by.ensures.front

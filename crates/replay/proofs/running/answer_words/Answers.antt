@@ -1,4 +1,4 @@
-use Rattle.std.proofs.Common.{◌≡◌, ap, sym, subst, map, Option, Some, None, Err, IsErrOf}
+use Rattle.std.proofs.Common.{◌≡◌, refl, ap, sym, subst, map, Option, Some, None, Err, IsErrOf}
 use Rattle.std.specs.Prelude.{codes, string_bytes}
 use Rattle.std.proofs.lemmas.Option.{IfSome_then}
 use Rattle.std.proofs.lemmas.Result.{IfOk-weaker}
@@ -7,9 +7,13 @@ use Rattle.command_words.specs.declared.words.Words.{Words}
 use Rattle.desk.specs.Causes.{StaysSteady}
 use Rattle.desk.specs.declared.fault.DeskFault.TheVariants.{Failed}
 use Rattle.desk.specs.World.{shown, shown_of}
-use Rattle.replay.specs.Answer.{answer, names_read, AreThere, Gives}
+use Rattle.replay.specs.Answer.{Answer, answer, names_read, AreThere, Gives}
 use Rattle.replay.specs.declared.status.Status.{Status}
 use Rattle.replay.specs.declared.status.Status.TheVariants as status
+use Rattle.std.proofs.lemmas.Result.{on_err_weaker}
+use Rattle.replay.specs.Answer.{after_words}
+use Rattle.replay.specs.Front.{part, part_after_words}
+use Rattle.replay.proofs.FrontCases.{always, front_as, front_says, front_still, part-of, part-zero}
 use Rattle.replay.proofs.AnswerCases.{answer-of, gives_as, ok_both, said_line}
 use Rattle.replay.proofs.running.answer_words.Goals as goal
 
@@ -35,3 +39,26 @@ returns-in-Err-Usage-clause-answer g c =
     IfSome_then old (said_line status.Usage (codes "usage\n") old new said) (λ w gives.
     subst (λ (x : Status). Gives (answer words w.files) x (shown_of w) (shown new)) (sym is)
     (gives_as _ (answer words w.files) status.Usage (shown_of w) (shown new) (sym (answer-of words w.files None none)) gives)))
+
+pub returns-in-Ok-clause-front : goal.returns-in-Ok-clause-front
+returns-in-Ok-clause-front g c =
+    let words = map string_bytes c.args.words.now in
+    let new = g.D.Desk.told c.do_words.new.desk in
+    on_err_weaker c.do_words.result (λ ends. IfSome_then (g.D.Desk.told c.args.desk.now) ends (λ w front.
+    front_as (after_words w.files (Some c.in-Ok.words)) (answer words w.files) (part_after_words w.files (Some c.in-Ok.words)) (part words w.files) (shown_of w) new
+    (sym (answer-of words w.files (Some c.in-Ok.words) c.in-Ok.ensures.ok)) (sym (part-of words w.files (Some c.in-Ok.words) c.in-Ok.ensures.ok)) front)) c.do_words.ensures.front
+
+pub returns-in-Err-Usage-clause-front : goal.returns-in-Err-Usage-clause-front
+returns-in-Err-Usage-clause-front g c =
+    let words = map string_bytes c.args.words.now in
+    let old = g.D.Desk.told c.args.desk.now in
+    let none : words_of words ≡ None = c.in-Err-Usage.ensures.usage (ap Err c.in-Err-Usage.field-0-is) in
+    on_err_weaker c.refuse_words.result (λ says.
+    front_says (λ w. answer words w.files) (λ w. part words w.files) (codes "usage\n") old old (g.D.Desk.told c.refuse_words.new.desk) (λ w. part-zero words w.files) refl
+    (always old (λ w. ap (λ (a : Answer). a.said) (answer-of words w.files None none))) says) c.refuse_words.ensures.part
+
+pub returns-in-Err-Memory-clause-front : goal.returns-in-Err-Memory-clause-front
+returns-in-Err-Memory-clause-front g c =
+    let words = map string_bytes c.args.words.now in
+    let old = g.D.Desk.told c.args.desk.now in
+    front_still (λ w. answer words w.files) (λ w. part words w.files) old old (λ w. part-zero words w.files) refl

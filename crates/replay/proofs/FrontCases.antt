@@ -1,0 +1,461 @@
+-- A run that is cut short, case by case, and how steps of a run make its beginning.
+use Rattle.std.proofs.Common.{◌≡◌, ◌≤◌, ◌+◌, ◌*◌, ◌^◌, ℕ, List, [], ◌∷◌, ◌++◌, length, take, Option, Some, None, Result, Ok, Err, append_assoc, refl, sym, ap, subst, ◌∙◌, inl, inr, arith}
+use Rattle.std.specs.List.{All}
+use Rattle.std.specs.Option.{option_map, IfSome}
+use Rattle.std.proofs.lemmas.Option.{IfSome_then}
+use Rattle.std.proofs.Math.Seq.{take-append_seam}
+use Rattle.std.proofs.lemmas.List.{append-nil, length-append, map-append}
+use Rattle.octets.specs.Rules.{first_failing}
+use Rattle.command_words.specs.Words.{words_of}
+use Rattle.command_words.specs.declared.words.Words.{Words}
+use Rattle.command_words.specs.declared.words.Words.TheVariants.{Replay, Show, Trial}
+use Rattle.desk.specs.declared.file.NamedFile.{NamedFile}
+use Rattle.desk.specs.World.{World, Shown, content, left_of, found_at, extended, after_open, after_read, after_make, after_write, shown, shown_of}
+use Rattle.desk.proofs.Entries.{changed_at-more}
+use Rattle.capture_io.specs.Capture.{begin, header_rules}
+use Rattle.capture_io.specs.Frame.{Frame}
+use Rattle.capture_io.specs.Reading.{Reading, beginning, started as started_at}
+use Rattle.capture_io.specs.Frames.{AreLater, Run, capture, read_on}
+use Rattle.capture_io.specs.Output.{out_header}
+use Rattle.capture_io.specs.declared.fault.CaptureFault.{CaptureFault}
+use Rattle.capture_io.specs.declared.format.Format.{Format}
+use Rattle.capture_io.proofs.OrderLemmas.{frames-few, frames-later}
+use Rattle.lisp_settings.specs.Lawful.{IsLawful}
+use Rattle.lisp_settings.specs.Settings.{settings_of}
+use Rattle.lisp_settings.specs.declared.fault.SettingsFault.{SettingsFault}
+use Rattle.lisp_settings.specs.declared.settings.Settings.{Settings}
+use Rattle.playback.specs.Events.{Event, Outcome, events, events_after, events_of, played, records_of}
+use Rattle.playback.specs.Front.{CutRun, IsFront}
+use Rattle.playback.specs.Playing.{outcome_of, with_outcome, with_output, Ends, IsRead}
+use Rattle.playback.specs.declared.playing.Ending.{Ending}
+use Rattle.playback.proofs.PlayLemmas.{with_output-none}
+use Rattle.playback.proofs.FrontLemmas.{front-all, front-behind, front-front, front-lines, front-more, front-octets, front-same, front-take}
+use Rattle.router_model.specs.Journal.{statics}
+use Rattle.router_model.specs.Lifting.{AreInOrder, event_moment, outcome_tabled}
+use Rattle.router_model.specs.Parts.{Parts, parts_in, table}
+use Rattle.router_model.specs.Plain.{Router, after_event, plain, started}
+use Rattle.router_model.proofs.ReplayLemmas.{events-order, table-replays}
+use Rattle.router_model.proofs.RunLemmas.{count, in_order}
+use Rattle.router_model.proofs.StaticsLemmas.{length-statics}
+use Rattle.replay.proofs.CaptureAnswers.{capture_goes_on, capture_stops}
+use Rattle.replay.specs.Answer.{Answer, after_header, closing, made_files, messages_shown, replayed}
+use Rattle.replay.specs.Front.{AreFronts, EndsFront, MakesPart, Part, SaysPart, part, part_after_header, part_after_settings, part_after_words, replayed_part, shown_part}
+use Rattle.replay.specs.Lines.{count_line, end_line, fault_line}
+use Rattle.replay.specs.Readings.{replay_of, HasReplayed, HasReplayedFile}
+use Rattle.replay.specs.Show.{showing}
+use Rattle.replay.specs.Taking.{router_of}
+use Rattle.replay.specs.declared.replaying.Counts.{Counts}
+
+-- before the first event nothing was said
+replayed-zero : (settings : Settings) (output : List ℕ) (run : Run) → (replayed_part settings output run 0).said ≡ []
+unfolding replayed_part
+replayed-zero settings output run = refl
+
+shown-zero : (run : Run) → (shown_part run 0).said ≡ []
+unfolding shown_part
+shown-zero run = refl
+
+header-zero : (parts : Run → ℕ → Part) (file : List ℕ) (o : Option CaptureFault) → ((run : Run) → (parts run 0).said ≡ []) → (part_after_header parts file o 0).said ≡ []
+header-zero parts file None zeros = zeros (capture file)
+header-zero parts file (Some fault) zeros = refl
+
+pub replay-zero : (settings : Settings) (output file : List ℕ) (o : Option CaptureFault) → (part_after_header (replayed_part settings output) file o 0).said ≡ []
+replay-zero settings output file o = header-zero (replayed_part settings output) file o (replayed-zero settings output)
+
+pub show-zero : (file : List ℕ) (o : Option CaptureFault) → (part_after_header shown_part file o 0).said ≡ []
+show-zero file o = header-zero shown_part file o shown-zero
+
+pub settings-zero : (output file : List ℕ) (r : Result Settings SettingsFault) → (part_after_settings output file r 0).said ≡ []
+settings-zero output file (Ok settings) = replay-zero settings output file (first_failing (header_rules file))
+settings-zero output file (Err fault) = refl
+
+pub words-zero : (files : List NamedFile) (words : Option Words) → (part_after_words files words 0).said ≡ []
+words-zero files None = refl
+words-zero files (Some (Replay settings input output workers round)) = settings-zero output (content input files) (settings_of (content settings files))
+words-zero files (Some (Show input)) = show-zero (content input files) (first_failing (header_rules (content input files)))
+words-zero files (Some (Trial n)) = refl
+
+pub part-of : (words : List (List ℕ)) (files : List NamedFile) (said : Option Words) → words_of words ≡ said → part words files ≡ part_after_words files said
+unfolding part
+part-of words files said is = ap (part_after_words files) is
+
+-- the same answer and parts by other names
+pub front_as : (a b : Answer) (p q : ℕ → Part) (old : Shown) (new : Option World) → a ≡ b → p ≡ q → EndsFront a p old new → EndsFront b q old new
+front_as a b p q old new same alike ends = rw (← same, ← alike) ends
+
+-- files begin with themselves
+fronts-all : (files : List NamedFile) → AreFronts files files
+fronts-all [] = tt
+fronts-all (file ∷ files) = (refl, (front-all file.octets, fronts-all files))
+
+-- nothing was said
+pub front_none : (a : Answer) (parts : ℕ → Part) (w : World) (new : Option World) → (parts 0).said ≡ [] → shown new ≡ Some (shown_of w) → EndsFront a parts (shown_of w) new
+front_none a parts w new zeros same = rw same (record {
+  lines = [];
+  made = [];
+  count = 0;
+  files = refl;
+  said = sym (append-nil w.said);
+  wrote = sym (append-nil (made_files w.writers));
+  report = (a.said, refl);
+  output = tt;
+  reported = front-same (parts 0).said [] zeros;
+  written = tt;
+})
+
+-- the same where something may be told
+pub front_still : (a : World → Answer) (parts : World → ℕ → Part) (old new : Option World) → ((w : World) → (parts w 0).said ≡ []) → shown new ≡ shown old
+    → IfSome old (λ w. EndsFront (a w) (parts w) (shown_of w) new)
+front_still a parts None new zeros same = tt
+front_still a parts (Some w) new zeros same = front_none (a w) (parts w) w new (zeros w) same
+
+-- a part of the only line
+pub front_line : (a : Answer) (parts : ℕ → Part) (line : List ℕ) (w : World) (old new : Option World) → (parts 0).said ≡ [] → a.said ≡ line → shown old ≡ Some (shown_of w) → SaysPart line old new
+    → EndsFront a parts (shown_of w) new
+front_line a parts line w None new zeros is same says = cc
+front_line a parts line w (Some v) new zeros is same says =
+    let e : shown_of v ≡ shown_of w = cc in
+    rw says.1 (record {
+      lines = take says.0 line;
+      made = [];
+      count = 0;
+      files = ap (λ (s : Shown). s.files) e;
+      said = ap (λ (s : Shown). s.said ++ take says.0 line) e;
+      wrote = ap (λ (s : Shown). made_files s.writers) e ∙ sym (append-nil (made_files w.writers));
+      report = rw is (front-take says.0 line);
+      output = tt;
+      reported = (take says.0 line, ap (λ (l : List ℕ). l ++ take says.0 line) zeros);
+      written = tt;
+    })
+
+-- the events of the first frames begin those of all
+front-after : (previous : Option ℕ) (frames more : List Frame) → IsFront (events_after previous frames) (events_after previous (frames ++ more))
+front-after previous [] more = (events_after previous more, refl)
+front-after previous (frame ∷ frames) more =
+    let rest = front-after (Some frame.moment) frames more in
+    front-behind (events_of previous frame) (events_after (Some frame.moment) frames) (events_after (Some frame.moment) (frames ++ more)) _ refl rest
+
+front-events : (frames all : List Frame) → IsFront frames all → IsFront (events frames) (events all)
+front-events frames all is = subst (λ (l : List Frame). IsFront (events frames) (events l)) is.1 (front-after None frames is.0)
+
+-- the first of them, by their number
+by-count : {X : Type 0} (first all : List X) → IsFront first all → take (length first) all ≡ first
+by-count {X} first all is = ap (λ (l : List X). take (length first) l) (sym is.1) ∙ take-append_seam first is.0
+
+-- the first events are in order
+order-front : (m : ℕ) (first more : List Event) → AreInOrder m (first ++ more) → AreInOrder m first
+order-front m [] more order = tt
+order-front m (event ∷ first) more order = (order.0, (order.1.0, order-front (event_moment event) first more order.1.1))
+
+later-front : (m : ℕ) (frames more : List Frame) → AreLater m (frames ++ more) → AreLater m frames
+later-front m [] more later = tt
+later-front m (frame ∷ frames) more later = (later.0, later-front frame.moment frames more later.1)
+
+-- for the first events of frames that were read, a table says and writes what the plain router does
+tabled : (settings : Settings) (format : Format) (octets : List ℕ) (parts : Parts) (frames : List Frame) (first : List Event) → IsLawful settings → parts ≡ parts_in (statics settings)
+    → IsFront frames (read_on format begin octets).frames → All IsRead frames → IsFront first (events frames)
+    → played (after_event table) (router_of settings parts) first ≡ outcome_tabled (played plain (started settings) first)
+tabled settings format octets parts frames first lawful begins within read front =
+    let all = (read_on format begin octets).frames in
+    let later = later-front 0 frames within.0 (subst (λ (l : List Frame). AreLater 0 l) (sym within.1) (frames-later format octets)) in
+    let whole = events-order frames (in_order 0 frames read later) in
+    let order = order-front 0 first front.0 (subst (λ (l : List Event). AreInOrder 0 l) (sym front.1) whole) in
+    let most = count frames read later in
+    let few = frames-few format octets in
+    let size = ap length within.1 in
+    let sum = length-append frames within.0 in
+    let places = ap length front.1 in
+    let shares = length-append first front.0 in
+    let fixed = length-statics settings in
+    let mappings = lawful.few_mappings in
+    let room : length (statics settings) + 2048 * length first ≤ 2 ^ 62 = omega (arith, most, few, size, sum, places, shares, fixed, mappings) in
+    rw begins (table-replays settings first order room).0
+
+-- what is shown of octets that were said and written into the file that was made
+part-shown : (id : ℕ) (name lines header octets : List ℕ) (w : World) → found_at id w.writers ≡ None
+    → with_output (Some id) lines octets (shown_of (after_write id header (after_make id name w)))
+    ≡ record (shown_of w) { said = w.said ++ lines; writers = w.writers ++ (id, record { name = name; octets = header ++ octets }) ∷ [] }
+part-shown id name lines header octets w fresh =
+    let made = changed_at-more id (extended header) (record { name = name; octets = [] }) w.writers fresh in
+    ap (λ (writers : List (ℕ × NamedFile)). with_output (Some id) lines octets (record (shown_of w) { writers = writers })) made
+    ∙ ap (λ (writers : List (ℕ × NamedFile)). record (shown_of w) { said = w.said ++ lines; writers = writers }) (changed_at-more id (extended octets) (record { name = name; octets = header }) w.writers fresh)
+
+-- the file that was made is the last
+made-more : (id : ℕ) (file : NamedFile) (writers : List (ℕ × NamedFile)) → made_files (writers ++ (id, file) ∷ []) ≡ made_files writers ++ file ∷ []
+made-more id file writers = map-append (λ (x : ℕ × NamedFile). x.1) writers ((id, file) ∷ [])
+
+-- a replay whose output was made, of so many events
+replay_front : (settings : Settings) (name : List ℕ) (run : Run) (id : ℕ) (w : World) (new : Option World) (first : List Event) (lines octets : List ℕ) → found_at id w.writers ≡ None
+    → shown new ≡ Some (with_output (Some id) lines octets (shown_of (after_write id out_header (after_make id name w))))
+    → IsFront first (events run.frames) → IsFront lines (replay_of settings run).lines
+    → IsFront (played plain (started settings) first).lines lines → IsFront octets (records_of (played plain (started settings) first).packets)
+    → EndsFront (replayed settings name run) (replayed_part settings name run) (shown_of w) new
+unfolding replayed replayed_part
+replay_front settings name run id w new first lines octets fresh is within said reported written =
+    let outcome = replay_of settings run in
+    let file : NamedFile = record { name = name; octets = out_header ++ octets } in
+    let aim : Shown = record (shown_of w) { said = w.said ++ lines; writers = w.writers ++ (id, file) ∷ [] } in
+    let same : shown new ≡ Some aim = is ∙ ap Some (part-shown id name lines out_header octets w fresh) in
+    let named : take (length first) (events run.frames) ≡ first = by-count first (events run.frames) within in
+    let packets = front-octets plain (started settings) first (events run.frames) within in
+    let whole = front-front octets (records_of (played plain (started settings) first).packets) (records_of outcome.packets) written packets in
+    rw same (record {
+      lines = lines;
+      made = file ∷ [];
+      count = length first;
+      files = refl;
+      said = refl;
+      wrote = made-more id file w.writers;
+      report = front-front lines outcome.lines _ said (front-more outcome.lines _);
+      output = (refl, (front-behind out_header octets (records_of outcome.packets) _ refl whole, tt));
+      reported = rw named reported;
+      written = rw named (refl, (front-behind out_header octets (records_of (played plain (started settings) first).packets) _ refl written, tt));
+    })
+
+-- a play by the table that was cut short
+play_front : (settings : Settings) (name : List ℕ) (format : Format) (octets : List ℕ) (id : ℕ) (w : World) (new : Option World) (parts : Parts) → IsLawful settings → parts ≡ parts_in (statics settings)
+    → found_at id w.writers ≡ None
+    → CutRun (after_event table) (router_of settings parts) (Some id) (shown_of (after_write id out_header (after_make id name w))) (read_on format begin octets) new
+    → EndsFront (replayed settings name (read_on format begin octets)) (replayed_part settings name (read_on format begin octets)) (shown_of w) new
+play_front settings name format octets id w new parts lawful begins fresh cut_run =
+    let run = read_on format begin octets in
+    let cut = cut_run.cut in
+    let some = events cut_run.frames in
+    let all = events run.frames in
+    let within = front-events cut_run.frames run.frames cut_run.within in
+    let by = λ (first : List Event) (front : IsFront first some). tabled settings format octets parts cut_run.frames first lawful begins cut_run.within cut_run.read front in
+    let whole = by some (front-all some) in
+    let part = by cut.first cut.within in
+    let said : IsFront cut.lines (played plain (started settings) some).lines = subst (λ (o : Outcome (Router Parts)). IsFront cut.lines o.lines) whole cut.said in
+    let reported : IsFront (played plain (started settings) cut.first).lines cut.lines = subst (λ (o : Outcome (Router Parts)). IsFront o.lines cut.lines) part cut.reported in
+    let written : IsFront cut.octets (records_of (played plain (started settings) cut.first).packets) = subst (λ (o : Outcome (Router Parts)). IsFront cut.octets (records_of o.packets)) part cut.written in
+    replay_front settings name run id w new cut.first cut.lines cut.octets fresh cut.shown (front-front cut.first some all cut.within within)
+    (front-front cut.lines (played plain (started settings) some).lines (replay_of settings run).lines said (front-lines plain (started settings) some all within)) reported written
+
+-- the same, over what the desk tells
+pub table_front : (settings : Settings) (id reader : ℕ) (format : Format) (name : List ℕ) (old made new : Option World) (parts : Parts) → IsLawful settings → parts ≡ parts_in (statics settings)
+    → IfSome old (λ w. found_at id w.writers ≡ None) → made ≡ option_map (λ w. after_write id out_header (after_make id name w)) old
+    → IfSome made (λ w. CutRun (after_event table) (router_of settings parts) (Some id) (shown_of w) (read_on format begin (left_of reader w)) new)
+    → IfSome old (λ w. EndsFront (replayed settings name (read_on format begin (left_of reader w))) (replayed_part settings name (read_on format begin (left_of reader w))) (shown_of w) new)
+table_front settings id reader format name None made new parts lawful begins fresh makes cut = tt
+table_front settings id reader format name (Some w) made new parts lawful begins fresh makes cut =
+    play_front settings name format (left_of reader w) id w new parts lawful begins fresh (rw makes at cut)
+
+-- want of memory behind the header
+pub header_front : (settings : Settings) (id reader : ℕ) (format : Format) (name : List ℕ) (old made : Option World)
+    → IfSome old (λ w. found_at id w.writers ≡ None) → made ≡ option_map (λ w. after_write id out_header (after_make id name w)) old
+    → IfSome old (λ w. EndsFront (replayed settings name (read_on format begin (left_of reader w))) (replayed_part settings name (read_on format begin (left_of reader w))) (shown_of w) made)
+header_front settings id reader format name None made fresh makes = tt
+header_front settings id reader format name (Some w) made fresh makes =
+    let run = read_on format begin (left_of reader w) in
+    let file = after_write id out_header (after_make id name w) in
+    let same : shown made ≡ Some (with_output (Some id) [] [] (shown_of file)) = ap shown makes ∙ ap Some (sym (with_output-none (Some id) (shown_of file))) in
+    replay_front settings name run id w made [] [] [] fresh same (events run.frames, refl) ((replay_of settings run).lines, refl) ([], refl) ([], refl)
+
+-- the output was made only in part, or not at all
+make_front : (settings : Settings) (name : List ℕ) (run : Run) (w : World) (new : Option World) → MakesPart name (Some w) new
+    → EndsFront (replayed settings name run) (replayed_part settings name run) (shown_of w) new
+unfolding replayed replayed_part
+make_front settings name run w new (inl same) = front_none _ _ w new refl (ap shown same)
+make_front settings name run w new (inr (id, k, fresh, is)) =
+    let header = take k out_header in
+    let file : NamedFile = record { name = name; octets = header } in
+    let made = changed_at-more id (extended header) (record { name = name; octets = [] }) w.writers fresh in
+    let same : shown new ≡ Some (record (shown_of w) { writers = w.writers ++ (id, file) ∷ [] }) =
+    ap shown is ∙ ap (λ (writers : List (ℕ × NamedFile)). Some (record (shown_of w) { writers = writers })) made in
+    let front : (more : List ℕ) → IsFront header (out_header ++ more) = λ more. front-front header out_header (out_header ++ more) (front-take k out_header) (front-more out_header more) in
+    rw same (record {
+      lines = [];
+      made = file ∷ [];
+      count = 0;
+      files = refl;
+      said = sym (append-nil w.said);
+      wrote = made-more id file w.writers;
+      report = (_, refl);
+      output = (refl, (front _, tt));
+      reported = ([], refl);
+      written = (refl, (front _, tt));
+    })
+
+pub output_front : (settings : Settings) (reader : ℕ) (format : Format) (name : List ℕ) (old new : Option World) → MakesPart name old new
+    → IfSome old (λ w. EndsFront (replayed settings name (read_on format begin (left_of reader w))) (replayed_part settings name (read_on format begin (left_of reader w))) (shown_of w) new)
+output_front settings reader format name None new makes = tt
+output_front settings reader format name (Some w) new makes = make_front settings name (read_on format begin (left_of reader w)) w new makes
+
+-- a file of that name was made, and then its header was written in part
+pub makes_part : (id : ℕ) (name header : List ℕ) (old made new : Option World) → header ≡ out_header → IfSome old (λ w. found_at id w.writers ≡ None)
+    → made ≡ option_map (after_make id name) old → ((k : ℕ) × (new ≡ option_map (after_write id (take k header)) made)) → MakesPart name old new
+makes_part id name header old made new is fresh makes writes = inr (id, writes.0, fresh, writes.1 ∙ ap (option_map (after_write id (take writes.0 header))) makes ∙ twice old ∙ ap (λ (h : List ℕ). option_map (λ w. after_write id (take writes.0 h) (after_make id name w)) old) is)
+  where
+    twice : (o : Option World) → option_map (after_write id (take writes.0 header)) (option_map (after_make id name) o) ≡ option_map (λ w. after_write id (take writes.0 header) (after_make id name w)) o
+    twice None = refl
+    twice (Some w) = refl
+
+-- a file that is replayed: what the desk told is the file's
+pub capture_front : (frames : Run → Answer) (parts : Run → ℕ → Part) (id : ℕ) (input : List ℕ) (old mid now new : Option World) (r : Reading)
+    → IfSome old (λ w. found_at id w.readers ≡ None) → mid ≡ option_map (after_open id input) old
+    → IfSome mid (λ w. Ok r ≡ started_at id (left_of id w)) → now ≡ option_map (after_read id 24) mid → r ≡ beginning id r.format
+    → IfSome now (λ w. EndsFront (frames (read_on r.format begin (left_of r.id w))) (parts (read_on r.format begin (left_of r.id w))) (shown_of w) new)
+    → IfSome old (λ w. EndsFront (after_header frames (content input w.files) (first_failing (header_rules (content input w.files)))) (part_after_header parts (content input w.files) (first_failing (header_rules (content input w.files)))) (shown_of w) new)
+capture_front frames parts id input old mid now new r fresh opened is read fresh_reader ends =
+    IfSome_then old (capture_goes_on (λ run x. EndsFront (frames run) (parts run) x new) id input old mid now r fresh opened is read fresh_reader ends) (λ w goes.
+    let file = content input w.files in
+    front_as (frames (capture file)) (after_header frames file (first_failing (header_rules file))) (parts (capture file)) (part_after_header parts file (first_failing (header_rules file))) (shown_of w) new
+    (ap (after_header frames file) (sym goes.0)) (ap (part_after_header parts file) (sym goes.0)) goes.1)
+
+-- only reading came between
+pub front_read : (a : World → Answer) (parts : World → ℕ → Part) (old mid new : Option World) → ((w : World) → (parts w 0).said ≡ []) → shown mid ≡ shown old → shown new ≡ shown mid
+    → IfSome old (λ w. EndsFront (a w) (parts w) (shown_of w) new)
+front_read a parts old mid new zeros first next = front_still a parts old new zeros (next ∙ first)
+
+-- a part of a line, behind reading
+pub front_says : (a : World → Answer) (parts : World → ℕ → Part) (line : List ℕ) (old mid new : Option World) → ((w : World) → (parts w 0).said ≡ []) → shown mid ≡ shown old
+    → IfSome old (λ w. (a w).said ≡ line) → SaysPart line mid new
+    → IfSome old (λ w. EndsFront (a w) (parts w) (shown_of w) new)
+front_says a parts line None mid new zeros same is says = tt
+front_says a parts line (Some w) mid new zeros same is says = front_line (a w) (parts w) line w mid new (zeros w) is same says
+
+-- a part of the last line of a replay
+closing_front : (settings : Settings) (output : List ℕ) (run : Run) (counts : Counts) (w : World) (mid new : Option World) → HasReplayed settings output run counts (shown_of w) (shown mid)
+    → SaysPart (closing counts.fault (end_line counts.frames counts.written counts.entries)) mid new
+    → EndsFront (replayed settings output run) (replayed_part settings output run) (shown_of w) new
+unfolding replayed replayed_part
+closing_front settings output run counts w None new has says = absurd has.left
+closing_front settings output run counts w (Some v) new has says =
+    let outcome = replay_of settings run in
+    let last = closing counts.fault (end_line counts.frames counts.written counts.entries) in
+    let line : last ≡ closing run.fault (end_line (length run.frames) (length outcome.packets) (length outcome.after.memory)) = rw (has.fault, has.frames, has.written, has.entries) refl in
+    let all = events run.frames in
+    let whole : take (length all) all ≡ all = by-count all all (front-all all) in
+    rw says.1 (record {
+      lines = outcome.lines ++ take says.0 last;
+      made = record { name = output; octets = out_header ++ records_of outcome.packets } ∷ [];
+      count = length all;
+      files = has.left.files;
+      said = ap (λ (l : List ℕ). l ++ take says.0 last) has.left.said ∙ append_assoc w.said outcome.lines (take says.0 last);
+      wrote = has.left.made;
+      report = front-behind outcome.lines (take says.0 last) last _ (ap (λ (l : List ℕ). outcome.lines ++ l) line) (front-take says.0 last);
+      output = fronts-all (record { name = output; octets = out_header ++ records_of outcome.packets } ∷ []);
+      reported = rw whole (front-more outcome.lines (take says.0 last));
+      written = rw whole (fronts-all (record { name = output; octets = out_header ++ records_of outcome.packets } ∷ []));
+    })
+
+-- the same of a file
+pub file_front : (settings : Settings) (output input : List ℕ) (counts : Counts) (old mid new : Option World)
+    → IfSome old (λ w. HasReplayedFile settings output (content input w.files) (Ok counts) (shown_of w) (shown mid))
+    → SaysPart (closing counts.fault (end_line counts.frames counts.written counts.entries)) mid new
+    → IfSome old (λ w. EndsFront (after_header (replayed settings output) (content input w.files) (first_failing (header_rules (content input w.files)))) (part_after_header (replayed_part settings output) (content input w.files) (first_failing (header_rules (content input w.files)))) (shown_of w) new)
+file_front settings output input counts None mid new has says = tt
+file_front settings output input counts (Some w) mid new has says =
+    let file = content input w.files in
+    front_as (replayed settings output (capture file)) (after_header (replayed settings output) file (first_failing (header_rules file))) (replayed_part settings output (capture file)) (part_after_header (replayed_part settings output) file (first_failing (header_rules file))) (shown_of w) new
+    (ap (after_header (replayed settings output) file) (sym has.0)) (ap (part_after_header (replayed_part settings output) file) (sym has.0)) (closing_front settings output (capture file) counts w mid new has.1 says)
+
+-- a part of the line of a header's fault
+pub refused_front : (settings : Settings) (output input : List ℕ) (fault : CaptureFault) (old mid new : Option World)
+    → IfSome old (λ w. HasReplayedFile settings output (content input w.files) (Err fault) (shown_of w) (shown mid))
+    → SaysPart (fault_line fault) mid new
+    → IfSome old (λ w. EndsFront (after_header (replayed settings output) (content input w.files) (first_failing (header_rules (content input w.files)))) (part_after_header (replayed_part settings output) (content input w.files) (first_failing (header_rules (content input w.files)))) (shown_of w) new)
+refused_front settings output input fault None mid new has says = tt
+refused_front settings output input fault (Some w) mid new has says =
+    let file = content input w.files in
+    let said : (after_header (replayed settings output) file (first_failing (header_rules file))).said ≡ fault_line fault = rw has.0 refl in
+    front_line (after_header (replayed settings output) file (first_failing (header_rules file))) (part_after_header (replayed_part settings output) file (first_failing (header_rules file))) (fault_line fault) w mid new
+    (replay-zero settings output file (first_failing (header_rules file))) said has.1 says
+
+-- a show that was cut short
+shown_front : (run : Run) (w : World) (new : Option World) (first : List Event) (lines octets : List ℕ) → shown new ≡ Some (with_output None lines octets (shown_of w))
+    → IsFront first (events run.frames) → IsFront lines (played showing tt (events run.frames)).lines → IsFront (played showing tt first).lines lines
+    → EndsFront (messages_shown run) (shown_part run) (shown_of w) new
+unfolding messages_shown shown_part
+shown_front run w new first lines octets same within said reported =
+    let named : take (length first) (events run.frames) ≡ first = by-count first (events run.frames) within in
+    rw same (record {
+      lines = lines;
+      made = [];
+      count = length first;
+      files = refl;
+      said = refl;
+      wrote = sym (append-nil (made_files w.writers));
+      report = front-front lines (played showing tt (events run.frames)).lines _ said (front-more (played showing tt (events run.frames)).lines _);
+      output = tt;
+      reported = rw named reported;
+      written = tt;
+    })
+
+pub messages_front : (reader : ℕ) (format : Format) (old new : Option World)
+    → IfSome old (λ w. CutRun showing tt None (shown_of w) (read_on format begin (left_of reader w)) new)
+    → IfSome old (λ w. EndsFront (messages_shown (read_on format begin (left_of reader w))) (shown_part (read_on format begin (left_of reader w))) (shown_of w) new)
+messages_front reader format None new cut = tt
+messages_front reader format (Some w) new cut_run =
+    let run = read_on format begin (left_of reader w) in
+    let cut = cut_run.cut in
+    let within = front-events cut_run.frames run.frames cut_run.within in
+    shown_front run w new cut.first cut.lines cut.octets cut.shown (front-front cut.first (events cut_run.frames) (events run.frames) cut.within within)
+    (front-front cut.lines (played showing tt (events cut_run.frames)).lines (played showing tt (events run.frames)).lines cut.said (front-lines showing tt (events cut_run.frames) (events run.frames) within)) cut.reported
+
+-- a part of the last line of a show
+last_front : (run : Run) (w : World) (mid new : Option World) (ending : Ending) → Ends (outcome_of showing tt run) run ending
+    → shown mid ≡ Some (with_outcome None (outcome_of showing tt run) (shown_of w)) → SaysPart (closing ending.fault (count_line ending.frames)) mid new
+    → EndsFront (messages_shown run) (shown_part run) (shown_of w) new
+unfolding messages_shown shown_part
+last_front run w None new ending ends frames says = cc
+last_front run w (Some v) new ending ends frames says =
+    let outcome : Outcome (Unit {0}) = outcome_of showing tt run in
+    let is_aim : shown_of v ≡ record (shown_of w) { said = w.said ++ outcome.lines } = cc in
+    let last = closing ending.fault (count_line ending.frames) in
+    let line : last ≡ closing run.fault (count_line (length run.frames)) = rw (ends.fault, ends.frames) refl in
+    let all = events run.frames in
+    let whole : take (length all) all ≡ all = by-count all all (front-all all) in
+    rw says.1 (record {
+      lines = outcome.lines ++ take says.0 last;
+      made = [];
+      count = length all;
+      files = ap (λ (x : Shown). x.files) is_aim;
+      said = ap (λ (x : Shown). x.said ++ take says.0 last) is_aim ∙ append_assoc w.said outcome.lines (take says.0 last);
+      wrote = ap (λ (x : Shown). made_files x.writers) is_aim ∙ sym (append-nil (made_files w.writers));
+      report = front-behind outcome.lines (take says.0 last) last _ (ap (λ (l : List ℕ). outcome.lines ++ l) line) (front-take says.0 last);
+      output = tt;
+      reported = rw whole (front-more outcome.lines (take says.0 last));
+      written = tt;
+    })
+
+pub line_front : (reader : ℕ) (format : Format) (old mid new : Option World) (ending : Ending)
+    → IfSome old (λ w. Ends (outcome_of showing tt (read_on format begin (left_of reader w))) (read_on format begin (left_of reader w)) ending)
+    → IfSome old (λ w. shown mid ≡ Some (with_outcome None (outcome_of showing tt (read_on format begin (left_of reader w))) (shown_of w)))
+    → SaysPart (closing ending.fault (count_line ending.frames)) mid new
+    → IfSome old (λ w. EndsFront (messages_shown (read_on format begin (left_of reader w))) (shown_part (read_on format begin (left_of reader w))) (shown_of w) new)
+line_front reader format None mid new ending ends frames says = tt
+line_front reader format (Some w) mid new ending ends frames says = last_front (read_on format begin (left_of reader w)) w mid new ending ends frames says
+
+-- memory was wanting for a last line: none of it was said
+pub says_none : (line : List ℕ) (told : Option World) → SaysPart line told told
+says_none line None = (0, refl)
+says_none line (Some w) = (0, ap (λ (said : List ℕ). Some (record w { said = said })) (sym (append-nil w.said)))
+
+-- a part of the line of a header's fault, of a show
+pub stops_front : (frames : Run → Answer) (parts : Run → ℕ → Part) (id : ℕ) (input : List ℕ) (old mid now new : Option World) (f : CaptureFault) → ((file : List ℕ) (o : Option CaptureFault) → (part_after_header parts file o 0).said ≡ [])
+    → IfSome old (λ w. found_at id w.readers ≡ None) → mid ≡ option_map (after_open id input) old
+    → IfSome mid (λ w. Err f ≡ started_at id (left_of id w)) → shown now ≡ shown mid → SaysPart (fault_line f) now new
+    → IfSome old (λ w. EndsFront (after_header frames (content input w.files) (first_failing (header_rules (content input w.files)))) (part_after_header parts (content input w.files) (first_failing (header_rules (content input w.files)))) (shown_of w) new)
+stops_front frames parts id input old mid now new f zeros fresh opened is same says =
+    IfSome_then old (capture_stops id input old mid now f fresh opened is same) (λ w stops.
+    let file = content input w.files in
+    let said : (after_header frames file (first_failing (header_rules file))).said ≡ fault_line f = rw stops.0 refl in
+    front_line (after_header frames file (first_failing (header_rules file))) (part_after_header parts file (first_failing (header_rules file))) (fault_line f) w now new
+    (zeros file (first_failing (header_rules file))) said stops.1 says)
+
+-- the same of what is shown alone
+pub front_shown : (a : List NamedFile → Answer) (parts : List NamedFile → ℕ → Part) (old new : Option World) → IfSome old (λ w. EndsFront (a w.files) (parts w.files) (shown_of w) new)
+    → IfSome (shown old) (λ s. EndsFront (a s.files) (parts s.files) s new)
+front_shown a parts None new ends = tt
+front_shown a parts (Some w) new ends = ends
+
+pub part-zero : (words : List (List ℕ)) (files : List NamedFile) → (part words files 0).said ≡ []
+unfolding part
+part-zero words files = words-zero files (words_of words)
+
+-- what holds of each world holds of what a desk may tell
+pub always : (old : Option World) {P : World → Type 0} → ((w : World) → P w) → IfSome old P
+always None h = tt
+always (Some w) h = h w

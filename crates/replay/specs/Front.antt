@@ -1,0 +1,104 @@
+-- What a run leaves that is cut short, by the desk or for want of memory: a beginning of its answer.
+use Rattle.std.specs.Prelude.{◌≡◌, ℕ, List, [], ◌∷◌, ◌++◌, take, Option, Some, None, Result, Ok, Err, IfSome, IsSomeAnd, option_map, ◌⊎◌}
+use Rattle.octets.specs.Rules.{first_failing}
+use Rattle.command_words.specs.Words.{words_of}
+use Rattle.command_words.specs.declared.words.Words.{Words}
+use Rattle.command_words.specs.declared.words.Words.TheVariants.{Replay, Show}
+use Rattle.desk.specs.declared.file.NamedFile.{NamedFile}
+use Rattle.desk.specs.World.{World, Shown, after_make, after_say, after_write, content, found_at, shown}
+use Rattle.capture_io.specs.Frames.{Run, capture}
+use Rattle.capture_io.specs.Capture.{header_rules}
+use Rattle.capture_io.specs.Output.{out_header}
+use Rattle.capture_io.specs.declared.fault.CaptureFault.{CaptureFault}
+use Rattle.lisp_settings.specs.Settings.{settings_of}
+use Rattle.lisp_settings.specs.declared.fault.SettingsFault.{SettingsFault}
+use Rattle.lisp_settings.specs.declared.settings.Settings.{Settings}
+use Rattle.playback.specs.Events.{events, played, records_of}
+use Rattle.playback.specs.Front.{IsFront}
+use Rattle.router_model.specs.Plain.{plain, started}
+use Rattle.replay.specs.Answer.{Answer, made_files}
+use Rattle.replay.specs.Show.{showing}
+
+-- what was said, and the file that was made, if one was
+pub record Part : Type 0 where
+  pub said : List ℕ
+  pub made : List NamedFile
+
+-- nothing
+abbrev pub no_part : ℕ → Part
+no_part count = record { said = []; made = [] }
+
+-- for so many events of a capture that is replayed into a file: their lines, and the file with their packets
+unfoldable pub replayed_part : Settings → List ℕ → Run → ℕ → Part
+replayed_part settings output run count =
+    let outcome = played plain (started settings) (take count (events run.frames)) in
+    record {
+      said = outcome.lines;
+      made = record { name = output; octets = out_header ++ records_of outcome.packets } ∷ [];
+    }
+
+-- for so many events of a capture that is shown
+unfoldable pub shown_part : Run → ℕ → Part
+shown_part run count =
+    record { said = (played showing tt (take count (events run.frames))).lines; made = [] }
+
+-- by the first rule that a capture's header fails
+abbrev pub part_after_header : (Run → ℕ → Part) → List ℕ → Option CaptureFault → ℕ → Part
+part_after_header frames file (Some fault) = no_part
+part_after_header frames file None = frames (capture file)
+
+-- by the settings of a replay
+abbrev pub part_after_settings : List ℕ → List ℕ → Result Settings SettingsFault → ℕ → Part
+part_after_settings output file (Err fault) = no_part
+part_after_settings output file (Ok settings) =
+    part_after_header (replayed_part settings output) file (first_failing (header_rules file))
+
+-- by what words say
+abbrev pub part_after_words : List NamedFile → Option Words → ℕ → Part
+part_after_words files (Some (Replay settings input output workers round)) =
+    part_after_settings output (content input files) (settings_of (content settings files))
+part_after_words files (Some (Show input)) =
+    let file = content input files in
+    part_after_header shown_part file (first_failing (header_rules file))
+part_after_words files _ = no_part
+
+-- what words have said and made for so many events of their capture
+unfoldable pub part : List (List ℕ) → List NamedFile → ℕ → Part
+part words files = part_after_words files (words_of words)
+
+-- beginnings of files under their names, or of fewer files
+abbrev pub AreFronts : List NamedFile → List NamedFile → Type 0
+AreFronts [] whole = Unit {0}
+AreFronts (file ∷ files) [] = ⊥
+AreFronts (file ∷ files) (other ∷ others) =
+    (file.name ≡ other.name) × (IsFront file.octets other.octets × AreFronts files others)
+
+-- what a run leaves that is cut short: the files that were there, and behind what was said and made before a
+-- beginning of its report and of its made file, or no file. All lines of so many events were said, and no
+-- packet but theirs was written
+pub record LeavesFront (a : Answer) (parts : ℕ → Part) (old new : Shown) : Type 0 where
+  pub lines : List ℕ
+  pub made : List NamedFile
+  pub count : ℕ
+  pub files : new.files ≡ old.files
+  pub said : new.said ≡ old.said ++ lines
+  pub wrote : made_files new.writers ≡ made_files old.writers ++ made
+  pub report : IsFront lines a.said
+  pub output : AreFronts made a.made
+  pub reported : IsFront (parts count).said lines
+  pub written : AreFronts made (parts count).made
+
+-- the same of a desk that may tell its octets
+abbrev pub EndsFront : Answer → (ℕ → Part) → Shown → Option World → Type 0
+EndsFront a parts old new = IsSomeAnd (shown new) (LeavesFront a parts old)
+
+-- a beginning of a line was said
+abbrev pub SaysPart : List ℕ → Option World → Option World → Type 0
+SaysPart line old new = (k : ℕ) × (new ≡ option_map (after_say (take k line)) old)
+
+-- no file was made, or one of that name, with a beginning of a capture's header
+abbrev pub MakesPart : List ℕ → Option World → Option World → Type 0
+MakesPart name old new =
+    (new ≡ old)
+    ⊎ ((id : ℕ) × (k : ℕ) × IfSome old (λ w. found_at id w.writers ≡ None)
+    × (new ≡ option_map (λ w. after_write id (take k out_header) (after_make id name w)) old))
