@@ -9,8 +9,10 @@ but replies tell versions, and packets from locators echo a nonce, want an echo,
 fifth as many frames, within 200 s, to 50,000 destinations, with the reply to each request, which lasts a minute). With
 them asking.toml (a resolver, no mappings), echoing.toml (the same with echoes and a version), expiring.toml (as
 asking.toml, without listed nonces), static.toml (the mappings) and single.toml (the mappings with the first locator
-alone). All listed nonces are alike, so that replies don't depend on what else draws one. It prints two numbers: of the
-frames of answered.pcap, which echoed.pcap has too, and of those of expiring.pcap.
+alone). All listed nonces are alike, so that replies don't depend on what else draws one. Besides, beside.toml (as
+asking.toml, with 60,000 mappings of other destinations) and beside.pcap (a frame to each of the 1,000, and the reply to its
+request). It prints three numbers: of the frames of answered.pcap, which echoed.pcap has too, of those of
+expiring.pcap, and of those of beside.pcap.
 """
 import random
 import struct
@@ -21,6 +23,8 @@ from packets import nonce_at, udp_packet
 DESTINATIONS, NONCE = 1_000, 0x0102030405060708
 # Of mappings that end, in microseconds.
 EXPIRING, SPAN, MINUTE = 50_000, 200 * 10**6, 60 * 10**6
+# Of mappings in the settings that no frame goes to.
+BESIDE = 60_000
 OWN, OTHER = bytes([192, 0, 2, 1]), bytes([198, 51, 100, 7])
 # The last octet of each locator of a mapping, its priority and its weight.
 LOCATORS = [(7 + i, 1 + i // 4, 10 * (1 + i % 4)) for i in range(8)]
@@ -30,6 +34,11 @@ SITE = ('[[locator]]\naddress = "192.0.2.1"\n[[attachment]]\nvlan = 0\niid = 0\n
         '[[database]]\niid = 0\nprefix = "10.1.0.0/16"\n')
 RESOLVER = 'resolver = "203.0.113.9"\n'
 ASKING = RESOLVER + "nonces = [" + ", ".join([f'"{NONCE:016x}"'] * 4096) + "]\n"
+
+
+def mapping_beside(i):
+    return (f'[[mapping]]\niid = 0\nprefix = "10.3.{i // 256}.{i % 256}/32"\n'
+            '[[mapping.locator]]\naddress = "198.51.100.7"\n')
 
 
 def address(i):
@@ -89,6 +98,7 @@ def write_settings(folder):
     for name, text in (
             ("asking", ASKING + SITE), ("echoing", "echo = true\n" + ASKING + SITE + f"version = {OWN_VERSION}\n"),
             ("expiring", RESOLVER + SITE),
+            ("beside", ASKING + SITE + "".join(map(mapping_beside, range(BESIDE)))),
             ("static", SITE + "".join(mapping(i, LOCATORS) for i in range(DESTINATIONS))),
             ("single", SITE + "".join(mapping(i, LOCATORS[:1]) for i in range(DESTINATIONS)))):
         with open(f"{folder}/{name}.toml", "w") as file:
@@ -134,13 +144,23 @@ def write_expiring(path, count, seed):
     return count + asked
 
 
+def write_beside(path):
+    """Tells how many frames the capture has."""
+    with open(path, "wb") as file:
+        file.write(HEADER)
+        for i in range(DESTINATIONS):
+            file.write(record(i, 0, udp_packet(bytes([10, 1, 0, 5]), address(i), (1000, 2000), bytes(172), False)))
+            file.write(record(i, 1, reply(address(i), 0)))
+    return 2 * DESTINATIONS
+
+
 def main():
     folder, count, seed = sys.argv[1], int(sys.argv[2]), int(sys.argv[3])
     write_settings(folder)
     write_frames(folder, count, seed)
     write_answered(f"{folder}/answered.pcap", count, seed, False)
     exchanged = write_answered(f"{folder}/echoed.pcap", count, seed, True)
-    print(exchanged, write_expiring(f"{folder}/expiring.pcap", count // 5, seed))
+    print(exchanged, write_expiring(f"{folder}/expiring.pcap", count // 5, seed), write_beside(f"{folder}/beside.pcap"))
 
 
 main()

@@ -2,7 +2,8 @@
 # Replays frames to 1,000 destinations that the router must ask for, with the replies to its requests, each of eight
 # locators, and after each tenth frame a packet from a locator, and prints frames a second, user and system time and the
 # greatest memory; then the same with echoes and Map-Versions; then a fifth as many frames within 200 s to 50,000
-# destinations, each learned for a minute, so that mappings end and are asked for again while others live. Beside it the
+# destinations, each learned for a minute, so that mappings end and are asked for again while others live; then 1,000
+# replies beside 60,000 mappings of the settings. After these the
 # frames to the 1,000 alone with the mappings in the settings, then with the first locator of each alone, and `cat` of
 # the file to a new one.
 # usage: bench/cache.sh [FRAMES [SEED]]
@@ -17,11 +18,11 @@ words() {
 }
 
 counts=$(python3 "$top/bench/cache.py" "$folder" "$frames" "$seed")
-read -r exchanged expiring <<<"$counts"
+read -r exchanged expiring beside <<<"$counts"
 echo "$frames frames, $(stat -c %s "$folder/frames.pcap") octets, and $exchanged with what comes"
 
 for kind in "learned asking answered $exchanged" "echoes echoing echoed $exchanged" \
-    "expiring expiring expiring $expiring"; do
+    "expiring expiring expiring $expiring" "beside beside beside $beside"; do
     read -r name settings capture count <<<"$kind"
     words "$settings.toml" "$capture.pcap"
     measured "  $(printf %-8s "$name")" "$count" "$folder/report" "$program" "${words[@]}"

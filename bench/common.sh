@@ -3,7 +3,7 @@
 top=$(cd "$(dirname "$0")/.." && pwd)
 folder=$(mktemp -d)
 trap 'rm -rf "$folder"' EXIT
-program=${given:-$top/crates/replay_cli/out/replay_cli}
+program=${given:-$top/out/lispr}
 [ -n "${given:-}" ] || "$top/lispr" >/dev/null || true
 
 measured() {
