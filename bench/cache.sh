@@ -3,9 +3,8 @@
 # locators, and after each tenth frame a packet from a locator, and prints frames a second, user and system time and the
 # greatest memory; then the same with echoes and Map-Versions; then a fifth as many frames within 200 s to 50,000
 # destinations, each learned for a minute, so that mappings end and are asked for again while others live; then 1,000
-# replies beside 60,000 mappings of the settings. After these the
-# frames to the 1,000 alone with the mappings in the settings, then with the first locator of each alone, and `cat` of
-# the file to a new one.
+# replies beside 60,000 mappings of the settings. After these the frames to the 1,000 alone with the mappings in the
+# settings, then with the first locator of each alone, and `cat` of the file to a new one.
 # usage: bench/cache.sh [FRAMES [SEED]]
 set -eu
 frames=${1:-1000000}
