@@ -12,13 +12,14 @@ import sys
 import tempfile
 
 import settings as rules
+from captures import frames_of
 from compare import capture
 from journal import Probed
 from lisp import ECHO, NONCE, VERSIONS
 from makers import settings
 from router import Router
 from sites import Site
-from wire import frames_of, number
+from wire import number
 
 
 NOTICES = "Ask", "Refresh", "ToldBits", "WantedEcho", "HeardEcho", "HeardData", "Solicit", "EchoDue"

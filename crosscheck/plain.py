@@ -2,39 +2,49 @@
 """A plain router, written from the standards and docs/DECISIONS.md, beside the proved program.
 
 usage: plain.py replay SETTINGS CAPTURE OUTPUT | plain.py show CAPTURE
-It prints the report, and for a replay with lawful settings writes the output. Settings must be TOML, and
-captures whole.
+It prints the report, for a replay with lawful settings and a capture with a lawful header writes the output, and ends
+with the status of such a run. What is TOML is judged by Python's reader of it (TOML 1.0).
 """
 import sys
 
 import settings as rules
+from captures import CaptureFault, frames_of, output_header, output_record
 from journal import SECOND
 from messages import Request, message_of
 from router import Router
 from sites import Site
-from wire import Packet, Refused, frames_of, link_payload, need, output_header, output_record
+from wire import Packet, Refused, link_payload, need
 
 
 def replay(settings, capture, output):
-    with open(settings, "rb") as file:
-        octets = file.read()
     try:
-        router = Router(Site(octets))
+        with open(settings, "rb") as file:
+            router = Router(Site(file.read()))
+        frames = frames_of(capture)
+        with open(output, "wb") as file:
+            file.write(output_header())
+            played(router, frames, file)
     except rules.Fault as fault:
         print(f"settings {fault}")
-        return
+        return 2
+    except CaptureFault as fault:
+        print(f"capture {fault}")
+        return 3
+    return 0
+
+
+def played(router, frames, file):
+    """Says a line for each frame and one at the end, and writes what is sent."""
     count = written = 0
-    with open(output, "wb") as file:
-        file.write(output_header())
-        for moment, link, frame in frames_of(capture):
-            count += 1
-            sent = router.until(moment)
-            known = len(router.journal)
-            verdict, packets = router.take(moment, link, frame)
-            print(f"{count} {moment // SECOND}.{moment % SECOND:09} n={known} {verdict}")
-            for at, packet in [*sent, *((moment, packet) for packet in packets)]:
-                written += 1
-                file.write(output_record(at, packet))
+    for moment, link, frame in frames:
+        count += 1
+        sent = router.until(moment)
+        known = len(router.journal)
+        verdict, packets = router.take(moment, link, frame)
+        print(f"{count} {moment // SECOND}.{moment % SECOND:09} n={known} {verdict}")
+        for at, packet in [*sent, *((moment, packet) for packet in packets)]:
+            written += 1
+            file.write(output_record(at, packet))
     print(f"end frames={count} written={written} entries={len(router.journal)}")
 
 
@@ -77,11 +87,16 @@ def shown(link, frame):
 
 def show(capture):
     count = 0
-    for _, link, frame in frames_of(capture):
-        count += 1
-        print(f"{count} {shown(link, frame)}", end="")
+    try:
+        for _, link, frame in frames_of(capture):
+            count += 1
+            print(f"{count} {shown(link, frame)}", end="")
+    except CaptureFault as fault:
+        print(f"capture {fault}")
+        return 3
     print(f"end frames={count}")
+    return 0
 
 
 if __name__ == "__main__":
-    {"replay": replay, "show": show}[sys.argv[1]](*sys.argv[2:])
+    sys.exit({"replay": replay, "show": show}[sys.argv[1]](*sys.argv[2:]))

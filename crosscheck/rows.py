@@ -1,55 +1,165 @@
 #!/usr/bin/env python3
-"""Replays rows with known answers, octet by octet, through the plain router or a program; or prints rows.
+"""Judges rows with known answers, octet by octet, by the plain router or by a program.
 
-usage: rows.py [PROGRAM] | rows.py --print PART ..
-It prints one line a row, and ends with status 1 where one differs. A part is the name of a module of rows, whose
-`KINDS` are the functions that give them; its rows are printed whole: settings, frames, and the report and packets that
-they must give.
+usage: rows.py [PROGRAM] [ROWS.toml ..] | rows.py --print [ROWS.toml ..]
+With no files these are all of crates/conformance/data, and behind them the rows of limits.py. The names of shared.toml
+there can be used in each file. A program is run with the words of each run in a folder that has its files. It prints
+a line a row, and of one that differs what is wanted and what came; and it ends with status 1 where one does. With
+--print it prints the rows whole: their words, settings, frames and what they must end with.
+
+Left out are runs of which a call of the desk fails; with a program those on a steady desk too, and with the plain
+router a trial of more than 2,000 mappings.
 """
-import importlib
 import os
 import subprocess
 import sys
 import tempfile
 
-PARTS = "cache_rows", "request_rows", "choice_rows", "tick_rows", "echo_rows", "version_rows", "flood_rows"
-HERE = os.path.dirname(os.path.abspath(__file__))
+import limits
+import plain
+import trial
+from commands import Replay, Trial, command_of
+from compare import said
+from row_runs import BadRow, files_of_rows, rows_of
+from wire import contents
+
+MOST_TRIED = 2000
 
 
-def rows_of(parts):
-    return [row for part in parts for rows in importlib.import_module(part).KINDS for row in rows()]
+class Program:
+    """A program that is run."""
+
+    def __init__(self, path):
+        self.path = os.path.abspath(path)
+
+    def can(self, run):
+        return not run.fails and not run.is_steady
+
+    def end(self, run, folder):
+        done = subprocess.run([self.path, *run.words], cwd=folder, capture_output=True)
+        return done.returncode, done.stdout.decode(errors="replace")
 
 
-def replayed(command, row, folder):
-    """The report and the output file."""
-    names = [os.path.join(folder, name) for name in ("settings.toml", "capture.pcap", "out.pcap")]
-    with open(names[0], "w") as file:
-        file.write(row.settings)
-    with open(names[1], "wb") as file:
-        file.write(row.capture())
-    report = subprocess.run(command(*names), capture_output=True, text=True).stdout
-    with open(names[2], "rb") as file:
-        return report, file.read()
+class Plain:
+    """The plain router. Of a desk it knows which files are there: on a steady one all are."""
+
+    def can(self, run):
+        command = command_of(run.words)
+        return not run.fails and not (type(command) is Trial and command.count > MOST_TRIED)
+
+    def end(self, run, folder):
+        command, status = command_of(run.words), []
+        if command is None:
+            return 1, "usage\n"
+        if type(command) is Trial:
+            return 0, tried(command.count, folder)
+        names = command[:3] if type(command) is Replay else command[:1]
+        paths = [os.path.join(folder, name) for name in names]
+        for path in paths[:2] if run.is_steady else []:
+            open(path, "ab").close()
+        call = plain.replay if type(command) is Replay else plain.show
+        try:
+            report = said(lambda: status.append(call(*paths)))
+        except FileNotFoundError:
+            return 4, ""
+        return status[0], report
+
+
+def tried(count, folder):
+    """The line of a trial, by a replay of its input; the files of that go."""
+    source, captured = trial.write(count, folder)
+    output = os.path.join(folder, "trial.pcap")
+    line = trial.replayed(count, said(plain.replay, source, captured, output), output)
+    for path in source, captured, output:
+        os.remove(path)
+    return line
+
+
+def ended(judge, run):
+    """What the judge's run ends with: a status, a report, and the file `out` or None."""
+    with tempfile.TemporaryDirectory() as folder:
+        for name, octets in run.files.items():
+            with open(os.path.join(folder, name), "wb") as file:
+                file.write(octets)
+        output = os.path.join(folder, "out")
+        return *judge.end(run, folder), contents(output) if os.path.exists(output) else None
+
+
+# What is said.
+
+
+def output_lines(output):
+    """An output in lines: of each packet its moment, the length that it had and its octets, sixteen a line."""
+    if output is None:
+        return ["no file"]
+    lines, at, number = [f"header {output[:24].hex()}"], 24, 0
+    while at < len(output):
+        number += 1
+        second, nanosecond, kept, length = (int.from_bytes(output[at + i:at + i + 4], "little") for i in (0, 4, 8, 12))
+        packet = output[at + 16:at + 16 + kept]
+        lines.append(f"packet {number} at {second}.{nanosecond:09}, {length} octets")
+        lines += [f"packet {number}, octet {i}: {packet[i:i + 16].hex()}" for i in range(0, len(packet), 16)]
+        at += 16 + kept
+    return lines
+
+
+def difference(place, wanted, got):
+    """The first line in which two lists of lines differ."""
+    longest = max(len(wanted), len(got))
+    wanted, got = (lines + ["nothing"] * (longest - len(lines)) for lines in (wanted, got))
+    number = next((i for i in range(longest) if wanted[i] != got[i]), None)
+    if number is None:
+        return ""
+    return f"  {place}, line {number + 1}\n    wanted {wanted[number]}\n    got    {got[number]}\n"
+
+
+def differences(run, end):
+    """In what a run's end differs from what is wanted."""
+    wanted, got = run.end(), end
+    if wanted == got:
+        return ""
+    text = f"  in {' '.join(run.words)!r}\n"
+    text += difference("report", wanted[1].split("\n"), got[1].split("\n"))
+    text += difference("out", output_lines(wanted[2]), output_lines(got[2]))
+    return text + difference("status", [str(wanted[0])], [str(got[0])])
+
+
+def judged(judge, row):
+    """How many runs of a row are left out, and in what the others differ."""
+    able = [run for run in row.runs if judge.can(run)]
+    return len(row.runs) - len(able), "".join(differences(run, ended(judge, run)) for run in able)
+
+
+def run_text(run):
+    """A run to be read: its words, its files and its end, octets in hexadecimal."""
+    parts = [f"words {' '.join(run.words)}\n"]
+    parts += [f"-- {name}\n{octets.decode() if name == 'settings' else octets.hex()}\n" for name, octets in run.files.items()]
+    lines = "\n".join(output_lines(run.output))
+    return "".join(parts) + f"-- report, status {run.status}\n{run.report}-- out\n{lines}\n"
 
 
 def main():
-    if sys.argv[1:2] == ["--print"]:
-        print("\n".join(row.text() for row in rows_of(sys.argv[2:])), end="")
+    words = sys.argv[1:]
+    is_print = words[:1] == ["--print"]
+    paths = [word for word in words[is_print:] if word.endswith(".toml")]
+    programs = [word for word in words[is_print:] if not word.endswith(".toml")]
+    rows = [*rows_of(paths)] if paths else [*rows_of(files_of_rows()), *limits.rows()]
+    if is_print:
+        print("\n".join(f"== {row.file}: {row.name} ==\n" + "".join(map(run_text, row.runs)) for row in rows), end="")
         return
-    if len(sys.argv) > 1:
-        program = os.path.abspath(sys.argv[1])
-        command = lambda s, i, o: [program, "replay", "--settings", s, "--in", i, "--out", o]
-    else:
-        command = lambda s, i, o: [sys.executable, os.path.join(HERE, "plain.py"), "replay", s, i, o]
-    failed = False
-    with tempfile.TemporaryDirectory() as folder:
-        for row in rows_of(PARTS):
-            report, output = replayed(command, row, folder)
-            good = report == row.report and output == row.output()
-            print(f"{'ok     ' if good else 'DIFFERS'} {row.name}")
-            failed = failed or not good
-    sys.exit(failed)
+    judge = Program(programs[0]) if programs else Plain()
+    failed = runs = unjudged = 0
+    for row in rows:
+        left, found = judged(judge, row)
+        word = "DIFFERS" if found else "ok     " if left < len(row.runs) else "left   "
+        print(f"{word} {row.file}: {row.name}" + f"\n  {row.shows}\n{found}".rstrip("\n") * bool(found), flush=True)
+        failed, runs, unjudged = failed + bool(found), runs + len(row.runs), unjudged + left
+    print(f"{len(rows)} rows, {failed} differ; {runs} runs, {unjudged} left out")
+    sys.exit(failed > 0)
 
 
 if __name__ == "__main__":
-    main()
+    try:
+        main()
+    except BadRow as fault:
+        sys.exit(f"{fault}")

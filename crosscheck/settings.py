@@ -1,10 +1,13 @@
-"""The first fault of a settings file that is TOML, key by key, as docs/DECISIONS.md says."""
+"""The first fault of a settings file, key by key, as docs/DECISIONS.md says."""
 import ipaddress
+import math
 import re
+import tomllib
 
 HEX = re.compile(r"[0-9a-fA-F]*")
 NUMBER = re.compile(r"0|[1-9][0-9]{0,2}")
 GROUP = re.compile(r"[0-9a-fA-F]{1,4}")
+MOST_OCTETS = 2**24
 
 
 class Fault(Exception):
@@ -167,3 +170,33 @@ def check(top):
     items(top, "mapping", 65536, mapping, [])
     if "resolver" in top and not any(reaches(table, top["resolver"]) for table in top["locator"]):
         fail("bad-value", ["resolver"])
+
+
+def finite(text):
+    """A float, but for one out of range."""
+    value = float(text)
+    if math.isinf(value):
+        raise ValueError(text)
+    return value
+
+
+def numbers(value):
+    """All whole numbers in a value."""
+    if isinstance(value, (dict, list)):
+        for item in value.values() if isinstance(value, dict) else value:
+            yield from numbers(item)
+    elif type(value) is int:
+        yield value
+
+
+def top_of(octets):
+    """The top table of a file's octets, or the fault that they are none."""
+    if len(octets) > MOST_OCTETS:
+        raise Fault("too-long")
+    try:
+        top = tomllib.loads(octets.decode().removeprefix("\ufeff"), parse_float=finite)
+    except ValueError:
+        raise Fault("not-toml") from None
+    if not all(-2**63 <= number < 2**63 for number in numbers(top)):
+        raise Fault("not-toml")
+    return top

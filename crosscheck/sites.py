@@ -1,6 +1,5 @@
 """The site of a settings file: its own locators, EIDs, instances and static mappings."""
 import ipaddress
-import tomllib
 
 import settings as rules
 from messages import Eid, Locator, Record
@@ -27,7 +26,7 @@ def mapping_of(table):
 
 class Site:
     def __init__(self, octets):
-        top = tomllib.loads(octets.decode())
+        top = rules.top_of(octets)
         rules.check(top)
         self.locators = sorted(locators_of(top), key=lambda own: (len(own.address), own.address))
         self.attachments = {table["vlan"]: table["iid"] for table in top.get("attachment", [])}

@@ -12,10 +12,11 @@ import sys
 import tempfile
 
 import plain
+from captures import output_header, output_record
 from choice import hash_of
 from compare import said
-from row import START
-from wire import contents, output_header, output_record, udp_packet
+from row_runs import START
+from wire import contents, udp_packet
 
 SITE = """[[locator]]
 address = "198.51.100.1"

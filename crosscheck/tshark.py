@@ -3,8 +3,9 @@ import ipaddress
 import subprocess
 import sys
 
+from captures import frames_of
 from messages import message_of
-from wire import Packet, Refused, frames_of, number
+from wire import Packet, Refused, number
 
 HEADERS = ["frame.number", "_ws.malformed", "_ws.expert.severity", "ip.checksum.status", "udp.checksum.status",
            "ip.ttl", "ipv6.hlim", "lisp.type", "lisp.nonce", "lisp.records", "lisp.lcaf.iid", "lisp.lcaf.iid.ipv4",

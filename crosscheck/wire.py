@@ -1,4 +1,4 @@
-"""Octets in and out, written from the standards: captures, and headers of packets."""
+"""Octets in and out, written from the standards: headers of packets."""
 import os
 import struct
 
@@ -36,31 +36,6 @@ def text_of(address):
     if len(address) == 4:
         return ".".join(map(str, address))
     return ":".join(address[i:i + 2].hex() for i in range(0, 16, 2))
-
-
-# Captures (little-endian or big-endian, micro- or nanoseconds).
-
-
-def frames_of(path):
-    with open(path, "rb") as file:
-        octets = file.read()
-    order = "<" if octets[:4] in (b"\xd4\xc3\xb2\xa1", b"\x4d\x3c\xb2\xa1") else ">"
-    unit = 1 if struct.unpack(order + "I", octets[:4])[0] == 0xA1B23C4D else 1000
-    link = struct.unpack(order + "I", octets[20:24])[0] & 0xFFFF
-    at, latest = 24, 0
-    while at < len(octets):
-        seconds, fraction, kept, _ = struct.unpack(order + "IIII", octets[at:at + 16])
-        latest = max(latest, seconds * 10**9 + fraction * unit)
-        yield latest, link, octets[at + 16:at + 16 + kept]
-        at += 16 + kept
-
-
-def output_header():
-    return struct.pack("<IHHIIII", 0xA1B23C4D, 2, 4, 0, 0, 262144, 101)
-
-
-def output_record(moment, packet):
-    return struct.pack("<IIII", moment // 10**9, moment % 10**9, len(packet), len(packet)) + packet
 
 
 # Headers.

@@ -1,0 +1,175 @@
+"""Rows at the limits of what the router remembers, made by loops: too long for a file of rows.
+
+Their packets are those of shared.toml with other octets.
+"""
+import struct
+
+from checksums import ip_summed, udp_summed
+from nonces import nonce_at
+from row_runs import REPLAY, SECOND, SHARED, START, Row, Run, capture_of, octets_of, tables_of
+
+TEXTS, PACKETS, _ = tables_of(SHARED)
+MILLI, MICRO = 10**6, 1000
+# Requests that are open; echoes asked for, echoes wanted and peers solicited; mappings that live.
+MOST_OPEN, MOST, MOST_MAPPINGS = 1024, 4096, 65536
+LISTED = 0x0102030405060708
+DELIVERED = "delivered 0"
+
+
+def shared(name):
+    return octets_of(name, PACKETS)
+
+
+def row(name, shows, frames, packets, entries, settings):
+    """A row of frames with their moments and verdicts, and packets with their moments."""
+    lines = [f"{i} {(START + moment) // SECOND}.{moment % SECOND:09} {verdict}\n"
+             for i, (moment, _, verdict) in enumerate(frames, 1)]
+    report = "".join(lines) + f"end frames={len(frames)} written={len(packets)} entries={entries}\n"
+    files = {"settings": settings.encode(), "in": capture_of([frame[:2] for frame in frames])}
+    return Row("limits.py", name, shows, [Run(REPLAY.split(), files, 0, report, capture_of(packets))])
+
+
+def drawn(i, *listed):
+    """The nonce that is drawn after i others."""
+    return nonce_at(listed, bytes(32), i)
+
+
+def to(dest):
+    """A packet of the site to another address."""
+    octets = bytearray(shared("packet"))
+    octets[16:20] = dest
+    ip_summed(octets, 0)
+    return bytes(octets)
+
+
+# Requests and mappings.
+
+
+def asked(i):
+    """The request for the numbered address, with the nonce that is drawn after i others."""
+    octets = bytearray(shared("asked"))
+    octets[48:52] = octets[-4:] = destination(i)
+    octets[64:72] = struct.pack(">Q", drawn(i, LISTED))
+    ip_summed(octets, 32)
+    udp_summed(octets, 32)
+    udp_summed(octets, 0)
+    return bytes(octets)
+
+
+def destination(i):
+    return bytes([10, 2]) + struct.pack(">H", i)
+
+
+def open_requests():
+    """The first is sent again at 1 s and 3 s, those of the next second at 2 s and 4 s, the last ones later."""
+    misses = [(i * MILLI, to(destination(i)), f"n={i + (i >= 1000)} drop 13 miss") for i in range(MOST_OPEN + 1)]
+    first, middle, last = range(1), range(1, 1001), range(1001, MOST_OPEN)
+    again = [(2, middle), (3, first), (3, last), (4, middle), (5, last)]
+    packets = [*((i * MILLI, asked(i)) for i in range(1000)), (SECOND, asked(0)),
+               *((i * MILLI, asked(i)) for i in range(1000, MOST_OPEN)),
+               *((second * SECOND, asked(i)) for second, some in again for i in some),
+               (7 * SECOND, asked(MOST_OPEN))]
+    frames = [*misses, (7 * SECOND, to(destination(MOST_OPEN)), f"n={3 * MOST_OPEN} drop 13 miss")]
+    return row("one request more than may be open", "A miss asks for nothing until the first request ends.",
+               frames, packets, 3 * MOST_OPEN + 1, TEXTS["tenant"])
+
+
+def live_mappings():
+    settings = TEXTS["tenant"] + "".join(
+        f'[[mapping]]\niid = 100\nprefix = "20.0.{i // 256}.{i % 256}/32"\n' for i in range(MOST_MAPPINGS))
+    frames = [(0, shared("packet"), f"n={MOST_MAPPINGS} drop 13 miss"),
+              (100 * MILLI, shared("reply"), f"n={MOST_MAPPINGS + 1} control reply learned=0 passed=1")]
+    return row("a mapping more than may be live", "A record that finds the table full is passed over.",
+               frames, [(0, shared("asked"))], MOST_MAPPINGS + 2, settings)
+
+
+# Echoes and peers.
+
+
+def locator(i):
+    return bytes([198, 51]) + struct.pack(">H", i)
+
+
+def inbound(header, source=bytes([198, 51, 100, 7])):
+    """A packet that comes from a locator, with that LISP header."""
+    octets = bytearray(shared("tunnel"))
+    octets[12:16], octets[28:36] = source, bytes.fromhex(header)
+    ip_summed(octets, 0)
+    return bytes(octets)
+
+
+def solicitation(i):
+    """The Map-Request with S for the site's prefix, to the numbered locator."""
+    message = f"11000001{drawn(i):016x}" + "00010a010000" + "0001c0000201" + "001000010a010000"
+    size = 8 + len(message) // 2
+    octets = bytearray(struct.pack(">HHIHH", 0x4500, 20 + size, 0x4000, 0x4011, 0) + bytes([192, 0, 2, 1]) + locator(i)
+                       + struct.pack(">HHHH", 4342, 4342, size, 0) + bytes.fromhex(message))
+    ip_summed(octets, 0)
+    udp_summed(octets, 0)
+    return bytes(octets)
+
+
+def versioned(version):
+    """The site, whose prefix has a version."""
+    return TEXTS["site"].replace('"10.1.0.0/16"', f'"10.1.0.0/16"\nversion = {version}')
+
+
+def wanted_echoes():
+    frames = [(i * MICRO, inbound(f"a0{i:06x}00000000"), f"n={1 + i} {DELIVERED}") for i in range(MOST)]
+    late, out = inbound("a0ffffff00000000"), shared("delivered")
+    moments = [2 * SECOND - 1, 2 * SECOND, 2 * SECOND]
+    frames += [(moment, late, f"n={known + MOST} {DELIVERED}") for moment, known in zip(moments, (1, 1, 2))]
+    return row("an echo more than may be wanted",
+               "Nonces of one locator; the first is no more wanted at 2 s, so that one more may be then.",
+               frames, [(moment, out) for moment, _, _ in frames], 2 + MOST, versioned(0))
+
+
+def solicited_peers():
+    old, out = "10000004" + "00000000", shared("delivered")
+    frames = [(i * MICRO, inbound(old, locator(i)), f"n={1 + i} {DELIVERED}") for i in range(MOST)]
+    packets = [part for i in range(MOST) for part in ((i * MICRO, out), (i * MICRO, solicitation(i)))]
+    late, end = inbound(old, locator(MOST)), 10 * SECOND
+    frames += [(end - 1, late, f"n={1 + MOST} {DELIVERED}"), (end, late, f"n={1 + MOST} {DELIVERED}")]
+    packets += [(end - 1, out), (end, out), (end, solicitation(MOST))]
+    return row("a peer more than may be solicited", "The first was solicited 10 s ago, so that one more may be then.",
+               frames, packets, 2 + MOST, versioned(5))
+
+
+def port(i):
+    """The source port of the tunnel that the packet to the numbered address goes into."""
+    value, packet = 0x811C9DC5, to(destination(i))
+    for octet in packet[12:20] + bytes([17]) + packet[20:24]:
+        value = (value ^ octet) * 0x01000193 % 2**32
+    return 0xC000 + value % 0x4000
+
+
+def tunnelled(i, header):
+    """That packet in a tunnel to the numbered locator."""
+    octets = bytearray(shared("sent"))
+    octets[16:20], octets[20:22], octets[28:36] = locator(i), struct.pack(">H", port(i)), bytes.fromhex(header)
+    octets[52:56] = destination(i)
+    ip_summed(octets, 0)
+    ip_summed(octets, 36)
+    return bytes(octets)
+
+
+def started_echoes():
+    """One locator for each of as many mappings, and one more."""
+    settings = "echo = true\n" + TEXTS["fixed"].partition("[[mapping]]")[0] + "".join(
+        f'[[mapping]]\niid = 0\nprefix = "10.2.{i // 256}.{i % 256}/32"\n'
+        f'[[mapping.locator]]\naddress = "198.51.{i // 256}.{i % 256}"\n' for i in range(MOST + 1))
+    plain, asks = "4000000000000001", f"e0{drawn(MOST) & 0xFFFFFF:06x}00000001"
+    moments = [i * MICRO for i in range(MOST)] + [60 * SECOND - 1, 60 * SECOND, 60 * SECOND + 1]
+    numbers = [min(i, MOST) for i in range(MOST + 3)]
+    known = [1 + MOST + min(i, MOST) for i in range(MOST + 2)] + [2 + 2 * MOST]
+    frames = [(moment, to(destination(i)), f"n={n} encapsulated 192.0.2.1 198.51.{i // 256}.{i % 256} {port(i)}")
+              for moment, i, n in zip(moments, numbers, known)]
+    packets = [(moment, tunnelled(i, plain)) for moment, i in zip(moments, numbers)][:-1]
+    packets.append((moments[-1], tunnelled(MOST, asks)))
+    return row("a locator more than may be asked for an echo",
+               "The first was asked 60 s ago, so that one more is asked from the packet after that moment on.",
+               frames, packets, 2 + 2 * MOST, settings)
+
+
+def rows():
+    return [open_requests(), live_mappings(), wanted_echoes(), solicited_peers(), started_echoes()]
