@@ -1,12 +1,12 @@
 // Exchanges with a resolver: the frames that come, what is reported, and the packets that are sent.
-use crate::packets::{CONTROL, PACKET, REPLY, Row, SENT, UNTAGGED, WRITTEN, changed, push_record};
+use crate::packets::{CONTROL, PACKET, REPLY, SENT, WRITTEN, changed, push_record};
 use octets::Octets;
 use std::alloc::Global;
 use std::test::Fail;
 
-/// A frame that comes: its second behind 1,700,000,000, its fraction as the capture counts it, and
-/// its octets with the line of the report.
-pub type Arrival<'a> = (u32, u32, Row<'a>);
+/// A frame that comes: its second behind 1,700,000,000, its fraction as the capture counts it, its
+/// octets, and the line of the report.
+pub type Arrival<'a> = (u32, u32, &'a [u8], &'a str);
 
 /// A packet that is sent: its second behind 1,700,000,000, its nanosecond, its octets, and what
 /// changes in them.
@@ -26,62 +26,30 @@ iid = 100
 prefix = "10.1.0.0/16"
 "#;
 
-/// The header of a capture of raw packets in nanoseconds.
-pub const NANOSECONDS: [u8; 24] = WRITTEN;
-
-/// What changes in a tunnel packet of instance 100.
-pub const IN_100: [(usize, u8); 2] = [(28, 0x48), (34, 0x64)];
-
-/// What changes in a request with the first nonce behind the list: d6405f892fef003e.
-pub const NEXT_NONCE: [(usize, u8); 10] = [
-    (58, 0x40),
-    (59, 0x65),
-    (64, 0xd6),
-    (65, 0x40),
-    (66, 0x5f),
-    (67, 0x89),
-    (68, 0x2f),
-    (69, 0xef),
-    (70, 0),
-    (71, 0x3e),
-];
-
 /// The packet that misses.
-pub const MISS: Arrival<'static> = (
-    0,
-    0,
-    (&PACKET, 28, &[], "1 1700000000.000000000 n=0 drop 13 miss"),
-);
+pub const MISS: Arrival<'static> = (0, 0, &PACKET, "1 1700000000.000000000 n=0 drop 13 miss");
 
 /// The request for it.
 pub const ASKED: Departure<'static> = (0, 0, &CONTROL, &[]);
-
-/// The packet in a tunnel of instance 100 at 0.2 s.
-pub const CARRIED: Departure<'static> = (0, 200_000_000, &SENT, &IN_100);
 
 /// The reply at 0.1 s, in a capture in microseconds.
 pub const LEARNED: Arrival<'static> = (
     0,
     100_000,
-    (
-        &REPLY,
-        80,
-        &[],
-        "2 1700000000.100000000 n=1 control reply learned=1 passed=0",
-    ),
+    &REPLY,
+    "2 1700000000.100000000 n=1 control reply learned=1 passed=0",
 );
 
 /// The packet once more at 0.2 s, likewise.
 pub const USED: Arrival<'static> = (
     0,
     200_000,
-    (
-        &PACKET,
-        28,
-        &[],
-        "3 1700000000.200000000 n=3 encapsulated 192.0.2.1 198.51.100.7 64519",
-    ),
+    &PACKET,
+    "3 1700000000.200000000 n=3 encapsulated 192.0.2.1 198.51.100.7 64519",
 );
+
+/// That packet in a tunnel of instance 100.
+pub const CARRIED: Departure<'static> = (0, 200_000_000, &SENT, &[(28, 0x48), (34, 0x64)]);
 
 // A record at so many seconds behind 1,700,000,000.
 fn push_at(second: u32, fraction: u32, octets: &[u8], out: &mut Octets) -> Result<(), Fail> {
@@ -92,9 +60,8 @@ fn push_at(second: u32, fraction: u32, octets: &[u8], out: &mut Octets) -> Resul
 /// The capture of those frames.
 pub fn capture_of(alloc: Global, header: &[u8], frames: &[Arrival<'_>]) -> Result<Octets, Fail> {
     let mut capture = Octets::copied(alloc, header)?;
-    for (second, fraction, (octets, size, edits, _)) in frames {
-        let frame = changed(alloc, octets, *size, edits)?;
-        push_at(*second, *fraction, &frame, &mut capture)?;
+    for (second, fraction, octets, _) in frames {
+        push_at(*second, *fraction, octets, &mut capture)?;
     }
     Ok(capture)
 }
@@ -112,18 +79,11 @@ pub fn output_of(alloc: Global, packets: &[Departure<'_>]) -> Result<Octets, Fai
 /// The lines of those frames, and the last one.
 pub fn report_of(alloc: Global, frames: &[Arrival<'_>], end: &str) -> Result<String, Fail> {
     let mut report = String::new(alloc);
-    for (_, _, (_, _, _, line)) in frames {
+    for (_, _, _, line) in frames {
         report.push_str(line)?;
         report.push_str("\n")?;
     }
     report.push_str(end)?;
     report.push_str("\n")?;
     Ok(report)
-}
-
-/// The packet behind the Ethernet header of `UNTAGGED`.
-pub fn ethernet(alloc: Global, packet: &[u8], edits: &[(usize, u8)]) -> Result<Vec<u8>, Fail> {
-    let mut frame = changed(alloc, &UNTAGGED, 14, &[])?;
-    frame.extend_from_slice(&changed(alloc, packet, packet.len(), edits)?)?;
-    Ok(frame)
 }

@@ -1,4 +1,4 @@
-// A call of the desk that fails in an exchange.
+// What is left where a call of the desk fails, or memory is refused.
 use desk::{Calls, MemoryDesk};
 use octets::Octets;
 use replay::Status;
@@ -46,5 +46,12 @@ fn where_a_call_fails_what_was_said_and_sent_is_a_beginning(rt: HostRuntime) -> 
     assert_eq!(rt; status, Status::Done);
     assert_eq!(rt; said(&desk)?, report.as_str());
     assert!(rt; whole > 8);
+    Ok(())
+}
+
+// A run whose memory is refused can't be made here.
+#[test]
+fn refused_memory_is_status_five(rt: HostRuntime) -> Result<(), Fail> {
+    assert_eq!(rt; Status::Memory as u8, 5);
     Ok(())
 }

@@ -1,29 +1,14 @@
-//! Tests of whole runs over a desk in memory: words, files, and packets of data.
+//! Tests of whole runs that rows of data can't say: calls that fail, hashes, files that stay, tables at
+//! their limits.
 #![tactic(auto)]
 
 #[cfg(test)]
-mod assertions;
-#[cfg(test)]
-mod cases;
-#[cfg(test)]
-mod choice;
-#[cfg(test)]
-mod control;
-#[cfg(test)]
 mod failures;
 #[cfg(test)]
-mod families;
+mod live_mappings;
 #[cfg(test)]
-mod messages;
-#[cfg(test)]
-mod site;
-#[cfg(test)]
-mod steady_desks;
+mod open_requests;
 #[cfg(test)]
 mod trials;
-#[cfg(test)]
-mod tunnels;
-#[cfg(test)]
-mod whole_runs;
 #[cfg(test)]
 mod words;

@@ -1,4 +1,4 @@
-// Trials: an input that a number makes, and the line that is said of it.
+// Trials: the largest one, and the hash of an output.
 use desk::{Calls, Files, MemoryDesk, SteadyDesk};
 use octets::Octets;
 use replay::Status;
@@ -60,35 +60,17 @@ fn hash_of(octets: &[u8]) -> u32 {
 }
 
 #[test]
-fn a_trial_says_one_line_and_makes_no_file(rt: HostRuntime) -> Result<(), Fail> {
+fn the_largest_trial_says_one_line_and_makes_no_file(rt: HostRuntime) -> Result<(), Fail> {
     let alloc = rt.alloc();
-    for (number, line) in [
-        ("1", "trial 1 frames=2 written=1 entries=1 hash=f5e3f57a\n"),
-        ("3", "trial 3 frames=4 written=3 entries=3 hash=8e6dbc18\n"),
-        (
-            "254",
-            "trial 254 frames=255 written=254 entries=254 hash=98a3e980\n",
-        ),
-        (
-            "255",
-            "trial 255 frames=256 written=255 entries=255 hash=8c1f535f\n",
-        ),
-        (
-            "2000",
-            "trial 2000 frames=2001 written=2000 entries=2000 hash=00cf778b\n",
-        ),
-        (
-            "50000",
-            "trial 50000 frames=50001 written=50000 entries=50000 hash=45ce7d18\n",
-        ),
-    ] {
-        let mut desk = MemoryDesk::new(alloc, Files::new(alloc), Calls::new(alloc));
-        let status = run_words(alloc, &["trial", number], &mut desk)?;
-        assert_eq!(rt; said(&desk)?, line);
-        assert_eq!(rt; status, Status::Done);
-        assert_eq!(rt; desk.file("in"), None);
-        assert_eq!(rt; desk.file("out"), None);
-    }
+    let mut desk = MemoryDesk::new(alloc, Files::new(alloc), Calls::new(alloc));
+    let status = run_words(alloc, &["trial", "50000"], &mut desk)?;
+    assert_eq!(rt;
+        said(&desk)?,
+        "trial 50000 frames=50001 written=50000 entries=50000 hash=45ce7d18\n"
+    );
+    assert_eq!(rt; status, Status::Done);
+    assert_eq!(rt; desk.file("in"), None);
+    assert_eq!(rt; desk.file("out"), None);
     Ok(())
 }
 

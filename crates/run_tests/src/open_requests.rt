@@ -1,8 +1,8 @@
 // As many requests as may be open at once.
 use octets::Octets;
 use replay::Status;
-use run_rows::exchanges::{NANOSECONDS, TENANT};
-use run_rows::packets::{CONTROL, PACKET, changed, push_record};
+use run_rows::exchanges::TENANT;
+use run_rows::packets::{CONTROL, PACKET, WRITTEN, changed, push_record};
 use run_rows::runs::{replayed, said};
 use std::alloc::Global;
 use std::test::Fail;
@@ -18,7 +18,7 @@ fn packet_to(alloc: Global, number: u16) -> Result<Vec<u8>, Fail> {
 // Packets to 1,025 addresses, each a millisecond after the one before, and one more to the last
 // address at 7 s.
 fn capture_of_misses(alloc: Global) -> Result<Octets, Fail> {
-    let mut capture = Octets::copied(alloc, &NANOSECONDS)?;
+    let mut capture = Octets::copied(alloc, &WRITTEN)?;
     for number in 0..1025_u16 {
         let millisecond = u32::from(number);
         let second = 1_700_000_000 + millisecond / 1000;
