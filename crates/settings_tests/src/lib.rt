@@ -1,10 +1,7 @@
-//! Tests of the settings: their values, their faults and their limits.
+//! Tests of the settings: what no run shows of their values, their longest lists and texts, and
+//! settings that are written.
 #![tactic(auto)]
 
-#[cfg(test)]
-mod addresses;
-#[cfg(test)]
-mod faults;
 #[cfg(test)]
 mod limits;
 #[cfg(test)]

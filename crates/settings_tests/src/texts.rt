@@ -1,6 +1,7 @@
 // Settings, and their first fault, from a text.
 use lisp_settings::{Settings, SettingsFault, read_settings};
 use std::alloc::Global;
+use std::process::Abort;
 use std::test::Fail;
 
 /// One own locator, which each settings file has.
@@ -29,12 +30,16 @@ pub fn read(alloc: Global, text: &str) -> Result<Settings, Fail> {
     Ok(settings)
 }
 
-/// The word and the place of the fault of a text.
-pub fn fault(alloc: Global, text: &str) -> Result<(&'static str, String), Fail> {
-    let fault = read_settings(alloc, text.as_bytes())
-        .err()
-        .ok_or("settings")?;
-    let (word, place) = match &fault {
+/// The first fault of a text is of this word, and at this place.
+pub fn assert_fault(
+    rt: &impl Abort,
+    alloc: Global,
+    text: &[u8],
+    word: &str,
+    place: &str,
+) -> Result<(), Fail> {
+    let fault = read_settings(alloc, text).err().ok_or("settings")?;
+    let (said, at) = match &fault {
         SettingsFault::NotToml => ("not-toml", b"".as_slice()),
         SettingsFault::UnknownKey(key) => ("unknown-key", key.as_slice()),
         SettingsFault::Missing(key) => ("missing", key.as_slice()),
@@ -44,8 +49,7 @@ pub fn fault(alloc: Global, text: &str) -> Result<(&'static str, String), Fail> 
         SettingsFault::TooLong => ("too-long", b"".as_slice()),
         SettingsFault::Memory => ("memory", b"".as_slice()),
     };
-    let place = String::from_utf8(place.to_vec(alloc)?)
-        .ok()
-        .ok_or("octets")?;
-    Ok((word, place))
+    assert_eq!(rt; said, word);
+    assert_eq!(rt; at, place.as_bytes());
+    Ok(())
 }

@@ -1,38 +1,48 @@
 // Settings that are written, and read back.
 use crate::sameness::assert_same;
 use crate::texts::{LOCATOR, SITE};
-use lisp_settings::{Addr, Settings, read_settings, write_settings};
+use lisp_settings::{
+    Addr, Attachment, Locator, OwnLocator, Record, Settings, read_settings, write_settings,
+};
 use std::alloc::Global;
 use std::process::Abort;
 use std::test::Fail;
 
-// The settings in a text, written and read back: they are the same.
-fn written_back(rt: &impl Abort, alloc: Global, text: &str) -> Result<Settings, Fail> {
-    let first = read_settings(alloc, text.as_bytes())?;
-    let written = write_settings(alloc, &first)?;
-    assert!(rt; written.len() <= 16_777_216, "{text}");
+/// A settings file has so many octets at most.
+const MOST: usize = 16_777_216;
+
+// The settings, written in so many octets at most, and read back.
+fn read_back(
+    rt: &impl Abort,
+    alloc: Global,
+    first: &Settings,
+    most: usize,
+) -> Result<Settings, Fail> {
+    let written = write_settings(alloc, first)?;
+    assert!(rt; written.len() <= most);
     let again = read_settings(alloc, written.as_slice())?;
-    assert_same(rt, &again, &first, text);
     Ok(again)
 }
 
-#[test]
-fn a_small_site_is_written_in_few_octets(rt: HostRuntime) -> Result<(), Fail> {
-    let alloc = rt.alloc();
-    let settings = read_settings(alloc, SITE.as_bytes())?;
-    let written = write_settings(alloc, &settings)?;
-    assert!(rt; written.len() < 1000);
-    Ok(())
+// The settings in a text, written and read back: they are the same.
+fn written_back(rt: &impl Abort, alloc: Global, text: &str, most: usize) -> Result<Settings, Fail> {
+    let first = read_settings(alloc, text.as_bytes())?;
+    let again = read_back(rt, alloc, &first, most)?;
+    assert_same(rt, &again, &first);
+    Ok(again)
 }
 
 #[test]
 fn what_is_written_reads_as_the_settings(rt: HostRuntime) -> Result<(), Fail> {
     let alloc = rt.alloc();
-    for text in [
-        SITE,
-        LOCATOR,
+    for (most, text) in [
+        // A small site in few octets.
+        (999, SITE),
+        (999, LOCATOR),
         // Every key at its default, where it has one.
-        r#"
+        (
+            MOST,
+            r#"
 nonces = []
 seed = "0000000000000000000000000000000000000000000000000000000000000000"
 ttl = 1440
@@ -48,13 +58,25 @@ version = 0
 action = 0
 locator = []
 "#,
+        ),
         // A resolver of each family.
-        "resolver = '203.0.113.9'\nlocator = [{address = '::1'}, {address = '192.0.2.1'}]",
-        "resolver = '2001:db8::9'\nlocator = [{address = '::1'}, {address = '192.0.2.1'}]",
+        (
+            MOST,
+            "resolver = '203.0.113.9'\nlocator = [{address = '::1'}, {address = '192.0.2.1'}]",
+        ),
+        (
+            MOST,
+            "resolver = '2001:db8::9'\nlocator = [{address = '::1'}, {address = '192.0.2.1'}]",
+        ),
         // All are down, or of priority 255.
-        "locator = [{address = '::1', up = false}, {address = '192.0.2.1', priority = 255}]",
+        (
+            MOST,
+            "locator = [{address = '::1', up = false}, {address = '192.0.2.1', priority = 255}]",
+        ),
         // Out of order.
-        r#"
+        (
+            MOST,
+            r#"
 locator = [{address = "::1"}, {address = "192.0.2.9"}, {address = "192.0.2.1"}]
 attachment = [{vlan = 4095, iid = 0}, {vlan = 7, iid = 16777215}, {vlan = 0, iid = 1}]
 database = [
@@ -70,8 +92,44 @@ mapping = [
     {iid = 3, prefix = "10.0.0.0/8", version = 4095},
 ]
 "#,
+        ),
+        // Addresses and prefixes of each form.
+        (
+            MOST,
+            r#"
+locator = [
+    {address = "0.0.0.0"},
+    {address = "192.0.2.1"},
+    {address = "255.255.255.255"},
+    {address = "::"},
+    {address = "::1"},
+    {address = "2001:db8::1"},
+    {address = "::ffff:c000:201"},
+    {address = "::c000:201"},
+    {address = "0:0:1::"},
+    {address = "1:0:0:2::3:0"},
+    {address = "ffff:ffff:ffff:ffff:ffff:ffff:ffff:ffff"},
+]
+database = [
+    {iid = 0, prefix = "0.0.0.0/32"},
+    {iid = 0, prefix = "192.0.2.1/32"},
+    {iid = 0, prefix = "192.0.2.1/23"},
+    {iid = 0, prefix = "255.255.255.255/32"},
+    {iid = 0, prefix = "255.255.255.255/0"},
+    {iid = 0, prefix = "::/0"},
+    {iid = 0, prefix = "::1/128"},
+    {iid = 0, prefix = "::1/32"},
+    {iid = 0, prefix = "2001:db8::1/32"},
+    {iid = 0, prefix = "::ffff:c000:201/128"},
+    {iid = 0, prefix = "::c000:201/128"},
+    {iid = 0, prefix = "0:0:1::/128"},
+    {iid = 0, prefix = "1:0:0:2::3:0/128"},
+    {iid = 0, prefix = "ffff:ffff:ffff:ffff:ffff:ffff:ffff:ffff/127"},
+]
+"#,
+        ),
     ] {
-        written_back(&rt, alloc, text)?;
+        written_back(&rt, alloc, text, most)?;
     }
     Ok(())
 }
@@ -92,7 +150,7 @@ locator = [
     {address = "::1", priority = 255, weight = 0, up = false},
     {address = "192.0.2.1", priority = 0, weight = 255},
 ]
-attachment = [{vlan = 4095, iid = 16777215}]
+attachment = [{vlan = 4095, iid = 16777215}, {vlan = 0, iid = 1}]
 database = [{iid = 16777215, prefix = "2001:db8::/32", version = 4095}]
 [[mapping]]
 iid = 16777215
@@ -101,7 +159,22 @@ version = 4095
 action = 7
 locator = [{address = "198.51.100.7", priority = 2, weight = 3, up = false}]
 "#,
+        MOST,
     )?;
+    assert_values(&rt, &settings);
+    assert_eq!(rt; settings.databases.len(), 1);
+    for database in settings.databases.as_slice() {
+        assert_eq!(rt; (database.eid.iid, database.version), (16_777_215, 4095));
+    }
+    assert_eq!(rt; settings.mappings.len(), 1);
+    for mapping in settings.mappings.as_slice() {
+        assert_mapping(&rt, mapping);
+    }
+    Ok(())
+}
+
+// The values of the keys of the top, of the own locators and of the attachments.
+fn assert_values(rt: &impl Abort, settings: &Settings) {
     assert_eq!(rt;
         settings.seed,
         [
@@ -122,114 +195,53 @@ locator = [{address = "198.51.100.7", priority = 2, weight = 3, up = false}]
     assert_eq!(rt; settings.resolver, Some(Addr::V4(0xcb00_7109)));
     assert_eq!(rt; settings.ttl, 4_294_967_294);
     assert_eq!(rt; (settings.probe, settings.echo), (true, true));
-    let [v4, v6] = settings.locators.as_slice() else {
-        return Err("not two")?;
+    let v4 = OwnLocator {
+        addr: Addr::V4(0xc000_0201),
+        priority: 0,
+        weight: 255,
+        up: true,
+    };
+    let v6 = OwnLocator {
+        addr: Addr::V6(1),
+        priority: 255,
+        weight: 0,
+        up: false,
+    };
+    assert_eq!(rt; settings.locators.as_slice(), [v4, v6].as_slice());
+    let least = Attachment { vlan: 0, iid: 1 };
+    let greatest = Attachment {
+        vlan: 4095,
+        iid: 16_777_215,
     };
     assert_eq!(rt;
-        (v4.addr, v4.priority, v4.weight, v4.up),
-        (Addr::V4(0xc000_0201), 0, 255, true)
+        settings.attachments.as_slice(),
+        [least, greatest].as_slice()
     );
-    assert_eq!(rt;
-        (v6.addr, v6.priority, v6.weight, v6.up),
-        (Addr::V6(1), 255, 0, false)
-    );
-    let attachment = settings.attachments.as_slice().first().ok_or("none")?;
-    assert_eq!(rt; (attachment.vlan, attachment.iid), (4095, 16_777_215));
-    let database = settings.databases.as_slice().first().ok_or("none")?;
-    assert_eq!(rt; (database.eid.iid, database.version), (16_777_215, 4095));
-    let mapping = settings.mappings.as_slice().first().ok_or("none")?;
+}
+
+// The values of the mapping's keys.
+fn assert_mapping(rt: &impl Abort, mapping: &Record) {
     assert_eq!(rt;
         (mapping.eid.iid, mapping.version, mapping.action),
         (16_777_215, 4095, 7)
     );
-    let locator = mapping.locators.as_slice().first().ok_or("none")?;
-    assert_eq!(rt; locator.addr, Addr::V4(0xc633_6407));
-    assert_eq!(rt;
-        (locator.priority, locator.weight, locator.reachable),
-        (2, 3, false)
-    );
-    Ok(())
+    let locator = Locator {
+        addr: Addr::V4(0xc633_6407),
+        priority: 2,
+        weight: 3,
+        m_priority: 255,
+        m_weight: 0,
+        local: false,
+        probed: false,
+        reachable: false,
+    };
+    assert_eq!(rt; mapping.locators.as_slice(), [locator].as_slice());
 }
 
-#[test]
-fn addresses_and_prefixes_are_written_as_they_are(rt: HostRuntime) -> Result<(), Fail> {
-    let alloc = rt.alloc();
-    for (address, len, addr, base) in [
-        ("0.0.0.0", 32, Addr::V4(0), Addr::V4(0)),
-        (
-            "192.0.2.1",
-            32,
-            Addr::V4(0xc000_0201),
-            Addr::V4(0xc000_0201),
-        ),
-        (
-            "192.0.2.1",
-            23,
-            Addr::V4(0xc000_0201),
-            Addr::V4(0xc000_0200),
-        ),
-        (
-            "255.255.255.255",
-            32,
-            Addr::V4(0xffff_ffff),
-            Addr::V4(0xffff_ffff),
-        ),
-        ("255.255.255.255", 0, Addr::V4(0xffff_ffff), Addr::V4(0)),
-        ("::", 0, Addr::V6(0), Addr::V6(0)),
-        ("::1", 128, Addr::V6(1), Addr::V6(1)),
-        ("::1", 32, Addr::V6(1), Addr::V6(0)),
-        (
-            "2001:db8::1",
-            32,
-            Addr::V6(0x2001_0db8 << 96 | 1),
-            Addr::V6(0x2001_0db8 << 96),
-        ),
-        (
-            "::ffff:c000:201",
-            128,
-            Addr::V6(0xffff_c000_0201),
-            Addr::V6(0xffff_c000_0201),
-        ),
-        (
-            "::c000:201",
-            128,
-            Addr::V6(0xc000_0201),
-            Addr::V6(0xc000_0201),
-        ),
-        ("0:0:1::", 128, Addr::V6(1 << 80), Addr::V6(1 << 80)),
-        (
-            "1:0:0:2::3:0",
-            128,
-            Addr::V6(1 << 112 | 2 << 64 | 3 << 16),
-            Addr::V6(1 << 112 | 2 << 64 | 3 << 16),
-        ),
-        (
-            "ffff:ffff:ffff:ffff:ffff:ffff:ffff:ffff",
-            127,
-            Addr::V6(0xffff_ffff_ffff_ffff_ffff_ffff_ffff_ffff),
-            Addr::V6(0xffff_ffff_ffff_ffff_ffff_ffff_ffff_fffe),
-        ),
-    ] {
-        let text = format!(in alloc;
-            "locator = [{{address = '{address}'}}]\n\
-            database = [{{iid = 0, prefix = '{address}/{len}'}}]"
-        )?;
-        let settings = written_back(&rt, alloc, text.as_str())?;
-        let locator = settings.locators.as_slice().first().ok_or("none")?;
-        assert_eq!(rt; locator.addr, addr, "{text}");
-        let database = settings.databases.as_slice().first().ok_or("none")?;
-        let prefix = database.eid.prefix;
-        assert_eq!(rt; (prefix.addr, prefix.len), (base, len), "{text}");
-    }
-    Ok(())
-}
-
-#[test]
-fn long_lists_are_written_in_their_order(rt: HostRuntime) -> Result<(), Fail> {
-    let alloc = rt.alloc();
+// 4,096 nonces, and a mapping with 32 locators, neither ascending nor descending.
+fn long_lists(alloc: Global) -> Result<String, Fail> {
     let mut text = String::from_str(alloc, "nonces = [")?;
     for i in 0..4096u64 {
-        // Neither ascending nor descending.
         let nonce = (i ^ 0x555) << 52 | i;
         text.push_str(format!(in alloc; "'{nonce:016x}',")?.as_str())?;
     }
@@ -242,23 +254,35 @@ fn long_lists_are_written_in_their_order(rt: HostRuntime) -> Result<(), Fail> {
     }
     text.push_str("]}]\n")?;
     text.push_str(LOCATOR)?;
-    let settings = written_back(&rt, alloc, text.as_str())?;
+    Ok(text)
+}
+
+#[test]
+fn long_lists_are_written_in_their_order(rt: HostRuntime) -> Result<(), Fail> {
+    let alloc = rt.alloc();
+    let text = long_lists(alloc)?;
+    let settings = written_back(&rt, alloc, text.as_str(), MOST)?;
     assert_eq!(rt; settings.nonces.len(), 4096);
     for (i, nonce) in (0..4096u64).zip(settings.nonces.as_slice()) {
         assert_eq!(rt; *nonce, (i ^ 0x555) << 52 | i);
     }
-    let mapping = settings.mappings.as_slice().first().ok_or("none")?;
+    assert_eq!(rt; settings.mappings.len(), 1);
+    for mapping in settings.mappings.as_slice() {
+        assert_32_locators(&rt, mapping);
+    }
+    Ok(())
+}
+
+fn assert_32_locators(rt: &impl Abort, mapping: &Record) {
     assert_eq!(rt; mapping.locators.len(), 32);
     for (i, locator) in (0..32u8).zip(mapping.locators.as_slice()) {
         assert_eq!(rt; locator.addr, Addr::V4(0xcb00_7100 | u32::from(i ^ 21)));
         assert_eq!(rt; locator.weight, i);
     }
-    Ok(())
 }
 
-#[test]
-fn as_many_mappings_as_can_be_are_written_back(rt: HostRuntime) -> Result<(), Fail> {
-    let alloc = rt.alloc();
+// 65,536 mappings, each with a locator.
+fn many_mappings(alloc: Global) -> Result<String, Fail> {
     let mut text = String::from_str(alloc, LOCATOR)?;
     for i in 0..65_536u32 {
         let (high, low) = (i >> 8, i & 255);
@@ -268,19 +292,21 @@ fn as_many_mappings_as_can_be_are_written_back(rt: HostRuntime) -> Result<(), Fa
         )?;
         text.push_str(mapping.as_str())?;
     }
-    let first = read_settings(alloc, text.as_bytes())?;
-    let written = write_settings(alloc, &first)?;
-    let again = read_settings(alloc, written.as_slice())?;
-    assert_eq!(rt; again.mappings.len(), 65_536);
-    for (place, addr, locator) in [
-        (0, 0x0a00_0000, 0xcb00_7100),
-        (65_535, 0x0aff_ff00, 0xcb00_71ff),
-    ] {
-        let mapping = again.mappings.as_slice().get(place).ok_or("none")?;
+    Ok(text)
+}
+
+#[test]
+fn as_many_mappings_as_can_be_are_written_back(rt: HostRuntime) -> Result<(), Fail> {
+    let alloc = rt.alloc();
+    let text = many_mappings(alloc)?;
+    let settings = written_back(&rt, alloc, text.as_str(), MOST)?;
+    assert_eq!(rt; settings.mappings.len(), 65_536);
+    for (i, mapping) in (0..65_536u32).zip(settings.mappings.as_slice()) {
         let prefix = mapping.eid.prefix;
-        assert_eq!(rt; (prefix.addr, prefix.len), (Addr::V4(addr), 24));
-        let first = mapping.locators.as_slice().first().ok_or("none")?;
-        assert_eq!(rt; first.addr, Addr::V4(locator));
+        assert_eq!(rt;
+            (prefix.addr, prefix.len),
+            (Addr::V4(0x0a00_0000 | i << 8), 24)
+        );
     }
     Ok(())
 }

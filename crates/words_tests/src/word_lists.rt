@@ -6,6 +6,12 @@ use std::test::Fail;
 /// The words of a replay of three files.
 pub const REPLAY: &str = "replay --settings s --in i --out o";
 
+/// The same, and an option whose value is wanting.
+pub const ROUND: &str = "replay --settings s --in i --out o --round";
+
+/// Likewise.
+pub const WORKERS: &str = "replay --settings s --in i --out o --workers";
+
 /// The words between the spaces of a text; two spaces in a row have an empty word between them.
 pub fn words_in(alloc: Global, text: &str) -> Result<Vec<Word>, Fail> {
     let mut words: Vec<Word> = Vec::new(alloc);
