@@ -12,59 +12,6 @@ const OTHER: Addr = Addr::V4(0xc633_6402);
 const THIRD: Addr = Addr::V6(0xc633_6401);
 
 #[test]
-fn an_echo_is_wanted_for_2_seconds(rt: HostRuntime) -> Result<(), Fail> {
-    let mut state = LocatorState::new(rt.alloc());
-    wanted_for_2_seconds(&rt, &mut state)
-}
-
-fn wanted_for_2_seconds(rt: &impl Abort, state: &mut LocatorState) -> Result<(), Fail> {
-    state.echo_wanted(SECOND, FIRST, 7)?;
-    let rows = [
-        (SECOND, EchoOut::Answer(7), false),
-        (3 * SECOND - 1, EchoOut::Answer(7), false),
-        (3 * SECOND, EchoOut::Plain, true),
-    ];
-    for (moment, out, again) in rows {
-        assert_eq!(rt; state.echo_out(moment, &FIRST), out);
-        assert_eq!(rt; state.echo_out(moment, &THIRD), EchoOut::Plain);
-        assert_eq!(rt; state.may_want(moment, &FIRST, 7), again);
-        assert!(rt; state.may_want(moment, &FIRST, 8));
-        assert!(rt; state.may_want(moment, &OTHER, 7));
-    }
-    state.echo_wanted(2 * SECOND, FIRST, 8)?;
-    assert_eq!(rt; state.echo_out(2 * SECOND, &FIRST), EchoOut::Answer(8));
-    assert!(rt; state.may_want(2 * SECOND, &FIRST, 7));
-    Ok(())
-}
-
-#[test]
-fn an_echo_is_asked_for_10_seconds_until_it_is_heard(rt: HostRuntime) -> Result<(), Fail> {
-    let mut state = LocatorState::new(rt.alloc());
-    asked_until_it_is_heard(&rt, &mut state)
-}
-
-fn asked_until_it_is_heard(rt: &impl Abort, state: &mut LocatorState) -> Result<(), Fail> {
-    state.echo_started(0, FIRST, 9)?;
-    state.echo_started(0, OTHER, 10)?;
-    state.data_from(SECOND, &OTHER);
-    state.echo_heard(9 * SECOND, &OTHER);
-    let rows = [
-        (9 * SECOND, EchoOut::Ask(9), Some(9)),
-        (10 * SECOND - 1, EchoOut::Ask(9), Some(9)),
-        (10 * SECOND, EchoOut::Plain, None),
-    ];
-    for (moment, out, nonce) in rows {
-        assert_eq!(rt; state.echo_out(moment, &FIRST), out);
-        assert_eq!(rt; state.echo_on(moment, &FIRST), nonce);
-        assert_eq!(rt; state.data_due(moment, &FIRST), nonce.is_some());
-        assert_eq!(rt; state.echo_out(moment, &OTHER), EchoOut::Plain);
-        assert_eq!(rt; state.echo_on(moment, &OTHER), None);
-        assert!(rt; !state.data_due(moment, &OTHER));
-    }
-    Ok(())
-}
-
-#[test]
 fn only_where_packets_came_without_the_echo_is_a_locator_down_from_10_to_60_seconds(
     rt: HostRuntime,
 ) -> Result<(), Fail> {
@@ -80,6 +27,7 @@ fn deaf_from_10_to_60_seconds(rt: &impl Abort, state: &mut LocatorState) -> Resu
     state.data_from(SECOND, &FIRST);
     assert!(rt; !state.data_due(SECOND, &FIRST));
     assert_eq!(rt; state.echo_on(SECOND, &FIRST), Some(9));
+    assert_eq!(rt; state.echo_out(SECOND, &FIRST), EchoOut::Ask(9));
     state.data_from(SECOND, &THIRD);
     state.echo_heard(2 * SECOND, &THIRD);
     let rows = [
@@ -92,52 +40,6 @@ fn deaf_from_10_to_60_seconds(rt: &impl Abort, state: &mut LocatorState) -> Resu
         assert_eq!(rt; state.up(moment, &FIRST), up);
         assert!(rt; state.up(moment, &OTHER));
         assert!(rt; state.up(moment, &THIRD));
-    }
-    Ok(())
-}
-
-#[test]
-fn an_answer_goes_before_a_question(rt: HostRuntime) -> Result<(), Fail> {
-    let mut state = LocatorState::new(rt.alloc());
-    answer_before_question(&rt, &mut state)
-}
-
-fn answer_before_question(rt: &impl Abort, state: &mut LocatorState) -> Result<(), Fail> {
-    state.echo_started(0, FIRST, 9)?;
-    state.echo_wanted(58 * SECOND, OTHER, 7)?;
-    assert!(rt; state.may_start(58 * SECOND, &THIRD));
-    let rows = [
-        (58 * SECOND, false, false),
-        (60 * SECOND - 1, false, false),
-        (60 * SECOND, true, true),
-    ];
-    for (moment, first, other) in rows {
-        assert_eq!(rt; state.may_start(moment, &FIRST), first);
-        assert_eq!(rt; state.may_start(moment, &OTHER), other);
-    }
-    state.echo_started(60 * SECOND, FIRST, 12)?;
-    state.echo_wanted(60 * SECOND, FIRST, 8)?;
-    assert_eq!(rt; state.echo_on(62 * SECOND - 1, &FIRST), Some(12));
-    assert_eq!(rt; state.echo_out(62 * SECOND - 1, &FIRST), EchoOut::Answer(8));
-    assert_eq!(rt; state.echo_out(62 * SECOND, &FIRST), EchoOut::Ask(12));
-    Ok(())
-}
-
-#[test]
-fn a_locator_is_solicited_again_after_10_seconds(rt: HostRuntime) -> Result<(), Fail> {
-    let mut state = LocatorState::new(rt.alloc());
-    again_after_10_seconds(&rt, &mut state)
-}
-
-fn again_after_10_seconds(rt: &impl Abort, state: &mut LocatorState) -> Result<(), Fail> {
-    let net = eid(0x0a01_0000, 16)?;
-    let longer = eid(0x0a01_0000, 24)?;
-    state.solicited(0, FIRST, net)?;
-    let rows = [(0, false), (10 * SECOND - 1, false), (10 * SECOND, true)];
-    for (moment, again) in rows {
-        assert_eq!(rt; state.may_solicit(moment, &FIRST, &net), again);
-        assert!(rt; state.may_solicit(moment, &FIRST, &longer));
-        assert!(rt; state.may_solicit(moment, &OTHER, &net));
     }
     Ok(())
 }

@@ -12,15 +12,6 @@ use std::test::Fail;
 
 const MINUTE: u64 = 60 * SECOND;
 
-// The length of the prefix in force.
-fn length_in_force(cache: &MapCache, moment: u64, eid: &Eid) -> Option<u8>
-    requires { cache.now.now ≤ moment }
-{
-    let mut reads = Reads::new();
-    let mapping = cache.in_force(moment, eid, &mut reads)?;
-    Some(mapping.eid.prefix.len)
-}
-
 // Which status bits of a mapping are known, and what they are.
 fn bits(cache: &MapCache, moment: u64, eid: &Eid) -> Option<(u32, u32)>
     requires { cache.now.now ≤ moment }
@@ -31,57 +22,14 @@ fn bits(cache: &MapCache, moment: u64, eid: &Eid) -> Option<(u32, u32)>
 }
 
 #[test]
-fn a_mapping_lasts_until_its_ttl_is_over(rt: HostRuntime) -> Result<(), Fail> {
+fn status_bits_are_known_until_the_mapping_is_replaced_or_ends(
+    rt: HostRuntime,
+) -> Result<(), Fail> {
     let mut cache = MapCache::new(rt.alloc());
-    until_its_ttl_is_over(&rt, rt.alloc(), &mut cache)
+    bits_until_it_is_replaced_or_ends(&rt, rt.alloc(), &mut cache)
 }
 
-fn until_its_ttl_is_over(rt: &impl Abort, alloc: Global, cache: &mut MapCache) -> Result<(), Fail>
-    requires { cache.old.now ≡ 0 }
-{
-    let tenant = eid(0x0a02_0000, 16)?;
-    cache.learn(0, record(alloc, tenant, 1), false)?;
-    for (moment, count, known) in [
-        (0, 1, Some((0, 0))),
-        (MINUTE - 1, 1, Some((0, 0))),
-        (MINUTE, 0, None),
-    ] {
-        assert_eq!(rt; cache.live_count(moment), count);
-        assert_eq!(rt; bits(cache, moment, &tenant), known);
-    }
-    Ok(())
-}
-
-#[test]
-fn the_longest_prefix_is_in_force_until_it_ends(rt: HostRuntime) -> Result<(), Fail> {
-    let mut cache = MapCache::new(rt.alloc());
-    longest_until_it_ends(&rt, rt.alloc(), &mut cache)
-}
-
-fn longest_until_it_ends(rt: &impl Abort, alloc: Global, cache: &mut MapCache) -> Result<(), Fail>
-    requires { cache.old.now ≡ 0 }
-{
-    cache.learn(0, record(alloc, eid(0x0a02_0000, 16)?, 1), false)?;
-    cache.learn(0, record(alloc, eid(0x0a00_0000, 8)?, 2), false)?;
-    let host = eid(0x0a02_0009, 32)?;
-    for (moment, len) in [
-        (MINUTE - 1, Some(16)),
-        (MINUTE, Some(8)),
-        (2 * MINUTE - 1, Some(8)),
-        (2 * MINUTE, None),
-    ] {
-        assert_eq!(rt; length_in_force(cache, moment, &host), len);
-    }
-    Ok(())
-}
-
-#[test]
-fn status_bits_are_known_until_the_mapping_is_replaced(rt: HostRuntime) -> Result<(), Fail> {
-    let mut cache = MapCache::new(rt.alloc());
-    bits_until_it_is_replaced(&rt, rt.alloc(), &mut cache)
-}
-
-fn bits_until_it_is_replaced(
+fn bits_until_it_is_replaced_or_ends(
     rt: &impl Abort,
     alloc: Global,
     cache: &mut MapCache,
@@ -95,7 +43,15 @@ fn bits_until_it_is_replaced(
     cache.set_bits(&tenant, 0b110, 1);
     assert_eq!(rt; bits(cache, 0, &tenant), Some((0xff, 0b100)));
     cache.learn(0, record(alloc, tenant, 1), false)?;
-    assert_eq!(rt; bits(cache, 0, &tenant), Some((0, 0)));
+    for (moment, count, known) in [
+        (0, 1, Some((0, 0))),
+        (MINUTE - 1, 1, Some((0, 0))),
+        (MINUTE, 0, None),
+    ] {
+        assert_eq!(rt; cache.live_count(moment), count);
+        assert_eq!(rt; bits(cache, moment, &tenant), known);
+    }
+    assert_eq!(rt; cache.len(), 1);
     Ok(())
 }
 
@@ -178,30 +134,6 @@ fn locators_in_order(rt: &impl Abort, alloc: Global, cache: &mut MapCache) -> Re
     ] {
         assert_eq!(rt; next(cache, 0, after), found);
     }
-    Ok(())
-}
-
-#[test]
-fn the_locators_of_a_mapping_that_has_ended_are_passed_over(rt: HostRuntime) -> Result<(), Fail> {
-    let mut cache = MapCache::new(rt.alloc());
-    ended_is_passed_over(&rt, rt.alloc(), &mut cache)
-}
-
-fn ended_is_passed_over(rt: &impl Abort, alloc: Global, cache: &mut MapCache) -> Result<(), Fail>
-    requires { cache.old.now ≡ 0 }
-{
-    let (low, high) = (eid(0x0a02_0000, 16)?, eid(0x0a03_0000, 16)?);
-    let locators = [locator(Addr::V4(9), 1)];
-    cache.learn(0, record_to(alloc, low, 1, &locators)?, false)?;
-    cache.learn(0, record_to(alloc, high, 2, &locators)?, false)?;
-    for (moment, found) in [
-        (MINUTE - 1, Some((Addr::V4(9), low))),
-        (MINUTE, Some((Addr::V4(9), high))),
-        (2 * MINUTE, None),
-    ] {
-        assert_eq!(rt; next(cache, moment, None), found);
-    }
-    assert_eq!(rt; cache.len(), 2);
     Ok(())
 }
 

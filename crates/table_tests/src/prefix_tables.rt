@@ -69,34 +69,6 @@ fn a_pair_is_put_replaced_and_taken_out(rt: HostRuntime) -> Result<(), Fail> {
 }
 
 #[test]
-fn what_is_beside_a_pair_that_is_taken_out_stays(rt: HostRuntime) -> Result<(), Fail> {
-    let mut table = PrefixTable::new(rt.alloc());
-    let keys = [
-        v4(TEN, 8)?,
-        v4(TEN, 16)?,
-        v4(TEN + 0x0080_0000, 9)?,
-        v4(TEN, 32)?,
-    ];
-    for value in 0..4_u32 {
-        put(&mut table, keys[value as usize], value)?;
-    }
-    for taken in 0..4 {
-        let was = table.remove(&keys[taken]);
-        assert_eq!(rt; was, Some(taken as u32));
-        for (other, key) in keys.iter().enumerate() {
-            let mut reads = Reads::new();
-            assert_eq!(rt;
-                table.get(key, &mut reads).is_some(),
-                other > taken,
-                "{taken} {other}"
-            );
-        }
-    }
-    assert_eq!(rt; table.len(), 0);
-    Ok(())
-}
-
-#[test]
 fn the_longest_that_covers_and_passes_is_found(rt: HostRuntime) -> Result<(), Fail> {
     let mut table = PrefixTable::new(rt.alloc());
     let other = Eid {

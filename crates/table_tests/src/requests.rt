@@ -4,7 +4,6 @@ use ip_headers::Addr;
 use mapping_records::Eid;
 use node_store::Reads;
 use request_queue::{AskFault, RequestQueue};
-use std::alloc::Global;
 use std::process::Abort;
 use std::test::Fail;
 
@@ -16,15 +15,18 @@ fn is_open(queue: &RequestQueue, moment: u64, eid: &Eid) -> bool {
 }
 
 #[test]
-fn a_request_waits_for_seven_seconds(rt: HostRuntime) -> Result<(), Fail> {
+fn a_request_waits_for_seven_seconds_or_until_it_is_answered(rt: HostRuntime) -> Result<(), Fail> {
     let mut queue = RequestQueue::new(rt.alloc());
-    waits_for_seven_seconds(&rt, &mut queue)
+    waits_until_it_is_answered(&rt, &mut queue)
 }
 
-fn waits_for_seven_seconds(rt: &impl Abort, queue: &mut RequestQueue) -> Result<(), Fail> {
+fn waits_until_it_is_answered(rt: &impl Abort, queue: &mut RequestQueue) -> Result<(), Fail> {
     queue.reserve(1)?;
     let source = Some(Addr::V4(0x0a01_0005));
+    queue.ask(0, eid(0x0a03_0000, 16)?, None, true, 41)?;
     queue.ask(0, eid(0x0a02_0000, 16)?, source, false, 42)?;
+    queue.answer(41);
+    assert!(rt; queue.find(0, 41).is_none());
     let host = eid(0x0a02_0009, 32)?;
     for (moment, count, open) in [(0, 1, true), (LATE - 1, 1, true), (LATE, 0, false)] {
         assert_eq!(rt; queue.open_count(moment), count);
@@ -37,40 +39,6 @@ fn waits_for_seven_seconds(rt: &impl Abort, queue: &mut RequestQueue) -> Result<
     Ok(())
 }
 
-#[test]
-fn an_answered_request_is_gone(rt: HostRuntime) -> Result<(), Fail> {
-    let mut queue = RequestQueue::new(rt.alloc());
-    answered_is_gone(&rt, &mut queue)
-}
-
-fn answered_is_gone(rt: &impl Abort, queue: &mut RequestQueue) -> Result<(), Fail> {
-    queue.ask(0, eid(0x0a02_0000, 16)?, None, false, 1)?;
-    queue.ask(0, eid(0x0a03_0000, 16)?, None, true, 2)?;
-    queue.answer(1);
-    assert!(rt; queue.find(0, 1).is_none());
-    assert!(rt; queue.find(0, 2).is_some());
-    assert_eq!(rt; queue.open_count(0), 1);
-    Ok(())
-}
-
-#[test]
-fn of_a_repeated_nonce_the_last_request_counts(rt: HostRuntime) -> Result<(), Fail> {
-    let mut queue = RequestQueue::new(rt.alloc());
-    last_of_a_nonce_counts(&rt, &mut queue)
-}
-
-fn last_of_a_nonce_counts(rt: &impl Abort, queue: &mut RequestQueue) -> Result<(), Fail> {
-    let first = eid(0x0a02_0000, 16)?;
-    let last = eid(0x0a03_0000, 16)?;
-    queue.ask(0, first, None, false, 42)?;
-    queue.ask(SECOND, last, None, false, 42)?;
-    assert_eq!(rt; queue.open_count(SECOND), 1);
-    let request = queue.find(LATE, 42).ok_or("no request")?;
-    assert_eq!(rt; (request.eid, request.start), (last, SECOND));
-    assert_eq!(rt; is_open(queue, SECOND, &first), false);
-    Ok(())
-}
-
 // The nonce of the next request that is to be sent again, which it is then.
 fn send_next(queue: &mut RequestQueue, moment: u64, after: Option<u64>) -> Option<u64> {
     let nonce = queue.next_due(moment, after)?.nonce;
@@ -79,45 +47,9 @@ fn send_next(queue: &mut RequestQueue, moment: u64, after: Option<u64>) -> Optio
     Some(nonce)
 }
 
-#[test]
-fn a_request_is_sent_again_after_one_second_and_after_three(rt: HostRuntime) -> Result<(), Fail> {
-    let mut queue = RequestQueue::new(rt.alloc());
-    again_after_one_and_three(&rt, &mut queue)
-}
-
-fn again_after_one_and_three(rt: &impl Abort, queue: &mut RequestQueue) -> Result<(), Fail> {
-    queue.ask(0, eid(0x0a02_0000, 16)?, None, false, 42)?;
-    for (moment, nonce) in [
-        (SECOND - 1, None),
-        (SECOND, Some(42)),
-        (SECOND, None),
-        (3 * SECOND - 1, None),
-        (3 * SECOND, Some(42)),
-        (3 * SECOND, None),
-        (LATE - 1, None),
-    ] {
-        assert_eq!(rt; send_next(queue, moment, None), nonce);
-    }
-    Ok(())
-}
-
 // The nonce of the next request that is to be sent again.
 fn next_due(queue: &RequestQueue, moment: u64, after: Option<u64>) -> Option<u64> {
     Some(queue.next_due(moment, after)?.nonce)
-}
-
-#[test]
-fn a_request_that_waits_no_longer_is_not_sent_again(rt: HostRuntime) -> Result<(), Fail> {
-    let mut queue = RequestQueue::new(rt.alloc());
-    late_is_not_sent_again(&rt, &mut queue)
-}
-
-fn late_is_not_sent_again(rt: &impl Abort, queue: &mut RequestQueue) -> Result<(), Fail> {
-    queue.ask(0, eid(0x0a02_0000, 16)?, None, false, 42)?;
-    queue.look_ahead();
-    assert_eq!(rt; next_due(queue, LATE - 1, None), Some(42));
-    assert_eq!(rt; next_due(queue, LATE, None), None);
-    Ok(())
 }
 
 #[test]
@@ -143,7 +75,16 @@ fn again_in_asking_order(rt: &impl Abort, queue: &mut RequestQueue) -> Result<()
     }
     assert_eq!(rt; send_next(queue, SECOND, Some(7)), Some(3));
     assert_eq!(rt; next_due(queue, SECOND, Some(7)), Some(5));
-    assert_eq!(rt; next_due(queue, SECOND, None), Some(7));
+    // A request that waits no longer isn't sent again.
+    let rows = [
+        (SECOND, Some(7)),
+        (LATE - 1, Some(7)),
+        (LATE, Some(9)),
+        (LATE + 1, None),
+    ];
+    for (moment, nonce) in rows {
+        assert_eq!(rt; next_due(queue, moment, None), nonce);
+    }
     Ok(())
 }
 
