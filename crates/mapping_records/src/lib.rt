@@ -8,6 +8,7 @@ mod eid_reading;
 mod eid_writing;
 mod fault;
 mod laws;
+mod limits;
 mod locator_reading;
 mod places;
 mod record;
@@ -25,6 +26,7 @@ pub use laws::{
     canonical_eid_spells, canonical_record_spells, no_longer_one_covers, one_eid_is_spelled,
     one_record_is_spelled, written_eid_is_read_again, written_record_is_read_again,
 };
+pub use limits::{DEFAULT_MINUTES, MOST_LOCATORS, MOST_MAPPINGS, limits_are};
 pub use octets::{NoMemory, Octets, Refused};
 pub use places::{addr_at, addr_size, has_addr, refused};
 pub use record::{Locator, Locators, Record};
