@@ -1,15 +1,19 @@
--- Octets spell one header.
-use Rattle.std.proofs.Common.{◌≡◌, ℕ, List, None, inl, inr, refl, sym, ap, ◌∙◌, arith}
+-- Octets spell one header; what is written spells its own.
+use Rattle.std.proofs.Common.{◌≡◌, ℕ, ◌<◌, ◌+◌, ◌^◌, List, [], ◌++◌, Bool, length, None, inl, inr, refl, sym, ap, subst, ◌∙◌, arith}
 use Rattle.std.proofs.lemmas.Bool.{cases_Bool, eqb-true}
 use Rattle.octets.specs.Rules.{first_failing}
 use Rattle.ip_headers.specs.Ip.{header_at, ip_rules, is_v4, v4_at, v6_at, version, Spells, SpellsV4, SpellsV6}
-use Rattle.ip_headers.specs.Udp.{SpellsUdp}
+use Rattle.ip_headers.specs.Canonical.{canonical_v4, canonical_v6, InRangeV4, InRangeV6}
+use Rattle.ip_headers.specs.Udp.{canonical_udp, canonical_udp_header, InRangeUdp, SpellsUdp}
+use Rattle.ip_headers.specs.declared.addr.Addr.{Addr}
 use Rattle.ip_headers.specs.declared.header.IpHeader.{IpHeader}
 use Rattle.ip_headers.specs.declared.header.IpHeader.TheVariants.{V4, V6}
 use Rattle.ip_headers.specs.declared.header.UdpHeader.{UdpHeader}
 use Rattle.ip_headers.specs.declared.header.V4Header.{V4Header}
 use Rattle.ip_headers.specs.declared.header.V6Header.{V6Header}
 use Rattle.ip_headers.proofs.CutPacket.{is_six}
+use Rattle.ip_headers.proofs.Spelled.{read_back, v4_at-canonical, v6_at-canonical, version-canonical_v6}
+use Rattle.ip_headers.proofs.UdpReadAgain.{checksum_fits, checksum_of}
 
 v4_at-spelled : (octets : List ℕ) (h : V4Header) → SpellsV4 octets h → v4_at octets ≡ h
 v4_at-spelled octets h s =
@@ -40,3 +44,29 @@ spelled base octets none =
 pub one_udp_header : (octets : List ℕ) (a b : UdpHeader) → SpellsUdp octets a → SpellsUdp octets b → a.at ≡ b.at → a ≡ b
 one_udp_header octets a b s t place =
     rw (sym s.source ∙ t.source, sym s.dest ∙ t.dest, sym s.length ∙ t.length, sym s.checksum ∙ t.checksum, place) refl
+
+pub spells-canonical_v4 : (h : V4Header) (rest : List ℕ) → InRangeV4 h → SpellsV4 (canonical_v4 h ++ rest) h
+spells-canonical_v4 h rest range =
+    subst (SpellsV4 (canonical_v4 h ++ rest)) (v4_at-canonical h rest range) (spelled_v4 (canonical_v4 h ++ rest) refl)
+
+pub spells-canonical_v6 : (h : V6Header) (rest : List ℕ) → InRangeV6 h → SpellsV6 (canonical_v6 h ++ rest) h
+spells-canonical_v6 h rest range =
+    subst (SpellsV6 (canonical_v6 h ++ rest)) (v6_at-canonical h rest range) (spelled_v6 (canonical_v6 h ++ rest) (version-canonical_v6 h rest range))
+
+pub spells-canonical_udp_header : (udp : UdpHeader) (rest : List ℕ) → InRangeUdp udp → SpellsUdp (canonical_udp_header udp ++ rest) udp
+spells-canonical_udp_header udp rest range = record {
+  source = read_back 2 udp.source [] range.source;
+  dest = read_back 2 udp.dest [] range.dest;
+  length = read_back 2 udp.length [] range.length;
+  checksum = read_back 2 udp.checksum [] range.checksum;
+}
+
+pub spells-canonical_udp : (from to : Addr) (source dest at : ℕ) (payload : List ℕ) (summed : Bool) (rest : List ℕ)
+    → source < 2 ^ 16 → dest < 2 ^ 16 → 8 + length payload < 2 ^ 16
+    → SpellsUdp (canonical_udp from to source dest payload summed ++ rest)
+    record { source = source; dest = dest; length = 8 + length payload; checksum = checksum_of from to source dest payload summed; at = at }
+spells-canonical_udp from to source dest at payload summed rest s d size =
+    spells-canonical_udp_header
+    (record { source = source; dest = dest; length = 8 + length payload; checksum = checksum_of from to source dest payload summed; at = at })
+    (payload ++ rest)
+    (record { source = s; dest = d; length = size; checksum = checksum_fits from to source dest payload summed })

@@ -20,13 +20,13 @@ big-behind n at front octets = ap (λ (rest : List ℕ). big n rest 0) (drop-app
 big-at_seam : (n : ℕ) (front octets : List ℕ) → big n (front ++ octets) (length front) ≡ big n octets 0
 big-at_seam n front octets = ap (λ (rest : List ℕ). big n rest 0) (drop-append_seam front octets)
 
-abbrev checksum_of : Addr → Addr → ℕ → ℕ → List ℕ → Bool → ℕ
+abbrev pub checksum_of : Addr → Addr → ℕ → ℕ → List ℕ → Bool → ℕ
 checksum_of from to source dest payload summed = if summed then udp_checksum from to source dest payload else 0
 
 nonzero-le : (n : ℕ) → n ≤ 65535 → nonzero n ≤ 65535
 nonzero-le n small = grind (arith, common_steps)
 
-checksum_fits : (from to : Addr) (source dest : ℕ) (payload : List ℕ) (summed : Bool) → checksum_of from to source dest payload summed < 65536
+pub checksum_fits : (from to : Addr) (source dest : ℕ) (payload : List ℕ) (summed : Bool) → checksum_of from to source dest payload summed < 65536
 checksum_fits from to source dest payload true =
     let sum = 65535 - udp_sum from to (datagram source dest 0 payload) in
     let small : nonzero sum ≤ 65535 = nonzero-le sum (omega arith) in

@@ -13,6 +13,10 @@ abbrev pub number : Addr → ℕ
 number (V4 n) = n
 number (V6 n) = n
 
+-- the two are of one family and have the same bits
+abbrev pub same_address : Addr → Addr → Bool
+same_address a b = (width a == width b) && (number a == number b)
+
 -- the number fits its family
 abbrev pub IsAddr : Addr → Type 0
 IsAddr addr = number addr < 2 ^ width addr

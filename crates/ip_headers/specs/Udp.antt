@@ -1,5 +1,5 @@
 -- UDP, RFC 768; its pseudo-header over IPv6, RFC 8200 section 8.1.
-use Rattle.std.specs.Prelude.{◌≡◌, ℕ, ◌+◌, ◌-◌, ◌==◌, ◌&&◌, nat_le, Bool, List, [], ◌∷◌, ◌++◌, length, take, drop, Option, Some, None, Result, Ok, Err, if◌then◌else◌}
+use Rattle.std.specs.Prelude.{◌≡◌, ℕ, ◌<◌, ◌+◌, ◌-◌, ◌^◌, ◌==◌, ◌&&◌, nat_le, Bool, List, [], ◌∷◌, ◌++◌, length, take, drop, Option, Some, None, Result, Ok, Err, if◌then◌else◌}
 use Rattle.octets.specs.Numbers.{big, big_octets}
 use Rattle.octets.specs.Rules.{first_failing}
 use Rattle.octets.specs.declared.refused.Refused.{Refused}
@@ -110,6 +110,17 @@ udp_checksum_rules packet udp zero_allowed =
 abbrev pub udp_octets : ℕ → ℕ → ℕ → ℕ → List ℕ
 udp_octets source dest size sum =
     big_octets 2 source ++ (big_octets 2 dest ++ (big_octets 2 size ++ big_octets 2 sum))
+
+-- the eight octets of a header, with the checksum that it holds
+abbrev pub canonical_udp_header : UdpHeader → List ℕ
+canonical_udp_header udp = udp_octets udp.source udp.dest udp.length udp.checksum
+
+-- its numbers fit
+pub record InRangeUdp (udp : UdpHeader) : Type 0 where
+  pub source : udp.source < 2 ^ 16
+  pub dest : udp.dest < 2 ^ 16
+  pub length : udp.length < 2 ^ 16
+  pub checksum : udp.checksum < 2 ^ 16
 
 -- a datagram with that checksum
 abbrev pub datagram : ℕ → ℕ → ℕ → List ℕ → List ℕ

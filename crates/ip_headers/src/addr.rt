@@ -1,5 +1,6 @@
 // IP addresses.
 ghost use Rattle.std.specs.Prelude.{◌≡◌, ◌==◌};
+ghost use Rattle.ip_headers.specs.Addr.{same_address};
 
 /// An IP address. Each IPv4 address is below each IPv6 address.
 #[derive(Clone, Copy, Debug, PartialEq, Eq, PartialOrd, Ord)]
@@ -26,4 +27,11 @@ impl Addr {
     {
         matches!(self, Addr::V4(_))
     }
+}
+
+/// The two are of one family and have the same bits.
+pub fn same_address(a: &Addr, b: &Addr) -> bool
+    ensures { result ≡ same_address a.now b.now }
+{
+    a == b
 }

@@ -3,8 +3,8 @@ ghost use Rattle.std.specs.Prelude.{◌≡◌, ◌+◌, ◌<◌, ◌^◌, ◌++�
 ghost use Rattle.octets.specs.Rules.{first_failing};
 ghost use Rattle.ip_headers.specs.Canonical.{canonical_v4, canonical_v6, InRangeV4, InRangeV6};
 ghost use Rattle.ip_headers.specs.Checksum.{ones_sum};
-ghost use Rattle.ip_headers.specs.Ip.{header_at, ip_rules, v4_at, v6_at, Spells};
-ghost use Rattle.ip_headers.specs.Udp.{canonical_udp, udp_at, udp_checksum, udp_rules, udp_sum, SpellsUdp};
+ghost use Rattle.ip_headers.specs.Ip.{header_at, ip_rules, Spells};
+ghost use Rattle.ip_headers.specs.Udp.{canonical_udp, canonical_udp_header, udp_at, udp_checksum, udp_rules, udp_sum, InRangeUdp, SpellsUdp};
 ghost use Rattle.ip_headers.specs.declared.addr.Addr.{Addr};
 ghost use Rattle.ip_headers.specs.declared.header.IpHeader.{IpHeader};
 ghost use Rattle.ip_headers.specs.declared.header.IpHeader.TheVariants.{V4, V6};
@@ -14,30 +14,31 @@ ghost use Rattle.ip_headers.specs.declared.header.V6Header.{V6Header};
 
 /// What is written of an IPv4 header spells it, whatever follows, and its sum is all ones.
 pub fn canonical_v4_spells()
-    ensures value { (h : V4Header) (rest : List ℕ)
-        → InRangeV4 h → v4_at (canonical_v4 h ++ rest) ≡ h }
+    ensures spells { (h : V4Header) (rest : List ℕ)
+        → InRangeV4 h → Spells (canonical_v4 h ++ rest) (V4 h) }
     ensures sum { (h : V4Header) → InRangeV4 h → ones_sum (canonical_v4 h) ≡ 65535 }
 {}
 
 /// What is written of an IPv6 header spells it, whatever follows.
 pub fn canonical_v6_spells()
-    ensures { (h : V6Header) (rest : List ℕ) → InRangeV6 h → v6_at (canonical_v6 h ++ rest) ≡ h }
+    ensures { (h : V6Header) (rest : List ℕ)
+        → InRangeV6 h → Spells (canonical_v6 h ++ rest) (V6 h) }
 {}
 
-/// What is written of a datagram spells its ports, length and checksum, whatever stands before and
-/// after it, and a checksum that was computed makes the sum all ones.
+/// What is written of a UDP header spells it, whatever follows. A datagram begins with the header
+/// of its ports, its length and its checksum; one that was computed makes the sum all ones.
 pub fn canonical_udp_spells()
-    ensures value { (from to : Addr) (source dest : ℕ) (payload : List ℕ) (summed : Bool)
-        (front rest : List ℕ)
+    ensures header { (udp : UdpHeader) (rest : List ℕ)
+        → InRangeUdp udp → SpellsUdp (canonical_udp_header udp ++ rest) udp }
+    ensures datagram { (from to : Addr) (source dest at : ℕ) (payload : List ℕ) (summed : Bool)
+        (rest : List ℕ)
         → source < 2 ^ 16 → dest < 2 ^ 16 → 8 + length payload < 2 ^ 16
-        → let octets = canonical_udp from to source dest payload summed in
-        udp_at (length front) (front ++ (octets ++ rest))
-        ≡ record {
+        → SpellsUdp (canonical_udp from to source dest payload summed ++ rest) record {
           source = source;
           dest = dest;
           length = 8 + length payload;
           checksum = (if summed then udp_checksum from to source dest payload else 0);
-          at = length front;
+          at = at;
         } }
     ensures sum { (from to : Addr) (source dest : ℕ) (payload : List ℕ)
         → All (λ octet. octet < 256) payload
@@ -76,11 +77,23 @@ pub fn written_v6_is_read_again()
         → InRangeV6 h → header_at (canonical_v6 h ++ rest) ≡ V6 h }
 {}
 
-/// A datagram obeys the rules of UDP, whatever stands before and after it.
+/// A datagram obeys the rules of UDP and its header is read again, whatever stands before and after.
 pub fn written_udp_is_read_again()
-    ensures { (base : ℕ) (from to : Addr) (source dest : ℕ) (payload : List ℕ) (summed : Bool)
+    ensures rules { (base : ℕ) (from to : Addr) (source dest : ℕ) (payload : List ℕ) (summed : Bool)
         (front rest : List ℕ)
         → 8 + length payload < 2 ^ 16
         → let octets = canonical_udp from to source dest payload summed in
         first_failing (udp_rules base (length front) (front ++ (octets ++ rest))) ≡ None }
+    ensures header { (from to : Addr) (source dest : ℕ) (payload : List ℕ) (summed : Bool)
+        (front rest : List ℕ)
+        → source < 2 ^ 16 → dest < 2 ^ 16 → 8 + length payload < 2 ^ 16
+        → let octets = canonical_udp from to source dest payload summed in
+        udp_at (length front) (front ++ (octets ++ rest))
+        ≡ record {
+          source = source;
+          dest = dest;
+          length = 8 + length payload;
+          checksum = (if summed then udp_checksum from to source dest payload else 0);
+          at = length front;
+        } }
 {}

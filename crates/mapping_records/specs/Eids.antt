@@ -1,12 +1,9 @@
 -- EIDs: which are the same, which cover which, and the longest that does (RFC 9301, section 5).
 use Rattle.std.specs.Prelude.{ℕ, ◌≤◌, ◌==◌, ◌&&◌, nat_le, Bool, IsTrue, List, All, Contains, filter, find, fold, Option, Some, None, if◌then◌else◌}
-use Rattle.ip_headers.specs.Addr.{covers, number, width}
+use Rattle.ip_headers.specs.Addr.{covers}
+pub use Rattle.ip_headers.specs.Addr.{same_address}
 use Rattle.ip_headers.specs.declared.addr.Addr.{Addr}
 use Rattle.mapping_records.specs.declared.eid.Eid.{Eid}
-
--- the two are of one family and have the same bits
-abbrev pub same_address : Addr → Addr → Bool
-same_address a b = (width a == width b) && (number a == number b)
 
 -- the two are the same prefix of one instance
 abbrev pub same_eid : Eid → Eid → Bool
