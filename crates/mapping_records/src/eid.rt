@@ -1,6 +1,5 @@
 // The identifiers of endpoints.
-ghost use Rattle.std.specs.Prelude.{◌≡◌, ◌<◌, ◌^◌};
-ghost use Rattle.mapping_records.specs.Eids.{same_eid};
+ghost use Rattle.std.specs.Prelude.{◌<◌, ◌^◌};
 
 use ip_headers::Prefix;
 
@@ -11,11 +10,4 @@ pub struct Eid {
     pub iid: u32,
     pub prefix: Prefix,
     ghost in_range: { iid < 2 ^ 24 },
-}
-
-/// The two are the same prefix of one instance.
-pub fn same_eid(a: &Eid, b: &Eid) -> bool
-    ensures { result ≡ same_eid a.now b.now }
-{
-    a == b
 }
