@@ -6,6 +6,7 @@ use Rattle.desk.specs.World.{Fills}
 use Rattle.octets.proofs.Fronts.{little-take, big-take}
 use Rattle.octets.proofs.RuleLemmas.{all_hold}
 use Rattle.octets.specs.Rules.{first_failing}
+use Rattle.capture_io.specs.Limits.{most_frame_octets, most_records}
 use Rattle.capture_io.specs.Capture.{number, header_rules, format_of, order_of, head_rules, fraction, kept, moment, per_second}
 use Rattle.capture_io.specs.declared.order.Order.{Order}
 use Rattle.capture_io.specs.declared.order.Order.TheVariants.{Little, Big}
@@ -77,10 +78,10 @@ moment-take format left = rw (number-take format.order 4 0 16 left (omega arith)
 
 -- a record's header that breaks no rule
 pub record Passed (format : Format) (at : Position) (left : List ℕ) : Type 0 where
-  pub room : at.count < 1000000000
+  pub room : at.count < most_records
   pub head : 16 ≤ length left
   pub fraction : fraction format left < per_second format.fraction
-  pub kept : kept format left ≤ 262144
+  pub kept : kept format left ≤ most_frame_octets
 
 -- what no rule that fails says
 pub passes : (format : Format) (at : Position) (left : List ℕ) → first_failing (head_rules format at left) ≡ None → Passed format at left

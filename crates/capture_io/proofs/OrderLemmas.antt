@@ -1,6 +1,7 @@
 -- The frames of a run: their moments don't fall, and there are at most 1,000,000,000.
 use Rattle.std.proofs.Common.{◌≡◌, ◌≤◌, ◌+◌, ℕ, zero, suc, List, length, Option, Some, None, Result, Ok, Err, unwrap_or, refl, sym, ap, subst, arith}
 use Rattle.capture_io.proofs.Runs.{frame_given, frame_room}
+use Rattle.capture_io.specs.Limits.{most_records}
 use Rattle.capture_io.specs.Capture.{advanced, outcome, running, begin}
 use Rattle.capture_io.specs.Frame.{Frame}
 use Rattle.capture_io.specs.Frames.{AreLater, Run, goes_on, read_on, read_within, rest}
@@ -30,7 +31,7 @@ unfolding read_on
 frames-later format left = later_within (length left) format begin left
 
 few_on : (format : Format) (at : Position) (left : List ℕ) (answer : Result (Option Frame) CaptureFault) (run : Run) → answer ≡ outcome format at left
-    → at.count ≤ 1000000000 → (at.count + 1 ≤ 1000000000 → at.count + 1 + length run.frames ≤ 1000000000) → at.count + length (goes_on answer run).frames ≤ 1000000000
+    → at.count ≤ most_records → (at.count + 1 ≤ most_records → at.count + 1 + length run.frames ≤ most_records) → at.count + length (goes_on answer run).frames ≤ most_records
 few_on format at left (Ok None) run is room few = omega (arith, room)
 few_on format at left (Ok (Some f)) run is room few =
     let less = frame_room format at left f is in
@@ -38,7 +39,7 @@ few_on format at left (Ok (Some f)) run is room few =
     omega (arith, all)
 few_on format at left (Err fault) run is room few = omega (arith, room)
 
-few_within : (n : ℕ) (format : Format) (at : Position) (left : List ℕ) → at.count ≤ 1000000000 → at.count + length (read_within n format at left).frames ≤ 1000000000
+few_within : (n : ℕ) (format : Format) (at : Position) (left : List ℕ) → at.count ≤ most_records → at.count + length (read_within n format at left).frames ≤ most_records
 unfolding read_within
 few_within zero format at left room = omega (arith, room)
 few_within (suc n) format at left room =
@@ -46,6 +47,6 @@ few_within (suc n) format at left room =
     (λ room. few_within n format (advanced format at left) (rest format left) room)
 
 -- they are at most 1,000,000,000
-pub frames-few : (format : Format) (left : List ℕ) → length (read_on format begin left).frames ≤ 1000000000
+pub frames-few : (format : Format) (left : List ℕ) → length (read_on format begin left).frames ≤ most_records
 unfolding read_on
 frames-few format left = let few = few_within (length left) format begin left (omega arith) in omega (arith, few)

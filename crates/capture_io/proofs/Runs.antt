@@ -4,6 +4,7 @@ use Rattle.std.proofs.lemmas.Bool.{leb-true, ltb-true}
 use Rattle.std.proofs.lemmas.List.{length-take, length-drop}
 use Rattle.octets.specs.Rules.{first_failing}
 use Rattle.octets.proofs.RuleLemmas.{all_hold}
+use Rattle.capture_io.specs.Limits.{most_records}
 use Rattle.capture_io.specs.Answers.{unless}
 use Rattle.capture_io.specs.Capture.{header_rules, format_of, begin, record_rules, frame, body, kept, outcome, advanced, fraction, per_second}
 use Rattle.capture_io.specs.Frame.{Frame}
@@ -50,12 +51,12 @@ frame_given format at (x ∷ left) f e =
     (is.1, ap (λ (g : Frame). length g.octets) is.1 ∙ omega (arith, there, length-take (kept format l) (drop 16 l)))
 
 -- where a frame is given, there were fewer records than may be
-pub frame_room : (format : Format) (at : Position) (left : List ℕ) (f : Frame) → Ok (Some f) ≡ outcome format at left → at.count < 1000000000
+pub frame_room : (format : Format) (at : Position) (left : List ℕ) (f : Frame) → Ok (Some f) ≡ outcome format at left → at.count < most_records
 frame_room format at [] f e = cc
 frame_room format at (x ∷ left) f e =
     let l = x ∷ left in
     let is = unless_frame (first_failing (record_rules format at l)) f (frame format at l (body format l)) e in
-    ltb-true at.count 1000000000 (all_hold (record_rules format at l) is.0).0
+    ltb-true at.count most_records (all_hold (record_rules format at l) is.0).0
 
 -- and its fraction is less than a second
 pub fraction_fits : (format : Format) (at : Position) (left : List ℕ) (f : Frame) → Ok (Some f) ≡ outcome format at left → fraction format left < per_second format.fraction

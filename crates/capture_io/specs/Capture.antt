@@ -4,6 +4,7 @@ use Rattle.octets.specs.Numbers.{little, big}
 use Rattle.octets.specs.Rules.{first_failing}
 use Rattle.capture_io.specs.Answers.{unless}
 use Rattle.capture_io.specs.Frame.{Frame}
+use Rattle.capture_io.specs.Limits.{longest_span, most_frame_octets, most_records}
 use Rattle.capture_io.specs.declared.order.Order.{Order}
 use Rattle.capture_io.specs.declared.order.Order.TheVariants.{Little, Big}
 use Rattle.capture_io.specs.declared.link.Link.{Link}
@@ -81,18 +82,18 @@ abbrev pub moment : Format → List ℕ → ℕ
 moment format left =
     seconds format left * 1000000000 + fraction format left * nanoseconds format.fraction
 
--- no more than 1,000,000 seconds past the greatest moment so far
+-- no more than the longest span past the greatest moment so far
 abbrev pub in_span : Option ℕ → ℕ → Bool
 in_span None m = true
-in_span (Some greatest) m = nat_le m (greatest + 1000000000000000)
+in_span (Some greatest) m = nat_le m (greatest + longest_span)
 
 -- the rules of a record's header
 abbrev pub head_rules : Format → Position → List ℕ → List (Bool × CaptureFault)
 head_rules format at left =
-    (nat_lt at.count 1000000000, TooManyRecords)
+    (nat_lt at.count most_records, TooManyRecords)
     ∷ (nat_le 16 (length left), CutRecord at.place)
     ∷ (nat_lt (fraction format left) (per_second format.fraction), BadFraction at.place)
-    ∷ (nat_le (kept format left) 262144, TooLong at.place (kept format left))
+    ∷ (nat_le (kept format left) most_frame_octets, TooLong at.place (kept format left))
     ∷ []
 
 -- the octets that the record keeps, as far as they are there

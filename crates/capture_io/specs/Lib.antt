@@ -3,6 +3,7 @@ pub mod Calls
 pub mod Capture
 pub mod Frame
 pub mod Frames
+pub mod Limits
 pub mod Link
 pub mod Output
 pub mod Reading

@@ -5,8 +5,8 @@ use Rattle.octets.specs.Rules.{first_failing}
 use Rattle.capture_io.specs.Answers.{unless}
 use Rattle.capture_io.specs.Capture.{header_rules, format_of, begin}
 use Rattle.capture_io.specs.Frame.{Frame}
+use Rattle.capture_io.specs.Limits.{most_frame_octets, most_records}
 use Rattle.capture_io.specs.declared.format.Format.{Format}
-use Rattle.capture_io.specs.declared.frame.TheConstants.{MOST_FRAME_OCTETS}
 use Rattle.capture_io.specs.declared.position.Position.{Position}
 use Rattle.capture_io.specs.declared.fault.CaptureFault.{CaptureFault}
 use Rattle.capture_io.specs.declared.fault.CaptureFault.TheVariants.{Memory}
@@ -34,17 +34,17 @@ is_moment (Some m) = nat_lt m (2 ^ 32 * 1000000000)
 -- where a reader can stand
 abbrev pub is_reachable : Position → Bool
 is_reachable at =
-    (nat_le at.count 1000000000 && nat_le at.place (24 + 262160 * at.count))
+    (nat_le at.count most_records && nat_le at.place (24 + (16 + most_frame_octets) * at.count))
     && is_moment at.greatest
 
 -- a frame that a reader of that format gives after that position, whatever the file holds
 pub record IsNext (format : Format) (at : Position) (f : Frame) : Type 0 where
   pub number : f.number ≡ at.count + 1
-  pub most : f.number ≤ 1000000000
+  pub most : f.number ≤ most_records
   pub later : unwrap_or at.greatest 0 ≤ f.moment
   pub moment : f.moment < 2 ^ 32 * 1000000000
   pub link : f.link ≡ format.link
-  pub size : length f.octets ≤ MOST_FRAME_OCTETS
+  pub size : length f.octets ≤ most_frame_octets
   pub octets : All (λ octet. octet < 256) f.octets
 
 -- where a reader stands after a frame

@@ -2,9 +2,6 @@ use crate::Link;
 use octets::Octets;
 use std::marker::Model;
 
-/// How many octets of a frame a record keeps at most.
-pub const MOST_FRAME_OCTETS: usize = 262_144;
-
 /// A frame of a capture. It has fewer than 2^32 octets.
 #[derive(Debug, Drop)]
 pub struct Frame {

@@ -8,7 +8,7 @@ ghost use Rattle.capture_io.specs.Reading.{is_moment};
 use crate::format::{Format, Fraction};
 use crate::order::Order;
 use crate::position::Position;
-use crate::{CaptureFault, Link, MOST_FRAME_OCTETS};
+use crate::{CaptureFault, LONGEST_SPAN, Link, MOST_FRAME_OCTETS, MOST_RECORDS};
 use octets::little_32;
 
 // The magic numbers, which name the unit of the fractions.
@@ -70,7 +70,7 @@ pub fn read_format(file: &[u8]) -> Result<Format, CaptureFault>
 pub fn head_fault(format: Format, at: Position, head: &[u8]) -> Option<CaptureFault>
     ensures { result ≡ first_failing (head_rules format at head.now) }
 {
-    if at.count >= 1_000_000_000 {
+    if at.count >= MOST_RECORDS {
         return Some(CaptureFault::TooManyRecords);
     }
     if head.len() < 16 {
@@ -104,7 +104,7 @@ pub fn is_in_span(greatest: Option<u64>, moment: u64) -> bool
     ensures { result ≡ in_span greatest moment }
 {
     match greatest {
-        Some(greatest) => moment <= greatest + 1_000_000_000_000_000,
+        Some(greatest) => moment <= greatest + LONGEST_SPAN,
         None => true,
     }
 }

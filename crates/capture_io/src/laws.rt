@@ -4,6 +4,7 @@ ghost use Rattle.std.specs.List.{All};
 ghost use Rattle.capture_io.specs.Calls.{later_answer, frame_or_end};
 ghost use Rattle.capture_io.specs.Capture.{begin};
 ghost use Rattle.capture_io.specs.Frames.{AreLater, capture, ended, read_on};
+ghost use Rattle.capture_io.specs.Limits.{most_records};
 ghost use Rattle.capture_io.specs.Reading.{started};
 ghost use Rattle.capture_io.specs.declared.format.Format.{Format};
 
@@ -17,13 +18,13 @@ pub fn frames_come_in_order()
         capture file ≡ ended (Some fault)) }
 {}
 
-/// The moments of a file's frames don't fall, and there are at most 1,000,000,000 frames. In a file
-/// of octets no moment is of 2^32 seconds or more.
+/// The moments of a file's frames don't fall, and there are no more frames than a capture may have
+/// records. In a file of octets no moment is of 2^32 seconds or more.
 pub fn moments_do_not_fall()
     ensures later { (format : Format) (octets : List ℕ) →
         AreLater 0 (read_on format begin octets).frames }
     ensures few { (format : Format) (octets : List ℕ) →
-        length (read_on format begin octets).frames ≤ 1000000000 }
+        length (read_on format begin octets).frames ≤ most_records }
     ensures early { (format : Format) (octets : List ℕ) → All (λ octet. octet < 256) octets →
         All (λ frame. frame.moment < 2 ^ 32 * 1000000000) (read_on format begin octets).frames }
 {}

@@ -7,6 +7,7 @@ mod format;
 mod frame;
 mod header;
 mod laws;
+mod limits;
 mod link;
 mod order;
 mod payload;
@@ -20,8 +21,9 @@ pub use desk::{
     read_full,
 };
 pub use fault::CaptureFault;
-pub use frame::{Frame, MOST_FRAME_OCTETS};
+pub use frame::Frame;
 pub use laws::{frames_come_in_order, moments_do_not_fall};
+pub use limits::{LONGEST_SPAN, MOST_FRAME_OCTETS, MOST_RECORDS, limits_are};
 pub use link::Link;
 pub use octets::{Items, Layer, NoMemory, Octets, Refused, Why};
 pub use payload::link_payload;

@@ -1,8 +1,8 @@
 // The captures that are written.
 ghost use Rattle.std.specs.Prelude.{◌≡◌, ◌≤◌, ◌<◌, ◌*◌, ◌^◌, ◌++◌, length, OnOk, OnErr};
+ghost use Rattle.capture_io.specs.Limits.{most_frame_octets};
 ghost use Rattle.capture_io.specs.Output.{out_header, record_header, packet_record};
 
-use crate::MOST_FRAME_OCTETS;
 use octets::{NoMemory, Octets};
 
 // Nanoseconds, little-endian; version 2.4; zone and accuracy 0; snap length 262,144; raw IP.
@@ -22,7 +22,7 @@ pub fn write_header(out: &mut Octets) -> Result<(), NoMemory>
 /// 2^32 seconds.
 pub fn write_packet(moment: u64, packet: &[u8], out: &mut Octets) -> Result<(), NoMemory>
     requires moment { moment < 2 ^ 32 * 1000000000 }
-    requires size { length packet.now ≤ MOST_FRAME_OCTETS }
+    requires size { length packet.now ≤ most_frame_octets }
     ensures ok { OnOk result (out.new ≡ out.old ++ packet_record moment packet.now) }
     ensures err { OnErr result (out.new ≡ out.old) }
 {

@@ -1,7 +1,7 @@
 // Control messages in the packets that this router makes.
 ghost use Rattle.std.specs.Prelude.{◌≡◌, ◌≤◌, length, IfOk};
 ghost use Rattle.ip_headers.specs.Addr.{width};
-ghost use Rattle.capture_io.specs.declared.frame.TheConstants.{MOST_FRAME_OCTETS};
+ghost use Rattle.capture_io.specs.declared.limits.TheConstants.{MOST_FRAME_OCTETS};
 ghost use Rattle.map_messages.specs.Message.{canonical_message};
 ghost use Rattle.map_messages.specs.Range.{InRange};
 ghost use Rattle.map_messages.specs.Reply.{canonical_reply};

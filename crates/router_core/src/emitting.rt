@@ -1,6 +1,6 @@
 // The packets that this router makes itself.
 ghost use Rattle.std.specs.Prelude.{◌≡◌, ◌≤◌, IsTrue, is_some, length, IfOk};
-ghost use Rattle.capture_io.specs.declared.frame.TheConstants.{MOST_FRAME_OCTETS};
+ghost use Rattle.capture_io.specs.declared.limits.TheConstants.{MOST_FRAME_OCTETS};
 ghost use Rattle.map_messages.specs.Message.{canonical_message};
 ghost use Rattle.map_messages.specs.Range.{InRange};
 ghost use Rattle.map_messages.specs.declared.message.TheConstants.{MOST_MESSAGE_OCTETS};

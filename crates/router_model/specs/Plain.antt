@@ -1,7 +1,7 @@
 -- The plain router: it decides each packet of a capture by all of its journal.
 use Rattle.std.specs.Prelude.{ℕ, ◌≤◌, List, [], ◌∷◌, ◌++◌, length, map, Option, Some, None, IfSome, if◌then◌else◌}
 use Rattle.capture_io.specs.Frame.{Frame}
-use Rattle.capture_io.specs.declared.frame.TheConstants.{MOST_FRAME_OCTETS}
+use Rattle.capture_io.specs.declared.limits.TheConstants.{MOST_FRAME_OCTETS}
 use Rattle.lisp_settings.specs.declared.settings.Settings.{Settings}
 use Rattle.playback.specs.Events.{Event, Outcome, Packet, Tick, Arrival}
 use Rattle.router_log.specs.Lines.{frame_line}
