@@ -3,6 +3,7 @@ use Rattle.std.specs.Prelude.{ℕ, ◌≤◌, Bool, true, false, ◌&&◌, ◌||
 use Rattle.std.specs.List.{list_all, list_any}
 use Rattle.std.specs.Str.{bytes_eq}
 use Rattle.std.specs.Str.Parse.{digits_value}
+use Rattle.command_words.specs.Limits.{default_round_frames, most_round_frames, most_trial_mappings}
 use Rattle.command_words.specs.declared.words.Words.{Words}
 use Rattle.command_words.specs.declared.words.Words.TheVariants.{Replay, Show, Trial}
 
@@ -88,7 +89,7 @@ replay_of words = do
   input ← value_of (codes "--in") options
   output ← value_of (codes "--out") options
   workers ← number_or 0 0 0 (value_of (codes "--workers") options)
-  round ← number_or 1 4096 256 (value_of (codes "--round") options)
+  round ← number_or 1 most_round_frames default_round_frames (value_of (codes "--round") options)
   unless_over settings input output workers round
 
 -- `--in F`
@@ -102,13 +103,13 @@ show_of words = do
 abbrev pub trial_of : List (List ℕ) → Option Words
 trial_of [] = None
 trial_of (number ∷ []) = do
-  n ← number_in 1 50000 number
+  n ← number_in 1 most_trial_mappings number
   Some (Trial n)
 trial_of (number ∷ (other ∷ more)) = None
 
 -- a trial is of so many mappings at most
 abbrev pub HasFewMappings : Words → Type 0
-HasFewMappings (Trial n) = n ≤ 50000
+HasFewMappings (Trial n) = n ≤ most_trial_mappings
 HasFewMappings _ = Unit {0}
 
 -- what the words behind a command say

@@ -1,7 +1,9 @@
 //! The words after the program's name: what they say, or that they are of no form.
 #![tactic(auto)]
 
+mod limits;
 mod options;
 mod words;
 
+pub use limits::{DEFAULT_ROUND_FRAMES, MOST_ROUND_FRAMES, MOST_TRIAL_MAPPINGS, limits_are};
 pub use words::{Text, Word, Words, WordsFault, read_words};

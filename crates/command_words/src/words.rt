@@ -3,6 +3,7 @@ ghost use Rattle.std.specs.Prelude.{◌≡◌, ◌≤◌, Err, None, Some, map, 
 ghost use Rattle.command_words.specs.Words.{replay_of, show_of, trial_of, words_of, HasFewMappings};
 ghost use Rattle.command_words.specs.declared.words.WordsFault.TheVariants.{Usage, Memory};
 
+use crate::limits::{DEFAULT_ROUND_FRAMES, MOST_ROUND_FRAMES, MOST_TRIAL_MAPPINGS};
 use crate::options::{are_options, number_in, number_or, value_of};
 use octets::NoMemory;
 use std::alloc::{AllocError, Global};
@@ -59,7 +60,7 @@ pub enum Words {
     Show {
         input: Text,
     },
-    /// An input of so many mappings is made and replayed, 1 to 50,000.
+    /// An input of so many mappings is made and replayed.
     Trial {
         n: u32,
     },
@@ -114,7 +115,13 @@ fn read_replay(alloc: Global, words: &[Word]) -> Result<Words, WordsFault>
     let input = value_of("--in", words).ok_or(WordsFault::Usage)?;
     let output = value_of("--out", words).ok_or(WordsFault::Usage)?;
     let workers = number_or(words, "--workers", (0, 0), 0).ok_or(WordsFault::Usage)?;
-    let round = number_or(words, "--round", (1, 4096), 256).ok_or(WordsFault::Usage)?;
+    let round = number_or(
+        words,
+        "--round",
+        (1, MOST_ROUND_FRAMES),
+        DEFAULT_ROUND_FRAMES,
+    )
+    .ok_or(WordsFault::Usage)?;
     if output == input || output == settings {
         return Err(WordsFault::Usage);
     }
@@ -147,7 +154,7 @@ fn read_trial(words: &[Word]) -> Result<Words, WordsFault>
     ensures few { IfOk result HasFewMappings }
 {
     match words {
-        [number] => match number_in(number.as_str(), 1, 50_000) {
+        [number] => match number_in(number.as_str(), 1, MOST_TRIAL_MAPPINGS) {
             Some(n) => Ok(Words::Trial { n }),
             None => Err(WordsFault::Usage),
         },

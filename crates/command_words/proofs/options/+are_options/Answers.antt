@@ -1,6 +1,6 @@
-use Rattle.std.proofs.Common.{◌≡◌, ◌∙◌, ◌&&◌, Bool, List, ℕ, ap, sym, arith, length, drop, take, ◌-◌, map, false, true}
+use Rattle.std.proofs.Common.{◌∙◌, ◌&&◌, Bool, ap, sym, arith, length, drop, take, ◌-◌, map}
 use Rattle.std.specs.Prelude.{string_bytes}
-use Rattle.command_words.specs.Words.{are_options, is_option}
+use Rattle.command_words.specs.Words.{are_options}
 use Rattle.command_words.proofs.WordLemmas.{are_options-short, are_options-more}
 use Rattle.command_words.proofs.options.+are_options.Goals as goal
 

@@ -1,0 +1,20 @@
+// The limits of the numbers among the words.
+ghost use Rattle.std.specs.Prelude.{◌≡◌};
+ghost use Rattle.command_words.specs.Limits.{default_round_frames, most_round_frames, most_trial_mappings};
+ghost use Rattle.command_words.specs.declared.limits.TheConstants.{DEFAULT_ROUND_FRAMES, MOST_ROUND_FRAMES, MOST_TRIAL_MAPPINGS};
+
+/// The most frames that are handed to forwarders at once.
+pub const MOST_ROUND_FRAMES: u32 = 4096;
+
+/// The same, where the words don't say.
+pub const DEFAULT_ROUND_FRAMES: u32 = 256;
+
+/// The most mappings of a trial.
+pub const MOST_TRIAL_MAPPINGS: u32 = 50_000;
+
+/// The limits are the defined ones.
+pub fn limits_are()
+    ensures frames { MOST_ROUND_FRAMES ≡ most_round_frames }
+    ensures default { DEFAULT_ROUND_FRAMES ≡ default_round_frames }
+    ensures mappings { MOST_TRIAL_MAPPINGS ≡ most_trial_mappings }
+{}
