@@ -1,3 +1,4 @@
 pub mod Forwarded
+pub mod Limits
 pub mod Rules
 pub mod Wrapped

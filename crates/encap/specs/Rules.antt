@@ -3,7 +3,7 @@ use Rattle.std.specs.Prelude.{ℕ, ◌+◌, nat_le, nat_lt, Bool, List, [], ◌�
 use Rattle.ip_headers.specs.Ip.{header_at, ttl_of}
 use Rattle.ip_headers.specs.declared.addr.Addr.{Addr}
 use Rattle.ip_headers.specs.declared.addr.Addr.TheVariants.{V4, V6}
-use Rattle.encap.specs.declared.wrapping.TheConstants.{MOST_TUNNEL_OCTETS}
+use Rattle.encap.specs.Limits.{most_tunnel_octets}
 use Rattle.encap.specs.declared.fault.EncapDrop.{EncapDrop}
 use Rattle.encap.specs.declared.fault.EncapDrop.TheVariants as drop
 
@@ -30,5 +30,5 @@ outer_len (V6 source) = 56
 abbrev pub encap_rules : List ℕ → Addr → List (Bool × Unsent)
 encap_rules inner from =
     (nat_lt 1 (ttl_of (header_at inner)), TtlExpired)
-    ∷ (nat_le (outer_len from + length inner) MOST_TUNNEL_OCTETS, TooBig)
+    ∷ (nat_le (outer_len from + length inner) most_tunnel_octets, TooBig)
     ∷ []

@@ -4,9 +4,9 @@ ghost use Rattle.ip_headers.specs.Addr.{width};
 ghost use Rattle.ip_headers.specs.Ip.{ttl_of};
 ghost use Rattle.ip_headers.specs.Udp.{udp_octets};
 ghost use Rattle.lisp_header.specs.declared.header.TheConstants.{LISP_DATA_PORT};
+ghost use Rattle.encap.specs.Limits.{most_tunnel_octets};
 ghost use Rattle.encap.specs.Rules.{outer_len};
 ghost use Rattle.encap.specs.Wrapped.{outer_header, outer_v4, outer_v6};
-ghost use Rattle.encap.specs.declared.wrapping.TheConstants.{MOST_TUNNEL_OCTETS};
 
 use ip_headers::{Addr, IpPacket, UDP, V4Header, V6Header, write_v4, write_v6};
 use lisp_header::LISP_DATA_PORT;
@@ -31,7 +31,7 @@ pub(crate) fn append_outer(
 ) -> Result<(), NoMemory>
     requires family { width from ≡ width to }
     requires ttl { 1 ≤ ttl_of inner.now.header }
-    requires size { outer_len from + length inner.now.octets.now ≤ MOST_TUNNEL_OCTETS }
+    requires size { outer_len from + length inner.now.octets.now ≤ most_tunnel_octets }
     ensures { OnOk result (out.new ≡ out.old ++ outer_header inner.now.octets.now from to) }
 {
     match (from, to) {
@@ -43,7 +43,7 @@ pub(crate) fn append_outer(
 
 fn outer_v4(inner: &IpPacket, source: u32, dest: u32) -> V4Header
     requires ttl { 1 ≤ ttl_of inner.now.header }
-    requires size { 36 + length inner.now.octets.now ≤ MOST_TUNNEL_OCTETS }
+    requires size { 36 + length inner.now.octets.now ≤ most_tunnel_octets }
     ensures { result ≡ outer_v4 inner.now.octets.now source dest }
 {
     V4Header {
@@ -63,7 +63,7 @@ fn outer_v4(inner: &IpPacket, source: u32, dest: u32) -> V4Header
 
 fn outer_v6(inner: &IpPacket, source: u128, dest: u128) -> V6Header
     requires ttl { 1 ≤ ttl_of inner.now.header }
-    requires size { 56 + length inner.now.octets.now ≤ MOST_TUNNEL_OCTETS }
+    requires size { 56 + length inner.now.octets.now ≤ most_tunnel_octets }
     ensures { result ≡ outer_v6 inner.now.octets.now source dest }
 {
     V6Header {
