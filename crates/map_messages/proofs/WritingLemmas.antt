@@ -4,6 +4,7 @@ use Rattle.ip_headers.specs.Udp.{canonical_udp, udp_checksum}
 use Rattle.ip_headers.specs.declared.addr.Addr.{Addr}
 use Rattle.ip_headers.proofs.DatagramLemmas.{length-datagram}
 use Rattle.map_messages.specs.Control.{canonical_carried, canonical_ecm, control_header, control_packet}
+use Rattle.map_messages.specs.Limits.{most_message_octets}
 use Rattle.map_messages.specs.declared.message.Ecm.{Ecm}
 
 -- five runs of octets behind others
@@ -20,7 +21,7 @@ length-control_packet from to port payload =
     omega (arith, length-append (control_header from to (8 + length payload)) (canonical_udp from to port 4342 payload true), length-datagram port 4342 (udp_checksum from to port 4342 payload) payload)
 
 -- what is carried is no longer than the whole
-pub carried_short : (ecm : Ecm) → length (canonical_ecm ecm) ≤ 65000 → length (canonical_carried ecm.request ecm.reply) ≤ 65000
+pub carried_short : (ecm : Ecm) → length (canonical_ecm ecm) ≤ most_message_octets → length (canonical_carried ecm.request ecm.reply) ≤ most_message_octets
 carried_short ecm short =
     let payload : List ℕ = canonical_carried ecm.request ecm.reply in
     omega (arith, short, length-control_packet ecm.source ecm.dest ecm.source_port payload)

@@ -23,6 +23,7 @@ use Rattle.ip_headers.proofs.ReadAgain.{header_at-canonical_v4, header_at-canoni
 use Rattle.ip_headers.proofs.Spelled.{ones_sum-canonical_v4, read_back, version-canonical_v6}
 use Rattle.ip_headers.proofs.UdpReadAgain.{udp_at-canonical, udp_sum-canonical}
 use Rattle.map_messages.specs.Control.{canonical_carried, canonical_ecm, control_header, control_packet, control_v4, control_v6, Carries, SpellsEcm}
+use Rattle.map_messages.specs.Limits.{most_message_octets}
 use Rattle.map_messages.specs.Plain.{SpellsPlain}
 use Rattle.map_messages.specs.Range.{IsLawfulEcm, IsLawfulReply, IsLawfulRequest}
 use Rattle.map_messages.specs.Reply.{canonical_reply, SpellsReply}
@@ -85,7 +86,7 @@ record ControlHeader (from to : Addr) (size : ℕ) (rest : List ℕ) : Type 0 wh
   exact : packet_len header ≡ length (control_header from to size) + size
 
 -- the header that is written
-made_header : (from to : Addr) (size : ℕ) (rest : List ℕ) → width from ≡ width to → IsAddr from → IsAddr to → size ≤ 65000 → size ≤ length rest → ControlHeader from to size rest
+made_header : (from to : Addr) (size : ℕ) (rest : List ℕ) → width from ≡ width to → IsAddr from → IsAddr to → size ≤ most_message_octets → size ≤ length rest → ControlHeader from to size rest
 unfolding control_header
 made_header (family.V4 a) (family.V4 b) size rest same from to short fits =
     let h = control_v4 a b size in
@@ -172,7 +173,7 @@ carried_octets None (Some reply) asks answers = reply_octets reply answers
 carried_octets None None asks answers = λ k d below. absurd (omega arith)
 
 -- what is written is spelled
-pub ecm_spells : (ecm : Ecm) (rest : List ℕ) → IsLawfulEcm ecm → length (canonical_ecm ecm) ≤ 65000 → SpellsEcm (canonical_ecm ecm ++ rest) ecm (length rest)
+pub ecm_spells : (ecm : Ecm) (rest : List ℕ) → IsLawfulEcm ecm → length (canonical_ecm ecm) ≤ most_message_octets → SpellsEcm (canonical_ecm ecm ++ rest) ecm (length rest)
 unfolding control_packet
 ecm_spells ecm rest lawful short =
     let from = ecm.source in
@@ -185,7 +186,7 @@ ecm_spells ecm rest lawful short =
     let packet : List ℕ = front ++ datagram in
     let size_is : length datagram ≡ size = length-datagram port 4342 (udp_checksum from to port 4342 payload) payload in
     let whole : length packet ≡ length front + size = length-append front datagram ∙ ap (λ (n : ℕ). length front + n) size_is in
-    let small : size ≤ 65000 = omega (arith, short, whole) in
+    let small : size ≤ most_message_octets = omega (arith, short, whole) in
     let h = made_header from to size (datagram ++ rest) lawful.range.family lawful.source lawful.dest small (omega (arith, length-append datagram rest, size_is)) in
     let split : packet ++ rest ≡ front ++ (datagram ++ rest) = append_assoc front datagram rest in
     let udp = header_of from to port payload (length front) in

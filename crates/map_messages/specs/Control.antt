@@ -14,6 +14,7 @@ use Rattle.ip_headers.specs.declared.header.UdpHeader.{UdpHeader}
 use Rattle.ip_headers.specs.declared.header.V4Header.{V4Header}
 use Rattle.ip_headers.specs.declared.header.V6Header.{V6Header}
 use Rattle.mapping_records.specs.Address.{refused}
+use Rattle.map_messages.specs.Limits.{control_hops}
 use Rattle.map_messages.specs.Words.{bit, kind}
 use Rattle.map_messages.specs.Plain.{canonical_plain, plain_rules, plain_size, IsPlainAt, SpellsPlain}
 use Rattle.map_messages.specs.declared.message.Ecm.{Ecm}
@@ -129,7 +130,7 @@ control_v4 source dest size = record {
   dont_fragment = true;
   more = false;
   offset = 0;
-  ttl = 64;
+  ttl = control_hops;
   protocol = 17;
   header_len = 20;
 }
@@ -144,7 +145,7 @@ control_v6 source dest size =
       flow = 0;
       payload = size;
       next = 17;
-      hops = 64;
+      hops = control_hops;
     }
 
 -- the IP header of a control packet between addresses of one family

@@ -1,4 +1,5 @@
 pub mod Items
+pub mod Limits
 pub mod Words
 pub mod Request
 pub mod Reply

@@ -2,8 +2,8 @@
 use Rattle.std.specs.Prelude.{◌≡◌, ◌≤◌, ◌<◌, ◌^◌, length, All, IfSome}
 use Rattle.ip_headers.specs.Addr.{width, IsAddr}
 use Rattle.mapping_records.specs.Record.{InRange as InRangeRecord, IsLawful as IsLawfulRecord}
+use Rattle.map_messages.specs.Limits.{most_message_octets}
 use Rattle.map_messages.specs.Message.{canonical_message}
-use Rattle.map_messages.specs.declared.message.TheConstants.{MOST_MESSAGE_OCTETS}
 use Rattle.map_messages.specs.declared.message.Ecm.{Ecm}
 use Rattle.map_messages.specs.declared.message.MapReply.{MapReply}
 use Rattle.map_messages.specs.declared.message.MapRequest.{MapRequest}
@@ -75,4 +75,4 @@ HasLawfulParts (Control ecm) = IsLawfulEcm ecm
 -- a message that can be written, in at most 65,000 octets
 pub record IsLawful (message : Message) : Type 0 where
   pub parts : HasLawfulParts message
-  pub short : length (canonical_message message) ≤ MOST_MESSAGE_OCTETS
+  pub short : length (canonical_message message) ≤ most_message_octets

@@ -2,17 +2,13 @@
 ghost use Rattle.std.specs.Prelude.{◌≡◌, ◌≤◌, ◌+◌, ◌++◌, OnOk};
 ghost use Rattle.ip_headers.specs.Addr.{width};
 ghost use Rattle.map_messages.specs.Control.{control_header, control_v4, control_v6};
-ghost use Rattle.map_messages.specs.declared.message.TheConstants.{MOST_MESSAGE_OCTETS};
+ghost use Rattle.map_messages.specs.Limits.{most_message_octets};
 
-use crate::{Addr, NoMemory, Octets};
+use crate::{Addr, CONTROL_HOPS, NoMemory, Octets};
 use ip_headers::{UDP, V4Header, V6Header, write_v4, write_v6};
 
-/// The TTL of the packets that this router makes.
-const HOPS: u8 = 64;
-
 /// Appends the IP header of a packet in which this router sends a control message: UDP, of so many
-/// octets, from one address to another of its family. TTL or Hop Limit is 64. Without memory a part
-/// of it stays.
+/// octets, from one address to another of its family. Without memory a part of it stays.
 #[tactic(auto, unfolding(crate::specs::Control::control_header))]
 pub fn write_control_header(
     from: Addr,
@@ -21,7 +17,7 @@ pub fn write_control_header(
     out: &mut Octets,
 ) -> Result<(), NoMemory>
     requires family { width from ≡ width to }
-    requires short { size ≤ 8 + MOST_MESSAGE_OCTETS }
+    requires short { size ≤ 8 + most_message_octets }
     ensures { OnOk result (out.new ≡ out.old ++ control_header from to size) }
 {
     match (from, to) {
@@ -32,7 +28,7 @@ pub fn write_control_header(
 }
 
 fn control_v4(source: u32, dest: u32, size: u16) -> V4Header
-    requires { size ≤ 8 + MOST_MESSAGE_OCTETS }
+    requires { size ≤ 8 + most_message_octets }
     ensures { result ≡ control_v4 source dest size }
 {
     V4Header {
@@ -44,7 +40,7 @@ fn control_v4(source: u32, dest: u32, size: u16) -> V4Header
         dont_fragment: true,
         more: false,
         offset: 0,
-        ttl: HOPS,
+        ttl: CONTROL_HOPS,
         protocol: UDP,
         header_len: 20,
     }
@@ -60,6 +56,6 @@ fn control_v6(source: u128, dest: u128, size: u16) -> V6Header
         flow: 0,
         payload: size,
         next: UDP,
-        hops: HOPS,
+        hops: CONTROL_HOPS,
     }
 }

@@ -2,8 +2,8 @@
 ghost use Rattle.std.specs.Prelude.{◌≡◌, ◌≤◌, ◌++◌, length, OnOk, IfOk};
 ghost use Rattle.ip_headers.specs.Addr.{width};
 ghost use Rattle.map_messages.specs.Control.{canonical_carried, canonical_ecm, control_packet};
+ghost use Rattle.map_messages.specs.Limits.{most_message_octets};
 ghost use Rattle.map_messages.specs.Range.{InRangeEcm};
-ghost use Rattle.map_messages.specs.declared.message.TheConstants.{MOST_MESSAGE_OCTETS};
 
 use crate::control_header::write_control_header;
 use crate::reply_writing::write_reply;
@@ -15,7 +15,7 @@ use std::alloc::Global;
 /// Appends an Encapsulated Control Message. Without memory a part of it stays.
 pub(crate) fn write_ecm(alloc: Global, ecm: &Ecm, out: &mut Octets) -> Result<(), NoMemory>
     requires range { InRangeEcm ecm.now }
-    requires short { length (canonical_ecm ecm.now) ≤ MOST_MESSAGE_OCTETS }
+    requires short { length (canonical_ecm ecm.now) ≤ most_message_octets }
     ensures { OnOk result (out.new ≡ out.old ++ canonical_ecm ecm.now) }
 {
     let payload = carried_octets(alloc, ecm)?;
@@ -53,7 +53,7 @@ fn write_packet(
     out: &mut Octets,
 ) -> Result<(), NoMemory>
     requires family { width from ≡ width to }
-    requires short { length payload.now ≤ MOST_MESSAGE_OCTETS }
+    requires short { length payload.now ≤ most_message_octets }
     ensures { OnOk result (out.new ≡ out.old ++ control_packet from to port payload.now) }
 {
     write_control_header(from, to, 8 + payload.len() as u16, out)?;

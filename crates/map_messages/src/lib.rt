@@ -7,6 +7,7 @@ mod ecm_reading;
 mod ecm_writing;
 mod items;
 mod laws;
+mod limits;
 mod message;
 mod message_reading;
 mod message_writing;
@@ -21,10 +22,10 @@ mod request_writing;
 
 pub use control_header::write_control_header;
 pub use laws::{canonical_message_spells, one_message_is_spelled, written_message_is_read_again};
+pub use limits::{CONTROL_HOPS, MOST_MESSAGE_OCTETS, limits_are};
 pub use mapping_records::{Addr, Eid, NoMemory, Octets, Prefix, Record, Refused};
 pub use message::{
-    Addrs, Ecm, Eids, LISP_CONTROL_PORT, MOST_MESSAGE_OCTETS, MapReply, MapRequest, Message,
-    MessageFault, Records,
+    Addrs, Ecm, Eids, LISP_CONTROL_PORT, MapReply, MapRequest, Message, MessageFault, Records,
 };
 pub use message_reading::read_message;
 pub use message_writing::write_message;

@@ -7,9 +7,6 @@ use octets::Items;
 /// The UDP port of LISP control messages (RFC 9301).
 pub const LISP_CONTROL_PORT: u16 = 4342;
 
-/// The most octets of a message that can be written (this router's choice).
-pub const MOST_MESSAGE_OCTETS: usize = 65_000;
-
 /// Why octets gave no message: the first rule that fails, or an allocation that was refused.
 pub type MessageFault = RecordFault;
 

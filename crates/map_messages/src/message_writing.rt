@@ -1,8 +1,8 @@
 // Writing of control messages.
 ghost use Rattle.std.specs.Prelude.{◌≡◌, ◌≤◌, ◌++◌, length, OnOk, OnErr};
 ghost use Rattle.map_messages.specs.Message.{canonical_message};
+ghost use Rattle.map_messages.specs.Limits.{most_message_octets};
 ghost use Rattle.map_messages.specs.Range.{InRange};
-ghost use Rattle.map_messages.specs.declared.message.TheConstants.{MOST_MESSAGE_OCTETS};
 
 use crate::ecm_writing::write_ecm;
 use crate::reply_writing::write_reply;
@@ -11,10 +11,10 @@ use crate::{Message, NoMemory, Octets};
 use std::alloc::Global;
 
 /// Appends a message, with all that is ignored 0. The packet in an Encapsulated Control Message has
-/// TTL 64, no DSCP and ECN, and its checksums. Without memory `out` stays as it was.
+/// TTL `CONTROL_HOPS`, no DSCP and ECN, and its checksums. Without memory `out` stays as it was.
 pub fn write_message(alloc: Global, message: &Message, out: &mut Octets) -> Result<(), NoMemory>
     requires range { InRange message.now }
-    requires short { length (canonical_message message.now) ≤ MOST_MESSAGE_OCTETS }
+    requires short { length (canonical_message message.now) ≤ most_message_octets }
     ensures ok { OnOk result (out.new ≡ out.old ++ canonical_message message.now) }
     ensures err { OnErr result (out.new ≡ out.old) }
 {
@@ -25,7 +25,7 @@ pub fn write_message(alloc: Global, message: &Message, out: &mut Octets) -> Resu
 
 fn write_parts(alloc: Global, message: &Message, out: &mut Octets) -> Result<(), NoMemory>
     requires range { InRange message.now }
-    requires short { length (canonical_message message.now) ≤ MOST_MESSAGE_OCTETS }
+    requires short { length (canonical_message message.now) ≤ most_message_octets }
     ensures { OnOk result (out.new ≡ out.old ++ canonical_message message.now) }
 {
     match message {

@@ -5,7 +5,7 @@ use Rattle.ip_headers.specs.declared.addr.Addr.{Addr}
 use Rattle.map_messages.specs.Range.{InRangeReply}
 use Rattle.map_messages.specs.Reply.{canonical_reply}
 use Rattle.map_messages.specs.declared.message.MapReply.{MapReply}
-use Rattle.map_messages.specs.declared.message.TheConstants.{MOST_MESSAGE_OCTETS}
+use Rattle.map_messages.specs.declared.limits.TheConstants.{MOST_MESSAGE_OCTETS}
 use Rattle.lisp_settings.specs.declared.settings.Settings.{Settings}
 use Rattle.router_log.specs.declared.emit.Emit.{Emit}
 use Rattle.router_log.specs.declared.emit.Emit.TheVariants.{Request, Probe, Solicit, Reply}

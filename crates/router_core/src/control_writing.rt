@@ -5,7 +5,7 @@ ghost use Rattle.capture_io.specs.declared.limits.TheConstants.{MOST_FRAME_OCTET
 ghost use Rattle.map_messages.specs.Message.{canonical_message};
 ghost use Rattle.map_messages.specs.Range.{InRange};
 ghost use Rattle.map_messages.specs.Reply.{canonical_reply};
-ghost use Rattle.map_messages.specs.declared.message.TheConstants.{MOST_MESSAGE_OCTETS};
+ghost use Rattle.map_messages.specs.declared.limits.TheConstants.{MOST_MESSAGE_OCTETS};
 ghost use Rattle.router_model.specs.Emits.{message_packet};
 ghost use Rattle.router_core.specs.Sendable.{IsSendableReply};
 

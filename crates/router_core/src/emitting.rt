@@ -3,7 +3,7 @@ ghost use Rattle.std.specs.Prelude.{◌≡◌, ◌≤◌, IsTrue, is_some, lengt
 ghost use Rattle.capture_io.specs.declared.limits.TheConstants.{MOST_FRAME_OCTETS};
 ghost use Rattle.map_messages.specs.Message.{canonical_message};
 ghost use Rattle.map_messages.specs.Range.{InRange};
-ghost use Rattle.map_messages.specs.declared.message.TheConstants.{MOST_MESSAGE_OCTETS};
+ghost use Rattle.map_messages.specs.declared.limits.TheConstants.{MOST_MESSAGE_OCTETS};
 ghost use Rattle.lisp_settings.specs.Lawful.{IsLawful};
 ghost use Rattle.lisp_settings.specs.declared.settings.Settings.{Settings as SettingsValue};
 ghost use Rattle.router_log.specs.declared.emit.Emit.TheVariants as emits;
