@@ -3,6 +3,7 @@ use Rattle.std.proofs.Common.{◌≡◌, ◌≤◌, pos, codes, List, Some, Ok, 
 use Rattle.toml.specs.Data.{Items, Members, no_members, string, integer, boolean, array}
 use Rattle.mapping_records.specs.Orders.{addr_order}
 use Rattle.mapping_records.specs.declared.record.Record.{Record}
+use Rattle.lisp_settings.specs.Limits.{default_minutes, most_locators}
 use Rattle.lisp_settings.specs.AddressText.{address_of}
 use Rattle.lisp_settings.specs.Lawful.{IsLawfulMapping}
 use Rattle.lisp_settings.specs.Lists.{count}
@@ -27,7 +28,7 @@ database_in-written database front table eid version is =
     ap database_in (is ∙ ap (with_member (codes "version") (integer (pos database.version))) eid.members) ∙ rw (zero_leb database.eid.iid, le-leb database.eid.iid 16777215 (omega (arith, database.eid.in_range)), eid.prefix, eid_of-parts database.eid, zero_leb database.version, le-leb database.version 4095 version) refl
 
 -- the parts of a static mapping make it
-made_mapping : (mapping : Record) → mapping.ttl ≡ 1440 → mapping.authoritative ≡ true → record { ttl = 1440; action = mapping.action; authoritative = true; version = mapping.version; eid = mapping.eid; locators = mapping.locators } ≡ mapping
+made_mapping : (mapping : Record) → mapping.ttl ≡ default_minutes → mapping.authoritative ≡ true → record { ttl = default_minutes; action = mapping.action; authoritative = true; version = mapping.version; eid = mapping.eid; locators = mapping.locators } ≡ mapping
 made_mapping mapping ttl authoritative = λ i. record {
   ttl = sym ttl i;
   action = mapping.action;
@@ -41,4 +42,4 @@ made_mapping mapping ttl authoritative = λ i. record {
 pub mapping_in-written : (mapping : Record) (front table : Members) (locators : Items) → IsLawfulMapping mapping → IsEidTable mapping.eid front → IsArrayOf mapped_in (λ locator. locator.addr) addr_order 1 mapping.locators locators → table ≡ with_member (codes "locator") (array locators) (with_member (codes "action") (integer (pos mapping.action)) (with_member (codes "version") (integer (pos mapping.version)) front)) → mapping_in table ≡ Ok mapping
 mapping_in-written mapping front table locators lawful eid listed is =
     ap mapping_in (is ∙ ap (λ t. with_member (codes "locator") (array locators) (with_member (codes "action") (integer (pos mapping.action)) (with_member (codes "version") (integer (pos mapping.version)) t))) eid.members)
-    ∙ rw (zero_leb mapping.eid.iid, le-leb mapping.eid.iid 16777215 (omega (arith, mapping.eid.in_range)), eid.prefix, eid_of-parts mapping.eid, zero_leb mapping.version, le-leb mapping.version 4095 lawful.version, zero_leb mapping.action, le-leb mapping.action 7 lawful.action, listed.tables, le-leb (count locators) 32 (omega (arith, listed.number, lawful.few_locators)), listed.reads (codes "locator")) (ap Ok (made_mapping mapping lawful.ttl lawful.authoritative))
+    ∙ rw (zero_leb mapping.eid.iid, le-leb mapping.eid.iid 16777215 (omega (arith, mapping.eid.in_range)), eid.prefix, eid_of-parts mapping.eid, zero_leb mapping.version, le-leb mapping.version 4095 lawful.version, zero_leb mapping.action, le-leb mapping.action 7 lawful.action, listed.tables, le-leb (count locators) most_locators (omega (arith, listed.number, lawful.few_locators)), listed.reads (codes "locator")) (ap Ok (made_mapping mapping lawful.ttl lawful.authoritative))

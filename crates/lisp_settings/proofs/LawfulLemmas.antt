@@ -7,6 +7,7 @@ use Rattle.std.specs.Cmp.{IsTotalOrder}
 use Rattle.std.specs.List.Sorted.{IsStrictlySortedBy}
 use Rattle.toml.specs.Data.{Data, Members, as_bool, as_integer}
 use Rattle.ip_headers.specs.declared.addr.Addr.{Addr}
+use Rattle.lisp_settings.specs.Limits.{default_minutes, most_attachments, most_databases, most_locators, most_mappings, most_nonces}
 use Rattle.lisp_settings.specs.Lawful.{IsLawful, IsLawfulAttachment, IsLawfulDatabase, IsLawfulLocator, IsLawfulMapping}
 use Rattle.lisp_settings.specs.Lists.{any_ascending, ascending, nonces_at, one_or_more}
 use Rattle.mapping_records.specs.Orders.{addr_order, eid_order}
@@ -65,7 +66,7 @@ mapping_in-lawful table =
     pass IsLawfulMapping (eid_in table) _ (λ eid.
     step (λ version. version ≤ 4095) IsLawfulMapping (version_in table) _ (version_in-small table) (λ version small.
     step (IsWithin 0 7) IsLawfulMapping _ _ (optional-holds (IsWithin 0 7) (codes "action") (number 0 7) 0 table (omega arith, omega arith) (number-within 0 7)) (λ action few.
-    step _ IsLawfulMapping (mapped_locators table) (λ locators. Ok (record { ttl = 1440; action = action; authoritative = true; version = version; eid = eid; locators = locators })) (any_number-few (codes "locator") mapped_in (λ locator. locator.addr) addr_order addr_order-total IsLawfulLocator mapped_in-lawful 32 table) (λ locators are.
+    step _ IsLawfulMapping (mapped_locators table) (λ locators. Ok (record { ttl = default_minutes; action = action; authoritative = true; version = version; eid = eid; locators = locators })) (any_number-few (codes "locator") mapped_in (λ locator. locator.addr) addr_order addr_order-total IsLawfulLocator mapped_in-lawful most_locators table) (λ locators are.
     record { ttl = refl; action = few.1; version = small; authoritative = refl; few_locators = are.few; locators = are.all; distinct = are.distinct })))))
 
 abbrev own_addr : OwnLocator → Addr
@@ -86,29 +87,29 @@ ascending-kept key order total P most items are = record {
 
 -- own locators, of which there is one at least
 abbrev AreOwn : List OwnLocator → Type 0
-AreOwn locators = AreKept own_addr addr_order (λ own. Unit {0}) 32 locators × (1 ≤ length locators)
+AreOwn locators = AreKept own_addr addr_order (λ own. Unit {0}) most_locators locators × (1 ≤ length locators)
 
 own_locators-lawful : (top : Members) → IfOk (own_locators top) AreOwn
 own_locators-lawful top =
-    step _ AreOwn (one_or_more (codes "locator") locator_in own_addr addr_order 32 top) (λ locators. Ok (ascending own_addr addr_order locators))
-    (one_or_more-some (codes "locator") locator_in own_addr addr_order addr_order-total (λ own. Unit {0}) (λ table. IfOk-any (locator_in table)) 32 top)
-    (λ locators are. (ascending-kept own_addr addr_order addr_order-total (λ own. Unit {0}) 32 locators are.0, ascending-some own_addr addr_order locators are.1))
+    step _ AreOwn (one_or_more (codes "locator") locator_in own_addr addr_order most_locators top) (λ locators. Ok (ascending own_addr addr_order locators))
+    (one_or_more-some (codes "locator") locator_in own_addr addr_order addr_order-total (λ own. Unit {0}) (λ table. IfOk-any (locator_in table)) most_locators top)
+    (λ locators are. (ascending-kept own_addr addr_order addr_order-total (λ own. Unit {0}) most_locators locators are.0, ascending-some own_addr addr_order locators are.1))
 
 any_ascending-kept : {A K : Type 0} (list : List ℕ) (read : Members → Result A SettingsFault) (key : A → K) (order : K → K → Ordering) (total : IsTotalOrder order) (P : A → Type 0) → ((table : Members) → IfOk (read table) P) → (most : ℕ) (top : Members) → IfOk (any_ascending list read key order most top) (AreKept key order P most)
 any_ascending-kept list read key order total P lawful most top =
     step _ (AreKept key order P most) _ _ (any_number-few list read key order total P lawful most top) (ascending-kept key order total P most)
 
-attachments-lawful : (top : Members) → IfOk (attachments top) (AreKept (λ attachment. attachment.vlan) nat_cmp IsLawfulAttachment 4096)
+attachments-lawful : (top : Members) → IfOk (attachments top) (AreKept (λ attachment. attachment.vlan) nat_cmp IsLawfulAttachment most_attachments)
 attachments-lawful top =
-    any_ascending-kept (codes "attachment") attachment_in (λ attachment. attachment.vlan) nat_cmp nat_cmp_total IsLawfulAttachment attachment_in-lawful 4096 top
+    any_ascending-kept (codes "attachment") attachment_in (λ attachment. attachment.vlan) nat_cmp nat_cmp_total IsLawfulAttachment attachment_in-lawful most_attachments top
 
-databases-lawful : (top : Members) → IfOk (databases top) (AreKept (λ database. database.eid) eid_order IsLawfulDatabase 64)
+databases-lawful : (top : Members) → IfOk (databases top) (AreKept (λ database. database.eid) eid_order IsLawfulDatabase most_databases)
 databases-lawful top =
-    any_ascending-kept (codes "database") database_in (λ database. database.eid) eid_order eid_order-total IsLawfulDatabase database_in-lawful 64 top
+    any_ascending-kept (codes "database") database_in (λ database. database.eid) eid_order eid_order-total IsLawfulDatabase database_in-lawful most_databases top
 
-mappings-lawful : (top : Members) → IfOk (mappings top) (AreKept (λ mapping. mapping.eid) eid_order IsLawfulMapping 65536)
+mappings-lawful : (top : Members) → IfOk (mappings top) (AreKept (λ mapping. mapping.eid) eid_order IsLawfulMapping most_mappings)
 mappings-lawful top =
-    any_ascending-kept (codes "mapping") mapping_in (λ mapping. mapping.eid) eid_order eid_order-total IsLawfulMapping mapping_in-lawful 65536 top
+    any_ascending-kept (codes "mapping") mapping_in (λ mapping. mapping.eid) eid_order eid_order-total IsLawfulMapping mapping_in-lawful most_mappings top
 
 -- the resolver is reachable where there is one
 abbrev IsReached : List OwnLocator → Option Addr → Type 0
@@ -124,15 +125,15 @@ pub settings_in-lawful : (top : Members) → IfOk (settings_in top) IsLawful
 settings_in-lawful top =
     pass IsLawful (only_keys top_keys top) _ (λ known.
     pass IsLawful (optional (codes "seed") seed (replicate 32 0) top) _ (λ seed.
-    pass IsLawful (nonces_at (codes "nonces") 4096 top) _ (λ nonces.
+    pass IsLawful (nonces_at (codes "nonces") most_nonces top) _ (λ nonces.
     pass IsLawful (resolver_in top) _ (λ resolver.
-    step (IsWithin 1 4294967294) IsLawful (optional (codes "ttl") (number 1 4294967294) 1440 top) _ (optional-holds (IsWithin 1 4294967294) (codes "ttl") (number 1 4294967294) 1440 top (omega arith, omega arith) (number-within 1 4294967294)) (λ ttl within.
+    step (IsWithin 1 4294967294) IsLawful (optional (codes "ttl") (number 1 4294967294) default_minutes top) _ (optional-holds (IsWithin 1 4294967294) (codes "ttl") (number 1 4294967294) default_minutes top (omega arith, omega arith) (number-within 1 4294967294)) (λ ttl within.
     pass IsLawful (optional (codes "probe") as_bool false top) _ (λ probe.
     pass IsLawful (optional (codes "echo") as_bool false top) _ (λ echo.
     step AreOwn IsLawful (own_locators top) _ (own_locators-lawful top) (λ locators own.
-    step (AreKept (λ attachment. attachment.vlan) nat_cmp IsLawfulAttachment 4096) IsLawful (attachments top) _ (attachments-lawful top) (λ attachments attached.
-    step (AreKept (λ database. database.eid) eid_order IsLawfulDatabase 64) IsLawful (databases top) _ (databases-lawful top) (λ databases based.
-    step (AreKept (λ mapping. mapping.eid) eid_order IsLawfulMapping 65536) IsLawful (mappings top) _ (mappings-lawful top) (λ mappings mapped.
+    step (AreKept (λ attachment. attachment.vlan) nat_cmp IsLawfulAttachment most_attachments) IsLawful (attachments top) _ (attachments-lawful top) (λ attachments attached.
+    step (AreKept (λ database. database.eid) eid_order IsLawfulDatabase most_databases) IsLawful (databases top) _ (databases-lawful top) (λ databases based.
+    step (AreKept (λ mapping. mapping.eid) eid_order IsLawfulMapping most_mappings) IsLawful (mappings top) _ (mappings-lawful top) (λ mappings mapped.
     step (λ r. IsReached locators resolver) IsLawful (only_reachable locators resolver)
     (λ r. Ok (record {
       seed = seed;

@@ -6,6 +6,7 @@ use Rattle.toml.proofs.Views.{items_view-push, view-String}
 use Rattle.toml.specs.Data.{string, Items, no_items, item, Members, as_array, as_bool, get_member, push_item}
 use Rattle.toml.specs.View.{items_view}
 use Rattle.toml.specs.declared.value.Value.{Value, String as Text}
+use Rattle.lisp_settings.specs.Limits.{default_minutes, most_nonces}
 use Rattle.lisp_settings.specs.Fields.{only_keys, optional, taken, value_or}
 use Rattle.lisp_settings.specs.Hex.{hex_number}
 use Rattle.lisp_settings.specs.Lists.{count, each_nonce, few_items, nonces_at}
@@ -34,16 +35,16 @@ nonces_at-few list most table =
 
 -- so many nonces
 abbrev HasFew : Settings → Type 0
-HasFew settings = length settings.nonces ≤ 4096
+HasFew settings = length settings.nonces ≤ most_nonces
 
 -- what is read lists 4,096 nonces at most
 pub settings_in-few : (top : Members) → IfOk (settings_in top) HasFew
 settings_in-few top =
     pass HasFew (only_keys top_keys top) _ (λ known.
     pass HasFew (optional (codes "seed") seed (replicate 32 0) top) _ (λ seed.
-    step (λ nonces. length nonces ≤ 4096) HasFew (nonces_at (codes "nonces") 4096 top) _ (nonces_at-few (codes "nonces") 4096 top) (λ nonces few.
+    step (λ nonces. length nonces ≤ most_nonces) HasFew (nonces_at (codes "nonces") most_nonces top) _ (nonces_at-few (codes "nonces") most_nonces top) (λ nonces few.
     pass HasFew (resolver_in top) _ (λ resolver.
-    pass HasFew (optional (codes "ttl") (number 1 4294967294) 1440 top) _ (λ ttl.
+    pass HasFew (optional (codes "ttl") (number 1 4294967294) default_minutes top) _ (λ ttl.
     pass HasFew (optional (codes "probe") as_bool false top) _ (λ probe.
     pass HasFew (optional (codes "echo") as_bool false top) _ (λ echo.
     pass HasFew (own_locators top) _ (λ locators.

@@ -7,6 +7,7 @@ use Rattle.toml.specs.Data.{Items, Members, no_members, array, as_bool, boolean,
 use Rattle.ip_headers.specs.declared.addr.Addr.{Addr}
 use Rattle.mapping_records.proofs.OrderLemmas.{addr_order-total, eid_order-total}
 use Rattle.mapping_records.specs.Orders.{addr_order, eid_order}
+use Rattle.lisp_settings.specs.Limits.{default_minutes, most_attachments, most_databases, most_locators, most_mappings, most_nonces}
 use Rattle.lisp_settings.specs.Fields.{if_ok, only_keys, optional}
 use Rattle.lisp_settings.specs.Lawful.{IsLawful}
 use Rattle.lisp_settings.specs.Lists.{any_ascending, any_number, ascending, count, nonces_at, one_or_more}
@@ -112,27 +113,27 @@ pub record IsTopTable (settings : Settings) (top : Members) : Type 0 where
   pub members : top ≡ listed locators attachments databases mappings front
 
 -- it reads as the settings
-pub settings_in-top : (settings : Settings) (top : Members) → IsTopTable settings top → IsLawful settings → length settings.nonces ≤ 4096 → settings_in top ≡ Ok settings
+pub settings_in-top : (settings : Settings) (top : Members) → IsTopTable settings top → IsLawful settings → length settings.nonces ≤ most_nonces → settings_in top ≡ Ok settings
 settings_in-top settings top made lawful few =
     let fronts = made.fronts in
     let HasAll : Members → Type 0 = HasMembers settings fronts.seed fronts.nonces made.locators made.attachments made.databases made.mappings in
     let whole : top ≡ listed made.locators made.attachments made.databases made.mappings (fronted settings fronts.seed fronts.nonces fronts.resolver) = made.members ∙ ap (listed made.locators made.attachments made.databases made.mappings) fronts.members in
     let has : HasAll top = subst HasAll (sym whole) (made_members settings fronts.seed fronts.nonces made.locators made.attachments made.databases made.mappings settings.resolver fronts.resolver refl fronts.resolver_reads) in
     let seed_is : optional (codes "seed") seed (replicate 32 0) top ≡ Ok settings.seed = rw (has.at_seed, fronts.seed_reads) refl in
-    let nonces_are : nonces_at (codes "nonces") 4096 top ≡ Ok settings.nonces = rw (has.at_nonces, le-leb (count fronts.nonces) 4096 (omega (arith, fronts.nonces_read.number))) (fronts.nonces_read.reads (codes "nonces")) in
-    let ttl_is : optional (codes "ttl") (number 1 4294967294) 1440 top ≡ Ok settings.ttl = rw (has.at_ttl, le-leb 1 settings.ttl lawful.ttl.0, le-leb settings.ttl 4294967294 lawful.ttl.1) refl in
+    let nonces_are : nonces_at (codes "nonces") most_nonces top ≡ Ok settings.nonces = rw (has.at_nonces, le-leb (count fronts.nonces) most_nonces (omega (arith, fronts.nonces_read.number))) (fronts.nonces_read.reads (codes "nonces")) in
+    let ttl_is : optional (codes "ttl") (number 1 4294967294) default_minutes top ≡ Ok settings.ttl = rw (has.at_ttl, le-leb 1 settings.ttl lawful.ttl.0, le-leb settings.ttl 4294967294 lawful.ttl.1) refl in
     let probe_is : optional (codes "probe") as_bool false top ≡ Ok settings.probe = rw has.at_probe refl in
     let echo_is : optional (codes "echo") as_bool false top ≡ Ok settings.echo = rw has.at_echo refl in
     let locators_are : own_locators top ≡ Ok settings.locators =
-    followed (one_or_more (codes "locator") locator_in (λ own. own.addr) addr_order 32 top) settings.locators (λ all. Ok (ascending (λ own. own.addr) addr_order all)) (Ok settings.locators)
-    (one_or_more-array locator_in (λ own. own.addr) addr_order (codes "locator") 32 1 top settings.locators made.locators has.at_locators made.own lawful.some_locators lawful.few_locators)
+    followed (one_or_more (codes "locator") locator_in (λ own. own.addr) addr_order most_locators top) settings.locators (λ all. Ok (ascending (λ own. own.addr) addr_order all)) (Ok settings.locators)
+    (one_or_more-array locator_in (λ own. own.addr) addr_order (codes "locator") most_locators 1 top settings.locators made.locators has.at_locators made.own lawful.some_locators lawful.few_locators)
     (ap Ok (ascending-of_sorted (λ own. own.addr) addr_order addr_order-total settings.locators lawful.locators)) in
     let attachments_are : attachments top ≡ Ok settings.attachments =
-    any_ascending-array attachment_in (λ attachment. attachment.vlan) nat_cmp nat_cmp_total (codes "attachment") 4096 1 top settings.attachments made.attachments has.at_attachments made.attached lawful.few_attachments lawful.vlans in
+    any_ascending-array attachment_in (λ attachment. attachment.vlan) nat_cmp nat_cmp_total (codes "attachment") most_attachments 1 top settings.attachments made.attachments has.at_attachments made.attached lawful.few_attachments lawful.vlans in
     let databases_are : databases top ≡ Ok settings.databases =
-    any_ascending-array database_in (λ database. database.eid) eid_order eid_order-total (codes "database") 64 1 top settings.databases made.databases has.at_databases made.based lawful.few_databases lawful.prefixes in
+    any_ascending-array database_in (λ database. database.eid) eid_order eid_order-total (codes "database") most_databases 1 top settings.databases made.databases has.at_databases made.based lawful.few_databases lawful.prefixes in
     let mappings_are : mappings top ≡ Ok settings.mappings =
-    any_ascending-array mapping_in (λ mapping. mapping.eid) eid_order eid_order-total (codes "mapping") 65536 3 top settings.mappings made.mappings has.at_mappings made.mapped lawful.few_mappings lawful.eids in
+    any_ascending-array mapping_in (λ mapping. mapping.eid) eid_order eid_order-total (codes "mapping") most_mappings 3 top settings.mappings made.mappings has.at_mappings made.mapped lawful.few_mappings lawful.eids in
     followed (only_keys top_keys top) top _ _ has.known (
     followed _ settings.seed _ _ seed_is (
     followed _ settings.nonces _ _ nonces_are (

@@ -6,6 +6,7 @@ use Rattle.std.specs.Ordering.{eq_by_cmp, nat_cmp}
 use Rattle.mapping_records.specs.declared.record.Locator.{Locator}
 use Rattle.mapping_records.specs.declared.record.Record.{Record}
 use Rattle.mapping_records.specs.Orders.{addr_order, eid_order}
+use Rattle.lisp_settings.specs.Limits.{default_minutes, most_attachments, most_databases, most_locators, most_mappings}
 use Rattle.lisp_settings.specs.Resolver.{is_reachable}
 use Rattle.lisp_settings.specs.declared.settings.Attachment.{Attachment}
 use Rattle.lisp_settings.specs.declared.settings.Database.{Database}
@@ -29,11 +30,11 @@ pub record IsLawfulLocator (locator : Locator) : Type 0 where
 
 -- a static mapping; its locators stand in the order of the file, and have different addresses
 pub record IsLawfulMapping (mapping : Record) : Type 0 where
-  pub ttl : mapping.ttl ≡ 1440
+  pub ttl : mapping.ttl ≡ default_minutes
   pub action : mapping.action ≤ 7
   pub version : mapping.version ≤ 4095
   pub authoritative : mapping.authoritative ≡ true
-  pub few_locators : length mapping.locators ≤ 32
+  pub few_locators : length mapping.locators ≤ most_locators
   pub locators : All IsLawfulLocator mapping.locators
   pub distinct : IsDistinct (eq_by_cmp addr_order) (map (λ locator. locator.addr) mapping.locators)
 
@@ -42,14 +43,14 @@ pub record IsLawful (settings : Settings) : Type 0 where
   pub resolver : IfSome settings.resolver (λ addr. IsTrue (is_reachable settings.locators addr))
   pub ttl : (1 ≤ settings.ttl) × (settings.ttl ≤ 4294967294)
   pub some_locators : 1 ≤ length settings.locators
-  pub few_locators : length settings.locators ≤ 32
+  pub few_locators : length settings.locators ≤ most_locators
   pub locators : IsStrictlySortedBy addr_order (map (λ own. own.addr) settings.locators)
-  pub few_attachments : length settings.attachments ≤ 4096
+  pub few_attachments : length settings.attachments ≤ most_attachments
   pub attachments : All IsLawfulAttachment settings.attachments
   pub vlans : IsStrictlySortedBy nat_cmp (map (λ attachment. attachment.vlan) settings.attachments)
-  pub few_databases : length settings.databases ≤ 64
+  pub few_databases : length settings.databases ≤ most_databases
   pub databases : All IsLawfulDatabase settings.databases
   pub prefixes : IsStrictlySortedBy eid_order (map (λ database. database.eid) settings.databases)
-  pub few_mappings : length settings.mappings ≤ 65536
+  pub few_mappings : length settings.mappings ≤ most_mappings
   pub mappings : All IsLawfulMapping settings.mappings
   pub eids : IsStrictlySortedBy eid_order (map (λ mapping. mapping.eid) settings.mappings)

@@ -3,6 +3,7 @@ pub mod Fields
 pub mod Hex
 pub mod Home
 pub mod Lawful
+pub mod Limits
 pub mod Lists
 pub mod Nonces
 pub mod Places

@@ -11,6 +11,7 @@ use Rattle.mapping_records.specs.declared.record.Locator.{Locator}
 use Rattle.mapping_records.specs.declared.record.Record.{Record}
 use Rattle.lisp_settings.specs.AddressText.{some_if}
 use Rattle.lisp_settings.specs.Fields.{◌>>=◌, only_keys, taken, required, optional}
+use Rattle.lisp_settings.specs.Limits.{default_minutes, most_attachments, most_databases, most_locators, most_mappings, most_nonces, most_text_octets}
 use Rattle.lisp_settings.specs.Lists.{any_ascending, any_number, one_or_more, ascending, nonces_at}
 use Rattle.mapping_records.specs.Orders.{addr_order, eid_order}
 use Rattle.lisp_settings.specs.Resolver.{resolver_in, only_reachable}
@@ -87,7 +88,7 @@ mapped_in table = do
 -- the tables of a mapping's `locator`, which stay in the order of the file
 abbrev pub mapped_locators : Members → Result (List Locator) SettingsFault
 mapped_locators table =
-    any_number (codes "locator") mapped_in (λ locator. locator.addr) addr_order 32 table
+    any_number (codes "locator") mapped_in (λ locator. locator.addr) addr_order most_locators table
 
 -- a table of `mapping`
 abbrev pub mapping_in : Members → Result Record SettingsFault
@@ -99,7 +100,7 @@ mapping_in table = do
   action ← optional (codes "action") (number 0 7) 0 table
   locators ← mapped_locators table
   Ok (record {
-    ttl = 1440;
+    ttl = default_minutes;
     action = action;
     authoritative = true;
     version = version;
@@ -110,22 +111,23 @@ mapping_in table = do
 -- the tables of `locator`
 abbrev pub own_locators : Members → Result (List OwnLocator) SettingsFault
 own_locators top = do
-  locators ← one_or_more (codes "locator") locator_in (λ locator. locator.addr) addr_order 32 top
+  locators ← one_or_more (codes "locator") locator_in (λ locator. locator.addr) addr_order most_locators top
   Ok (ascending (λ locator. locator.addr) addr_order locators)
 
 -- the tables of `attachment`
 abbrev pub attachments : Members → Result (List Attachment) SettingsFault
 attachments top =
-    any_ascending (codes "attachment") attachment_in (λ attachment. attachment.vlan) nat_cmp 4096 top
+    any_ascending (codes "attachment") attachment_in (λ attachment. attachment.vlan) nat_cmp most_attachments top
 
 -- the tables of `database`
 abbrev pub databases : Members → Result (List Database) SettingsFault
 databases top =
-    any_ascending (codes "database") database_in (λ database. database.eid) eid_order 64 top
+    any_ascending (codes "database") database_in (λ database. database.eid) eid_order most_databases top
 
 -- the tables of `mapping`
 abbrev pub mappings : Members → Result (List Record) SettingsFault
-mappings top = any_ascending (codes "mapping") mapping_in (λ mapping. mapping.eid) eid_order 65536 top
+mappings top =
+    any_ascending (codes "mapping") mapping_in (λ mapping. mapping.eid) eid_order most_mappings top
 
 -- the keys of the top table
 abbrev pub top_keys : List (List ℕ)
@@ -138,9 +140,9 @@ abbrev pub settings_in : Members → Result Settings SettingsFault
 settings_in top = do
   known ← only_keys top_keys top
   seed ← optional (codes "seed") seed (replicate 32 0) top
-  nonces ← nonces_at (codes "nonces") 4096 top
+  nonces ← nonces_at (codes "nonces") most_nonces top
   resolver ← resolver_in top
-  ttl ← optional (codes "ttl") (number 1 4294967294) 1440 top
+  ttl ← optional (codes "ttl") (number 1 4294967294) default_minutes top
   probe ← optional (codes "probe") as_bool false top
   echo ← optional (codes "echo") as_bool false top
   locators ← own_locators top
@@ -172,4 +174,4 @@ settings_in_text text = settings_from (if is_utf8 text then parse_document text 
 
 -- the settings in a text, or its first fault
 unfoldable pub settings_of : List ℕ → Result Settings SettingsFault
-settings_of text = if nat_le (length text) 16777216 then settings_in_text text else Err TooLong
+settings_of text = if nat_le (length text) most_text_octets then settings_in_text text else Err TooLong

@@ -24,9 +24,6 @@ use toml::Table;
 /// The greatest Instance ID.
 const GREATEST_INSTANCE: u32 = 16_777_215;
 
-/// The most locators of a router or of a mapping.
-pub const MOST_LOCATORS: usize = 32;
-
 impl Item for OwnLocator {
     type Key = Addr;
 

@@ -9,12 +9,12 @@ ghost use Rattle.lisp_settings.specs.declared.fault.SettingsFault.TheVariants as
 
 use crate::fault::SettingsFault;
 use crate::fields::{number_or, only_keys};
-use crate::items::{MOST_LOCATORS, eid_at, eid_table, version_at};
+use crate::items::{eid_at, eid_table, version_at};
 use crate::lists::{Item, any_number, write_items};
 use crate::members::{put_array, put_number, put_octet};
 use crate::settings::OwnLocator;
 use ip_headers::Addr;
-use mapping_records::{Eid, Locator, Locators, Record};
+use mapping_records::{DEFAULT_MINUTES, Eid, Locator, Locators, MOST_LOCATORS, Record};
 use octets::{Items, NoMemory};
 use std::alloc::Global;
 use toml::Table;
@@ -89,7 +89,7 @@ impl Item for Record {
         let action = number_or(alloc, table, "action", (0, 7), 0)? as u8;
         let locators = mapped_locators(alloc, table)?;
         Ok(Record {
-            ttl: 1440,
+            ttl: DEFAULT_MINUTES,
             action,
             authoritative: true,
             version,

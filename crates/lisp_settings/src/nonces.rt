@@ -3,6 +3,7 @@ ghost use Rattle.std.specs.Prelude.{◌≡◌, ◌≢◌, ◌<◌, ◌-◌, ◌+
 ghost use Rattle.toml.specs.Data.{as_array, get_member, no_items};
 ghost use Rattle.toml.specs.View.{array_view, items_view, table_view};
 ghost use Rattle.lisp_settings.specs.Fields.{value_or};
+ghost use Rattle.lisp_settings.specs.Limits.{most_nonces};
 ghost use Rattle.lisp_settings.specs.Lists.{each_nonce, nonces_at};
 ghost use Rattle.lisp_settings.specs.Nonces.{drawn, nonce_of};
 ghost use Rattle.lisp_settings.specs.Writing.{IsNonceArray};
@@ -10,6 +11,7 @@ ghost use Rattle.lisp_settings.specs.declared.fault.SettingsFault.TheVariants as
 
 use crate::fault::SettingsFault;
 use crate::hex::number_text;
+use crate::limits::MOST_NONCES;
 use crate::lists::few_items;
 use crate::settings::{Nonces, Settings};
 use crate::{fields, places, values};
@@ -19,9 +21,6 @@ use rand_core::SeedableRng;
 use rand_core::utils::NextWord;
 use std::alloc::Global;
 use toml::{Table, Value};
-
-/// The most nonces that are listed.
-const MOST_NONCES: usize = 4096;
 
 /// Nonce `i`: that of the list, and past its end the next two words of the stream, the low one
 /// first.
@@ -52,9 +51,9 @@ fn drawn(seed: [u8; 32], j: u64) -> u64
 /// The nonces that the settings list.
 pub fn nonces_at(alloc: Global, table: &Table) -> Result<Nonces, SettingsFault>
     ensures ok { IfOk result (λ nonces.
-        nonces_at (codes "nonces") 4096 (table_view table.now) ≡ Ok nonces) }
+        nonces_at (codes "nonces") most_nonces (table_view table.now) ≡ Ok nonces) }
     ensures err { IfErr result (λ e. e ≢ fault.Memory
-        → nonces_at (codes "nonces") 4096 (table_view table.now) ≡ Err e) }
+        → nonces_at (codes "nonces") most_nonces (table_view table.now) ≡ Err e) }
 {
     let items = items_at(alloc, table)?;
     few_items(alloc, "nonces", MOST_NONCES, items)?;

@@ -3,38 +3,31 @@ ghost use Rattle.std.specs.Prelude.{◌≡◌, ◌≢◌, ◌≤◌, IfOk, IfErr
 ghost use Rattle.toml.specs.View.{table_view};
 ghost use Rattle.lisp_settings.specs.Fields.{optional};
 ghost use Rattle.lisp_settings.specs.Lawful.{IsLawful};
+ghost use Rattle.lisp_settings.specs.Limits.{most_nonces};
 ghost use Rattle.lisp_settings.specs.Settings.{own_locators, settings_in, settings_of};
 ghost use Rattle.lisp_settings.specs.Values.{seed};
 ghost use Rattle.lisp_settings.specs.declared.fault.SettingsFault.TheVariants as fault;
 
 use crate::fault::SettingsFault;
 use crate::fields::{flag_or, number_or, only_keys, taken, value_at};
-use crate::items::MOST_LOCATORS;
+use crate::limits::{MOST_ATTACHMENTS, MOST_DATABASES, MOST_TEXT_OCTETS};
 use crate::lists::{any_ascending, ascending, one_or_more};
 use crate::nonces::nonces_at;
 use crate::resolver::{only_reachable, resolver_at};
 use crate::settings::{OwnLocator, OwnLocators, Settings};
 use crate::values;
+use mapping_records::{DEFAULT_MINUTES, MOST_LOCATORS, MOST_MAPPINGS};
 use std::alloc::Global;
 use toml::Table;
-
-/// The most octets that the text may have.
-const MOST_OCTETS: usize = 16_777_216;
-
-const MOST_ATTACHMENTS: usize = 4096;
-
-const MOST_DATABASES: usize = 64;
-
-const MOST_MAPPINGS: usize = 65_536;
 
 /// The settings in a text, or its first fault.
 pub fn read_settings(alloc: Global, text: &[u8]) -> Result<Settings, SettingsFault>
     ensures ok { IfOk result (λ settings. settings_of text.now ≡ Ok settings) }
     ensures err { IfErr result (λ e. e ≢ fault.Memory → settings_of text.now ≡ Err e) }
     ensures lawful { IfOk result (λ settings. IsLawful settings) }
-    ensures few { IfOk result (λ settings. length settings.nonces ≤ 4096) }
+    ensures few { IfOk result (λ settings. length settings.nonces ≤ most_nonces) }
 {
-    if text.len() > MOST_OCTETS {
+    if text.len() > MOST_TEXT_OCTETS {
         return Err(SettingsFault::TooLong);
     }
     match toml::table_from_slice(alloc, text) {
@@ -65,7 +58,7 @@ fn read_top(alloc: Global, top: &Table) -> Result<Settings, SettingsFault>
         seed: seed_at(alloc, top)?,
         nonces: nonces_at(alloc, top)?,
         resolver: resolver_at(alloc, top)?,
-        ttl: number_or(alloc, top, "ttl", (1, 4_294_967_294), 1440)?,
+        ttl: number_or(alloc, top, "ttl", (1, 4_294_967_294), DEFAULT_MINUTES)?,
         probe: flag_or(alloc, top, "probe", false)?,
         echo: flag_or(alloc, top, "echo", false)?,
         locators: own_locators(alloc, top)?,

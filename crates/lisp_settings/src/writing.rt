@@ -2,6 +2,7 @@
 ghost use Rattle.std.specs.Prelude.{◌≡◌, ◌≤◌, IfOk, IfErr, Ok, length};
 ghost use Rattle.toml.specs.View.{table_view};
 ghost use Rattle.lisp_settings.specs.Lawful.{IsLawful};
+ghost use Rattle.lisp_settings.specs.Limits.{most_nonces};
 ghost use Rattle.lisp_settings.specs.Settings.{settings_in, settings_in_text};
 ghost use Rattle.lisp_settings.specs.Writing.{IsFrontTable, IsPlain};
 ghost use Rattle.lisp_settings.specs.declared.fault.SettingsFault.TheVariants as fault;
@@ -18,12 +19,12 @@ use std::alloc::Global;
 use toml::Table;
 
 /// A text that reads as these settings: a TOML document with every key, also where its value is the
-/// default; only `resolver` has no key where there is none. It may have more than 16,777,216 octets,
-/// which `read_settings` refuses. No text reads as settings that list more than 4,096 nonces. Fails
-/// only where memory is refused.
+/// default; only `resolver` has no key where there is none. It may have more octets than
+/// `read_settings` takes. No text reads as settings that list more nonces than the limit. Fails only
+/// where memory is refused.
 pub fn write_settings(alloc: Global, settings: &Settings) -> Result<Octets, SettingsFault>
     requires { IsLawful settings.now }
-    ensures ok { IfOk result (λ text. length settings.now.nonces ≤ 4096
+    ensures ok { IfOk result (λ text. length settings.now.nonces ≤ most_nonces
         → settings_in_text text ≡ Ok settings.now) }
     ensures err { IfErr result (λ e. e ≡ fault.Memory) }
 {
@@ -41,7 +42,7 @@ pub fn write_settings(alloc: Global, settings: &Settings) -> Result<Octets, Sett
 /// The table of the settings, which nests four levels of arrays and tables.
 fn top_table(alloc: Global, settings: &Settings) -> Result<Table, NoMemory>
     requires { IsLawful settings.now }
-    ensures reads { IfOk result (λ top. length settings.now.nonces ≤ 4096
+    ensures reads { IfOk result (λ top. length settings.now.nonces ≤ most_nonces
         → settings_in (table_view top) ≡ Ok settings.now) }
     ensures plain { IfOk result (λ top. IsPlain 4 (table_view top)) }
 {

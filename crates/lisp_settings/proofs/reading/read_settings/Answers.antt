@@ -1,14 +1,15 @@
 use Rattle.std.proofs.Common.{◌∙◌, ◌≤◌, arith, length}
 use Rattle.toml.specs.View.{table_view}
 use Rattle.std.proofs.lemmas.Result.{IfOk-at_ok, IfOk-weaker, MatchResult-weaker}
+use Rattle.lisp_settings.specs.Limits.{most_nonces}
 use Rattle.lisp_settings.specs.Lawful.{IsLawful}
 use Rattle.lisp_settings.proofs.LawfulLemmas.{settings_in-lawful}
 use Rattle.lisp_settings.proofs.NonceLemmas.{settings_in-few}
 use Rattle.lisp_settings.proofs.ReadingLemmas.{settings_of-long, settings_of-document, settings_of-none}
 use Rattle.lisp_settings.proofs.reading.read_settings.Goals as goal
 
-pub returns-then-text-gt-MOST_OCTETS-clause-err : goal.returns-then-text-gt-MOST_OCTETS-clause-err
-returns-then-text-gt-MOST_OCTETS-clause-err c other = settings_of-long c.args.text.now (omega arith)
+pub returns-then-text-gt-MOST_TEXT_OCTETS-clause-err : goal.returns-then-text-gt-MOST_TEXT_OCTETS-clause-err
+returns-then-text-gt-MOST_TEXT_OCTETS-clause-err c other = settings_of-long c.args.text.now (omega arith)
 
 pub returns-in-Ok-clause-ok : goal.returns-in-Ok-clause-ok
 returns-in-Ok-clause-ok c =
@@ -28,4 +29,4 @@ pub returns-in-Ok-clause-lawful : goal.returns-in-Ok-clause-lawful
 returns-in-Ok-clause-lawful c = IfOk-weaker c.read_top.result _ _ (λ settings is. IfOk-at_ok IsLawful is (settings_in-lawful (table_view c.in-Ok.top))) c.read_top.ensures.ok
 
 pub returns-in-Ok-clause-few : goal.returns-in-Ok-clause-few
-returns-in-Ok-clause-few c = IfOk-weaker c.read_top.result _ _ (λ settings is. IfOk-at_ok (λ s. length s.nonces ≤ 4096) is (settings_in-few (table_view c.in-Ok.top))) c.read_top.ensures.ok
+returns-in-Ok-clause-few c = IfOk-weaker c.read_top.result _ _ (λ settings is. IfOk-at_ok (λ s. length s.nonces ≤ most_nonces) is (settings_in-few (table_view c.in-Ok.top))) c.read_top.ensures.ok

@@ -1,0 +1,19 @@
+-- The limits of a settings file (this router's choice).
+use Rattle.std.specs.Prelude.{ℕ}
+pub use Rattle.mapping_records.specs.Limits.{default_minutes, most_locators, most_mappings}
+
+-- octets of the text, at most
+abbrev pub most_text_octets : ℕ
+most_text_octets = 16777216
+
+-- nonces that are listed, at most
+abbrev pub most_nonces : ℕ
+most_nonces = 4096
+
+-- attachments, at most: one for each VLAN
+abbrev pub most_attachments : ℕ
+most_attachments = 4096
+
+-- EID prefixes of the site, at most
+abbrev pub most_databases : ℕ
+most_databases = 64
