@@ -1,8 +1,9 @@
 -- FNV-1a of 32 bits: the hash of octets and that of a flow, and the source port that this gives.
-use Rattle.std.specs.Prelude.{ℕ, ◌+◌, ◌*◌, ◌%◌, ◌^◌, List, ◌∷◌, ◌++◌, fold, bit_xor}
+use Rattle.std.specs.Prelude.{ℕ, ◌+◌, ◌-◌, ◌*◌, ◌%◌, ◌^◌, List, ◌∷◌, ◌++◌, fold, bit_xor}
 use Rattle.octets.specs.Numbers.{big_octets}
 use Rattle.ip_headers.specs.Udp.{addr_octets}
 use Rattle.ip_headers.specs.declared.tuple.FiveTuple.{FiveTuple}
+use Rattle.locator_choice.specs.Limits.{first_port}
 
 -- the hash with one octet more
 abbrev pub hashed : ℕ → ℕ → ℕ
@@ -23,6 +24,6 @@ flow_octets tuple =
 abbrev pub flow_hash : FiveTuple → ℕ
 flow_hash tuple = octets_hash (flow_octets tuple)
 
--- the ports from 0xc000 on (this router's choice)
+-- one of the ports from the first on (this router's choice)
 abbrev pub source_port : ℕ → ℕ
-source_port hash = 0xc000 + hash % 0x4000
+source_port hash = first_port + hash % (2 ^ 16 - first_port)

@@ -1,3 +1,4 @@
 pub mod Choice
 pub mod Hash
+pub mod Limits
 pub mod Shares

@@ -2,10 +2,7 @@
 ghost use Rattle.std.specs.Prelude.{◌≡◌, ◌≤◌, ◌<◌, ◌*◌, ◌↔◌, ◌==◌, true, false, length, map, sum, None, IfSome};
 ghost use Rattle.std.specs.List.{list_all, list_any};
 ghost use Rattle.locator_choice.specs.Choice.{chosen, interval_of, least_priority, one_weight, partaking, share, takes_part};
-ghost use Rattle.locator_choice.specs.declared.choice.TheConstants.{MOST_CANDIDATES};
-
-/// The most candidates that are chosen from (this router's choice).
-pub const MOST_CANDIDATES: usize = 32;
+ghost use Rattle.locator_choice.specs.Limits.{most_candidates};
 
 /// A locator that a flow may go to.
 #[derive(Clone, Copy, Debug, PartialEq, Eq)]
@@ -20,7 +17,7 @@ pub struct Candidate {
 /// The candidate for a flow with that hash: of the usable ones those of least priority share the
 /// flows by their weights, equally where all weights are equal. None where none is usable.
 pub fn choose(candidates: &[Candidate], hash: u32) -> Option<usize>
-    requires { length candidates.now ≤ MOST_CANDIDATES }
+    requires { length candidates.now ≤ most_candidates }
     ensures chosen { result ≡ chosen candidates.now hash }
     ensures none { (result ≡ None) ↔ (list_any (λ candidate. candidate.usable) candidates.now ≡ false) }
     ensures within { IfSome result (λ index. index < length candidates.now) }
@@ -102,7 +99,7 @@ fn share(candidate: &Candidate, priority: u8, equal: bool) -> u32
 
 // The shares of all.
 fn whole(candidates: &[Candidate], priority: u8, equal: bool) -> u32
-    requires { length candidates.now ≤ MOST_CANDIDATES }
+    requires { length candidates.now ≤ most_candidates }
     ensures whole { result ≡ sum (map (share equal priority) candidates.now) }
     ensures most { result ≤ 255 * length candidates.now }
 {
@@ -114,7 +111,7 @@ fn whole(candidates: &[Candidate], priority: u8, equal: bool) -> u32
 
 // The candidate whose interval holds the number.
 fn interval_of(candidates: &[Candidate], priority: u8, equal: bool, number: u32) -> Option<usize>
-    requires { length candidates.now ≤ MOST_CANDIDATES }
+    requires { length candidates.now ≤ most_candidates }
     ensures interval { result ≡ interval_of (map (share equal priority) candidates.now) number }
     ensures within { IfSome result (λ index. index < length candidates.now) }
 {

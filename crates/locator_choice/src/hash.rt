@@ -3,6 +3,7 @@ ghost use Rattle.std.specs.Prelude.{◌≡◌, fold};
 ghost use Rattle.ip_headers.specs.Udp.{addr_octets};
 ghost use Rattle.locator_choice.specs.Hash.{flow_hash, hashed, octets_hash, source_port};
 
+use crate::limits::FIRST_PORT;
 use ip_headers::{Addr, FiveTuple};
 
 // What the hash is before the first octet.
@@ -30,7 +31,7 @@ pub fn flow_hash(tuple: &FiveTuple) -> u32
 pub fn source_port(hash: u32) -> u16
     ensures { result ≡ source_port hash }
 {
-    0xc000 + (hash % 0x4000) as u16
+    FIRST_PORT + (hash % (0x1_0000 - u32::from(FIRST_PORT))) as u16
 }
 
 fn hash_address(hash: u32, address: Addr) -> u32

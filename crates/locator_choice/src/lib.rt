@@ -5,8 +5,10 @@
 mod choice;
 mod hash;
 mod laws;
+mod limits;
 
-pub use choice::{Candidate, MOST_CANDIDATES, choose};
+pub use choice::{Candidate, choose};
 pub use hash::{flow_hash, octets_hash, source_port};
 pub use ip_headers::{Addr, FiveTuple};
 pub use laws::each_candidate_gets_its_share;
+pub use limits::{FIRST_PORT, MOST_CANDIDATES, limits_are};

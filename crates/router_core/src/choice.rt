@@ -1,6 +1,6 @@
 // The choice among the locators of a mapping.
 ghost use Rattle.std.specs.Prelude.{◌≡◌, ◌≤◌, ◌<◌, ◌+◌, ◌^◌, ◌++◌, length, take};
-ghost use Rattle.locator_choice.specs.declared.choice.TheConstants.{MOST_CANDIDATES};
+ghost use Rattle.locator_choice.specs.declared.limits.TheConstants.{MOST_CANDIDATES};
 ghost use Rattle.map_cache.specs.Lists.{IsFew};
 ghost use Rattle.router_model.specs.Cache.{known_up};
 ghost use Rattle.router_model.specs.Choice.{candidate_of, candidates, chosen, is_usable};

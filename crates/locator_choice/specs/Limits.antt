@@ -1,0 +1,10 @@
+-- The limits of the choice, and the ports that flows get.
+use Rattle.std.specs.Prelude.{ℕ}
+
+-- candidates that are chosen from, at most: the locators of one mapping (this router's choice)
+abbrev pub most_candidates : ℕ
+most_candidates = 32
+
+-- the least source port of a tunnel packet (RFC 9300 section 4.1 leaves it open; this router's choice)
+abbrev pub first_port : ℕ
+first_port = 0xc000
