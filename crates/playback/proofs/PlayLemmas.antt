@@ -19,6 +19,7 @@ use Rattle.capture_io.specs.declared.format.Format.{Format}
 use Rattle.capture_io.specs.declared.position.Position.{Position}
 use Rattle.capture_io.specs.declared.fault.CaptureFault.{CaptureFault}
 use Rattle.playback.specs.Events.{Event, Outcome, Packet, events_after, events_of, followed, idle, played, records_of}
+use Rattle.playback.specs.Limits.{most_event_packets}
 use Rattle.playback.specs.Playing.{after_output, handed_on, outcome_of, with_outcome, with_output, written, Ends, Gathers, IsRead, Plays}
 use Rattle.playback.specs.declared.output.Output.{Output}
 use Rattle.playback.proofs.EventLemmas.{played-frame}
@@ -138,8 +139,8 @@ second-later : (moment second : ℕ) → moment < second * 1000000000 → moment
 second-later moment second later = grind (arith, later)
 
 -- so that second has room for its packets
-pub second-room : (frames moment second written more : ℕ) → moment < second * 1000000000 → written ≤ 2048 * (frames + moment / 1000000000) → more ≤ written + 2048
-    → more ≤ 2048 * (frames + second * 1000000000 / 1000000000)
+pub second-room : (frames moment second written more : ℕ) → moment < second * 1000000000 → written ≤ most_event_packets * (frames + moment / 1000000000) → more ≤ written + most_event_packets
+    → more ≤ most_event_packets * (frames + second * 1000000000 / 1000000000)
 second-room frames moment second written more later room few =
     let past = second-later moment second later in
     let same : second * 1000000000 / 1000000000 ≡ second = grind arith in

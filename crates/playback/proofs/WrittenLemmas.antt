@@ -15,6 +15,7 @@ use Rattle.capture_io.specs.declared.link.Link.TheVariants.{Raw}
 use Rattle.capture_io.specs.declared.position.Position.{Position}
 use Rattle.capture_io.proofs.Runs.{read_on-end, read_on-frame}
 use Rattle.playback.specs.Events.{Packet, records_of}
+use Rattle.playback.specs.Limits.{most_frame_octets, most_records}
 use Rattle.playback.specs.Written.{AreInOrder, MayFollow, frames_from, frames_of, out_format}
 
 -- a number of four octets is read as it was written
@@ -32,11 +33,11 @@ moment-record m octets rest early =
     omega (arith, whole, fraction-record m octets rest)
 
 -- how many octets it keeps
-kept-record : (m : ℕ) (octets rest : List ℕ) → length octets ≤ 262144 → kept out_format (packet_record m octets ++ rest) ≡ length octets
+kept-record : (m : ℕ) (octets rest : List ℕ) → length octets ≤ most_frame_octets → kept out_format (packet_record m octets ++ rest) ≡ length octets
 kept-record m octets rest short = little-little_octets (length octets) [] (omega (arith, short))
 
 -- and which
-body-record : (m : ℕ) (octets rest : List ℕ) → length octets ≤ 262144 → body out_format (packet_record m octets ++ rest) ≡ octets
+body-record : (m : ℕ) (octets rest : List ℕ) → length octets ≤ most_frame_octets → body out_format (packet_record m octets ++ rest) ≡ octets
 body-record m octets rest short = take_at octets rest _ (sym (kept-record m octets rest short))
 
 -- the frame of a packet behind so many
@@ -44,17 +45,17 @@ abbrev frame_after : ℕ → Packet → Frame
 frame_after count packet = record { number = count + 1; moment = packet.moment; link = Raw; octets = packet.octets }
 
 -- its record breaks no rule
-passes : (at : Position) (packet : Packet) (rest : List ℕ) → MayFollow at.greatest packet → at.count < 1000000000
+passes : (at : Position) (packet : Packet) (rest : List ℕ) → MayFollow at.greatest packet → at.count < most_records
     → first_failing (record_rules out_format at (packet_record packet.moment packet.octets ++ rest)) ≡ None
 passes at packet rest may room =
     let m = packet.moment in
     let octets = packet.octets in
     let left : List ℕ = packet_record m octets ++ rest in
     let size = kept-record m octets rest may.size in
-    let count = lt-ltb at.count 1000000000 room in
+    let count = lt-ltb at.count most_records room in
     let head = le-leb 16 (length left) (omega arith) in
     let part = lt-ltb (fraction out_format left) 1000000000 (omega (arith, fraction-record m octets rest)) in
-    let short = le-leb (kept out_format left) 262144 (omega (arith, size, may.size)) in
+    let short = le-leb (kept out_format left) most_frame_octets (omega (arith, size, may.size)) in
     let whole = le-leb (kept out_format left) (length (body out_format left)) (omega (arith, size, ap length (body-record m octets rest may.size))) in
     let span = ap (in_span at.greatest) (moment-record m octets rest may.moment) ∙ may.span in
     none_fails (record_rules out_format at left) (count, (head, (part, (short, (whole, (span, tt))))))
@@ -68,7 +69,7 @@ frame-record at packet rest may =
     rw (when, greatest, body-record packet.moment packet.octets rest may.size) refl
 
 -- so it is the frame that is next
-frame-next : (at : Position) (packet : Packet) (rest : List ℕ) → MayFollow at.greatest packet → at.count < 1000000000
+frame-next : (at : Position) (packet : Packet) (rest : List ℕ) → MayFollow at.greatest packet → at.count < most_records
     → Ok (Some (frame_after at.count packet)) ≡ outcome out_format at (packet_record packet.moment packet.octets ++ rest)
 frame-next at packet rest may room =
     let left : List ℕ = packet_record packet.moment packet.octets ++ rest in
@@ -76,7 +77,7 @@ frame-next at packet rest may room =
     ∙ ap (λ (f : Frame). Ok (Some f)) (frame-record at packet rest may))
 
 -- the records of packets, behind others
-pub read_on-records : (packets : List Packet) (at : Position) → AreInOrder at.greatest packets → at.count + length packets ≤ 1000000000
+pub read_on-records : (packets : List Packet) (at : Position) → AreInOrder at.greatest packets → at.count + length packets ≤ most_records
     → read_on out_format at (records_of packets) ≡ record { frames = frames_from at.count packets; fault = None }
 read_on-records [] at may few = read_on-end out_format at [] refl
 read_on-records (packet ∷ packets) at may few =
@@ -92,7 +93,7 @@ header-passes : (rest : List ℕ) → first_failing (header_rules (out_header ++
 header-passes rest = rw (le-leb 24 (length (out_header ++ rest)) (omega arith)) refl
 
 -- a whole capture
-pub capture-records : (packets : List Packet) → AreInOrder None packets → length packets ≤ 1000000000
+pub capture-records : (packets : List Packet) → AreInOrder None packets → length packets ≤ most_records
     → capture (out_header ++ records_of packets) ≡ record { frames = frames_of packets; fault = None }
 unfolding capture
 capture-records packets may few =

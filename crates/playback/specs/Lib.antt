@@ -1,4 +1,5 @@
 pub mod Events
 pub mod Front
+pub mod Limits
 pub mod Playing
 pub mod Written

@@ -1,5 +1,5 @@
 -- What a play of a capture leaves at its desk.
-use Rattle.std.specs.Prelude.{◌≡◌, ℕ, ◌+◌, ◌*◌, ◌^◌, ◌≤◌, ◌<◌, List, ◌++◌, length, Option, Some, None, option_map, unwrap_or, Result, Ok, Err}
+use Rattle.std.specs.Prelude.{◌≡◌, ℕ, ◌+◌, ◌*◌, ◌^◌, ◌≤◌, ◌<◌, ◌||◌, nat_le, Bool, List, ◌++◌, length, Option, Some, None, option_map, unwrap_or, Result, Ok, Err}
 use Rattle.std.specs.List.{All}
 use Rattle.desk.specs.declared.file.NamedFile.{NamedFile}
 use Rattle.desk.specs.World.{World, Direction, Shown, changed_at, extended, to_write, IsGiven}
@@ -7,6 +7,7 @@ use Rattle.capture_io.specs.Frame.{Frame}
 use Rattle.capture_io.specs.Frames.{Run}
 use Rattle.capture_io.specs.declared.fault.CaptureFault.{CaptureFault}
 use Rattle.playback.specs.Events.{Event, Outcome, events, played, records_of, second_of}
+use Rattle.playback.specs.Limits.{most_event_packets, piece_octets}
 use Rattle.playback.specs.declared.machine.Progress.{Progress}
 use Rattle.playback.specs.declared.output.Output.{Output}
 use Rattle.playback.specs.declared.playing.Ending.{Ending}
@@ -33,6 +34,11 @@ abbrev pub with_output : Option ℕ → List ℕ → List ℕ → Shown → Show
 with_output file lines octets s =
     record s { said = s.said ++ lines; writers = written file octets s.writers }
 
+-- enough is gathered for a piece
+abbrev pub is_full : Output → Bool
+is_full output =
+    nat_le piece_octets (length output.lines) || nat_le piece_octets (length output.records)
+
 -- the world once all that is gathered is handed on
 abbrev pub handed_on : Option ℕ → Output → Option World → Option World
 handed_on file output told = option_map (after_output file output.lines output.records) told
@@ -46,7 +52,7 @@ pub record Gathers {S : Type 0} (outcome : Outcome S) (old new : Output) : Type 
   pub lines : new.lines ≡ old.lines ++ outcome.lines
   pub records : new.records ≡ old.records ++ records_of outcome.packets
   pub written : new.written ≡ old.written + length outcome.packets
-  pub few : length outcome.packets ≤ 2048
+  pub few : length outcome.packets ≤ most_event_packets
 
 -- an outcome was gathered, and perhaps handed on: once all is, it is said and written
 pub record Plays {S : Type 0} (file : Option ℕ) (outcome : Outcome S)
@@ -58,7 +64,7 @@ pub record Plays {S : Type 0} (file : Option ℕ) (outcome : Outcome S)
 
 -- the most packets of so many frames and of the seconds so far
 abbrev pub most_packets : Progress → ℕ
-most_packets progress = 2048 * (progress.frames + second_of (unwrap_or progress.moment 0))
+most_packets progress = most_event_packets * (progress.frames + second_of (unwrap_or progress.moment 0))
 
 -- the outcome of all frames of a run
 abbrev pub outcome_of : {S : Type 0} → (S → Event → Outcome S) → S → Run → Outcome S

@@ -7,6 +7,7 @@ use Rattle.capture_io.specs.declared.link.Link.TheVariants.{Raw}
 use Rattle.capture_io.specs.declared.format.Fraction.TheVariants.{Nanoseconds}
 use Rattle.capture_io.specs.declared.format.Format.{Format}
 use Rattle.playback.specs.Events.{Packet}
+use Rattle.playback.specs.Limits.{most_frame_octets}
 
 -- how a capture that is written spells its records
 abbrev pub out_format : Format
@@ -28,7 +29,7 @@ pub record MayFollow (previous : Option ℕ) (packet : Packet) : Type 0 where
   pub later : unwrap_or previous 0 ≤ packet.moment
   pub span : IsTrue (in_span previous packet.moment)
   pub moment : packet.moment < 2 ^ 32 * 1000000000
-  pub size : length packet.octets ≤ 262144
+  pub size : length packet.octets ≤ most_frame_octets
 
 -- packets each of which may follow the one before
 abbrev pub AreInOrder : Option ℕ → List Packet → Type 0

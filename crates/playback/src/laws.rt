@@ -6,6 +6,7 @@ ghost use Rattle.capture_io.specs.Frame.{Frame};
 ghost use Rattle.capture_io.specs.Frames.{capture, read_on};
 ghost use Rattle.capture_io.specs.Output.{out_header};
 ghost use Rattle.playback.specs.Events.{Packet, arrivals, events, records_of};
+ghost use Rattle.playback.specs.Limits.{most_records};
 ghost use Rattle.playback.specs.Written.{AreInOrder, frames_of, out_format};
 
 /// The seconds between the frames of a capture neither lose nor move one.
@@ -13,19 +14,19 @@ pub fn events_keep_the_frames()
     ensures { (frames : List Frame) → arrivals (events frames) ≡ frames }
 {}
 
-/// The packets of a capture that was written, in order and at most 1,000,000,000, are the frames
-/// that are read of it, and it has no fault. Its header breaks no rule, whatever stands behind it,
+/// The packets of a capture that was written, in order and no more than it may have,
+/// are the frames that are read of it, and it has no fault. Its header breaks no rule, whatever stands behind it,
 /// and says little-endian, nanoseconds and raw IP.
 pub fn what_is_written_is_read()
     ensures header { (rest : List ℕ) →
         first_failing (header_rules (out_header ++ rest)) ≡ None }
     ensures format { (rest : List ℕ) → format_of (out_header ++ rest) ≡ out_format }
     ensures frames { (packets : List Packet) → AreInOrder None packets →
-        length packets ≤ 1000000000 →
+        length packets ≤ most_records →
         capture (out_header ++ records_of packets)
         ≡ record { frames = frames_of packets; fault = None } }
     ensures left { (packets : List Packet) → AreInOrder None packets →
-        length packets ≤ 1000000000 →
+        length packets ≤ most_records →
         read_on out_format begin (records_of packets)
         ≡ record { frames = frames_of packets; fault = None } }
 {}

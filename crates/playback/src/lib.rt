@@ -3,6 +3,7 @@
 #![tactic(auto)]
 
 mod laws;
+mod limits;
 mod machine;
 mod output;
 mod playing;
@@ -13,6 +14,7 @@ pub use capture_io::{
     CaptureFault, CaptureReader, Desk, DeskFault, FileId, Frame, NoMemory, Octets,
 };
 pub use laws::{events_keep_the_frames, what_is_written_is_read};
+pub use limits::{PIECE_OCTETS, limits_are};
 pub use machine::{Machine, Progress};
 pub use output::Output;
 pub use playing::{Ending, play};

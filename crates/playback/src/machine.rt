@@ -1,11 +1,12 @@
 // What is done for the events of a capture.
 ghost use Rattle.std.specs.Prelude.{◌≡◌, ◌<◌, ◌≤◌, ◌+◌, ◌*◌, ◌^◌, ℕ, Some, length, unwrap_or, OnOk};
 ghost use Rattle.playback.specs.Events.{Arrival, Event, Outcome, Tick};
+ghost use Rattle.playback.specs.Limits.{most_frame_octets, most_records};
 ghost use Rattle.playback.specs.Playing.{Gathers};
 ghost use Rattle.playback.specs.declared.machine.Progress.{Progress};
 
 use crate::Output;
-use capture_io::{Frame, MOST_FRAME_OCTETS};
+use capture_io::Frame;
 use octets::NoMemory;
 use std::alloc::Global;
 
@@ -40,7 +41,7 @@ pub trait Machine {
     ) -> Result<(), NoMemory>
         requires ready { IsReady progress self.old }
         requires later { unwrap_or progress.moment 0 < second * 1000000000 }
-        requires most { progress.frames ≤ 1000000000 }
+        requires most { progress.frames ≤ most_records }
         requires room { output.old.written < 2 ^ 48 }
         ensures ready { OnOk result (IsReady
             (record { frames = progress.frames; moment = Some (second * 1000000000) }) self.new) }
@@ -60,9 +61,9 @@ pub trait Machine {
         requires ready { IsReady progress self.old }
         requires next { frame.now.number ≡ progress.frames + 1 }
         requires later { unwrap_or progress.moment 0 ≤ frame.now.moment }
-        requires most { frame.now.number ≤ 1000000000 }
+        requires most { frame.now.number ≤ most_records }
         requires moment { frame.now.moment < 2 ^ 32 * 1000000000 }
-        requires size { length frame.now.octets ≤ MOST_FRAME_OCTETS }
+        requires size { length frame.now.octets ≤ most_frame_octets }
         requires room { output.old.written < 2 ^ 48 }
         ensures ready { OnOk result (IsReady
             (record { frames = frame.now.number; moment = Some frame.now.moment }) self.new) }

@@ -1,19 +1,18 @@
 // What is said and written, gathered and handed on in pieces.
-ghost use Rattle.std.specs.Prelude.{◌≡◌, ◌<◌, ◌≤◌, ◌+◌, ◌*◌, ◌-◌, ◌^◌, ◌++◌, [], length, option_map, IsErrOf, OnErr, OnOk};
+ghost use Rattle.std.specs.Prelude.{◌≡◌, ◌<◌, ◌≤◌, ◌+◌, ◌*◌, ◌-◌, ◌^◌, ◌++◌, [], false, length, option_map, IsErrOf, OnErr, OnOk};
 ghost use Rattle.desk.specs.declared.fault.DeskFault.TheVariants.{Failed};
 ghost use Rattle.desk.specs.Causes.{HasCause, StaysSteady};
 ghost use Rattle.desk.specs.World.{after_say, after_write};
 ghost use Rattle.capture_io.specs.Output.{packet_record};
 ghost use Rattle.playback.specs.Front.{Breaks, Hands};
-ghost use Rattle.playback.specs.Playing.{after_output, handed_on, MayWrite};
+ghost use Rattle.playback.specs.Limits.{most_frame_octets};
+ghost use Rattle.playback.specs.Playing.{after_output, handed_on, is_full, MayWrite};
 
-use capture_io::{MOST_FRAME_OCTETS, write_packet};
+use crate::limits::PIECE_OCTETS;
+use capture_io::write_packet;
 use desk::{Desk, DeskFault, FileId};
 use octets::{NoMemory, Octets};
 use std::alloc::Global;
-
-// So many octets are gathered before they are handed on.
-const PIECE: usize = 65_536;
 
 /// Lines and records of packets that are to go out, and the number of packets so far.
 #[derive(Drop)]
@@ -40,7 +39,7 @@ impl Output {
     /// Gathers a packet at its moment, in nanoseconds.
     pub fn push_packet(&mut self, moment: u64, packet: &[u8]) -> Result<(), NoMemory>
         requires moment { moment < 2 ^ 32 * 1000000000 }
-        requires size { length packet.now ≤ MOST_FRAME_OCTETS }
+        requires size { length packet.now ≤ most_frame_octets }
         requires room { self.old.written < 2 ^ 64 - 1 }
         ensures lines { OnOk result (self.new.lines ≡ self.old.lines) }
         ensures records { OnOk result (self.new.records
@@ -52,12 +51,15 @@ impl Output {
         Ok(())
     }
 
-    fn is_full(&self) -> bool {
-        self.lines.len() >= PIECE || self.records.len() >= PIECE
+    // Enough is gathered for a piece: lines or records.
+    fn is_full(&self) -> bool
+        ensures { result ≡ is_full self.now }
+    {
+        self.lines.len() >= PIECE_OCTETS || self.records.len() >= PIECE_OCTETS
     }
 }
 
-/// Hands on what is gathered, where that is enough for a piece.
+/// Hands on what is gathered, where that is enough for a piece. So less than a piece is left.
 pub(crate) fn hand_on_full<D: Desk>(
     alloc: Global,
     desk: &mut D,
@@ -71,6 +73,7 @@ pub(crate) fn hand_on_full<D: Desk>(
         output.old (D.told desk.old) output.new (D.told desk.new)) }
     ensures breaks { OnErr result (Breaks (option_map (λ id. id.number) file)
         output.old (D.told desk.old) (D.told desk.new)) }
+    ensures piece { OnOk result (is_full output.new ≡ false) }
     ensures written { output.new.written ≡ output.old.written }
     ensures cause { HasCause (D.faults desk.old) (D.faults desk.new) result }
     ensures given { D.given desk.new ≡ D.given desk.old }

@@ -9,13 +9,14 @@ ghost use Rattle.capture_io.specs.Frames.{read_on};
 ghost use Rattle.capture_io.specs.Reading.{beginning};
 ghost use Rattle.playback.specs.Events.{events_of, played};
 ghost use Rattle.playback.specs.Front.{CutRun, Goes};
+ghost use Rattle.playback.specs.Limits.{most_frame_octets, most_records};
 ghost use Rattle.playback.specs.Playing.{most_packets, outcome_of, with_outcome, Ends, IsRead, MayWrite, Plays};
 
 use crate::machine::{Machine, Progress};
 use crate::output::{Output, hand_on, hand_on_full};
 use crate::reading::{Next, next_frame};
 use crate::seconds::play_seconds;
-use capture_io::{CaptureFault, CaptureReader, Frame, MOST_FRAME_OCTETS};
+use capture_io::{CaptureFault, CaptureReader, Frame};
 use desk::{Desk, DeskFault, FileId};
 use std::alloc::Global;
 
@@ -110,9 +111,9 @@ fn play_frame<D: Desk, M: Machine>(
     requires ready { M.IsReady progress machine.old }
     requires next { frame.now.number ≡ progress.frames + 1 }
     requires later { unwrap_or progress.moment 0 ≤ frame.now.moment }
-    requires most { frame.now.number ≤ 1000000000 }
+    requires most { frame.now.number ≤ most_records }
     requires moment { frame.now.moment < 2 ^ 32 * 1000000000 }
-    requires size { length frame.now.octets ≤ MOST_FRAME_OCTETS }
+    requires size { length frame.now.octets ≤ most_frame_octets }
     requires room { output.old.written ≤ most_packets progress }
     ensures ready { OnOk result (M.IsReady
         (record { frames = frame.now.number; moment = Some frame.now.moment }) machine.new) }

@@ -4,6 +4,7 @@ ghost use Rattle.desk.specs.declared.fault.DeskFault.TheVariants.{Failed};
 ghost use Rattle.desk.specs.Causes.{HasCause, StaysSteady};
 ghost use Rattle.playback.specs.Events.{played, second_of, ticks, Tick};
 ghost use Rattle.playback.specs.Front.{Goes};
+ghost use Rattle.playback.specs.Limits.{most_event_packets, most_records};
 ghost use Rattle.playback.specs.Playing.{most_packets, MayWrite, Plays};
 
 use crate::machine::{Machine, Progress};
@@ -24,7 +25,7 @@ pub(crate) fn play_seconds<D: Desk, M: Machine>(
 ) -> Result<Progress, DeskFault>
     requires ready { M.IsReady progress machine.old }
     requires later { unwrap_or progress.moment 0 ≤ moment }
-    requires most { progress.frames ≤ 1000000000 }
+    requires most { progress.frames ≤ most_records }
     requires moment { moment < 2 ^ 32 * 1000000000 }
     requires room { output.old.written ≤ most_packets progress }
     ensures ready { IfOk result (λ reached. M.IsReady reached machine.new) }
@@ -69,7 +70,7 @@ fn play_second<D: Desk, M: Machine>(
 ) -> Result<(), DeskFault>
     requires ready { M.IsReady progress machine.old }
     requires later { unwrap_or progress.moment 0 < second * 1000000000 }
-    requires most { progress.frames ≤ 1000000000 }
+    requires most { progress.frames ≤ most_records }
     requires room { output.old.written < 2 ^ 48 }
     ensures ready { OnOk result (M.IsReady
         (record { frames = progress.frames; moment = Some (second * 1000000000) }) machine.new) }
@@ -81,7 +82,7 @@ fn play_second<D: Desk, M: Machine>(
     ensures goes { Goes M.step (option_map (λ id. id.number) file) (M.state machine.old)
         (Tick second ∷ [])
         output.old (D.told desk.old) result output.new (D.told desk.new) }
-    ensures few { OnOk result (output.new.written ≤ output.old.written + 2048) }
+    ensures few { OnOk result (output.new.written ≤ output.old.written + most_event_packets) }
     ensures cause { HasCause (D.faults desk.old) (D.faults desk.new) result }
     ensures given { D.given desk.new ≡ D.given desk.old }
     ensures steady { StaysSteady (D.steady desk.old) (D.steady desk.new)

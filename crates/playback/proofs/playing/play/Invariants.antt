@@ -1,5 +1,6 @@
 use Rattle.std.proofs.Common.{◌≡◌, ◌≤◌, ◌-◌, None, IsTrue}
 use Rattle.std.specs.Option.{option_map}
+use Rattle.playback.specs.Limits.{most_records}
 use Rattle.playback.specs.Playing.{handed_on, most_packets}
 use Rattle.playback.proofs.FrontLemmas.{Passing}
 use Rattle.playback.proofs.PlayLemmas.{Ongoing}
@@ -22,4 +23,4 @@ invariant-loop-output g l = record {
 }
 
 abbrev pub decreases-loop-output : goal.decreases-loop-output
-decreases-loop-output g l = 1000000000 - l.reader.position.count
+decreases-loop-output g l = most_records - l.reader.position.count
