@@ -12,7 +12,7 @@ ghost use Rattle.playback.specs.Written.{frames_of};
 ghost use Rattle.trial_input.specs.Trial.{trial_packets};
 ghost use Rattle.replay.specs.Front.{SaysPart};
 ghost use Rattle.replay.specs.Trial.{hash_text, trial_file, trial_line, trial_text};
-ghost use Rattle.trial_input.specs.declared.settings.TheConstants.{MOST_MAPPINGS};
+ghost use Rattle.command_words.specs.Limits.{most_trial_mappings};
 
 use crate::Status;
 use crate::replaying::replay_file;
@@ -30,7 +30,7 @@ const OUTPUT: &str = "out";
 
 /// Replays the input that the number makes, over a desk of its own, and says its line.
 pub(crate) fn try_number<D: Desk>(alloc: Global, desk: &mut D, n: u32) -> Result<Status, DeskFault>
-    requires { n ≤ MOST_MAPPINGS }
+    requires { n ≤ most_trial_mappings }
     ensures status { IfOk result (λ s. s ≡ Done) }
     ensures told { OnOk result (D.told desk.new
         ≡ option_map (after_say (trial_text n)) (D.told desk.old)) }
@@ -46,7 +46,7 @@ pub(crate) fn try_number<D: Desk>(alloc: Global, desk: &mut D, n: u32) -> Result
 
 // The line of the input that the number makes.
 fn replay_trial(alloc: Global, n: u32) -> Result<Octets, NoMemory>
-    requires { n ≤ MOST_MAPPINGS }
+    requires { n ≤ most_trial_mappings }
     ensures { IfOk result (λ line. line ≡ trial_text n) }
 {
     let settings = trial_settings(alloc, n)?;
@@ -75,7 +75,7 @@ fn replay_trial(alloc: Global, n: u32) -> Result<Octets, NoMemory>
 
 // A desk that has the capture of a trial.
 fn trial_desk(alloc: Global, n: u32) -> Result<SteadyDesk, NoMemory>
-    requires { n ≤ MOST_MAPPINGS }
+    requires { n ≤ most_trial_mappings }
     ensures desk { IfOk result (λ desk. desk
         ≡ untouched (record { name = codes "in"; octets = trial_file n } ∷ [])) }
     ensures read { IfOk result (λ _. capture (trial_file n)

@@ -6,7 +6,10 @@ use run_rows::packets::{RAW, changed, push_record};
 use run_rows::runs::{REPLAY, files_of, run_words, said, text};
 use std::alloc::Global;
 use std::test::Fail;
-use trial_input::{MOST_MAPPINGS, trial_capture};
+use trial_input::trial_capture;
+
+/// The most mappings of a trial.
+const MOST_MAPPINGS: u32 = 50_000;
 
 /// The site of a trial.
 const SITE: &str = r#"

@@ -5,6 +5,7 @@ use Rattle.std.proofs.lemmas.List.Elements.{All-cons, All-map, All-nil}
 use Rattle.std.proofs.lemmas.List.FromFn.{length-map-range_with_len}
 use Rattle.std.specs.List.{AllByRecursion, IsDistinct, range_with_len}
 use Rattle.std.specs.List.Sorted.{IsStrictlySortedBy}
+use Rattle.mapping_records.specs.Limits.{most_mappings}
 use Rattle.mapping_records.specs.Orders.{eid_order}
 use Rattle.mapping_records.specs.declared.eid.Eid.{Eid}
 use Rattle.lisp_settings.specs.Lawful.{IsLawful, IsLawfulAttachment, IsLawfulDatabase, IsLawfulLocator, IsLawfulMapping}
@@ -48,7 +49,7 @@ eids-sorted a zero = tt
 eids-sorted a (suc n) = (eid_at-below a (a + 1) n (omega arith), eids-sorted (a + 1) n)
 
 -- the settings of n mappings keep to the ranges, limits and orders
-pub settings-lawful : (n : ℕ) → n ≤ 50000 → IsLawful (trial_settings n)
+pub settings-lawful : (n : ℕ) → n ≤ most_mappings → IsLawful (trial_settings n)
 unfolding IsStrictlySortedBy
 settings-lawful n few = record {
   resolver = tt;

@@ -8,6 +8,7 @@ use Rattle.ip_headers.specs.Addr.{is_prefix}
 use Rattle.ip_headers.specs.Canonical.{canonical_v4}
 use Rattle.ip_headers.specs.Udp.{canonical_udp}
 use Rattle.ip_headers.specs.declared.addr.Addr.TheVariants.{V4}
+use Rattle.mapping_records.specs.Limits.{default_minutes}
 use Rattle.mapping_records.specs.declared.eid.Eid.{Eid}
 use Rattle.mapping_records.specs.declared.record.Record.{Record}
 use Rattle.lisp_settings.specs.declared.settings.Settings.{Settings}
@@ -32,7 +33,7 @@ aligned i = ap (λ (low : ℕ). low == 0) (mul-mod_left (0x140000 + i) 256)
 -- mapping i: 20.0.0.0 + 256 i of length 24, with the one locator 203.0.113.(1 + i mod 254)
 abbrev pub trial_mapping : ℕ → Record
 trial_mapping i = record {
-  ttl = 1440;
+  ttl = default_minutes;
   action = 0;
   authoritative = true;
   version = 0;
@@ -55,7 +56,7 @@ trial_settings n = record {
   seed = replicate 32 0;
   nonces = [];
   resolver = None;
-  ttl = 1440;
+  ttl = default_minutes;
   probe = false;
   echo = false;
   locators = record { addr = V4 0xc6336401; priority = 1; weight = 1; up = true } ∷ [];

@@ -4,12 +4,12 @@ ghost use Rattle.octets.specs.Rules.{first_failing};
 ghost use Rattle.capture_io.specs.Capture.{header_rules};
 ghost use Rattle.capture_io.specs.Frames.{capture};
 ghost use Rattle.capture_io.specs.Output.{out_header, packet_record};
+ghost use Rattle.mapping_records.specs.Limits.{most_mappings};
 ghost use Rattle.playback.specs.Events.{records_of};
 ghost use Rattle.playback.specs.Written.{frames_of};
 ghost use Rattle.trial_input.specs.Trial.{datagram_to, packet_to, trial_packets};
-ghost use Rattle.trial_input.specs.declared.settings.TheConstants.{MOST_MAPPINGS};
 
-use crate::settings::{MOST_MAPPINGS, prefix_addr};
+use crate::settings::prefix_addr;
 use capture_io::{write_header, write_packet};
 use ip_headers::{Addr, V4Header, write_udp, write_v4};
 use octets::{NoMemory, Octets};
@@ -28,7 +28,7 @@ const ELSEWHERE: u32 = 0x1500_0001;
 /// A capture with a packet for each of so many mappings, a microsecond apart, and one packet for
 /// which there is none.
 pub fn trial_capture(alloc: Global, n: u32) -> Result<Octets, NoMemory>
-    requires { n ≤ MOST_MAPPINGS }
+    requires { n ≤ most_mappings }
     ensures file { IfOk result (λ file. file ≡ out_header ++ records_of (trial_packets n)) }
     ensures read { IfOk result (λ file. capture file
         ≡ record { frames = frames_of (trial_packets n); fault = None }) }
@@ -47,7 +47,7 @@ pub fn trial_capture(alloc: Global, n: u32) -> Result<Octets, NoMemory>
 
 // Adds the record of a packet to the address, at that microsecond.
 fn push_packet(alloc: Global, dest: u32, j: u32, file: &mut Octets) -> Result<(), NoMemory>
-    requires { j ≤ MOST_MAPPINGS }
+    requires { j ≤ most_mappings }
     ensures { OnOk result (file.new ≡ file.old
         ++ packet_record (packet_to dest j).moment (packet_to dest j).octets) }
 {

@@ -6,4 +6,4 @@ mod capture;
 mod settings;
 
 pub use capture::trial_capture;
-pub use settings::{MOST_MAPPINGS, trial_settings};
+pub use settings::trial_settings;

@@ -1,23 +1,20 @@
 // The settings of a trial.
 ghost use Rattle.std.specs.Prelude.{◌≡◌, ◌≤◌, ◌<◌, ◌∷◌, [], map, IfOk};
 ghost use Rattle.std.specs.List.{range_with_len};
+ghost use Rattle.mapping_records.specs.Limits.{most_mappings};
 ghost use Rattle.lisp_settings.specs.Lawful.{IsLawful};
 ghost use Rattle.trial_input.specs.Trial.{prefix_addr, trial_mapping, trial_settings};
-ghost use Rattle.trial_input.specs.declared.settings.TheConstants.{MOST_MAPPINGS};
 
 use ip_headers::{Addr, Prefix};
 use lisp_settings::{Attachment, Database, OwnLocator, Settings};
-use mapping_records::{Eid, Locator, Record};
+use mapping_records::{DEFAULT_MINUTES, Eid, Locator, Record};
 use octets::{Items, NoMemory};
 use std::alloc::Global;
 
-/// The most mappings of a trial.
-pub const MOST_MAPPINGS: u32 = 50_000;
-
 /// Settings of so many mappings, 20.0.0.0/24 and the prefixes that follow it, and of the site
-/// 192.168.0.0/16.
+/// 192.168.0.0/16. Of as many as settings may have.
 pub fn trial_settings(alloc: Global, n: u32) -> Result<Settings, NoMemory>
-    requires { n ≤ MOST_MAPPINGS }
+    requires { n ≤ most_mappings }
     ensures settings { IfOk result (λ settings. settings ≡ trial_settings n) }
     ensures lawful { IfOk result (λ settings. IsLawful settings) }
 {
@@ -46,7 +43,7 @@ pub fn trial_settings(alloc: Global, n: u32) -> Result<Settings, NoMemory>
         seed: [0; 32],
         nonces: Items::new(alloc),
         resolver: None,
-        ttl: 1440,
+        ttl: DEFAULT_MINUTES,
         probe: false,
         echo: false,
         locators,
@@ -57,7 +54,7 @@ pub fn trial_settings(alloc: Global, n: u32) -> Result<Settings, NoMemory>
 }
 
 fn mappings(alloc: Global, n: u32) -> Result<Items<Record>, NoMemory>
-    requires { n ≤ MOST_MAPPINGS }
+    requires { n ≤ most_mappings }
     ensures { IfOk result (λ mappings. mappings ≡ map trial_mapping (range_with_len 0 n)) }
 {
     let mut mappings = Items::new(alloc);
@@ -68,7 +65,7 @@ fn mappings(alloc: Global, n: u32) -> Result<Items<Record>, NoMemory>
 }
 
 fn mapping(alloc: Global, i: u32) -> Result<Record, NoMemory>
-    requires { i < MOST_MAPPINGS }
+    requires { i < most_mappings }
     ensures { IfOk result (λ mapping. mapping ≡ trial_mapping i) }
 {
     let locator = Locator {
@@ -82,7 +79,7 @@ fn mapping(alloc: Global, i: u32) -> Result<Record, NoMemory>
         reachable: true,
     };
     Ok(Record {
-        ttl: 1440,
+        ttl: DEFAULT_MINUTES,
         action: 0,
         authoritative: true,
         version: 0,
@@ -99,7 +96,7 @@ fn mapping(alloc: Global, i: u32) -> Result<Record, NoMemory>
 
 /// The first address of a prefix.
 pub(crate) fn prefix_addr(i: u32) -> u32
-    requires { i < MOST_MAPPINGS }
+    requires { i < most_mappings }
     ensures addr { result ≡ prefix_addr i }
 {
     (0x14_0000 + i) * 256
