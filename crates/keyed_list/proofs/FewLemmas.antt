@@ -22,7 +22,7 @@ use Rattle.keyed_list.specs.declared.keyed.Numbered.{Numbered}
 -- ### keys that ascend
 
 module _ {K : Type 0} (order : K → K → Ordering) (total : IsTotalOrder order) where
-  sorted : (keys : List K) → Ascends order keys → IsStrictlySortedBy order keys
+  pub sorted : (keys : List K) → Ascends order keys → IsStrictlySortedBy order keys
   unfolding IsStrictlySortedBy
   sorted [] ascends = tt
   sorted (k ∷ keys) ascends = (
@@ -30,7 +30,7 @@ module _ {K : Type 0} (order : K → K → Ordering) (total : IsTotalOrder order
     sorted keys (λ i j d before within. ascends (suc i) (suc j) d (omega (arith, before)) (omega (arith, within))),
   )
 
-  member-has : (keys : List K) (key : K) → is_member (eq_by_cmp order) keys key ≡ has order key keys
+  pub member-has : (keys : List K) (key : K) → is_member (eq_by_cmp order) keys key ≡ has order key keys
   member-has [] key = refl
   member-has (k ∷ keys) key = ap₂ (λ a b. a || b) ((eq_by_cmp_equiv total).symm key k) (member-has keys key)
 
@@ -75,21 +75,21 @@ module _ {T : Type 0} (marks_of : T → Marks) where
       let more = length-other x.number (marks_of x.item).other (all_marks items) in
       omega (arith, rest, more)
 
+  -- ### by age
+
+  abbrev pub age_of : Numbered T → Age
+  age_of x = record { moment = (marks_of x.item).moment; number = x.number }
+
+  pub ages-had : (age : Age) (some : List (Numbered T)) → has age_order age (map age_of some) ≡ list_any (λ x. has_age age x.number (marks_of x.item)) some
+  ages-had age [] = refl
+  ages-had age (x ∷ some) = ap (λ b. has_age age x.number (marks_of x.item) || b) (ages-had age some)
+
   module _ (items : List (Numbered T)) (index : List Mark) (ages : List Age) (keyed : IsKeyed marks_of items index ages) where
     -- there are at most two marks for each item
     pub marks-few : Ascends mark_order index → length index ≤ 2 * length items
     marks-few ascends =
         let few = at_most mark_order mark_order-total index (all_marks items) ascends (λ mark is. marks-had mark items ∙ sym (keyed.found mark) ∙ is) in
         omega (arith, few, length-all_marks items)
-
-    -- ### by age
-
-    abbrev age_of : Numbered T → Age
-    age_of x = record { moment = (marks_of x.item).moment; number = x.number }
-
-    ages-had : (age : Age) (some : List (Numbered T)) → has age_order age (map age_of some) ≡ list_any (λ x. has_age age x.number (marks_of x.item)) some
-    ages-had age [] = refl
-    ages-had age (x ∷ some) = ap (λ b. has_age age x.number (marks_of x.item) || b) (ages-had age some)
 
     -- there are no more ages than items
     pub ages-few : Ascends age_order ages → length ages ≤ length items

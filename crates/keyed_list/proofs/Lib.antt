@@ -2,11 +2,13 @@ pub mod AgeLemmas
 pub mod AmongLemmas
 pub mod BelowLemmas
 pub mod ChangeLemmas
+pub mod CountLemmas
 pub mod FewLemmas
 pub mod FilterLemmas
 pub mod FitsLemmas
 pub mod KeyedLemmas
 pub mod LastLemmas
+pub mod LatestLemmas
 pub mod MarkBelowLemmas
 pub mod MarkLemmas
 pub mod OrderLemmas

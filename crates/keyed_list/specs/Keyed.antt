@@ -1,8 +1,9 @@
 -- Items in order of coming, and what finds them.
-use Rattle.std.specs.Prelude.{◌≡◌, ◌≤◌, ◌<◌, ◌-◌, ◌*◌, ◌&&◌, ◌||◌, ℕ, nat_lt, Bool, false, List, Option, None, Some, All, AllPairs, drop, length, slice_get, take, if◌then◌else◌}
+use Rattle.std.specs.Prelude.{◌≡◌, ◌≤◌, ◌<◌, ◌-◌, ◌*◌, ◌&&◌, ◌||◌, ℕ, nat_lt, Bool, false, List, Option, None, Some, All, AllPairs, drop, fold, length, max, slice_get, take, if◌then◌else◌}
 use Rattle.std.specs.List.{list_any}
 use Rattle.std.specs.Ordering.{is_eq}
 use Rattle.ordered_set.specs.Keys.{has}
+use Rattle.keyed_list.specs.Limits.{most_items}
 use Rattle.keyed_list.specs.Keys.{age_order, mark_order, same_key}
 use Rattle.keyed_list.specs.declared.key.Age.{Age}
 use Rattle.keyed_list.specs.declared.key.Key.{Key}
@@ -27,6 +28,11 @@ is_other (Some other) key = same_key other key
 abbrev pub has_key : Marks → Key → Bool
 has_key marks key = same_key marks.key key || is_other marks.other key
 
+-- the greater of two moments, where there are two
+abbrev pub greater : Option ℕ → ℕ → ℕ
+greater None moment = moment
+greater (Some best) moment = max best moment
+
 module _ {T : Type 0} (marks_of : T → Marks) where
   -- the item has the key
   abbrev pub is_key : Key → T → Bool
@@ -39,6 +45,14 @@ module _ {T : Type 0} (marks_of : T → Marks) where
   -- the item, which was changed where it has the key
   abbrev pub changed_with : Key → (T → T) → T → T
   changed_with key changed item = if is_key key item then changed item else item
+
+  -- the greatest moment so far, and that of the item where it has the key
+  abbrev pub later_moment : Key → Option ℕ → T → Option ℕ
+  later_moment key best item = if is_key key item then Some (greater best (marks_of item).moment) else best
+
+  -- the greatest moment of the items that have a key
+  abbrev pub latest : Key → List T → Option ℕ
+  latest key items = fold (later_moment key) None items
 
 -- ### how items are found; no public clause cites what follows
 
@@ -87,6 +101,6 @@ module _ {T : Type 0} (marks_of : T → Marks) where
 
 -- for each item that is there, or for which there is room, there are two places for keys and one for its age
 pub record HasPlaces (all for_keys for_ages : ℕ) : Type 0 where
-  pub few : all ≤ 1073741824
+  pub few : all ≤ most_items
   pub keys : 2 * all ≤ for_keys
   pub ages : all ≤ for_ages

@@ -1,10 +1,10 @@
 // Where items are found.
-ghost use Rattle.std.specs.Prelude.{◌≡◌, ◌≤◌, ◌<◌, false, true, length, slice_get, IfSome, is_some};
+ghost use Rattle.std.specs.Prelude.{◌≡◌, ◌-◌, ◌≤◌, ◌<◌, Some, count_by, false, map, max, nat_lt, not, true, length, slice_get, IfSome, is_some};
 ghost use Rattle.std.specs.List.{list_all};
 ghost use Rattle.std.specs.Ordering.{is_lt};
 ghost use Rattle.ordered_set.specs.Keys.{Ascends as KeysAscend};
 ghost use Rattle.keyed_list.specs.Keys.{mark_order};
-ghost use Rattle.keyed_list.specs.Keyed.{Ascends, IsKeyed, IsPlace, is_below, is_young, item_at};
+ghost use Rattle.keyed_list.specs.Keyed.{Ascends, IsKeyed, IsPlace, greater, is_below, is_young, item_at};
 ghost use Rattle.keyed_list.specs.Lists.{last_where};
 
 use crate::key::{Age, Mark};
@@ -83,4 +83,39 @@ pub(crate) fn old_place<T: Keyed>(
         return None;
     }
     Some(place_of(age.number, list))
+}
+
+// At a moment the age isn't less than that.
+fn is_old(now: u64, life: u64, age: &Age) -> bool
+    ensures { result ≡ not (nat_lt (now - age.now.moment) life) }
+{
+    now.saturating_sub(age.moment) >= life
+}
+
+/// How many items are younger than that at a moment. Ages are in order, so that it is found by halving.
+pub(crate) fn count_young<T: Keyed>(
+    now: u64,
+    life: u64,
+    list: &NamedList<Numbered<T>>,
+    index: &OrderedSet<Mark>,
+    ages: &OrderedSet<Age>,
+) -> usize
+    requires { IsKeyed T.marks_of list.now.items index.now.keys ages.now.keys }
+    ensures { result ≡ count_by (is_young T.marks_of now life)
+        (map (λ numbered. numbered.item) list.now.items) }
+{
+    // The length says that ages ascend.
+    let all = ages.len();
+    all - ages.place(|age| is_old(now, life, age))
+}
+
+/// The greatest moment so far, after a look at an item.
+pub(crate) fn later<T: Keyed>(best: Option<u64>, item: &T) -> Option<u64>
+    ensures { result ≡ Some (greater best (T.marks_of item.now).moment) }
+{
+    let moment = item.marks().moment;
+    match best {
+        None => Some(moment),
+        Some(best) => Some(best.max(moment)),
+    }
 }

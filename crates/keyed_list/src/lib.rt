@@ -6,10 +6,12 @@ mod finding;
 mod key;
 mod keyed;
 mod known;
+mod limits;
 mod list;
 mod marks;
 
 pub use key::Key;
 pub use keyed::{Keyed, Marks};
+pub use limits::{MOST_ITEMS, limits_are};
 pub use list::KeyedList;
 pub use octets::NoMemory;

@@ -3,22 +3,20 @@ ghost use Rattle.std.specs.Prelude.{◌≡◌, ◌≤◌, ◌<◌, ◌+◌, ◌*
 ghost use Rattle.std.specs.List.{list_all, remove};
 ghost use Rattle.std.specs.Fn.{FnReturnsAt};
 ghost use Rattle.std.specs.Option.{option_copied};
-ghost use Rattle.keyed_list.specs.Keyed.{changed_with, is_key, is_young, item_at};
+ghost use Rattle.keyed_list.specs.Keyed.{changed_with, is_key, is_young, item_at, latest};
+ghost use Rattle.keyed_list.specs.Limits.{most_items};
 ghost use Rattle.keyed_list.specs.Lists.{last_where};
 
 use crate::ages::{add_age, drop_age};
-use crate::finding::{old_place, place_below};
+use crate::finding::{count_young, later, old_place, place_below};
 use crate::key::{Age, Mark};
 use crate::keyed::Numbered;
 use crate::marks::{add_marks, drop_marks};
-use crate::{Key, Keyed, NoMemory};
+use crate::{Key, Keyed, MOST_ITEMS, NoMemory};
 use named_list::NamedList;
 use ordered_set::OrderedSet;
 use std::alloc::Global;
 use std::marker::Model;
-
-// The most items, with those that there is room for.
-const MOST_ITEMS: u32 = 1 << 30;
 
 /// Items in order of coming. Those that have a key are found by it, and those that are old by their
 /// age, without a look at the others.
@@ -74,6 +72,7 @@ impl<T: Keyed> KeyedList<T> {
     pub fn reserve(&mut self, n: u32) -> Result<(), NoMemory>
         ensures items { self.new.items ≡ self.old.items }
         ensures room { self.old.room ≤ self.new.room }
+        ensures at_most { self.new.room ≤ max self.old.room n }
         ensures places { self.new.places ≤ max self.old.places (2 * (length self.old.items + n)) }
         ensures ok { OnOk result (n ≤ self.new.room) }
         ensures enough { n ≤ self.old.room → IsOk result }
@@ -101,7 +100,8 @@ impl<T: Keyed> KeyedList<T> {
     /// The number of items.
     pub fn len(&self) -> usize
         ensures len { result ≡ length self.now.items }
-        ensures few { result + self.now.room ≤ 2 ^ 30 }
+        ensures few { result + self.now.room ≤ most_items }
+        ensures tied { 2 * (result + self.now.room) ≤ self.now.places }
         ensures kept { self.now.kept ≤ 4 * self.now.places }
     {
         // The lengths say how much is kept.
@@ -160,30 +160,34 @@ impl<T: Keyed> KeyedList<T> {
         None
     }
 
-    /// How many items are younger than that at a moment. None is looked at where all are.
+    /// The greatest moment of the items that have a key.
+    pub fn latest(&self, key: &Key) -> Option<u64>
+        ensures { result ≡ latest T.marks_of key.now self.now.items }
+    {
+        let mut best = None;
+        let mut bound = self.next;
+        while let Some(place) = place_below(key, bound, &self.list, &self.index, &self.ages) {
+            let Some(numbered) = self.list.get(place) else {
+                unreachable!()
+            };
+            best = later(best, &numbered.item);
+            bound = numbered.number;
+        }
+        best
+    }
+
+    /// How many items are younger than that at a moment, found by halving.
     pub fn count(&self, now: u64, life: u64) -> usize
         ensures { result ≡ count_by (is_young T.marks_of now life) self.now.items }
     {
-        if old_place(now, life, &self.list, &self.index, &self.ages).is_none() {
-            return self.list.len();
-        }
-        let mut count = 0;
-        for index in 0..self.list.len() {
-            let Some(numbered) = self.list.get(index) else {
-                unreachable!()
-            };
-            if now.saturating_sub(numbered.item.marks().moment) < life {
-                count += 1;
-            }
-        }
-        count
+        count_young(now, life, &self.list, &self.index, &self.ages)
     }
 
     /// Adds an item at the end. Takes no memory.
     pub fn push(&mut self, item: T)
         requires { 0 < self.old.room }
         ensures items { self.new.items ≡ self.old.items ++ item ∷ [] }
-        ensures room { self.old.room ≤ self.new.room + 1 }
+        ensures room { self.new.room + 1 ≡ self.old.room }
         ensures places { self.new.places ≡ self.old.places }
     {
         // The lengths say that keys and ages ascend, so that there are no more than the items have.
@@ -200,6 +204,8 @@ impl<T: Keyed> KeyedList<T> {
     pub fn purge(&mut self, now: u64, life: u64)
         ensures items { self.new.items ≡ filter (is_young T.marks_of now life) self.old.items }
         ensures room { self.old.room ≤ self.new.room }
+        ensures total { length self.new.items + self.new.room
+            ≤ length self.old.items + self.old.room }
         ensures places { self.new.places ≡ self.old.places }
     {
         while let Some(place) = old_place(now, life, &self.list, &self.index, &self.ages) {
@@ -232,6 +238,8 @@ impl<T: Keyed> KeyedList<T> {
         ensures item { slice_get self.old.items place ≡ Some result }
         ensures items { self.new.items ≡ remove self.old.items place }
         ensures room { self.old.room ≤ self.new.room }
+        ensures total { length self.new.items + self.new.room
+            ≤ length self.old.items + self.old.room }
         ensures places { self.new.places ≡ self.old.places }
     {
         let Numbered { number, item } = self.list.remove(place);

@@ -6,7 +6,7 @@ use Rattle.keyed_list.proofs.FilterLemmas.{filter-all, filter-remove, old-item}
 use Rattle.keyed_list.proofs.list.KeyedList.purge.Goals as goal
 
 pub loop-place-init : goal.loop-place-init
-loop-place-init g c = (refl, omega arith, refl)
+loop-place-init g c = (refl, omega arith, omega arith, refl)
 
 pub loop-place-smaller : goal.loop-place-smaller
 loop-place-smaller g c =
@@ -20,7 +20,8 @@ loop-place-preserved g c =
     let old = old-item young (λ numbered. numbered.item) c.self.inside.list.items c.in-Some.place c.remove.result c.in-Some.ensures.old here in (
       ap (filter young) c.remove.ensures.items ∙ filter-remove young c.loop-place.self.items c.in-Some.place c.remove.result c.remove.ensures.item old ∙ c.loop-place.invariant.0,
       omega (arith, c.remove.ensures.room, c.loop-place.invariant.1),
-      c.remove.ensures.places ∙ c.loop-place.invariant.2,
+      omega (arith, c.remove.ensures.total, c.loop-place.invariant.2),
+      c.remove.ensures.places ∙ c.loop-place.invariant.3,
     )
 
 pub returns-clause-items : goal.returns-clause-items
@@ -33,4 +34,7 @@ pub returns-clause-room : goal.returns-clause-room
 returns-clause-room g c = c.loop-place.invariant.1
 
 pub returns-clause-places : goal.returns-clause-places
-returns-clause-places g c = c.loop-place.invariant.2
+returns-clause-places g c = c.loop-place.invariant.3
+
+pub returns-clause-total : goal.returns-clause-total
+returns-clause-total g c = c.loop-place.invariant.2
