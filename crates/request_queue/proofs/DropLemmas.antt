@@ -6,7 +6,6 @@ use Rattle.std.proofs.lemmas.List.Edits.{length-remove}
 use Rattle.std.proofs.lemmas.List.Sums.{count_by-le-length, length-filter}
 use Rattle.keyed_list.specs.Keyed.{Kept}
 use Rattle.keyed_list.proofs.FilterLemmas.{filter-remove}
-use Rattle.mapping_records.specs.declared.eid.Eid.{Eid}
 use Rattle.prefix_table.specs.Table.{Table}
 use Rattle.request_queue.specs.Found.{AreEids}
 use Rattle.request_queue.specs.Lists.{all_rest, are_distinct}
@@ -23,13 +22,15 @@ dropped-less old new place within items =
 
 module _ (test : Request → Bool) where
   -- what was dropped doesn't pass, and no room is lost
-  pub record Dropped (old new : Kept Request) (were are : Table Eid) : Type 0 where
+  pub record Dropped (old new : Kept Request) (were are : Table ℕ) : Type 0 where
     pub same : filter test new.items ≡ filter test old.items
     pub eids : AreEids are.pairs new.items
     pub room : old.room ≤ new.room
     pub places : new.places ≡ old.places
     pub spare : were.spare ≤ are.spare
     pub total : length are.pairs + are.spare ≡ length were.pairs + were.spare
+    pub rooms : length new.items + new.room ≤ length old.items + old.room
+    pub spares : length new.items + are.spare ≤ length old.items + were.spare
 
   pub filter-all : (requests : List Request) → list_all test requests ≡ true → filter test requests ≡ requests
   filter-all [] all = refl
@@ -49,17 +50,19 @@ module _ (test : Request → Bool) where
       by (Some x) at is = filter-remove test requests place x at is
 
   -- one more is dropped
-  pub dropped-step : (old mid new : Kept Request) (were between are : Table Eid) (place : ℕ) → Dropped old mid were between → place < length mid.items → IfSome (slice_get mid.items place) (λ x. test x ≡ false) → new.items ≡ remove mid.items place → mid.room ≤ new.room → AreEids are.pairs new.items → new.places ≡ mid.places → between.spare ≤ are.spare → length are.pairs + are.spare ≡ length between.pairs + between.spare → Dropped old new were are
-  dropped-step old mid new were between are place so within fails items room eids places spare total = record {
+  pub dropped-step : (old mid new : Kept Request) (were between are : Table ℕ) (place : ℕ) → Dropped old mid were between → place < length mid.items → IfSome (slice_get mid.items place) (λ x. test x ≡ false) → new.items ≡ remove mid.items place → mid.room ≤ new.room → AreEids are.pairs new.items → new.places ≡ mid.places → between.spare ≤ are.spare → length are.pairs + are.spare ≡ length between.pairs + between.spare → length new.items + new.room ≤ length mid.items + mid.room → length new.items + are.spare ≤ length mid.items + between.spare → Dropped old new were are
+  dropped-step old mid new were between are place so within fails items room eids places spare total rooms spares = record {
     same = ap (filter test) items ∙ filter-without mid.items place within fails ∙ so.same;
     eids = eids;
     room = omega (arith, room, so.room);
     places = places ∙ so.places;
     spare = omega (arith, spare, so.spare);
     total = total ∙ so.total;
+    rooms = omega (arith, rooms, so.rooms);
+    spares = omega (arith, spares, so.spares);
   }
 
-  module _ (old new : Kept Request) (were are : Table Eid) (so : Dropped old new were are) where
+  module _ (old new : Kept Request) (were are : Table ℕ) (so : Dropped old new were are) where
     pub dropped-items : filter test new.items ≡ new.items → new.items ≡ filter test old.items
     dropped-items all = sym all ∙ so.same
 
@@ -76,6 +79,9 @@ module _ (test : Request → Bool) where
 
     pub dropped-spare : min old.room were.spare ≤ min new.room are.spare
     dropped-spare = omega (arith, so.room, so.spare)
+
+    pub dropped-total : length new.items + min new.room are.spare ≤ length old.items + min old.room were.spare
+    dropped-total = omega (arith, so.rooms, so.spares)
 
     pub dropped-places : max new.places (2 * (length are.pairs + are.spare)) ≤ max old.places (2 * (length were.pairs + were.spare))
     dropped-places = omega (arith, so.places, so.total)

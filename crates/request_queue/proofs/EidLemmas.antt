@@ -1,21 +1,24 @@
--- EIDs in a trie, each under itself.
-use Rattle.std.proofs.Common.{◌≡◌, ◌⊎◌, ℕ, zero, suc, ◌≤◌, ◌<◌, ◌+◌, ◌-◌, ◌==◌, ◌&&◌, ◌||◌, Bool, true, false, cond, List, [], ◌∷◌, ◌++◌, filter, length, map, remove, slice_get, slice_index_or, All, Contains, Option, None, Some, is_some, Ordering, Less, Equal, Greater, is_eq, is_lt, nat_cmp, MatchOption, inl, inr, refl, sym, ap, ap₂, subst, ◌∙◌, arith, true≢false}
+-- EIDs in a trie, each with the latest start of its requests.
+use Rattle.std.proofs.Common.{◌≡◌, ◌⊎◌, ℕ, zero, suc, ◌≤◌, ◌<◌, ◌+◌, ◌-◌, ◌==◌, ◌&&◌, ◌||◌, Bool, true, false, cond, List, [], ◌∷◌, ◌++◌, filter, fold, length, map, max, remove, slice_get, slice_index_or, All, Contains, Option, None, Some, is_some, Ordering, Less, Equal, Greater, is_eq, is_lt, nat_cmp, MatchOption, inl, inr, refl, sym, ap, ap₂, subst, ◌∙◌, arith, true≢false}
 use Rattle.std.specs.List.{list_any}
 use Rattle.std.specs.List.Sorted.{IsStrictlySortedBy}
 use Rattle.std.specs.Ordering.{eq_by_cmp, ordering_reverse}
 use Rattle.std.specs.Set.{is_member}
+use Rattle.std.proofs.lemmas.Bool.Decides.{nat_tests}
 use Rattle.std.proofs.lemmas.Bool.{and_parts, cases_Bool, eqb-true}
 use Rattle.std.proofs.lemmas.Cmp.{eq_by_cmp_equiv, tied_itself}
 use Rattle.std.proofs.lemmas.List.{length-map}
 use Rattle.std.proofs.lemmas.List.Elements.{All-cons, All-nil, recursion_from_All}
-use Rattle.std.proofs.lemmas.List.Folds.{list_any-append}
+use Rattle.std.proofs.lemmas.List.Sums.{fold-append}
 use Rattle.std.proofs.lemmas.Map.Keys.{IsDistinct-from_sorted}
 use Rattle.std.proofs.lemmas.Map.Made.{length-le_from_is_member}
 use Rattle.std.proofs.lemmas.Option.{same_Some}
 use Rattle.ip_headers.specs.Addr.{number, width}
 use Rattle.ip_headers.specs.declared.addr.Addr.{Addr}
 use Rattle.ip_headers.specs.declared.addr.Addr.TheVariants.{V4, V6}
-use Rattle.keyed_list.proofs.AmongLemmas.{Among, among-all, among-any, any-among, pairs-behind_first, pairs-tail, IsPassing}
+use Rattle.keyed_list.proofs.AmongLemmas.{Among, among-all, among-at, among-any, any-among, pairs-behind_first, pairs-tail, IsPassing}
+use Rattle.keyed_list.specs.Keyed.{greater, later_moment}
+use Rattle.keyed_list.specs.Keys.{eid_key}
 use Rattle.mapping_records.proofs.EqualValue.{equal_eid, equal_prefix}
 use Rattle.mapping_records.proofs.OrderLemmas.{eid_order-total}
 use Rattle.mapping_records.specs.Eids.{covers_eid, same_address, same_eid}
@@ -23,10 +26,12 @@ use Rattle.mapping_records.specs.Orders.{addr_order, eid_order, prefix_order}
 use Rattle.mapping_records.specs.declared.eid.Eid.{Eid}
 use Rattle.prefix_table.specs.Longest.{IsLongestWhere, IsRefused}
 use Rattle.prefix_table.specs.Pairs.{is_below, with_pair, without_pair, value_in, Ascends}
-use Rattle.request_queue.specs.Found.{asks_for, AreEids}
+use Rattle.router_log.specs.Moments.{younger}
+use Rattle.request_queue.specs.Found.{asks_for, later_start, latest_start, request_marks, with_latest, AreEids}
+use Rattle.request_queue.specs.Limits.{request_seconds}
 use Rattle.request_queue.specs.Queue.{covered, is_waiting, once_more, sent_again, waiting}
 use Rattle.request_queue.specs.declared.request.Request.{Request}
-use Rattle.request_queue.proofs.FoundLemmas.{is_eq-addr, is_eq-nat, is_eq-then}
+use Rattle.request_queue.proofs.FoundLemmas.{is_key-eid, is_eq-addr, is_eq-nat, is_eq-then}
 
 -- ### the order of EIDs
 
@@ -62,14 +67,14 @@ same-self a = sym (is_eq-eid a a) ∙ ap is_eq (tied_itself eid_order-total a)
 abbrev Lt : Eid → Eid → Type 0
 Lt a b = eid_order a b ≡ Less
 
-greater : (a b : Eid) → Lt a b → eid_order b a ≡ Greater
-greater a b less = eid_order-total.antisymm b a ∙ ap ordering_reverse less
+is_greater : (a b : Eid) → Lt a b → eid_order b a ≡ Greater
+is_greater a b less = eid_order-total.antisymm b a ∙ ap ordering_reverse less
 
 apart : (a b : Eid) → Lt a b → same_eid a b ≡ false
 apart a b less = sym (is_eq-eid a b) ∙ ap is_eq less
 
 apart-back : (a b : Eid) → Lt a b → same_eid b a ≡ false
-apart-back a b less = sym (is_eq-eid b a) ∙ ap is_eq (greater a b less)
+apart-back a b less = sym (is_eq-eid b a) ∙ ap is_eq (is_greater a b less)
 
 is_less : (a b : Eid) → is_below a b ≡ true → Lt a b
 is_less a b is = by (eid_order a b) is
@@ -95,19 +100,19 @@ module _ {V : Type 0} (eid : Eid) where
     value-past less = rw (less) refl
 
     value-over : Lt eid key → value_in eid ((key, old) ∷ rest) ≡ None
-    value-over less = rw (greater eid key less, less) refl
+    value-over less = rw (is_greater eid key less, less) refl
 
     with-past : (value : V) → Lt key eid → with_pair eid value ((key, old) ∷ rest) ≡ (key, old) ∷ with_pair eid value rest
     with-past value less = rw (less) refl
 
     with-over : (value : V) → Lt eid key → with_pair eid value ((key, old) ∷ rest) ≡ (eid, value) ∷ ((key, old) ∷ rest)
-    with-over value less = rw (greater eid key less, less) refl
+    with-over value less = rw (is_greater eid key less, less) refl
 
     without-past : Lt key eid → without_pair eid ((key, old) ∷ rest) ≡ (key, old) ∷ without_pair eid rest
     without-past less = rw (less) refl
 
     without-over : Lt eid key → without_pair eid ((key, old) ∷ rest) ≡ (key, old) ∷ rest
-    without-over less = rw (greater eid key less, less) refl
+    without-over less = rw (is_greater eid key less, less) refl
 
   module _ (old : V) (rest : List (Eid × V)) where
     value-here : value_in eid ((eid, old) ∷ rest) ≡ Some old
@@ -327,118 +332,191 @@ pub total-put : (was : Bool) (pairs spare new left : ℕ) → 0 < spare → left
 total-put true pairs spare new left room less more = omega (arith, less, more)
 total-put false pairs spare new left room less more = omega (arith, room, less, more)
 
-module _ (pairs : List (Eid × Eid)) (requests : List Request) (are : AreEids pairs requests) where
-  -- each pair is an EID under itself, and there is a request for it
-  pub each-pair : (pair : Eid × Eid) → Among pair pairs → (pair.1 ≡ pair.0) × (asks_for pair.0 requests ≡ true)
-  each-pair (key, v) among = by (asks_for key requests) refl (sym (value-among key v pairs are.ascends among) ∙ are.each key)
-    where
-      by : (b : Bool) → asks_for key requests ≡ b → Some v ≡ cond b (Some key) None → (v ≡ key) × (asks_for key requests ≡ true)
-      by true asks is = (same_Some v key is, asks)
-      by false asks is = absurd (cc is)
+-- one of them is for an EID exactly where there is a latest start
+starts-asked : (eid : Eid) (before : Option ℕ) (requests : List Request) → is_some (fold (later_start eid) before requests) ≡ (is_some before || asks_for eid requests)
+starts-asked eid None [] = refl
+starts-asked eid (Some start) [] = refl
+starts-asked eid before (x ∷ requests) = starts-asked eid (later_start eid before x) requests ∙ by before (same_eid x.eid eid)
+  where
+    by : (o : Option ℕ) (b : Bool) → (is_some (cond b (Some (greater o x.start)) o) || asks_for eid requests) ≡ (is_some o || (b || asks_for eid requests))
+    by None true = refl
+    by None false = refl
+    by (Some start) true = refl
+    by (Some start) false = refl
+
+pub asked-start : (eid : Eid) (requests : List Request) → is_some (latest_start eid requests) ≡ asks_for eid requests
+asked-start eid requests = starts-asked eid None requests
+
+-- a request of that start waits
+abbrev waits : ℕ → Option ℕ → Bool
+waits m None = false
+waits m (Some start) = younger m request_seconds start
+
+either-waits : (m a b : ℕ) → younger m request_seconds (max a b) ≡ (younger m request_seconds a || younger m request_seconds b)
+either-waits m a b = grind (arith, nat_tests)
+
+-- one of them waits exactly where one of the latest start does
+starts-wait : (m : ℕ) (eid : Eid) (before : Option ℕ) (requests : List Request) → waits m (fold (later_start eid) before requests) ≡ (waits m before || list_any (λ request. same_eid request.eid eid && is_waiting m request) requests)
+starts-wait m eid before [] = sym (or_false (waits m before))
+  where
+    or_false : (b : Bool) → (b || false) ≡ b
+    or_false true = refl
+    or_false false = refl
+starts-wait m eid before (x ∷ requests) =
+    starts-wait m eid (later_start eid before x) requests ∙ by before (same_eid x.eid eid)
+  where
+    rest : Bool
+    rest = list_any (λ request. same_eid request.eid eid && is_waiting m request) requests
+
+    joined : (a b c : Bool) → ((a || b) || c) ≡ (a || (b || c))
+    joined true b c = refl
+    joined false b c = refl
+
+    by : (o : Option ℕ) (b : Bool) → (waits m (cond b (Some (greater o x.start)) o) || rest) ≡ (waits m o || ((b && is_waiting m x) || rest))
+    by None true = refl
+    by None false = refl
+    by (Some start) true = ap (λ b. b || rest) (either-waits m start x.start) ∙ joined (younger m request_seconds start) (is_waiting m x) rest
+    by (Some start) false = refl
+
+-- what a list says of the latest start
+pub latest-start : (eid : Eid) (before : Option ℕ) (requests : List Request) → fold (later_moment request_marks (eid_key eid)) before requests ≡ fold (later_start eid) before requests
+latest-start eid before [] = refl
+latest-start eid before (x ∷ requests) =
+    ap (λ b. fold (later_moment request_marks (eid_key eid)) (cond b (Some (greater before x.start)) before) requests) (is_key-eid eid x)
+    ∙ latest-start eid (later_start eid before x) requests
+
+-- the same EID has the same latest start
+starts-same : (a b : Eid) (requests : List Request) → same_eid a b ≡ true → latest_start a requests ≡ latest_start b requests
+starts-same a b requests same = ap (λ k. latest_start k requests) (equal-same a b same)
+
+-- without a request of another EID
+starts-left : (eid : Eid) (before : Option ℕ) (requests : List Request) (place : ℕ) (x : Request) → slice_get requests place ≡ Some x → same_eid x.eid eid ≡ false → fold (later_start eid) before (remove requests place) ≡ fold (later_start eid) before requests
+starts-left eid before [] place x at other = absurd (cc at)
+starts-left eid before (y ∷ requests) zero x at other =
+    sym (ap (λ b. fold (later_start eid) (cond b (Some (greater before y.start)) before) requests) (ap (λ (z : Request). same_eid z.eid eid) (same_Some y x at) ∙ other))
+starts-left eid before (y ∷ requests) (suc place) x at other = starts-left eid (later_start eid before y) requests place x at other
+
+module _ (pairs : List (Eid × ℕ)) (requests : List Request) (are : AreEids pairs requests) where
+  -- a pair has the latest start of its EID
+  pair-start : (pair : Eid × ℕ) → Among pair pairs → latest_start pair.0 requests ≡ Some pair.1
+  pair-start (key, v) among = sym (are.each key) ∙ value-among key v pairs are.ascends among
+
+  -- each pair is an EID for which there is a request
+  pub each-pair : (pair : Eid × ℕ) → Among pair pairs → asks_for pair.0 requests ≡ true
+  each-pair pair among = sym (asked-start pair.0 requests) ∙ ap is_some (pair-start pair among)
+
+  -- one for the EID of a pair waits exactly where one of its start does
+  pair-waits : (m : ℕ) (pair : Eid × ℕ) → Among pair pairs → younger m request_seconds pair.1 ≡ list_any (λ request. same_eid request.eid pair.0 && is_waiting m request) requests
+  pair-waits m pair among = ap (waits m) (sym (pair-start pair among)) ∙ starts-wait m pair.0 None requests
 
   -- the EID of each request is there
-  pub pair-of : (x : Request) → Among x requests → Among (x.eid, x.eid) pairs
-  pair-of x among =
-      among-value x.eid x.eid pairs (are.each x.eid ∙ ap (λ b. cond b (Some x.eid) None) (any-among (λ request. same_eid request.eid x.eid) requests x (same-self x.eid) among))
+  record PairOf (x : Request) : Type 0 where
+    start : ℕ
+    among : Among (x.eid, start) pairs
 
-  -- a pair that covers, and for which a request waits: the request covers
-  pub covered-some : (m : ℕ) (eid : Eid) (pair : Eid × Eid) → Among pair pairs → covers_eid pair.0 eid ≡ true → list_any (λ request. same_eid request.eid pair.1 && is_waiting m request) requests ≡ true → true ≡ covered (waiting m requests) eid
-  covered-some m eid pair among covers asked =
-      let x = among-any (λ request. same_eid request.eid pair.1 && is_waiting m request) requests asked in
+  pair-of : (x : Request) → Among x requests → PairOf x
+  pair-of x among =
+      by (latest_start x.eid requests) refl (asked-start x.eid requests ∙ any-among (λ request. same_eid request.eid x.eid) requests x (same-self x.eid) among)
+    where
+      by : (o : Option ℕ) → latest_start x.eid requests ≡ o → is_some (latest_start x.eid requests) ≡ true → PairOf x
+      by None is some = absurd (true≢false (sym some ∙ ap is_some is))
+      by (Some start) is some = record { start = start; among = among-value x.eid start pairs (are.each x.eid ∙ is) }
+
+  -- a pair that covers, and of whose start a request waits: that request covers
+  covered-some : (m : ℕ) (eid : Eid) (pair : Eid × ℕ) → Among pair pairs → covers_eid pair.0 eid ≡ true → younger m request_seconds pair.1 ≡ true → true ≡ covered (waiting m requests) eid
+  covered-some m eid pair among covers young =
+      let x = among-any (λ request. same_eid request.eid pair.0 && is_waiting m request) requests (sym (pair-waits m pair among) ∙ young) in
       let both = and_parts _ _ x.passes in
-      let key : x.item.eid ≡ pair.0 = equal-same x.item.eid pair.1 both.0 ∙ (each-pair pair among).0 in
+      let key : x.item.eid ≡ pair.0 = equal-same x.item.eid pair.0 both.0 in
       sym (any-among (λ request. covers_eid request.eid eid) (waiting m requests) x.item (ap (λ k. covers_eid k eid) key ∙ covers) (among-filter (is_waiting m) requests x.item both.1 x.among))
 
-  -- where no request waits for an EID that covers, none that waits covers
-  pub covered-none : (m : ℕ) (eid : Eid) → All (λ pair. covers_eid pair.0 eid ≡ true → list_any (λ request. same_eid request.eid pair.1 && is_waiting m request) requests ≡ false) pairs → false ≡ covered (waiting m requests) eid
+  -- where none of the starts of EIDs that cover waits, no request that waits covers
+  covered-none : (m : ℕ) (eid : Eid) → All (λ pair. covers_eid pair.0 eid ≡ true → younger m request_seconds pair.1 ≡ false) pairs → false ≡ covered (waiting m requests) eid
   covered-none m eid refused = elim (cases_Bool (covered (waiting m requests) eid)) [
     | inl is ↦
         let x = among-any (λ request. covers_eid request.eid eid) (waiting m requests) is in
         let both = filter-among (is_waiting m) requests x.item x.among in
-        let told = among-all (λ pair. covers_eid pair.0 eid ≡ true → list_any (λ request. same_eid request.eid pair.1 && is_waiting m request) requests ≡ false) pairs (x.item.eid, x.item.eid) refused (pair-of x.item both.0) x.passes in
+        let own = pair-of x.item both.0 in
+        let told = among-all (λ pair. covers_eid pair.0 eid ≡ true → younger m request_seconds pair.1 ≡ false) pairs (x.item.eid, own.start) refused own.among x.passes in
         let asked = any-among (λ request. same_eid request.eid x.item.eid && is_waiting m request) requests x.item (ap₂ (λ a b. a && b) (same-self x.item.eid) both.1) both.0 in
-        absurd (true≢false (sym asked ∙ told))
+        absurd (true≢false (sym asked ∙ sym (pair-waits m (x.item.eid, own.start) own.among) ∙ told))
     | inr isnt ↦ sym isnt
   ]
 
   -- one waits whose EID covers exactly where a pair was found
-  pub covered-is : {X Refused : Type 0} (answers : Eid → Bool → Type 0) (seen : X → Eid × Eid) (m : ℕ) (eid : Eid) (found : Option X)
+  pub covered-is : {X Refused : Type 0} (answers : ℕ → Bool → Type 0) (seen : X → Eid × ℕ) (m : ℕ) (eid : Eid) (found : Option X)
       → MatchOption found Refused (λ x. IsLongestWhere answers eid pairs (seen x)) → (Refused → All (IsRefused answers eid) pairs)
-      → ((v : Eid) (b : Bool) → answers v b → b ≡ list_any (λ request. same_eid request.eid v && is_waiting m request) requests) → is_some found ≡ covered (waiting m requests) eid
+      → ((v : ℕ) (b : Bool) → answers v b → b ≡ younger m request_seconds v) → is_some found ≡ covered (waiting m requests) eid
   covered-is answers seen m eid None refused all says = covered-none m eid (λ k d within covers. sym (says _ false (all refused k d within covers)))
   covered-is answers seen m eid (Some x) longest all says =
       covered-some m eid (seen x) (among-contains pairs (seen x) longest.there) longest.covers (sym (says (seen x).1 true longest.passes))
 
-  asks-again : (nonce : ℕ) (eid : Eid) (some : List Request) → asks_for eid (sent_again nonce some) ≡ asks_for eid some
-  asks-again nonce eid [] = refl
-  asks-again nonce eid (x ∷ some) = ap₂ (λ a b. a || b) (by (x.nonce == nonce)) (asks-again nonce eid some)
+  starts-again : (nonce : ℕ) (eid : Eid) (before : Option ℕ) (some : List Request) → fold (later_start eid) before (sent_again nonce some) ≡ fold (later_start eid) before some
+  starts-again nonce eid before [] = refl
+  starts-again nonce eid before (x ∷ some) =
+      ap (λ o. fold (later_start eid) o (sent_again nonce some)) (by (x.nonce == nonce)) ∙ starts-again nonce eid (later_start eid before x) some
     where
-      by : (b : Bool) → same_eid (cond b (once_more x) x).eid eid ≡ same_eid x.eid eid
+      by : (b : Bool) → later_start eid before (cond b (once_more x) x) ≡ later_start eid before x
       by true = refl
       by false = refl
 
-  -- what is sent again is for the same EIDs
+  -- what is sent again is for the same EIDs, and keeps its start
   pub are-again : (nonce : ℕ) → AreEids pairs (sent_again nonce requests)
   are-again nonce = record {
     ascends = are.ascends;
-    each = λ eid. are.each eid ∙ ap (λ b. cond b (Some eid) None) (sym (asks-again nonce eid requests));
+    each = λ eid. are.each eid ∙ sym (starts-again nonce eid None requests);
   }
 
-  -- one request more, and its EID
-  pub are-pushed : (x : Request) → Ascends (with_pair x.eid x.eid pairs) → AreEids (with_pair x.eid x.eid pairs) (requests ++ x ∷ [])
-  are-pushed x ascends = record {
+  -- one request more: its EID has its start, where that is the latest
+  pub are-pushed : (x : Request) (start : ℕ) → start ≡ greater (value_in x.eid pairs) x.start → Ascends (with_pair x.eid start pairs) → AreEids (with_pair x.eid start pairs) (requests ++ x ∷ [])
+  are-pushed x start is ascends = record {
     ascends = ascends;
     each = λ eid.
-        value_in-with x.eid x.eid eid pairs
-        ∙ ap (cond (same_eid x.eid eid) (Some x.eid)) (are.each eid)
-        ∙ by eid (same_eid x.eid eid) (asks_for eid requests) refl
-        ∙ sym (ap (λ b. cond b (Some eid) None) (list_any-append (λ request. same_eid request.eid eid) requests (x ∷ [])));
+        value_in-with x.eid start eid pairs
+        ∙ by eid (same_eid x.eid eid) refl
+        ∙ sym (fold-append (later_start eid) None requests (x ∷ []));
   }
     where
-      by : (eid : Eid) (a b : Bool) → same_eid x.eid eid ≡ a → cond a (Some x.eid) (cond b (Some eid) None) ≡ cond (b || (a || false)) (Some eid) None
-      by eid true true is = ap (λ (k : Eid). Some k) (equal-same x.eid eid is)
-      by eid true false is = ap (λ (k : Eid). Some k) (equal-same x.eid eid is)
-      by eid false true is = refl
-      by eid false false is = refl
+      by : (eid : Eid) (a : Bool) → same_eid x.eid eid ≡ a → cond a (Some start) (value_in eid pairs) ≡ cond a (Some (greater (latest_start eid requests) x.start)) (latest_start eid requests)
+      by eid true same =
+          ap (λ (n : ℕ). Some n) (is ∙ ap (λ o. greater o x.start) (are.each x.eid ∙ starts-same x.eid eid requests same))
+      by eid false same = are.each eid
+
+  -- the EID of a request that is there has a pair
+  pub pair-there : (place : ℕ) (x : Request) → slice_get requests place ≡ Some x → is_some (value_in x.eid pairs) ≡ true
+  pair-there place x at =
+      ap is_some (are.each x.eid) ∙ asked-start x.eid requests ∙ any-among (λ request. same_eid request.eid x.eid) requests x (same-self x.eid) (among-at requests place x at)
 
   module _ (place : ℕ) (x : Request) (at : slice_get requests place ≡ Some x) where
-    asks-remove : (eid : Eid) → asks_for eid requests ≡ (same_eid x.eid eid || asks_for eid (remove requests place))
-    asks-remove eid = any-left (λ request. same_eid request.eid eid) requests place x at
+    other-starts : (eid : Eid) → same_eid x.eid eid ≡ false → value_in eid pairs ≡ latest_start eid (remove requests place)
+    other-starts eid other = are.each eid ∙ sym (starts-left eid None requests place x at other)
 
-    -- one request less: its EID goes where there is no other for it
-    pub are-left : asks_for x.eid (remove requests place) ≡ false → Ascends (without_pair x.eid pairs) → AreEids (without_pair x.eid pairs) (remove requests place)
-    are-left alone ascends = record {
+    -- one request less: its EID has the latest start of the others, or goes where there are none
+    pub are-left : (latest : Option ℕ) → latest ≡ latest_start x.eid (remove requests place) → Ascends (with_latest x.eid latest pairs) → AreEids (with_latest x.eid latest pairs) (remove requests place)
+    are-left None is ascends = record {
       ascends = ascends;
-      each = λ eid.
-          value_in-without x.eid eid pairs are.ascends
-          ∙ ap (cond (same_eid x.eid eid) None) (are.each eid ∙ ap (λ b. cond b (Some eid) None) (asks-remove eid))
-          ∙ by eid (same_eid x.eid eid) (asks_for eid (remove requests place)) refl refl;
+      each = λ eid. value_in-without x.eid eid pairs are.ascends ∙ by eid (same_eid x.eid eid) refl;
     }
       where
-        by : (eid : Eid) (a b : Bool) → same_eid x.eid eid ≡ a → asks_for eid (remove requests place) ≡ b → cond a None (cond (a || b) (Some eid) None) ≡ cond b (Some eid) None
-        by eid true true same asks = absurd (true≢false (sym asks ∙ ap (λ k. asks_for k (remove requests place)) (sym (equal-same x.eid eid same)) ∙ alone))
-        by eid true false same asks = refl
-        by eid false true same asks = refl
-        by eid false false same asks = refl
-
-    -- it stays where there is
-    pub are-kept : asks_for x.eid (remove requests place) ≡ true → AreEids pairs (remove requests place)
-    are-kept asked = record {
-      ascends = are.ascends;
-      each = λ eid. are.each eid ∙ ap (λ b. cond b (Some eid) None) (asks-remove eid ∙ by eid (same_eid x.eid eid) refl);
+        by : (eid : Eid) (a : Bool) → same_eid x.eid eid ≡ a → cond a None (value_in eid pairs) ≡ latest_start eid (remove requests place)
+        by eid true same = is ∙ starts-same x.eid eid (remove requests place) same
+        by eid false same = other-starts eid same
+    are-left (Some start) is ascends = record {
+      ascends = ascends;
+      each = λ eid. value_in-with x.eid start eid pairs ∙ by eid (same_eid x.eid eid) refl;
     }
       where
-        by : (eid : Eid) (a : Bool) → same_eid x.eid eid ≡ a → (a || asks_for eid (remove requests place)) ≡ asks_for eid (remove requests place)
-        by eid true same = sym (ap (λ k. asks_for k (remove requests place)) (sym (equal-same x.eid eid same)) ∙ asked)
-        by eid false same = refl
+        by : (eid : Eid) (a : Bool) → same_eid x.eid eid ≡ a → cond a (Some start) (value_in eid pairs) ≡ latest_start eid (remove requests place)
+        by eid true same = is ∙ starts-same x.eid eid (remove requests place) same
+        by eid false same = other-starts eid same
 
   -- ### how many there are
 
-  sorted : (some : List (Eid × Eid)) → Ascends some → IsStrictlySortedBy eid_order (map (λ pair. pair.0) some)
+  sorted : (some : List (Eid × ℕ)) → Ascends some → IsStrictlySortedBy eid_order (map (λ pair. pair.0) some)
   unfolding IsStrictlySortedBy
   sorted [] ascends = tt
   sorted (pair ∷ some) ascends = (
-    recursion_from_All (λ other. eid_order pair.0 other ≡ Less) (map (λ p. p.0) some) (All-map-of (λ (p : Eid × Eid). p.0) (λ other. eid_order pair.0 other ≡ Less) some (λ p among. is_less pair.0 p.0 (pairs-behind_first (λ a b. is_below a.0 b.0 ≡ true) pair some p ascends among))),
+    recursion_from_All (λ other. eid_order pair.0 other ≡ Less) (map (λ p. p.0) some) (All-map-of (λ (p : Eid × ℕ). p.0) (λ other. eid_order pair.0 other ≡ Less) some (λ p among. is_less pair.0 p.0 (pairs-behind_first (λ a b. is_below a.0 b.0 ≡ true) pair some p ascends among))),
     sorted some (pairs-tail (λ a b. is_below a.0 b.0 ≡ true) pair some ascends),
   )
 
@@ -446,10 +524,10 @@ module _ (pairs : List (Eid × Eid)) (requests : List Request) (are : AreEids pa
   pub eids-few : length pairs ≤ length requests
   eids-few =
       let few = length-le_from_is_member (eq_by_cmp_equiv eid_order-total) (map (λ pair. pair.0) pairs) (map (λ request. request.eid) requests) (IsDistinct-from_sorted eid_order (map (λ pair. pair.0) pairs) (sorted pairs are.ascends)) member in
-      omega (arith, few, length-map pairs (λ (pair : Eid × Eid). pair.0), length-map requests (λ (request : Request). request.eid))
+      omega (arith, few, length-map pairs (λ (pair : Eid × ℕ). pair.0), length-map requests (λ (request : Request). request.eid))
     where
       member : (eid : Eid) → is_member (eq_by_cmp eid_order) (map (λ pair. pair.0) pairs) eid ≡ true → is_member (eq_by_cmp eid_order) (map (λ request. request.eid) requests) eid ≡ true
       member eid is =
-          let pair = any-of_map (λ (p : Eid × Eid). p.0) (eq_by_cmp eid_order eid) pairs is in
-          let x = among-any (λ request. same_eid request.eid pair.item.0) requests (each-pair pair.item pair.among).1 in
+          let pair = any-of_map (λ (p : Eid × ℕ). p.0) (eq_by_cmp eid_order eid) pairs is in
+          let x = among-any (λ request. same_eid request.eid pair.item.0) requests (each-pair pair.item pair.among) in
           any-map (λ (r : Request). r.eid) (eq_by_cmp eid_order eid) requests x.item (ap (eq_by_cmp eid_order eid) (equal-same x.item.eid pair.item.0 x.passes) ∙ pair.passes) x.among

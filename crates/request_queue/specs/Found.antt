@@ -1,11 +1,12 @@
 -- How requests are found: by nonce and by EID. No public clause cites this file.
-use Rattle.std.specs.Prelude.{◌≡◌, Bool, List, None, Some, if◌then◌else◌}
+use Rattle.std.specs.Prelude.{◌≡◌, ℕ, Bool, List, fold, Option, None, Some, if◌then◌else◌}
 use Rattle.std.specs.List.{list_any}
+use Rattle.keyed_list.specs.Keyed.{greater}
 use Rattle.keyed_list.specs.Keys.{eid_key, nonce_key}
 use Rattle.keyed_list.specs.declared.keyed.Marks.{Marks}
 use Rattle.mapping_records.specs.Eids.{same_eid}
 use Rattle.mapping_records.specs.declared.eid.Eid.{Eid}
-use Rattle.prefix_table.specs.Pairs.{Ascends, value_in}
+use Rattle.prefix_table.specs.Pairs.{Ascends, value_in, with_pair, without_pair}
 use Rattle.request_queue.specs.declared.request.Request.{Request}
 
 abbrev pub request_marks : Request → Marks
@@ -15,7 +16,20 @@ request_marks request = record { moment = request.start; key = nonce_key request
 abbrev pub asks_for : Eid → List Request → Bool
 asks_for eid requests = list_any (λ request. same_eid request.eid eid) requests
 
--- the trie has each EID for which there is a request, under itself
-pub record AreEids (pairs : List (Eid × Eid)) (requests : List Request) : Type 0 where
+-- the latest start so far, and that of a request where it is for that EID
+abbrev pub later_start : Eid → Option ℕ → Request → Option ℕ
+later_start eid best request = if same_eid request.eid eid then Some (greater best request.start) else best
+
+-- the latest start of the requests for an EID
+abbrev pub latest_start : Eid → List Request → Option ℕ
+latest_start eid requests = fold (later_start eid) None requests
+
+-- pairs of which an EID has that latest start, or none
+abbrev pub with_latest : Eid → Option ℕ → List (Eid × ℕ) → List (Eid × ℕ)
+with_latest eid None pairs = without_pair eid pairs
+with_latest eid (Some start) pairs = with_pair eid start pairs
+
+-- the trie has each EID for which there is a request, with the latest start of those
+pub record AreEids (pairs : List (Eid × ℕ)) (requests : List Request) : Type 0 where
   pub ascends : Ascends pairs
-  pub each : (eid : Eid) → value_in eid pairs ≡ (if asks_for eid requests then Some eid else None)
+  pub each : (eid : Eid) → value_in eid pairs ≡ latest_start eid requests

@@ -1,6 +1,7 @@
 -- What a queue keeps true of its list.
 use Rattle.std.specs.Prelude.{ℕ, ◌-◌, ◌==◌, ◌&&◌, ◌||◌, nat_lt, true, not, Bool, List, [], ◌∷◌}
 use Rattle.std.specs.List.{list_all, list_any}
+use Rattle.request_queue.specs.Limits.{most_retries}
 use Rattle.request_queue.specs.Queue.{due}
 use Rattle.request_queue.specs.declared.request.Request.{Request}
 
@@ -21,6 +22,6 @@ abbrev pub are_distinct : List Request → Bool
 are_distinct [] = true
 are_distinct (request ∷ others) = not (has_nonce request.nonce others) && are_distinct others
 
--- what has that nonce was sent again less than twice
+-- what has that nonce was sent again less than so often
 abbrev pub all_may_again : ℕ → List Request → Bool
-all_may_again nonce requests = list_all (λ request. not (request.nonce == nonce) || nat_lt request.sent_again 2) requests
+all_may_again nonce requests = list_all (λ request. not (request.nonce == nonce) || nat_lt request.sent_again most_retries) requests

@@ -6,16 +6,17 @@ use Rattle.ip_headers.specs.declared.addr.Addr.{Addr}
 use Rattle.mapping_records.specs.Eids.{covers_eid}
 use Rattle.mapping_records.specs.declared.eid.Eid.{Eid}
 use Rattle.router_log.specs.Moments.{younger}
+use Rattle.request_queue.specs.Limits.{first_retry_seconds, last_retry_seconds, most_retries, request_seconds}
 use Rattle.request_queue.specs.declared.request.Request.{Request}
 
--- a request waits for 7 seconds (this router's choice)
+-- a request waits for so many seconds
 abbrev pub is_waiting : ℕ → Request → Bool
-is_waiting now request = younger now 7 request.start
+is_waiting now request = younger now request_seconds request.start
 
--- it is to be sent again: after 1 second, and once more after 3 (this router's choice)
+-- it is to be sent again: after some seconds, and once more after some more
 abbrev pub due : ℕ → Request → Bool
 due now request =
-    (request.sent_again == 0) && not (younger now 1 request.start) || (request.sent_again == 1) && not (younger now 3 request.start)
+    (request.sent_again == 0) && not (younger now first_retry_seconds request.start) || (request.sent_again == 1) && not (younger now last_retry_seconds request.start)
 
 -- a request that was sent again once more
 abbrev pub once_more : Request → Request
@@ -58,9 +59,9 @@ abbrev pub asked_after : Option ℕ → List Request → List Request
 asked_after None requests = requests
 asked_after (Some nonce) requests = behind nonce requests
 
--- there is one with that nonce, and it was sent again less than twice
+-- there is one with that nonce, and it was sent again less than so often
 abbrev pub may_send_again : ℕ → List Request → Bool
-may_send_again nonce requests = option_map_or (λ request. nat_lt request.sent_again 2) (with_nonce requests nonce) false
+may_send_again nonce requests = option_map_or (λ request. nat_lt request.sent_again most_retries) (with_nonce requests nonce) false
 
 -- those of which the one with that nonce was sent again once more
 abbrev pub sent_again : ℕ → List Request → List Request

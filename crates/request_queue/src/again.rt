@@ -4,7 +4,7 @@ ghost use Rattle.request_queue.specs.Lists.{all_may_again, all_rest, rests};
 ghost use Rattle.request_queue.specs.Queue.{sent_again};
 
 use crate::Request;
-use crate::request::{FIRST_RETRY, LAST_RETRY};
+use crate::limits::{FIRST_RETRY, LAST_RETRY};
 use keyed_list::{Key, KeyedList};
 
 // The moment before which a request isn't to be sent again, 2^64 - 1 where that never comes.

@@ -4,9 +4,6 @@ ghost use Rattle.request_queue.specs.declared.fault.AskFault.TheVariants.{Memory
 
 use octets::NoMemory;
 
-/// The most requests that wait at once (this router's choice).
-pub const MOST_REQUESTS: usize = 1024;
-
 /// A request wasn't taken. Only the purge has taken place.
 #[derive(Clone, Copy, Debug, PartialEq, Eq)]
 pub enum AskFault {

@@ -5,12 +5,14 @@ mod again;
 mod eids;
 mod fault;
 mod found;
+mod limits;
 mod queue;
 mod request;
 mod searching;
 
-pub use fault::{AskFault, MOST_REQUESTS};
+pub use fault::AskFault;
 pub use ip_headers::Addr;
+pub use limits::{FIRST_RETRY, LAST_RETRY, LIFE, MOST_REQUESTS, limits_are};
 pub use mapping_records::Eid;
 pub use node_store::Reads;
 pub use octets::NoMemory;

@@ -2,14 +2,14 @@
 ghost use Rattle.std.specs.Prelude.{◌≡◌, ◌≤◌, ◌<◌, ◌+◌, ◌*◌, ◌^◌, ◌↔◌, [], ◌∷◌, true, length, max, slice_get, Err, Some, IfSome, IsTrue, OnOk, OnErr, vec_len, vec_capacity};
 ghost use Rattle.std.specs.Option.{option_copied};
 ghost use Rattle.request_queue.specs.Queue.{all_due, asked, asked_after, behind, covered, may_send_again, sent_again, waiting, with_nonce, without_nonce};
+ghost use Rattle.request_queue.specs.Limits.{most_requests, most_reserved};
 ghost use Rattle.request_queue.specs.Lists.{are_distinct};
 ghost use Rattle.request_queue.specs.declared.fault.AskFault.TheVariants.{Memory, QueueFull};
-ghost use Rattle.request_queue.specs.declared.fault.TheConstants.{MOST_REQUESTS};
 
 use crate::again::{least_wake, send_each_again};
 use crate::eids::{add_request, count_eids, drop_request, is_covered};
-use crate::request::FIRST_RETRY;
-use crate::searching::{LIFE, first_due, is_waiting, place_after};
+use crate::limits::{FIRST_RETRY, LIFE};
+use crate::searching::{first_due, is_waiting, place_after};
 use crate::{AskFault, MOST_REQUESTS, NoMemory, Reads, Request};
 use ip_headers::Addr;
 use keyed_list::{Key, KeyedList};
@@ -24,8 +24,8 @@ use std::marker::Model;
 #[derive(Drop)]
 pub struct RequestQueue {
     requests: KeyedList<Request>,
-    // Those that requests are for.
-    eids: PrefixTable<Eid>,
+    // Those that requests are for, each with the latest start of its requests.
+    eids: PrefixTable<u64>,
     // Before that moment none is to be sent again.
     wake: u64,
 }
@@ -35,7 +35,7 @@ impl Model for RequestQueue {
     ghost use Rattle.request_queue.specs.Found.{AreEids};
     ghost use Rattle.request_queue.specs.Lists.{all_rest, are_distinct};
     ghost use Rattle.request_queue.specs.Queue.{Queue};
-    ghost use Rattle.request_queue.specs.declared.fault.TheConstants.{MOST_REQUESTS};
+    ghost use Rattle.request_queue.specs.Limits.{most_requests};
 
     ghost Value = { Queue };
 
@@ -46,7 +46,7 @@ impl Model for RequestQueue {
       kept = queue.requests.kept + queue.eids.kept;
     } };
 
-    ghost invariant = { λ queue. (length queue.requests.items ≤ MOST_REQUESTS)
+    ghost invariant = { λ queue. (length queue.requests.items ≤ most_requests)
         × ((all_rest queue.wake queue.requests.items ≡ true)
         × ((are_distinct queue.requests.items ≡ true)
         × AreEids queue.eids.pairs queue.requests.items)) };
@@ -56,6 +56,7 @@ impl RequestQueue {
     /// A queue with no requests. Takes no memory.
     pub fn new(alloc: Global) -> RequestQueue
         ensures requests { result.requests ≡ [] }
+        ensures spare { result.spare ≡ 0 }
         ensures places { result.places ≡ 0 }
     {
         RequestQueue {
@@ -67,9 +68,10 @@ impl RequestQueue {
 
     /// Makes room for `n` further requests.
     pub fn reserve(&mut self, n: u32) -> Result<(), NoMemory>
-        requires { n ≤ 16384 }
+        requires { n ≤ most_reserved }
         ensures requests { self.new.requests ≡ self.old.requests }
         ensures spare { self.old.spare ≤ self.new.spare }
+        ensures at_most { self.new.spare ≤ max self.old.spare n }
         ensures ok { OnOk result (n ≤ self.new.spare) }
         ensures memory { OnErr result (self.old.spare < n) }
         ensures places { self.new.places
@@ -85,8 +87,9 @@ impl RequestQueue {
     /// for each key for which there is place.
     pub fn len(&self) -> usize
         ensures len { result ≡ length self.now.requests }
-        ensures most { result ≤ MOST_REQUESTS }
+        ensures most { result ≤ most_requests }
         ensures distinct { are_distinct self.now.requests ≡ true }
+        ensures tied { 2 * (result + self.now.spare) ≤ self.now.places }
         ensures kept { self.now.kept ≤ 8 * self.now.places }
     {
         // The length says how much is kept.
@@ -98,6 +101,8 @@ impl RequestQueue {
     pub fn purge(&mut self, m: u64)
         ensures requests { self.new.requests ≡ waiting m self.old.requests }
         ensures spare { self.old.spare ≤ self.new.spare }
+        ensures total { length self.new.requests + self.new.spare
+            ≤ length self.old.requests + self.old.spare }
         ensures places { self.new.places ≤ self.old.places }
     {
         while let Some(place) = self.requests.old(m, LIFE) {
@@ -119,9 +124,11 @@ impl RequestQueue {
             ≡ asked m eid source invoked nonce self.old.requests) }
         ensures err { OnErr result (self.new.requests ≡ waiting m self.old.requests) }
         ensures full { (result ≡ Err QueueFull)
-            ↔ (MOST_REQUESTS ≤ length (waiting m self.old.requests)) }
+            ↔ (most_requests ≤ length (waiting m self.old.requests)) }
         ensures memory { result ≡ Err Memory → self.old.spare ≡ 0 }
         ensures spare { self.old.spare ≤ self.new.spare + 1 }
+        ensures refused { OnErr result (length self.new.requests + self.new.spare
+            ≤ max (length self.old.requests + self.old.spare) (length self.new.requests + 1)) }
         ensures places { self.new.places
             ≤ max self.old.places (2 * (length self.old.requests + 1)) }
     {
@@ -148,6 +155,8 @@ impl RequestQueue {
     pub fn answer(&mut self, nonce: u64)
         ensures requests { self.new.requests ≡ without_nonce nonce self.old.requests }
         ensures spare { self.old.spare ≤ self.new.spare }
+        ensures total { length self.new.requests + self.new.spare
+            ≤ length self.old.requests + self.old.spare }
         ensures places { self.new.places ≤ self.old.places }
     {
         while let Some(place) = self.requests.place(&Key::nonce(nonce)) {
@@ -163,14 +172,15 @@ impl RequestQueue {
             .last(&Key::nonce(nonce), |request| is_waiting(m, request))
     }
 
-    /// A request that waits is for an EID that covers this one. Reads at most 129 nodes.
+    /// A request that waits is for an EID that covers this one. Reads at most 129 nodes, and
+    /// nothing else.
     pub fn open_for(&self, m: u64, eid: &Eid, reads: &mut Reads) -> bool
         requires { reads.old < 2 ^ 63 }
         ensures covered { result ≡ covered (waiting m self.now.requests) eid.now }
         ensures counted { reads.old ≤ reads.new }
         ensures bound { reads.new ≤ reads.old + 129 }
     {
-        is_covered(m, eid, &self.requests, &self.eids, reads)
+        is_covered(m, eid, &self.eids, reads)
     }
 
     /// The first request that waits, is to be sent again, and was asked after the one with the nonce
@@ -216,7 +226,7 @@ impl RequestQueue {
     /// How many requests wait at a moment.
     pub fn open_count(&self, m: u64) -> u32
         ensures count { result ≡ length (waiting m self.now.requests) }
-        ensures most { result ≤ MOST_REQUESTS }
+        ensures most { result ≤ most_requests }
     {
         self.requests.count(m, LIFE) as u32
     }

@@ -2,12 +2,6 @@
 use ip_headers::Addr;
 use mapping_records::Eid;
 
-/// How long after it was sent first a request is sent again, in nanoseconds (this router's choice).
-pub(crate) const FIRST_RETRY: u64 = 1_000_000_000;
-
-/// The same of the second time, which is the last.
-pub(crate) const LAST_RETRY: u64 = 3_000_000_000;
-
 /// A Map-Request that was sent and waits for an answer.
 #[derive(Clone, Copy, Debug, PartialEq, Eq)]
 pub struct Request {

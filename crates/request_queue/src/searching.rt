@@ -1,20 +1,26 @@
 // Which requests wait, and which of them is meant.
 ghost use Rattle.std.specs.Prelude.{◌≡◌, ◌≤◌, ◌&&◌, drop, length, slice_get, true};
 ghost use Rattle.std.specs.Option.{option_copied};
+ghost use Rattle.router_log.specs.Moments.{younger};
+ghost use Rattle.request_queue.specs.Limits.{request_seconds};
 ghost use Rattle.request_queue.specs.Lists.{are_distinct};
 ghost use Rattle.request_queue.specs.Queue.{all_due, asked_after, due, is_waiting};
 
 use crate::Request;
-use crate::request::{FIRST_RETRY, LAST_RETRY};
+use crate::limits::{FIRST_RETRY, LAST_RETRY, LIFE};
 use keyed_list::{Key, KeyedList};
 
-/// How long a request waits, in nanoseconds (this router's choice).
-pub(crate) const LIFE: u64 = 7_000_000_000;
+/// A request of that start waits at a moment.
+pub(crate) fn waits(now: u64, start: u64) -> bool
+    ensures { result ≡ younger now request_seconds start }
+{
+    now.saturating_sub(start) < LIFE
+}
 
 pub(crate) fn is_waiting(now: u64, request: &Request) -> bool
     ensures { result ≡ is_waiting now request.now }
 {
-    now.saturating_sub(request.start) < LIFE
+    waits(now, request.start)
 }
 
 fn is_due(now: u64, request: &Request) -> bool

@@ -3,9 +3,9 @@ use Rattle.keyed_list.specs.Keyed.{is_key}
 use Rattle.keyed_list.specs.Lists.{last_where}
 use Rattle.request_queue.specs.Found.{request_marks}
 use Rattle.request_queue.specs.Queue.{Queue, without_nonce}
-use Rattle.request_queue.specs.declared.fault.TheConstants.{MOST_REQUESTS}
+use Rattle.request_queue.specs.Limits.{most_requests}
 use Rattle.request_queue.specs.declared.request.Request.{Request}
-use Rattle.request_queue.proofs.DropLemmas.{dropped-invariant, dropped-items, dropped-less, dropped-places, dropped-spare, dropped-step}
+use Rattle.request_queue.proofs.DropLemmas.{dropped-invariant, dropped-items, dropped-less, dropped-places, dropped-spare, dropped-step, dropped-total}
 use Rattle.request_queue.proofs.FoundLemmas.{all-without, nonce-there}
 use Rattle.request_queue.proofs.queue.RequestQueue.answer.Goals as goal
 
@@ -18,6 +18,8 @@ loop-place-init c = (
     places = refl;
     spare = omega arith;
     total = refl;
+    rooms = omega arith;
+    spares = omega arith;
   },
   refl,
 )
@@ -33,7 +35,7 @@ pub loop-place-preserved : goal.loop-place-preserved
 loop-place-preserved c = (
   dropped-step (λ (request : Request). not (request.nonce == c.args.nonce)) c.self.inside.requests c.loop-place.self-inside.requests c.drop_request.new.requests c.self.inside.eids c.loop-place.self-inside.eids c.drop_request.new.eids c.in-Some.place c.loop-place.invariant.0 c.in-Some.ensures.within
       (nonce-there c.args.nonce c.loop-place.self-inside.requests.items c.in-Some.place (c.in-Some.ensures.last ∙ ap (λ key. last_where (is_key request_marks key) c.loop-place.self-inside.requests.items) c.nonce.ensures))
-      c.drop_request.ensures.requests c.drop_request.ensures.room c.drop_request.ensures.eids c.drop_request.ensures.places c.drop_request.ensures.spare c.drop_request.ensures.total,
+      c.drop_request.ensures.requests c.drop_request.ensures.room c.drop_request.ensures.eids c.drop_request.ensures.places c.drop_request.ensures.spare c.drop_request.ensures.total c.drop_request.ensures.rooms c.drop_request.ensures.spares,
   c.loop-place.invariant.1,
 )
 
@@ -41,7 +43,7 @@ pub invariant_of-self : goal.invariant_of-self
 invariant_of-self c =
     let test = λ (request : Request). not (request.nonce == c.args.nonce) in
     let all = all-without c.args.nonce c.loop-place.self-inside.requests.items (c.in_default.ensures.last ∙ ap (λ key. last_where (is_key request_marks key) c.loop-place.self-inside.requests.items) c.nonce.ensures) in
-    rw (c.loop-place.invariant.1) (dropped-invariant test c.self.inside.requests c.loop-place.self-inside.requests c.self.inside.eids c.loop-place.self-inside.eids c.loop-place.invariant.0 c.self.inside.wake MOST_REQUESTS all c.self.invariant)
+    rw (c.loop-place.invariant.1) (dropped-invariant test c.self.inside.requests c.loop-place.self-inside.requests c.self.inside.eids c.loop-place.self-inside.eids c.loop-place.invariant.0 c.self.inside.wake most_requests all c.self.invariant)
 
 pub returns-clause-requests : goal.returns-clause-requests
 returns-clause-requests c =
@@ -56,3 +58,7 @@ returns-clause-spare c =
 pub returns-clause-places : goal.returns-clause-places
 returns-clause-places c =
     rw (← c.self.view_is) (dropped-places (λ (request : Request). not (request.nonce == c.args.nonce)) c.self.inside.requests c.loop-place.self-inside.requests c.self.inside.eids c.loop-place.self-inside.eids c.loop-place.invariant.0)
+
+pub returns-clause-total : goal.returns-clause-total
+returns-clause-total c =
+    rw (← c.self.view_is) (dropped-total (λ (request : Request). not (request.nonce == c.args.nonce)) c.self.inside.requests c.loop-place.self-inside.requests c.self.inside.eids c.loop-place.self-inside.eids c.loop-place.invariant.0)

@@ -1,7 +1,7 @@
 use Rattle.std.proofs.Common.{is_some, refl, ap, ◌∙◌, arith}
 use Rattle.request_queue.specs.Queue.{Queue, is_waiting, waiting}
-use Rattle.request_queue.specs.declared.fault.TheConstants.{MOST_REQUESTS}
-use Rattle.request_queue.proofs.DropLemmas.{dropped-invariant, dropped-items, dropped-less, dropped-places, dropped-spare, dropped-step, filter-all}
+use Rattle.request_queue.specs.Limits.{most_requests}
+use Rattle.request_queue.proofs.DropLemmas.{dropped-invariant, dropped-items, dropped-less, dropped-places, dropped-spare, dropped-step, dropped-total, filter-all}
 use Rattle.request_queue.proofs.queue.RequestQueue.purge.Goals as goal
 
 pub loop-place-init : goal.loop-place-init
@@ -13,6 +13,8 @@ loop-place-init c = (
     places = refl;
     spare = omega arith;
     total = refl;
+    rooms = omega arith;
+    spares = omega arith;
   },
   refl,
 )
@@ -28,7 +30,7 @@ pub loop-place-preserved : goal.loop-place-preserved
 loop-place-preserved c = (
   dropped-step (is_waiting c.args.m) c.self.inside.requests c.loop-place.self-inside.requests c.drop_request.new.requests c.self.inside.eids c.loop-place.self-inside.eids c.drop_request.new.eids c.in-Some.place c.loop-place.invariant.0 c.in-Some.ensures.within
       c.in-Some.ensures.old
-      c.drop_request.ensures.requests c.drop_request.ensures.room c.drop_request.ensures.eids c.drop_request.ensures.places c.drop_request.ensures.spare c.drop_request.ensures.total,
+      c.drop_request.ensures.requests c.drop_request.ensures.room c.drop_request.ensures.eids c.drop_request.ensures.places c.drop_request.ensures.spare c.drop_request.ensures.total c.drop_request.ensures.rooms c.drop_request.ensures.spares,
   c.loop-place.invariant.1,
 )
 
@@ -36,7 +38,7 @@ pub invariant_of-self : goal.invariant_of-self
 invariant_of-self c =
     let test = is_waiting c.args.m in
     let all = filter-all test c.loop-place.self-inside.requests.items (c.old.ensures.none (ap is_some c.in_default.is)) in
-    rw (c.loop-place.invariant.1) (dropped-invariant test c.self.inside.requests c.loop-place.self-inside.requests c.self.inside.eids c.loop-place.self-inside.eids c.loop-place.invariant.0 c.self.inside.wake MOST_REQUESTS all c.self.invariant)
+    rw (c.loop-place.invariant.1) (dropped-invariant test c.self.inside.requests c.loop-place.self-inside.requests c.self.inside.eids c.loop-place.self-inside.eids c.loop-place.invariant.0 c.self.inside.wake most_requests all c.self.invariant)
 
 pub returns-clause-requests : goal.returns-clause-requests
 returns-clause-requests c =
@@ -51,3 +53,7 @@ returns-clause-spare c =
 pub returns-clause-places : goal.returns-clause-places
 returns-clause-places c =
     rw (← c.self.view_is) (dropped-places (is_waiting c.args.m) c.self.inside.requests c.loop-place.self-inside.requests c.self.inside.eids c.loop-place.self-inside.eids c.loop-place.invariant.0)
+
+pub returns-clause-total : goal.returns-clause-total
+returns-clause-total c =
+    rw (← c.self.view_is) (dropped-total (is_waiting c.args.m) c.self.inside.requests c.loop-place.self-inside.requests c.self.inside.eids c.loop-place.self-inside.eids c.loop-place.invariant.0)
