@@ -113,7 +113,7 @@ module _ {T : Type 0} (marks_of : T → Marks) where
   apart x [] each = tt
   apart x (y ∷ some) each = (
     is_eq-age (age_of marks_of x) (age_of marks_of y)
-    ∙ and_right ((age_of marks_of x).moment == (age_of marks_of y).moment) _ (ne_eqb x.number y.number (λ same. absurd (omega (arith, same, each y (inl refl))))),
+        ∙ and_right ((age_of marks_of x).moment == (age_of marks_of y).moment) _ (ne_eqb x.number y.number (λ same. absurd (omega (arith, same, each y (inl refl))))),
     apart x some (λ z among. each z (inr among)),
   )
 
