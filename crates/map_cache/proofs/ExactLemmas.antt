@@ -14,14 +14,14 @@ use Rattle.mapping_records.specs.Eids.{same_address, same_eid}
 use Rattle.mapping_records.specs.Orders.{eid_order}
 use Rattle.mapping_records.specs.declared.eid.Eid.{Eid}
 use Rattle.map_cache.specs.Cache.{exact, lasting, lasts}
-use Rattle.map_cache.specs.Indexed.{all_held, held_lasts, held_of, some_lasts}
+use Rattle.map_cache.specs.Indexed.{all_stays, stay_lasts, stay_of, some_lasts}
 use Rattle.map_cache.specs.Lists.{IsAscending, IsBelow}
-use Rattle.map_cache.specs.declared.held.Held.{Held}
+use Rattle.map_cache.specs.declared.stay.Stay.{Stay}
 use Rattle.map_cache.specs.declared.mapping.Mapping.{Mapping}
 use Rattle.map_cache.proofs.AmongLemmas.{Among, among-filter, filter-among, one-among}
 use Rattle.map_cache.proofs.AscendingLemmas.{IsAscending-filter}
 use Rattle.map_cache.proofs.EidLemmas.{is_eq-eid}
-use Rattle.map_cache.proofs.HeldLemmas.{held-lasts}
+use Rattle.map_cache.proofs.StayLemmas.{stay-lasts}
 
 same_addr : (a b : Addr) → width a ≡ width b → number a ≡ number b → a ≡ b
 same_addr (V4 m) (V4 n) w is = ap (λ x. V4 x) is
@@ -112,12 +112,12 @@ lasting-some m eid items x ascending is last =
 -- ### by the trie
 
 -- by how a key stands to the EID
-abbrev value_by : Ordering → Held → Option Held → Option Held
+abbrev value_by : Ordering → Stay → Option Stay → Option Stay
 value_by Less old rest = rest
 value_by Equal old rest = Some old
 value_by Greater old rest = None
 
-value-step : (eid key : Eid) (old : Held) (pairs : List (Eid × Held)) → value_in eid ((key, old) ∷ pairs) ≡ value_by (eid_order key eid) old (value_in eid pairs)
+value-step : (eid key : Eid) (old : Stay) (pairs : List (Eid × Stay)) → value_in eid ((key, old) ∷ pairs) ≡ value_by (eid_order key eid) old (value_in eid pairs)
 value-step eid key old pairs =
     ap (λ o. cond (is_lt (eid_order key eid)) (value_in eid pairs) (cond (is_lt o) None (Some old))) (eid_order-total.antisymm eid key)
     ∙ by (eid_order key eid)
@@ -128,24 +128,24 @@ value-step eid key old pairs =
     by Greater = refl
 
 -- what the trie tells of an EID, it tells of its mapping
-pub record IsTold (names : List ℕ) (items : List Mapping) (eid : Eid) (held : Held) : Type 0 where
+pub record IsTold (names : List ℕ) (items : List Mapping) (eid : Eid) (stay : Stay) : Type 0 where
   pub index : ℕ
   pub item : Mapping
-  pub named : slice_get names index ≡ Some held.name
+  pub named : slice_get names index ≡ Some stay.name
   pub there : slice_get items index ≡ Some item
-  pub is : (held_of held.name item).1 ≡ held
+  pub is : (stay_of stay.name item).1 ≡ stay
   pub found : exact items eid ≡ Some item
 
-pub value-some : (names : List ℕ) (items : List Mapping) (eid : Eid) (held : Held) → value_in eid (all_held names items) ≡ Some held → IsTold names items eid held
-value-some [] items eid held is = absurd (cc is)
-value-some (name ∷ names) [] eid held is = absurd (cc is)
-value-some (name ∷ names) (x ∷ items) eid held is =
-    by (eid_order x.eid eid) refl (sym (value-step eid x.eid (held_of name x).1 (all_held names items)) ∙ is) (value-some names items eid held)
+pub value-some : (names : List ℕ) (items : List Mapping) (eid : Eid) (stay : Stay) → value_in eid (all_stays names items) ≡ Some stay → IsTold names items eid stay
+value-some [] items eid stay is = absurd (cc is)
+value-some (name ∷ names) [] eid stay is = absurd (cc is)
+value-some (name ∷ names) (x ∷ items) eid stay is =
+    by (eid_order x.eid eid) refl (sym (value-step eid x.eid (stay_of name x).1 (all_stays names items)) ∙ is) (value-some names items eid stay)
   where
     apart : (o : Ordering) → eid_order x.eid eid ≡ o → same_eid x.eid eid ≡ is_eq o
     apart o is = sym (is_eq-eid x.eid eid) ∙ ap is_eq is
 
-    by : (o : Ordering) → eid_order x.eid eid ≡ o → value_by o (held_of name x).1 (value_in eid (all_held names items)) ≡ Some held → (value_in eid (all_held names items) ≡ Some held → IsTold names items eid held) → IsTold (name ∷ names) (x ∷ items) eid held
+    by : (o : Ordering) → eid_order x.eid eid ≡ o → value_by o (stay_of name x).1 (value_in eid (all_stays names items)) ≡ Some stay → (value_in eid (all_stays names items) ≡ Some stay → IsTold names items eid stay) → IsTold (name ∷ names) (x ∷ items) eid stay
     by Less order is rest =
         let later = rest is in
         record {
@@ -157,20 +157,20 @@ value-some (name ∷ names) (x ∷ items) eid held is =
           found = ap (λ b. cond b (Some x) (exact items eid)) (apart Less order) ∙ later.found;
         }
     by Equal order is rest =
-        let here : (held_of name x).1 ≡ held = same_Some (held_of name x).1 held is in
-        let same : name ≡ held.name = ap (λ (h : Held). h.name) here in
+        let here : (stay_of name x).1 ≡ stay = same_Some (stay_of name x).1 stay is in
+        let same : name ≡ stay.name = ap (λ (h : Stay). h.name) here in
         record {
           index = 0;
           item = x;
           named = ap (λ n. Some n) same;
           there = refl;
-          is = ap (λ n. (held_of n x).1) (sym same) ∙ here;
+          is = ap (λ n. (stay_of n x).1) (sym same) ∙ here;
           found = ap (λ b. cond b (Some x) (exact items eid)) (apart Equal order);
         }
     by Greater order is rest = absurd (cc is)
 
-pub told-lasts : (m : ℕ) (names : List ℕ) (items : List Mapping) (eid : Eid) (held : Held) (t : IsTold names items eid held) (b : Bool) → m < 2 ^ 64 → b ≡ held_lasts m held → lasts m t.item ≡ b
-told-lasts m names items eid held t b within is = sym (held-lasts m held.name t.item within) ∙ ap (held_lasts m) t.is ∙ sym is
+pub told-lasts : (m : ℕ) (names : List ℕ) (items : List Mapping) (eid : Eid) (stay : Stay) (t : IsTold names items eid stay) (b : Bool) → m < 2 ^ 64 → b ≡ stay_lasts m stay → lasts m t.item ≡ b
+told-lasts m names items eid stay t b within is = sym (stay-lasts m stay.name t.item within) ∙ ap (stay_lasts m) t.is ∙ sym is
 
 -- an EID that is below that of a mapping, which is below those of others, isn't theirs
 none_above : (eid : Eid) (x : Mapping) (items : List Mapping) → eid_order eid x.eid ≡ Less → IsBelow x.eid items → exact items eid ≡ None
@@ -180,28 +180,28 @@ none_above eid x (y ∷ items) less below =
     ∙ none_above eid x items less below.1
 
 -- where it tells nothing, there is none
-pub value-none : (names : List ℕ) (items : List Mapping) (eid : Eid) → IsAscending items → length names ≡ length items → value_in eid (all_held names items) ≡ None → exact items eid ≡ None
+pub value-none : (names : List ℕ) (items : List Mapping) (eid : Eid) → IsAscending items → length names ≡ length items → value_in eid (all_stays names items) ≡ None → exact items eid ≡ None
 value-none names [] eid ascending len is = refl
 value-none [] (x ∷ items) eid ascending len is = absurd (omega (arith, len))
 value-none (name ∷ names) (x ∷ items) eid ascending len is =
-    by (eid_order x.eid eid) refl (sym (value-step eid x.eid (held_of name x).1 (all_held names items)) ∙ is) (value-none names items eid ascending.1 (omega (arith, len)))
+    by (eid_order x.eid eid) refl (sym (value-step eid x.eid (stay_of name x).1 (all_stays names items)) ∙ is) (value-none names items eid ascending.1 (omega (arith, len)))
   where
     apart : (o : Ordering) → eid_order x.eid eid ≡ o → is_eq o ≡ false → exact (x ∷ items) eid ≡ exact items eid
     apart o order differs = ap (λ b. cond b (Some x) (exact items eid)) (sym (is_eq-eid x.eid eid) ∙ ap is_eq order ∙ differs)
 
-    by : (o : Ordering) → eid_order x.eid eid ≡ o → value_by o (held_of name x).1 (value_in eid (all_held names items)) ≡ None → (value_in eid (all_held names items) ≡ None → exact items eid ≡ None) → exact (x ∷ items) eid ≡ None
+    by : (o : Ordering) → eid_order x.eid eid ≡ o → value_by o (stay_of name x).1 (value_in eid (all_stays names items)) ≡ None → (value_in eid (all_stays names items) ≡ None → exact items eid ≡ None) → exact (x ∷ items) eid ≡ None
     by Less order is rest = apart Less order refl ∙ rest is
     by Equal order is rest = absurd (cc is)
     by Greater order is rest = apart Greater order refl ∙ none_above eid x items (eid_order-total.antisymm eid x.eid ∙ ap ordering_reverse order) ascending.0
 
 -- what the trie tells of an EID lasts exactly where a mapping of it is among those that last
-pub some-lasts : (m : ℕ) (names : List ℕ) (items : List Mapping) (eid : Eid) → m < 2 ^ 64 → IsAscending items → length names ≡ length items → some_lasts m (value_in eid (all_held names items)) ≡ is_some (exact (lasting m items) eid)
-some-lasts m names items eid within ascending len = by (value_in eid (all_held names items)) refl
+pub some-lasts : (m : ℕ) (names : List ℕ) (items : List Mapping) (eid : Eid) → m < 2 ^ 64 → IsAscending items → length names ≡ length items → some_lasts m (value_in eid (all_stays names items)) ≡ is_some (exact (lasting m items) eid)
+some-lasts m names items eid within ascending len = by (value_in eid (all_stays names items)) refl
   where
-    ended_or : (held : Held) (t : IsTold names items eid held) (b : Bool) → b ≡ held_lasts m held → b ≡ is_some (exact (lasting m items) eid)
-    ended_or held t true is = ap is_some (sym (lasting-some m eid items t.item ascending t.found (told-lasts m names items eid held t true within is)))
-    ended_or held t false is = ap is_some (sym (lasting-ended m eid items t.item ascending t.found (told-lasts m names items eid held t false within is)))
+    ended_or : (stay : Stay) (t : IsTold names items eid stay) (b : Bool) → b ≡ stay_lasts m stay → b ≡ is_some (exact (lasting m items) eid)
+    ended_or stay t true is = ap is_some (sym (lasting-some m eid items t.item ascending t.found (told-lasts m names items eid stay t true within is)))
+    ended_or stay t false is = ap is_some (sym (lasting-ended m eid items t.item ascending t.found (told-lasts m names items eid stay t false within is)))
 
-    by : (o : Option Held) → value_in eid (all_held names items) ≡ o → some_lasts m o ≡ is_some (exact (lasting m items) eid)
+    by : (o : Option Stay) → value_in eid (all_stays names items) ≡ o → some_lasts m o ≡ is_some (exact (lasting m items) eid)
     by None is = ap is_some (sym (lasting-none m eid items (value-none names items eid ascending len is)))
-    by (Some held) is = ended_or held (value-some names items eid held is) (held_lasts m held) refl
+    by (Some stay) is = ended_or stay (value-some names items eid stay is) (stay_lasts m stay) refl

@@ -12,14 +12,14 @@ use Rattle.prefix_table.proofs.PutLemmas.{same_key}
 use Rattle.prefix_table.specs.Keys.{key_bits, key_len}
 use Rattle.prefix_table.specs.Longest.{IsLongestWhere, IsRefused}
 use Rattle.map_cache.specs.Cache.{in_force, lasting, lasts}
-use Rattle.map_cache.specs.Indexed.{all_held, held_lasts, held_of}
+use Rattle.map_cache.specs.Indexed.{all_stays, stay_lasts, stay_of}
 use Rattle.map_cache.specs.Lists.{IsAscending}
-use Rattle.map_cache.specs.declared.held.Held.{Held}
+use Rattle.map_cache.specs.declared.stay.Stay.{Stay}
 use Rattle.map_cache.specs.declared.mapping.Mapping.{Mapping}
 use Rattle.map_cache.proofs.AmongLemmas.{Among, all-among, among-all, among-contains, among-filter, among-place, filter-among, one-among}
 use Rattle.map_cache.proofs.AscendingLemmas.{IsAscending-filter}
-use Rattle.map_cache.proofs.FoundLemmas.{HeldAt, held-each}
-use Rattle.map_cache.proofs.HeldLemmas.{held-lasts}
+use Rattle.map_cache.proofs.FoundLemmas.{StayAt, stay-each}
+use Rattle.map_cache.proofs.StayLemmas.{stay-lasts}
 
 -- two EIDs of one length that cover a third are the same
 same_covering : (a b eid : Eid) → covers_eid a eid ≡ true → covers_eid b eid ≡ true → a.prefix.len ≡ b.prefix.len → a ≡ b
@@ -55,25 +55,25 @@ force-longest eid items x ascending among covers longest = by (in_force items ei
         ap (λ b. Some b) (one-among items best x ascending best_among among ties)
 
 -- what a refused pair tells of its mapping
-refused : (answers : Held → Bool → Type 0) (m : ℕ) (eid : Eid) (x : Mapping) (name : ℕ) → m < 2 ^ 64 → ((held : Held) → answers held false → held_lasts m held ≡ false) → IsRefused answers eid (held_of name x) → lasts m x ≡ true → covers_eid x.eid eid ≡ true → ⊥
-refused answers m eid x name within says is last covers = false≢true (sym (says (held_of name x).1 (is covers)) ∙ held-lasts m name x within ∙ last)
+refused : (answers : Stay → Bool → Type 0) (m : ℕ) (eid : Eid) (x : Mapping) (name : ℕ) → m < 2 ^ 64 → ((stay : Stay) → answers stay false → stay_lasts m stay ≡ false) → IsRefused answers eid (stay_of name x) → lasts m x ≡ true → covers_eid x.eid eid ≡ true → ⊥
+refused answers m eid x name within says is last covers = false≢true (sym (says (stay_of name x).1 (is covers)) ∙ stay-lasts m name x within ∙ last)
 
 -- where all pairs that cover have ended, nothing is in force
-pub force-none : (m : ℕ) (eid : Eid) (names : List ℕ) (items : List Mapping) → m < 2 ^ 64 → length names ≡ length items → All (IsRefused (λ held b. held_lasts m held ≡ b) eid) (all_held names items) → None ≡ in_force (lasting m items) eid
+pub force-none : (m : ℕ) (eid : Eid) (names : List ℕ) (items : List Mapping) → m < 2 ^ 64 → length names ≡ length items → All (IsRefused (λ stay b. stay_lasts m stay ≡ b) eid) (all_stays names items) → None ≡ in_force (lasting m items) eid
 force-none m eid names items within len all =
     sym ((longest-none (λ (mapping : Mapping). mapping.eid) (lasting m items) eid.iid eid.prefix.addr eid.prefix.len).1 (all-among (λ item. IsFalse (covers_eid item.eid eid)) (lasting m items) each))
   where
     each : (x : Mapping) → Among x (lasting m items) → covers_eid x.eid eid ≡ false
     each x among =
         let left = filter-among (lasts m) items x among in
-        let told = held-each (IsRefused (λ held b. held_lasts m held ≡ b) eid) names items x len all left.0 in
+        let told = stay-each (IsRefused (λ stay b. stay_lasts m stay ≡ b) eid) names items x len all left.0 in
         elim (cases_Bool (covers_eid x.eid eid)) [
-          | inl covers ↦ absurd (refused (λ held b. held_lasts m held ≡ b) m eid x told.0 within (λ held is. is) told.1 left.1 covers)
+          | inl covers ↦ absurd (refused (λ stay b. stay_lasts m stay ≡ b) m eid x told.0 within (λ stay is. is) told.1 left.1 covers)
           | inr apart ↦ apart
         ]
 
 -- the mapping of the longest pair that passes is in force
-pub force-some : (answers : Held → Bool → Type 0) (m : ℕ) (eid : Eid) (names : List ℕ) (items : List Mapping) (pair : Eid × Held) → m < 2 ^ 64 → IsLongestWhere answers eid (all_held names items) pair → (at : HeldAt names items pair) → IsAscending items → length names ≡ length items → ((held : Held) (b : Bool) → answers held b → held_lasts m held ≡ b) → in_force (lasting m items) eid ≡ Some at.item
+pub force-some : (answers : Stay → Bool → Type 0) (m : ℕ) (eid : Eid) (names : List ℕ) (items : List Mapping) (pair : Eid × Stay) → m < 2 ^ 64 → IsLongestWhere answers eid (all_stays names items) pair → (at : StayAt names items pair) → IsAscending items → length names ≡ length items → ((stay : Stay) (b : Bool) → answers stay b → stay_lasts m stay ≡ b) → in_force (lasting m items) eid ≡ Some at.item
 force-some answers m eid names items pair within found at ascending len says =
     force-longest eid (lasting m items) x (IsAscending-filter (lasts m) items ascending) among covers longest
   where
@@ -81,10 +81,10 @@ force-some answers m eid names items pair within found at ascending len says =
     x = at.item
 
     key_is : x.eid ≡ pair.0
-    key_is = ap (λ (p : Eid × Held). p.0) at.is
+    key_is = ap (λ (p : Eid × Stay). p.0) at.is
 
     last : lasts m x ≡ true
-    last = sym (held-lasts m pair.1.name x within) ∙ ap (λ (p : Eid × Held). held_lasts m p.1) at.is ∙ says pair.1 true found.passes
+    last = sym (stay-lasts m pair.1.name x within) ∙ ap (λ (p : Eid × Stay). stay_lasts m p.1) at.is ∙ says pair.1 true found.passes
 
     covers : covers_eid x.eid eid ≡ true
     covers = ap (λ e. covers_eid e eid) key_is ∙ found.covers
@@ -95,8 +95,8 @@ force-some answers m eid names items pair within found at ascending len says =
     longest : (y : Mapping) → Among y (lasting m items) → covers_eid y.eid eid ≡ true → y.eid.prefix.len ≤ x.eid.prefix.len
     longest y in_list y_covers =
         let left = filter-among (lasts m) items y in_list in
-        let told = held-each (λ other. key_len pair.0 < key_len other.0 → IsRefused answers eid other) names items y len found.longest left.0 in
+        let told = stay-each (λ other. key_len pair.0 < key_len other.0 → IsRefused answers eid other) names items y len found.longest left.0 in
         elim (cases_Bool (nat_lt (key_len pair.0) (key_len y.eid))) [
-          | inl longer ↦ absurd (refused answers m eid y told.0 within (λ held. says held false) (told.1 (ltb-true _ _ longer)) left.1 y_covers)
+          | inl longer ↦ absurd (refused answers m eid y told.0 within (λ stay. says stay false) (told.1 (ltb-true _ _ longer)) left.1 y_covers)
           | inr short ↦ omega (arith, ltb-false (key_len pair.0) (key_len y.eid) short, ap key_len key_is)
         ]

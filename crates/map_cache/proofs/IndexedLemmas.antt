@@ -7,36 +7,36 @@ use Rattle.named_list.specs.Named.{Named}
 use Rattle.ordered_set.specs.Keys.{has}
 use Rattle.prefix_table.specs.Pairs.{with_pair, without_pair}
 use Rattle.map_cache.specs.Cache.{without_eid}
-use Rattle.map_cache.specs.Indexed.{all_held, ending_order, ends_as, held_of, names_as, naming_order, IsIndexed}
+use Rattle.map_cache.specs.Indexed.{all_stays, ending_order, ends_as, stay_of, names_as, naming_order, IsIndexed}
 use Rattle.map_cache.specs.Lists.{IsAscending}
-use Rattle.map_cache.specs.declared.held.Held.{Held}
+use Rattle.map_cache.specs.declared.stay.Stay.{Stay}
 use Rattle.map_cache.specs.declared.keys.Ending.{Ending}
 use Rattle.map_cache.specs.declared.keys.Naming.{Naming}
 use Rattle.map_cache.specs.declared.mapping.Mapping.{Mapping}
 use Rattle.map_cache.proofs.AscendingLemmas.{IsAscending-filter, IsAscending-put}
 use Rattle.map_cache.proofs.EndingLemmas.{any-put, ends-left, insert-absent, names-left, remove-there}
-use Rattle.map_cache.proofs.HeldLemmas.{held-insert, held-remove}
+use Rattle.map_cache.proofs.StayLemmas.{stay-insert, stay-remove}
 use Rattle.map_cache.proofs.PlaceOfLemmas.{without-absent, IsAbsent, IsThere}
 
-module _ (list new : Named Mapping) (pairs now_pairs : List (Eid × Held)) (endings now_endings : List Ending) (naming now_naming : List Naming) (is : IsIndexed list pairs endings naming) (same : length list.names ≡ length list.items) (n : ℕ) (x : Mapping) where
+module _ (list new : Named Mapping) (pairs now_pairs : List (Eid × Stay)) (endings now_endings : List Ending) (naming now_naming : List Naming) (is : IsIndexed list pairs endings naming) (same : length list.names ≡ length list.items) (n : ℕ) (x : Mapping) where
   -- a mapping is put at the place where there is none of its EID
   pub indexed-entered : (name : ℕ) → IsAbsent x.eid list.items n
       → new.items ≡ insert list.items n x
       → new.names ≡ insert list.names n name
-      → now_pairs ≡ with_pair x.eid (held_of name x).1 pairs
+      → now_pairs ≡ with_pair x.eid (stay_of name x).1 pairs
       → ((key : Ending) → has ending_order key now_endings ≡ (ends_as key x || has ending_order key endings))
       → ((key : Naming) → has naming_order key now_naming ≡ (names_as key x || has naming_order key naming))
       → IsIndexed new now_pairs now_endings now_naming
-  indexed-entered name absent items names held ends named =
+  indexed-entered name absent items names stay ends named =
       let put : new.items ≡ put_in_order (λ i. i.eid) eid_order x list.items = items ∙ insert-absent x list.items n absent in
       let without : put_in_order (λ i. i.eid) eid_order x (without_eid x.eid list.items) ≡ put_in_order (λ i. i.eid) eid_order x list.items = ap (put_in_order (λ i. i.eid) eid_order x) (without-absent x.eid list.items n absent) in
       record {
         ascending = subst IsAscending (without ∙ sym put) (IsAscending-put x list.items is.ascending);
-        held =
-            held
-            ∙ ap (with_pair x.eid (held_of name x).1) is.held
-            ∙ sym (held-insert name x list.names list.items n same absent)
-            ∙ sym (ap₂ all_held names items);
+        stay =
+            stay
+            ∙ ap (with_pair x.eid (stay_of name x).1) is.stay
+            ∙ sym (stay-insert name x list.names list.items n same absent)
+            ∙ sym (ap₂ all_stays names items);
         ends = λ key.
             ends key
             ∙ ap (λ b. ends_as key x || b) (is.ends key)
@@ -55,15 +55,15 @@ module _ (list new : Named Mapping) (pairs now_pairs : List (Eid × Held)) (endi
       → ((key : Ending) → has ending_order key now_endings ≡ (not (ends_as key x) && has ending_order key endings))
       → ((key : Naming) → has naming_order key now_naming ≡ (not (names_as key x) && has naming_order key naming))
       → IsIndexed new now_pairs now_endings now_naming
-  indexed-dropped eid there at items names held ends named =
+  indexed-dropped eid there at items names stay ends named =
       let left : new.items ≡ without_eid eid list.items = items ∙ remove-there eid list.items n there in
       record {
         ascending = subst IsAscending (sym left) (IsAscending-filter _ list.items is.ascending);
-        held =
-            held
-            ∙ ap (without_pair eid) is.held
-            ∙ sym (held-remove eid list.names list.items n same there)
-            ∙ sym (ap₂ all_held names items);
+        stay =
+            stay
+            ∙ ap (without_pair eid) is.stay
+            ∙ sym (stay-remove eid list.names list.items n same there)
+            ∙ sym (ap₂ all_stays names items);
         ends = λ key.
             ends key
             ∙ ap (λ b. not (ends_as key x) && b) (is.ends key)

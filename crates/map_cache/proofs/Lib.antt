@@ -9,7 +9,6 @@ pub mod FewLemmas
 pub mod ForceLemmas
 pub mod FoundLemmas
 pub mod FullLemmas
-pub mod HeldLemmas
 pub mod IndexedLemmas
 pub mod LastingLemmas
 pub mod NameLemmas
@@ -18,4 +17,5 @@ pub mod NextLemmas
 pub mod PlaceLemmas
 pub mod PlaceOfLemmas
 pub mod RoomLemmas
+pub mod StayLemmas
 pub mod ToldLemmas

@@ -19,7 +19,7 @@ use Rattle.map_cache.specs.Cache.{exact, lasting, lasts}
 use Rattle.map_cache.specs.Indexed.{has_address, names_as, naming_order, naming_order-total, some_lasts, IsIndexed}
 use Rattle.map_cache.specs.Lists.{IsAscending}
 use Rattle.map_cache.specs.Named.{comes_after, is_named, least_named, named_above, named_by, IsNoLess, IsNoLessAtOne}
-use Rattle.map_cache.specs.declared.held.Held.{Held}
+use Rattle.map_cache.specs.declared.stay.Stay.{Stay}
 use Rattle.map_cache.specs.declared.keys.Ending.{Ending}
 use Rattle.map_cache.specs.declared.keys.Naming.{Naming}
 use Rattle.map_cache.specs.declared.mapping.Mapping.{Mapping}
@@ -351,7 +351,7 @@ module _ (after : Option Addr) (m : ℕ) (items : List Mapping) (keys : List Nam
       by (Some key) found (Some best) is = ap (λ p. Some p) (same-first key best (find-first live keys key ascends found) is)
 
 -- what is found from the place on is the least that is named
-pub next-from : (after : Option Addr) (m : ℕ) (listed : Named Mapping) (pairs : List (Eid × Held)) (endings : List Ending) (keys : List Naming) (place : ℕ) (found : Option Naming) → m < 2 ^ 64 → IsIndexed listed pairs endings keys → length listed.names ≡ length listed.items → Splits after keys place → found ≡ find (λ key. some_lasts m (value_in key.eid pairs)) (drop place keys) → option_map (λ (key : Naming). (key.addr, key.eid)) found ≡ least_named (named_above after (lasting m listed.items))
+pub next-from : (after : Option Addr) (m : ℕ) (listed : Named Mapping) (pairs : List (Eid × Stay)) (endings : List Ending) (keys : List Naming) (place : ℕ) (found : Option Naming) → m < 2 ^ 64 → IsIndexed listed pairs endings keys → length listed.names ≡ length listed.items → Splits after keys place → found ≡ find (λ key. some_lasts m (value_in key.eid pairs)) (drop place keys) → option_map (λ (key : Naming). (key.addr, key.eid)) found ≡ least_named (named_above after (lasting m listed.items))
 next-from after m listed pairs endings keys place found within indexed len splits is =
     ap (option_map (λ (key : Naming). (key.addr, key.eid)))
     (is
@@ -360,4 +360,4 @@ next-from after m listed pairs endings keys place found within indexed len split
     ∙ next-named after m listed.items keys indexed.ascending splits.ascends indexed.names
   where
     told : (key : Naming) → some_lasts m (value_in key.eid pairs) ≡ is_some (exact (lasting m listed.items) key.eid)
-    told key = ap (λ l. some_lasts m (value_in key.eid l)) indexed.held ∙ some-lasts m listed.names listed.items key.eid within indexed.ascending len
+    told key = ap (λ l. some_lasts m (value_in key.eid l)) indexed.stay ∙ some-lasts m listed.names listed.items key.eid within indexed.ascending len

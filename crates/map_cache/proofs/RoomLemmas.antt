@@ -1,5 +1,5 @@
 -- How many keys find mappings: no more than there are mappings, and addresses that they name.
-use Rattle.std.proofs.Common.{◌≡◌, ℕ, suc, ◌*◌, ◌≤◌, ◌&&◌, ◌||◌, Bool, true, false, not, List, [], ◌∷◌, ◌++◌, length, map, Ordering, Less, is_eq, Result, Ok, Err, OnOk, OnErr, max, refl, sym, ap, ap₂, ◌∙◌, arith, true≢false}
+use Rattle.std.proofs.Common.{◌≡◌, ℕ, suc, ◌*◌, ◌≤◌, ◌&&◌, ◌||◌, Bool, true, false, cond, not, List, [], ◌∷◌, ◌++◌, length, map, Ordering, Less, is_eq, Result, Ok, Err, OnOk, OnErr, max, refl, sym, ap, ap₂, ◌∙◌, arith, true≢false}
 use Rattle.std.specs.Cmp.{IsTotalOrder}
 use Rattle.std.specs.List.{list_any, sum_by}
 use Rattle.std.specs.List.Sorted.{IsStrictlySortedBy}
@@ -17,9 +17,9 @@ use Rattle.mapping_records.specs.declared.eid.Eid.{Eid}
 use Rattle.mapping_records.specs.declared.record.Locator.{Locator}
 use Rattle.named_list.specs.Named.{Named}
 use Rattle.ordered_set.specs.Keys.{has, Ascends}
-use Rattle.map_cache.specs.Indexed.{all_held, ending_order, ending_order-total, ends_as, has_address, names_as, naming_order, naming_order-total, IsIndexed}
+use Rattle.map_cache.specs.Indexed.{all_stays, ending_order, ending_order-total, ends_as, has_address, names_as, naming_order, naming_order-total, IsIndexed}
 use Rattle.map_cache.specs.Lists.{AllFew}
-use Rattle.map_cache.specs.declared.held.Held.{Held}
+use Rattle.map_cache.specs.declared.stay.Stay.{Stay}
 use Rattle.map_cache.specs.declared.keys.Ending.{Ending}
 use Rattle.map_cache.specs.declared.keys.Naming.{Naming}
 use Rattle.map_cache.specs.declared.mapping.Mapping.{Mapping}
@@ -75,7 +75,7 @@ ends-among key (x ∷ items) is = either_way (ends_as key x) (list_any (ends_as 
         ∙ right_of (not x.fixed) _ passes
 
 -- there are no more ends than mappings
-pub endings-few : (list : Named Mapping) (pairs : List (Eid × Held)) (endings : List Ending) (naming : List Naming) → IsIndexed list pairs endings naming → Ascends ending_order endings → length endings ≤ length list.items
+pub endings-few : (list : Named Mapping) (pairs : List (Eid × Stay)) (endings : List Ending) (naming : List Naming) → IsIndexed list pairs endings naming → Ascends ending_order endings → length endings ≤ length list.items
 endings-few list pairs endings naming is ascends =
     let few = at_most ending_order ending_order-total endings (map ending_of list.items) ascends (λ key among. ends-among key list.items (sym (is.ends key) ∙ among)) in
     omega (arith, few, length-map list.items ending_of)
@@ -112,7 +112,7 @@ length-names_of (x ∷ items) few =
     omega (arith, rest, few.0, length-append (map (naming_of x.eid) x.details.locators) (names_of items), length-map x.details.locators (naming_of x.eid))
 
 -- there are at most 32 names for each mapping
-pub naming-few : (list : Named Mapping) (pairs : List (Eid × Held)) (endings : List Ending) (naming : List Naming) → IsIndexed list pairs endings naming → Ascends naming_order naming → AllFew list.items → length naming ≤ 32 * length list.items
+pub naming-few : (list : Named Mapping) (pairs : List (Eid × Stay)) (endings : List Ending) (naming : List Naming) → IsIndexed list pairs endings naming → Ascends naming_order naming → AllFew list.items → length naming ≤ 32 * length list.items
 naming-few list pairs endings naming is ascends few =
     let all = at_most naming_order naming_order-total naming (names_of list.items) ascends (λ key among. names-among key list.items (sym (is.names key) ∙ among)) in
     omega (arith, all, length-names_of list.items few)
@@ -120,10 +120,10 @@ naming-few list pairs endings naming is ascends few =
 -- ### by EID
 
 -- there are no more pairs than mappings
-pub held-few : (names : List ℕ) (items : List Mapping) → length (all_held names items) ≤ length items
-held-few [] items = omega arith
-held-few (name ∷ names) [] = omega arith
-held-few (name ∷ names) (x ∷ items) = let rest = held-few names items in omega (arith, rest)
+pub stay-few : (names : List ℕ) (items : List Mapping) → length (all_stays names items) ≤ length items
+stay-few [] items = omega arith
+stay-few (name ∷ names) [] = omega arith
+stay-few (name ∷ names) (x ∷ items) = let rest = stay-few names items in omega (arith, rest)
 
 -- ### all locators
 
@@ -140,3 +140,7 @@ locators-few (x ∷ items) few =
 pub room-after : {T E : Type 0} (result : Result T E) (old new n : ℕ) → OnOk result (new ≡ max old n) → OnErr result (new ≡ old) → new ≤ max old n
 room-after (Ok done) old new n ok err = omega (arith, ok)
 room-after (Err fault) old new n ok err = omega (arith, err)
+
+pub one-at-most : (b : Bool) → cond {A = ℕ} b 1 0 ≤ 1
+one-at-most true = omega arith
+one-at-most false = omega arith

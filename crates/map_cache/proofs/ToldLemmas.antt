@@ -6,9 +6,9 @@ use Rattle.mapping_records.specs.Eids.{same_eid}
 use Rattle.mapping_records.specs.declared.eid.Eid.{Eid}
 use Rattle.named_list.specs.Named.{Named}
 use Rattle.map_cache.specs.Cache.{bits_told, told_mapping, with_bits}
-use Rattle.map_cache.specs.Indexed.{all_held, ends_as, held_of, names_as, IsIndexed}
+use Rattle.map_cache.specs.Indexed.{all_stays, ends_as, stay_of, names_as, IsIndexed}
 use Rattle.map_cache.specs.Lists.{IsBelow}
-use Rattle.map_cache.specs.declared.held.Held.{Held}
+use Rattle.map_cache.specs.declared.stay.Stay.{Stay}
 use Rattle.map_cache.specs.declared.keys.Ending.{Ending}
 use Rattle.map_cache.specs.declared.keys.Naming.{Naming}
 use Rattle.map_cache.specs.declared.mapping.Mapping.{Mapping}
@@ -40,17 +40,17 @@ module _ (eid : Eid) (bits width : ℕ) where
       ap (λ l. y ∷ l) (told-there items n x there.1 is)
       ∙ ap (λ b. cond b (with_bits bits width y) y ∷ bits_told eid bits width items) (sym (lesser-apart eid y there.0))
 
-  told-held : (name : ℕ) (x : Mapping) → held_of name (told_mapping eid bits width x) ≡ held_of name x
-  told-held name x = by (same_eid x.eid eid)
+  told-stay : (name : ℕ) (x : Mapping) → stay_of name (told_mapping eid bits width x) ≡ stay_of name x
+  told-stay name x = by (same_eid x.eid eid)
     where
-      by : (b : Bool) → held_of name (cond b (with_bits bits width x) x) ≡ held_of name x
+      by : (b : Bool) → stay_of name (cond b (with_bits bits width x) x) ≡ stay_of name x
       by true = refl
       by false = refl
 
-  all_held-told : (names : List ℕ) (items : List Mapping) → all_held names (bits_told eid bits width items) ≡ all_held names items
-  all_held-told [] items = refl
-  all_held-told (name ∷ names) [] = refl
-  all_held-told (name ∷ names) (x ∷ items) = ap₂ (λ h l. h ∷ l) (told-held name x) (all_held-told names items)
+  all_stays-told : (names : List ℕ) (items : List Mapping) → all_stays names (bits_told eid bits width items) ≡ all_stays names items
+  all_stays-told [] items = refl
+  all_stays-told (name ∷ names) [] = refl
+  all_stays-told (name ∷ names) (x ∷ items) = ap₂ (λ h l. h ∷ l) (told-stay name x) (all_stays-told names items)
 
   any-told : (test : Mapping → Bool) → ((x : Mapping) → test (with_bits bits width x) ≡ test x) → (items : List Mapping) → list_any test (bits_told eid bits width items) ≡ list_any test items
   any-told test same [] = refl
@@ -61,10 +61,10 @@ module _ (eid : Eid) (bits width : ℕ) where
       by false = refl
 
   -- what is told leaves what finds the mappings
-  pub indexed-told : (list : Named Mapping) (pairs : List (Eid × Held)) (endings : List Ending) (naming : List Naming) (items : List Mapping) → items ≡ bits_told eid bits width list.items → IsIndexed list pairs endings naming → IsIndexed (record list { items = items }) pairs endings naming
+  pub indexed-told : (list : Named Mapping) (pairs : List (Eid × Stay)) (endings : List Ending) (naming : List Naming) (items : List Mapping) → items ≡ bits_told eid bits width list.items → IsIndexed list pairs endings naming → IsIndexed (record list { items = items }) pairs endings naming
   indexed-told list pairs endings naming items told is = rw told (record {
     ascending = IsAscending-told eid bits width list.items is.ascending;
-    held = is.held ∙ sym (all_held-told list.names list.items);
+    stay = is.stay ∙ sym (all_stays-told list.names list.items);
     ends = λ key. is.ends key ∙ sym (any-told (ends_as key) (λ x. refl) list.items);
     names = λ key. is.names key ∙ sym (any-told (names_as key) (λ x. refl) list.items);
   })

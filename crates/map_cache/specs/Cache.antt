@@ -5,12 +5,12 @@ use Rattle.mapping_records.specs.Orders.{eid_order, put_in_order}
 use Rattle.mapping_records.specs.declared.eid.Eid.{Eid}
 use Rattle.mapping_records.specs.declared.record.Record.{Record}
 use Rattle.router_log.specs.Moments.{seconds}
-use Rattle.map_cache.specs.declared.fault.TheConstants.{MOST_MAPPINGS}
+use Rattle.map_cache.specs.Limits.{default_minutes, most_mappings}
 use Rattle.map_cache.specs.declared.mapping.Mapping.{Mapping}
 
--- how long a TTL of minutes lasts, in nanoseconds; where its sender leaves it open, a day (this router's choice)
+-- how long a TTL of minutes lasts, in nanoseconds; where its sender leaves it open, the default
 abbrev pub lifetime : ℕ → ℕ
-lifetime ttl = seconds (60 * (if ttl == 0xffffffff then 1440 else ttl))
+lifetime ttl = seconds (60 * (if ttl == 0xffffffff then default_minutes else ttl))
 
 -- when a mapping that was learned at a moment ends
 abbrev pub end_of : ℕ → Record → Bool → ℕ
@@ -67,7 +67,7 @@ in_force mappings eid = longest (λ mapping. mapping.eid) mappings eid.iid eid.p
 -- a mapping may be learned: it takes one away, replaces one, or is within the limit
 abbrev pub has_room : Record → List Mapping → Bool
 has_room mapping mappings =
-    (mapping.ttl == 0) || (is_some (exact mappings mapping.eid) || nat_lt (length mappings) MOST_MAPPINGS)
+    (mapping.ttl == 0) || (is_some (exact mappings mapping.eid) || nat_lt (length mappings) most_mappings)
 
 -- those that haven't ended, once a mapping was learned in place of that of its EID: a TTL of 0 takes it away, unless it is
 -- fixed

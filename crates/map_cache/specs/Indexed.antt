@@ -13,7 +13,7 @@ use Rattle.mapping_records.specs.declared.record.Locator.{Locator}
 use Rattle.named_list.specs.Named.{Named}
 use Rattle.ordered_set.specs.Keys.{has}
 use Rattle.map_cache.specs.Lists.{IsAscending}
-use Rattle.map_cache.specs.declared.held.Held.{Held}
+use Rattle.map_cache.specs.declared.stay.Stay.{Stay}
 use Rattle.map_cache.specs.declared.keys.Ending.{Ending}
 use Rattle.map_cache.specs.declared.keys.Naming.{Naming}
 use Rattle.map_cache.specs.declared.mapping.Mapping.{Mapping}
@@ -25,31 +25,31 @@ abbrev pub is_endless : Bool → ℕ → Bool
 is_endless fixed end = fixed || nat_lt (2 ^ 64 - 1) end
 
 -- what is told, under a name, of a mapping that is fixed or ends at a moment
-abbrev pub held_until : Bool → ℕ → ℕ → Held
-held_until fixed end name = record {
+abbrev pub stay_until : Bool → ℕ → ℕ → Stay
+stay_until fixed end name = record {
   end = if is_endless fixed end then 0 else end;
   name = name;
   endless = is_endless fixed end;
 }
 
 -- what the trie tells of a mapping, under its EID
-abbrev pub held_of : ℕ → Mapping → Eid × Held
-held_of name mapping = (mapping.eid, held_until mapping.fixed mapping.end name)
+abbrev pub stay_of : ℕ → Mapping → Eid × Stay
+stay_of name mapping = (mapping.eid, stay_until mapping.fixed mapping.end name)
 
 -- the same of each, with their names
-abbrev pub all_held : List ℕ → List Mapping → List (Eid × Held)
-all_held [] mappings = []
-all_held (name ∷ names) [] = []
-all_held (name ∷ names) (mapping ∷ mappings) = held_of name mapping ∷ all_held names mappings
+abbrev pub all_stays : List ℕ → List Mapping → List (Eid × Stay)
+all_stays [] mappings = []
+all_stays (name ∷ names) [] = []
+all_stays (name ∷ names) (mapping ∷ mappings) = stay_of name mapping ∷ all_stays names mappings
 
 -- a mapping of which this is told hasn't ended
-abbrev pub held_lasts : ℕ → Held → Bool
-held_lasts now held = held.endless || nat_lt now held.end
+abbrev pub stay_lasts : ℕ → Stay → Bool
+stay_lasts now stay = stay.endless || nat_lt now stay.end
 
 -- a mapping is told of, and hasn't ended
-abbrev pub some_lasts : ℕ → Option Held → Bool
+abbrev pub some_lasts : ℕ → Option Stay → Bool
 some_lasts now None = false
-some_lasts now (Some held) = held_lasts now held
+some_lasts now (Some stay) = stay_lasts now stay
 
 -- ### by end
 
@@ -88,9 +88,9 @@ names_as key mapping = names_by mapping.eid mapping.details.locators key
 -- ### all of it
 
 -- the mappings are in order of EID, the trie tells of each of them, and the keys are theirs
-pub record IsIndexed (mappings : Named Mapping) (pairs : List (Eid × Held)) (endings : List Ending) (naming : List Naming) : Type 0 where
+pub record IsIndexed (mappings : Named Mapping) (pairs : List (Eid × Stay)) (endings : List Ending) (naming : List Naming) : Type 0 where
   pub ascending : IsAscending mappings.items
-  pub held : pairs ≡ all_held mappings.names mappings.items
+  pub stay : pairs ≡ all_stays mappings.names mappings.items
   pub ends : (key : Ending) → has ending_order key endings ≡ list_any (ends_as key) mappings.items
   pub names : (key : Naming) → has naming_order key naming ≡ list_any (names_as key) mappings.items
 

@@ -1,4 +1,5 @@
 pub mod Cache
 pub mod Indexed
+pub mod Limits
 pub mod Lists
 pub mod Named

@@ -5,7 +5,7 @@ use Rattle.std.specs.declared.cmp.Ordering.TheVariants.{Less}
 use Rattle.mapping_records.specs.Orders.{eid_order}
 use Rattle.mapping_records.specs.declared.eid.Eid.{Eid}
 use Rattle.map_cache.specs.Cache.{exact, lasts}
-use Rattle.map_cache.specs.declared.fault.TheConstants.{MOST_LOCATORS}
+use Rattle.map_cache.specs.Limits.{most_locators}
 use Rattle.map_cache.specs.declared.mapping.Mapping.{Mapping}
 
 -- an EID is below those of all mappings
@@ -34,9 +34,9 @@ abbrev pub AllLast : ℕ → List Mapping → Type 0
 AllLast now [] = Unit {0}
 AllLast now (mapping ∷ others) = (lasts now mapping ≡ true) × AllLast now others
 
--- a mapping has at most 32 locators
+-- a mapping has no more locators than is allowed
 abbrev pub IsFew : Mapping → Type 0
-IsFew mapping = length mapping.details.locators ≤ MOST_LOCATORS
+IsFew mapping = length mapping.details.locators ≤ most_locators
 
 -- each of them has
 abbrev pub AllFew : List Mapping → Type 0

@@ -2,10 +2,10 @@
 ghost use Rattle.std.specs.Prelude.{◌≡◌, ◌≤◌, ◌<◌, ◌+◌, ◌*◌, ◌^◌, ◌↔◌, ◌≢◌, ◌||◌, nat_lt, is_some, Some, IfSome, IsTrue, IsFalse, IsOk, [], length, max, slice_get, Err, OnOk, OnErr};
 ghost use Rattle.std.specs.Option.{option_copied};
 ghost use Rattle.map_cache.specs.Cache.{bits_told, exact, has_room, in_force, lasting, learned};
+ghost use Rattle.map_cache.specs.Limits.{all_locators, most_locators, most_mappings};
 ghost use Rattle.map_cache.specs.Lists.{IsFew};
 ghost use Rattle.map_cache.specs.Named.{least_named, named_above};
 ghost use Rattle.map_cache.specs.declared.fault.LearnFault.TheVariants.{CacheFull, Memory};
-ghost use Rattle.map_cache.specs.declared.fault.TheConstants.{MOST_LOCATORS, MOST_MAPPINGS};
 
 use crate::indexed::Indexed;
 use crate::learning::fresh;
@@ -28,7 +28,7 @@ impl Model for MapCache {
     ghost use Rattle.std.specs.Prelude.{◌≤◌, length};
     ghost use Rattle.map_cache.specs.Lists.{AllFew, AllLast};
     ghost use Rattle.map_cache.specs.Cache.{Cache};
-    ghost use Rattle.map_cache.specs.declared.fault.TheConstants.{MOST_MAPPINGS};
+    ghost use Rattle.map_cache.specs.Limits.{most_mappings};
 
     ghost Value = { Cache };
 
@@ -42,7 +42,7 @@ impl Model for MapCache {
       kept = cache.indexed.kept;
     } };
 
-    ghost invariant = { λ cache. (length cache.indexed.mappings ≤ MOST_MAPPINGS)
+    ghost invariant = { λ cache. (length cache.indexed.mappings ≤ most_mappings)
         × (AllLast cache.now cache.indexed.mappings × AllFew cache.indexed.mappings) };
 }
 
@@ -51,6 +51,8 @@ impl MapCache {
     pub fn new(alloc: Global) -> MapCache
         ensures now { result.now ≡ 0 }
         ensures mappings { result.mappings ≡ [] }
+        ensures spare { result.spare ≡ 0 }
+        ensures locator_spare { result.locator_spare ≡ 0 }
         ensures mapping_places { result.mapping_places ≡ 0 }
         ensures locator_places { result.locator_places ≡ 0 }
     {
@@ -71,7 +73,9 @@ impl MapCache {
     /// for each locator for which there is place.
     pub fn len(&self) -> usize
         ensures len { result ≡ length self.entry.now.mappings }
-        ensures most { result ≤ MOST_MAPPINGS }
+        ensures most { result ≤ most_mappings }
+        ensures tied { result + self.entry.now.spare ≤ self.entry.now.mapping_places }
+        ensures locators_tied { self.entry.now.locator_spare ≤ self.entry.now.locator_places }
         ensures kept { self.entry.now.kept
             ≤ 43 * self.entry.now.mapping_places + 2 * self.entry.now.locator_places }
     {
@@ -89,16 +93,19 @@ impl MapCache {
     /// Makes room for `n` further mappings with so many locators in all, with those that there is room
     /// for already.
     pub fn reserve(&mut self, n: u32, locators: u32) -> Result<(), NoMemory>
-        requires mappings { n ≤ MOST_MAPPINGS }
-        requires locators { locators ≤ MOST_MAPPINGS * MOST_LOCATORS }
+        requires mappings { n ≤ most_mappings }
+        requires locators { locators ≤ all_locators }
         ensures now { self.new.now ≡ self.old.now }
         ensures mappings { self.new.mappings ≡ self.old.mappings }
         ensures spare { self.old.spare ≤ self.new.spare }
         ensures locator_spare { self.old.locator_spare ≤ self.new.locator_spare }
+        ensures at_most { self.new.spare ≤ max self.old.spare n }
+        ensures locators_at_most { self.new.locator_spare
+            ≤ max self.old.locator_spare locators }
         ensures mapping_places { self.new.mapping_places
             ≤ max self.old.mapping_places (length self.old.mappings + n) }
         ensures locator_places { self.new.locator_places
-            ≤ max self.old.locator_places (MOST_LOCATORS * length self.old.mappings + locators) }
+            ≤ max self.old.locator_places (most_locators * length self.old.mappings + locators) }
         ensures ok { OnOk result (n ≤ self.new.spare) }
         ensures locators_ok { OnOk result (locators ≤ self.new.locator_spare) }
         ensures enough { n ≤ self.old.spare → locators ≤ self.old.locator_spare → IsOk result }
@@ -112,6 +119,8 @@ impl MapCache {
         ensures now { self.new.now ≡ m }
         ensures mappings { self.new.mappings ≡ lasting m self.old.mappings }
         ensures spare { self.old.spare ≤ self.new.spare }
+        ensures total { length self.new.mappings + self.new.spare
+            ≤ length self.old.mappings + self.old.spare }
         ensures locator_spare { self.old.locator_spare ≤ self.new.locator_spare }
         ensures mapping_places { self.new.mapping_places ≤ self.old.mapping_places }
         ensures locator_places { self.new.locator_places ≤ self.old.locator_places }
@@ -124,7 +133,7 @@ impl MapCache {
     /// Where it is refused, only the purge has taken place.
     pub fn learn(&mut self, m: u64, mapping: Record, fixed: bool) -> Result<(), LearnFault>
         requires later { self.old.now ≤ m }
-        requires locators { length mapping.locators ≤ MOST_LOCATORS }
+        requires locators { length mapping.locators ≤ most_locators }
         requires fixed { IsTrue fixed → mapping.ttl ≢ 0 }
         ensures now { self.new.now ≡ m }
         ensures ok { OnOk result (self.new.mappings ≡ learned m mapping fixed self.old.mappings) }
@@ -136,10 +145,12 @@ impl MapCache {
         ensures spare { self.old.spare ≤ self.new.spare + 1 }
         ensures locator_spare { self.old.locator_spare
             ≤ self.new.locator_spare + length mapping.locators }
+        ensures refused { OnErr result (length self.new.mappings + self.new.spare
+            ≤ max (length self.old.mappings + self.old.spare) (length self.new.mappings + 1)) }
         ensures mapping_places { self.new.mapping_places
             ≤ max self.old.mapping_places (length self.old.mappings + 1) }
         ensures locator_places { self.new.locator_places ≤ max self.old.locator_places
-            (MOST_LOCATORS * length self.old.mappings + length mapping.locators) }
+            (most_locators * length self.old.mappings + length mapping.locators) }
     {
         self.purge(m);
         if mapping.ttl == 0 {
@@ -151,14 +162,15 @@ impl MapCache {
         }
         self.indexed
             .reserve(1, mapping.locators.as_slice().len() as u32)?;
-        self.indexed.put(fresh(m, mapping, fixed));
+        let mapping = fresh(m, mapping, fixed);
+        self.indexed.put(mapping);
         Ok(())
     }
 
     // A mapping of that EID is kept, or there are fewer than the limit.
     fn has_place(&self, eid: &Eid) -> bool
         ensures { result ≡ (is_some (exact self.entry.now.mappings eid.now)
-            || nat_lt (length self.entry.now.mappings) MOST_MAPPINGS) }
+            || nat_lt (length self.entry.now.mappings) most_mappings) }
     {
         self.indexed.len() < MOST_MAPPINGS || self.indexed.has(eid)
     }
@@ -218,7 +230,7 @@ impl MapCache {
     pub fn live_count(&self, m: u64) -> u32
         requires { self.now.now ≤ m }
         ensures count { result ≡ length (lasting m self.entry.now.mappings) }
-        ensures most { result ≤ MOST_MAPPINGS }
+        ensures most { result ≤ most_mappings }
     {
         if self.indexed.first_ended(m).is_none() {
             return self.indexed.len() as u32;

@@ -29,6 +29,7 @@ pub(crate) fn drop_ending(mapping: &Mapping, endings: &mut OrderedSet<Ending>)
     ensures members { (key : _) → has ending_order key endings.new.keys
         ≡ (not (ends_as key mapping.now) && has ending_order key endings.old.keys) }
     ensures spare { endings.old.spare ≤ endings.new.spare }
+    ensures one { endings.new.spare ≤ endings.old.spare + 1 }
     ensures total { length endings.new.keys + endings.new.spare
         ≡ length endings.old.keys + endings.old.spare }
 {

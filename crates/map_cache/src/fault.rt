@@ -5,12 +5,6 @@ ghost use Rattle.map_cache.specs.declared.fault.LearnFault.TheVariants.{Memory};
 use octets::NoMemory;
 use std::alloc::AllocError;
 
-/// The most mappings that a cache holds (this router's choice).
-pub const MOST_MAPPINGS: usize = 65_536;
-
-/// The most locators of a mapping that is learned (this router's choice).
-pub const MOST_LOCATORS: usize = 32;
-
 /// A mapping wasn't learned. Only the purge has taken place.
 #[derive(Clone, Copy, Debug, PartialEq, Eq)]
 pub enum LearnFault {

@@ -3,17 +3,17 @@ ghost use Rattle.std.specs.Prelude.{◌≡◌, ◌≤◌, ◌<◌, ◌+◌, ◌*
 ghost use Rattle.std.specs.Option.{option_copied};
 ghost use Rattle.mapping_records.specs.Orders.{eid_order, put_in_order};
 ghost use Rattle.map_cache.specs.Cache.{bits_told, exact, in_force, lasting, without_eid};
+ghost use Rattle.map_cache.specs.Limits.{all_locators, most_locators, most_mappings};
 ghost use Rattle.map_cache.specs.Lists.{AllFew, IsAscending, IsPlace};
 ghost use Rattle.map_cache.specs.Named.{least_named, named_above};
-ghost use Rattle.map_cache.specs.declared.fault.TheConstants.{MOST_LOCATORS, MOST_MAPPINGS};
 
 use crate::bits::tell;
 use crate::endings::{add_ending, drop_ending};
-use crate::held::{Held, held_lasts, held_until};
 use crate::keys::{Ending, Naming};
 use crate::lasting::first_lasting;
 use crate::names::{add_names, drop_names};
 use crate::searching::{comes_after, is_below, same_eid};
+use crate::stay::{Stay, stay_lasts, stay_until};
 use crate::{Mapping, NoMemory, Reads};
 use ip_headers::Addr;
 use mapping_records::Eid;
@@ -28,7 +28,7 @@ use std::marker::Model;
 pub(crate) struct Indexed {
     // In order of EID.
     mappings: NamedList<Mapping>,
-    by_eid: PrefixTable<Held>,
+    by_eid: PrefixTable<Stay>,
     // Of those that end.
     endings: OrderedSet<Ending>,
     naming: OrderedSet<Naming>,
@@ -61,6 +61,8 @@ impl Indexed {
     /// No mappings. Takes no memory.
     pub(crate) fn new(alloc: Global) -> Indexed
         ensures mappings { result.mappings ≡ [] }
+        ensures spare { result.spare ≡ 0 }
+        ensures locator_spare { result.locator_spare ≡ 0 }
         ensures mapping_places { result.mapping_places ≡ 0 }
         ensures locator_places { result.locator_places ≡ 0 }
     {
@@ -74,17 +76,20 @@ impl Indexed {
 
     /// Makes room for `n` further mappings with so many locators in all.
     pub(crate) fn reserve(&mut self, n: u32, locators: u32) -> Result<(), NoMemory>
-        requires n { n ≤ MOST_MAPPINGS }
-        requires locators { locators ≤ MOST_MAPPINGS * MOST_LOCATORS }
-        requires len { length self.old.mappings ≤ MOST_MAPPINGS }
+        requires n { n ≤ most_mappings }
+        requires locators { locators ≤ all_locators }
+        requires len { length self.old.mappings ≤ most_mappings }
         requires few { AllFew self.old.mappings }
         ensures mappings { self.new.mappings ≡ self.old.mappings }
         ensures spare { self.old.spare ≤ self.new.spare }
         ensures locator_spare { self.old.locator_spare ≤ self.new.locator_spare }
+        ensures at_most { self.new.spare ≤ max self.old.spare n }
+        ensures locators_at_most { self.new.locator_spare
+            ≤ max self.old.locator_spare locators }
         ensures mapping_places { self.new.mapping_places
             ≤ max self.old.mapping_places (length self.old.mappings + n) }
         ensures locator_places { self.new.locator_places
-            ≤ max self.old.locator_places (MOST_LOCATORS * length self.old.mappings + locators) }
+            ≤ max self.old.locator_places (most_locators * length self.old.mappings + locators) }
         ensures ok { OnOk result (n ≤ self.new.spare) }
         ensures locators_ok { OnOk result (locators ≤ self.new.locator_spare) }
         ensures enough { n ≤ self.old.spare → locators ≤ self.old.locator_spare → IsOk result }
@@ -109,6 +114,8 @@ impl Indexed {
     pub(crate) fn len_kept(&self) -> usize
         requires { AllFew self.now.mappings }
         ensures len { result ≡ length self.now.mappings }
+        ensures tied { result + self.now.spare ≤ self.now.mapping_places }
+        ensures locators_tied { self.now.locator_spare ≤ self.now.locator_places }
         ensures kept { self.now.kept
             ≤ 43 * self.now.mapping_places + 2 * self.now.locator_places }
     {
@@ -170,13 +177,15 @@ impl Indexed {
         add_names(&mapping.eid, locators, &mut self.naming);
         let (eid, fixed, end) = (mapping.eid, mapping.fixed, mapping.end);
         let name = self.mappings.insert(place, mapping);
-        self.by_eid.insert(eid, held_until(fixed, end, name));
+        self.by_eid.insert(eid, stay_until(fixed, end, name));
     }
 
     /// Takes the mapping of that EID away. Takes no memory.
     pub(crate) fn drop_eid(&mut self, eid: &Eid)
         ensures mappings { self.new.mappings ≡ without_eid eid.now self.old.mappings }
         ensures spare { self.old.spare ≤ self.new.spare }
+        ensures total { length self.new.mappings + self.new.spare
+            ≤ length self.old.mappings + self.old.spare }
         ensures locator_spare { self.old.locator_spare ≤ self.new.locator_spare }
         ensures mapping_places { self.new.mapping_places ≤ self.old.mapping_places }
         ensures locator_places { self.new.locator_places ≤ self.old.locator_places }
@@ -196,6 +205,8 @@ impl Indexed {
     pub(crate) fn drop_ended(&mut self, m: u64)
         ensures mappings { self.new.mappings ≡ lasting m self.old.mappings }
         ensures spare { self.old.spare ≤ self.new.spare }
+        ensures total { length self.new.mappings + self.new.spare
+            ≤ length self.old.mappings + self.old.spare }
         ensures locator_spare { self.old.locator_spare ≤ self.new.locator_spare }
         ensures mapping_places { self.new.mapping_places ≤ self.old.mapping_places }
         ensures locator_places { self.new.locator_places ≤ self.old.locator_places }
@@ -248,10 +259,10 @@ impl Indexed {
         let _ = self.mappings.len();
         match self
             .by_eid
-            .longest_where(eid, |held| held_lasts(m, held), reads)
+            .longest_where(eid, |stay| stay_lasts(m, stay), reads)
         {
             None => None,
-            Some((_, held)) => Some(self.mappings.named(held.name)),
+            Some((_, stay)) => Some(self.mappings.named(stay.name)),
         }
     }
 
@@ -264,11 +275,11 @@ impl Indexed {
     {
         // The list says that each mapping has a name.
         let _ = self.mappings.len();
-        let held = self.by_eid.get(eid, reads)?;
-        if !held_lasts(m, held) {
+        let stay = self.by_eid.get(eid, reads)?;
+        if !stay_lasts(m, stay) {
             return None;
         }
-        Some(self.mappings.named(held.name))
+        Some(self.mappings.named(stay.name))
     }
 
     /// The least address above `after` that a mapping names which hasn't ended at a moment, and the

@@ -5,19 +5,19 @@ ghost use Rattle.prefix_table.specs.Pairs.{value_in};
 ghost use Rattle.map_cache.specs.Indexed.{some_lasts};
 
 use crate::Reads;
-use crate::held::{Held, held_lasts};
 use crate::keys::Naming;
+use crate::stay::{Stay, stay_lasts};
 use mapping_records::Eid;
 use ordered_set::OrderedSet;
 use prefix_table::PrefixTable;
 
 // The mapping of an EID hasn't ended at a moment.
-fn has_lasting(m: u64, eid: &Eid, by_eid: &PrefixTable<Held>) -> bool
+fn has_lasting(m: u64, eid: &Eid, by_eid: &PrefixTable<Stay>) -> bool
     ensures { result ≡ some_lasts m (value_in eid.now by_eid.now.pairs) }
 {
     match by_eid.get(eid, &mut Reads::new()) {
         None => false,
-        Some(held) => held_lasts(m, held),
+        Some(stay) => stay_lasts(m, stay),
     }
 }
 
@@ -26,7 +26,7 @@ pub(crate) fn first_lasting<'a>(
     m: u64,
     from: usize,
     naming: &'a OrderedSet<Naming>,
-    by_eid: &PrefixTable<Held>,
+    by_eid: &PrefixTable<Stay>,
 ) -> Option<&'a Naming>
     ensures { option_copied result ≡ find (λ key. some_lasts m (value_in key.eid by_eid.now.pairs))
         (drop from naming.now.keys) }

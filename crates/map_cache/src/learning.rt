@@ -3,12 +3,16 @@ ghost use Rattle.std.specs.Prelude.{◌≡◌};
 ghost use Rattle.map_cache.specs.Cache.{end_of, fresh, lifetime};
 
 use crate::Mapping;
-use mapping_records::Record;
+use mapping_records::{DEFAULT_MINUTES, Record};
 
 fn lifetime(ttl: u32) -> u128
     ensures { result ≡ lifetime ttl }
 {
-    let minutes = if ttl == 0xffff_ffff { 1440 } else { ttl };
+    let minutes = if ttl == 0xffff_ffff {
+        DEFAULT_MINUTES
+    } else {
+        ttl
+    };
     u128::from(minutes) * 60 * 1_000_000_000
 }
 

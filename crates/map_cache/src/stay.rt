@@ -1,10 +1,10 @@
 // What the trie of a cache tells of a mapping.
 ghost use Rattle.std.specs.Prelude.{◌≡◌};
-ghost use Rattle.map_cache.specs.Indexed.{held_lasts, held_until};
+ghost use Rattle.map_cache.specs.Indexed.{stay_lasts, stay_until};
 
 /// Until when a mapping lasts, and its name in the list.
 #[derive(Drop)]
-pub(crate) struct Held {
+pub(crate) struct Stay {
     /// The moment at which it ends, 0 where none does.
     pub end: u64,
     pub name: u32,
@@ -13,20 +13,20 @@ pub(crate) struct Held {
 }
 
 // Fields lie in the order of the source: in another one it takes more.
-const _: () = prove!(std::mem::size_of::<Held>() == 16);
+const _: () = prove!(std::mem::size_of::<Stay>() == 16);
 
 /// What is told, under a name, of a mapping that is fixed or ends at a moment.
-pub(crate) fn held_until(fixed: bool, end: u128, name: u32) -> Held
-    ensures { result ≡ held_until fixed end name }
+pub(crate) fn stay_until(fixed: bool, end: u128, name: u32) -> Stay
+    ensures { result ≡ stay_until fixed end name }
 {
     if fixed || end > u128::from(u64::MAX) {
-        return Held {
+        return Stay {
             end: 0,
             name,
             endless: true,
         };
     }
-    Held {
+    Stay {
         end: end as u64,
         name,
         endless: false,
@@ -34,8 +34,8 @@ pub(crate) fn held_until(fixed: bool, end: u128, name: u32) -> Held
 }
 
 /// The mapping hasn't ended at a moment.
-pub(crate) fn held_lasts(now: u64, held: &Held) -> bool
-    ensures { result ≡ held_lasts now held.now }
+pub(crate) fn stay_lasts(now: u64, stay: &Stay) -> bool
+    ensures { result ≡ stay_lasts now stay.now }
 {
-    held.endless || now < held.end
+    stay.endless || now < stay.end
 }

@@ -1,4 +1,4 @@
-use Rattle.std.proofs.Common.{◌≡◌, ◌≤◌, length}
+use Rattle.std.proofs.Common.{◌≡◌, ◌≤◌, ◌+◌, length}
 use Rattle.map_cache.specs.Cache.{lasting}
 use Rattle.map_cache.proofs.indexed.Indexed.drop_ended.Given as goal
 
@@ -7,6 +7,7 @@ abbrev pub invariant-loop-eid : goal.invariant-loop-eid
 invariant-loop-eid l =
     (lasting l.m l.self.mappings ≡ lasting l.m l.initial.self.mappings)
     × (l.initial.self.spare ≤ l.self.spare)
+    × (length l.self.mappings + l.self.spare ≤ length l.initial.self.mappings + l.initial.self.spare)
     × (l.initial.self.locator_spare ≤ l.self.locator_spare)
     × (l.self.mapping_places ≤ l.initial.self.mapping_places)
     × (l.self.locator_places ≤ l.initial.self.locator_places)

@@ -1,12 +1,12 @@
 use Rattle.std.proofs.Common.{ap, arith, length}
-use Rattle.map_cache.proofs.RoomLemmas.{endings-few, held-few, naming-few, room-after}
+use Rattle.map_cache.proofs.RoomLemmas.{endings-few, stay-few, naming-few, room-after}
 use Rattle.map_cache.proofs.indexed.Indexed.reserve.Goals as goal
 
 pub reserve-requires-2 : goal.reserve-requires-2
 reserve-requires-2 c =
     let len = rw (← c.self.view_is) at c.requires.len in
-    let few = held-few c.self.inside.mappings.names c.self.inside.mappings.items in
-    omega (arith, c.requires.n, len, few, ap length c.self.invariant.held)
+    let few = stay-few c.self.inside.mappings.names c.self.inside.mappings.items in
+    omega (arith, c.requires.n, len, few, ap length c.self.invariant.stay)
 
 pub reserve-requires-3 : goal.reserve-requires-3
 reserve-requires-3 c =
