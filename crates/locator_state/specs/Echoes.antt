@@ -8,23 +8,24 @@ use Rattle.router_log.specs.declared.kept.EchoOut.{EchoOut}
 use Rattle.router_log.specs.declared.kept.EchoOut.TheVariants.{Plain, Answer, Ask}
 use Rattle.router_log.specs.declared.kept.EchoStart.{EchoStart}
 use Rattle.router_log.specs.declared.kept.EchoWish.{EchoWish}
+use Rattle.locator_state.specs.Limits.{echo_seconds, most_starts, most_wishes, start_seconds, wish_seconds}
 use Rattle.locator_state.specs.Lists.{last_where, only_if}
 
--- an echo that was asked for counts for 60 seconds
+-- an echo that was asked for counts for so many seconds
 abbrev pub start_counts : ℕ → EchoStart → Bool
-start_counts now start = younger now 60 start.moment
+start_counts now start = younger now start_seconds start.moment
 
--- an echo that is wanted counts for 2 seconds
+-- an echo that is wanted counts for so many seconds
 abbrev pub wish_counts : ℕ → EchoWish → Bool
-wish_counts now wish = younger now 2 wish.moment
+wish_counts now wish = younger now wish_seconds wish.moment
 
--- an echo is asked for in each packet, for 10 seconds and until it is heard
+-- an echo is asked for in each packet, for some seconds and until it is heard
 abbrev pub is_on : ℕ → EchoStart → Bool
-is_on now start = younger now 10 start.moment && not start.heard
+is_on now start = younger now echo_seconds start.moment && not start.heard
 
--- from 10 to 60 seconds packets came, and none with the echo
+-- from then on, while it counts, packets came, and none with the echo
 abbrev pub is_deaf : ℕ → EchoStart → Bool
-is_deaf now start = not (younger now 10 start.moment) && (younger now 60 start.moment && (not start.heard && start.came))
+is_deaf now start = not (younger now echo_seconds start.moment) && (younger now start_seconds start.moment && (not start.heard && start.came))
 
 -- the echo of a locator is heard
 abbrev pub hear_from : Addr → EchoStart → EchoStart
@@ -61,7 +62,7 @@ echo_wanted now wishes rloc =
 abbrev pub may_start : ℕ → List EchoStart → List EchoWish → Addr → Bool
 may_start now starts wishes rloc =
     not (list_any (λ start. same_address start.rloc rloc && start_counts now start) starts)
-    && (is_none (echo_wanted now wishes rloc) && nat_lt (count_by (start_counts now) starts) 4096)
+    && (is_none (echo_wanted now wishes rloc) && nat_lt (count_by (start_counts now) starts) most_starts)
 
 -- the nonce isn't the one that is wanted
 abbrev pub is_other : ℕ → Option ℕ → Bool
@@ -71,7 +72,7 @@ is_other nonce (Some wanted) = not (wanted == nonce)
 -- that a locator wants this nonce may be noted: it is another one than counts, and there is room
 abbrev pub may_want : ℕ → List EchoWish → Addr → ℕ → Bool
 may_want now wishes rloc nonce =
-    is_other nonce (echo_wanted now wishes rloc) && nat_lt (count_by (wish_counts now) wishes) 4096
+    is_other nonce (echo_wanted now wishes rloc) && nat_lt (count_by (wish_counts now) wishes) most_wishes
 
 -- an echo is asked for where one is on
 abbrev pub ask_or_plain : Option ℕ → EchoOut

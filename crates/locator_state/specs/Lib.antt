@@ -1,4 +1,5 @@
 pub mod Echoes
+pub mod Limits
 pub mod Lists
 pub mod Observed
 pub mod Probes

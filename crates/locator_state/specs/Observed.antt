@@ -1,5 +1,5 @@
 -- All that is known of locators.
-use Rattle.std.specs.Prelude.{ℕ, ◌≤◌, ◌+◌, ◌&&◌, Bool, List, length, max}
+use Rattle.std.specs.Prelude.{◌≡◌, ℕ, ◌≤◌, ◌+◌, ◌*◌, ◌&&◌, Bool, List, length, max}
 use Rattle.ip_headers.specs.declared.addr.Addr.{Addr}
 use Rattle.router_log.specs.declared.kept.EchoStart.{EchoStart}
 use Rattle.router_log.specs.declared.kept.EchoWish.{EchoWish}
@@ -63,6 +63,20 @@ pub record HasRoom (more others : ℕ) (now : Located) : Type 0 where
   pub starts : others ≤ now.start_room
   pub wishes : others ≤ now.wish_room
   pub solicits : others ≤ now.solicit_room
+
+-- of no kind there is room for more
+pub record HasNoRoom (now : Located) : Type 0 where
+  pub probes : now.probe_room ≡ 0
+  pub starts : now.start_room ≡ 0
+  pub wishes : now.wish_room ≡ 0
+  pub solicits : now.solicit_room ≡ 0
+
+-- of each kind there are places for two keys of all that is there or that there is room for
+pub record HasPlaces (now : Located) : Type 0 where
+  pub probes : 2 * (length now.observed.probes + now.probe_room) ≤ now.places
+  pub starts : 2 * (length now.observed.starts + now.start_room) ≤ now.places
+  pub wishes : 2 * (length now.observed.wishes + now.wish_room) ≤ now.places
+  pub solicits : 2 * (length now.observed.solicits + now.solicit_room) ≤ now.places
 
 -- of each kind at most so much room was used
 pub record UsesRoom (a b c d : ℕ) (old new : Located) : Type 0 where

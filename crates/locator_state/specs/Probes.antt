@@ -6,24 +6,25 @@ use Rattle.router_log.specs.Moments.{younger}
 use Rattle.router_log.specs.declared.kept.Probe.{Probe}
 use Rattle.router_log.specs.declared.kept.ProbeState.{ProbeState}
 use Rattle.router_log.specs.declared.kept.ProbeState.TheVariants.{Open, Answered, Lost}
+use Rattle.locator_state.specs.Limits.{judged_seconds, probe_seconds}
 use Rattle.locator_state.specs.Lists.{last_where, only_if}
 
--- a probe counts for 600 seconds
+-- a probe counts for so many seconds
 abbrev pub probe_counts : ℕ → Probe → Bool
-probe_counts now probe = younger now 600 probe.moment
+probe_counts now probe = younger now probe_seconds probe.moment
 
 -- a probe that is answered
 abbrev pub is_answered : Probe → Bool
 is_answered probe = elim probe.state [ Open ↦ false | Answered ↦ true | Lost ↦ false ]
 
--- a probe that is answered, or that has waited for 3 seconds (this router's choice)
+-- a probe that is answered, or that has waited for so many seconds
 abbrev pub is_judged : ℕ → Probe → Bool
-is_judged now probe = is_answered probe || not (younger now 3 probe.moment)
+is_judged now probe = is_answered probe || not (younger now judged_seconds probe.moment)
 
--- without such a probe the locator is up, and by one that is answered or 600 seconds old
+-- without such a probe the locator is up, and by one that is answered or counts no longer
 abbrev pub up_by : ℕ → Option Probe → Bool
 up_by now None = true
-up_by now (Some probe) = is_answered probe || not (younger now 600 probe.moment)
+up_by now (Some probe) = is_answered probe || not (younger now probe_seconds probe.moment)
 
 -- what becomes of an open probe
 abbrev pub settled : ProbeState → ProbeState → ProbeState
@@ -50,15 +51,15 @@ probe_open now probes nonce =
     option_map (λ probe. probe.rloc)
     (only_if (λ probe. not (is_judged now probe)) (last_where (λ probe. probe.nonce == nonce) probes))
 
--- the moment of the locator's last probe, if that is younger than 600 seconds
+-- the moment of the locator's last probe, if that counts
 abbrev pub last_probe : ℕ → List Probe → Addr → Option ℕ
 last_probe now probes rloc =
     option_map (λ probe. probe.moment)
-    (only_if (λ probe. younger now 600 probe.moment) (last_where (λ probe. same_address probe.rloc rloc) probes))
+    (only_if (λ probe. younger now probe_seconds probe.moment) (last_where (λ probe. same_address probe.rloc rloc) probes))
 
--- how many probes are younger than 600 seconds
+-- how many probes count
 abbrev pub probe_count : ℕ → List Probe → ℕ
-probe_count now probes = count_by (λ probe. younger now 600 probe.moment) probes
+probe_count now probes = count_by (λ probe. younger now probe_seconds probe.moment) probes
 
 -- those that still count
 abbrev pub counting_probes : ℕ → List Probe → List Probe

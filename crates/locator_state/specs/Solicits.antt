@@ -5,11 +5,12 @@ use Rattle.ip_headers.specs.declared.addr.Addr.{Addr}
 use Rattle.mapping_records.specs.Eids.{same_address, same_eid}
 use Rattle.mapping_records.specs.declared.eid.Eid.{Eid}
 use Rattle.router_log.specs.Moments.{younger}
+use Rattle.locator_state.specs.Limits.{most_solicits, solicit_seconds}
 use Rattle.router_log.specs.declared.kept.Solicitation.{Solicitation}
 
--- a solicitation counts for 10 seconds (this router's choice)
+-- a solicitation counts for so many seconds
 abbrev pub solicit_counts : ℕ → Solicitation → Bool
-solicit_counts now old = younger now 10 old.moment
+solicit_counts now old = younger now solicit_seconds old.moment
 
 -- it is one of that locator for that EID
 abbrev pub is_of : Addr → Eid → Solicitation → Bool
@@ -21,7 +22,7 @@ is_of rloc eid old = same_address old.rloc rloc && same_eid old.eid eid
 abbrev pub may_solicit : ℕ → List Solicitation → Addr → Eid → Bool
 may_solicit now solicits rloc eid =
     not (list_any (λ old. is_of rloc eid old && solicit_counts now old) solicits)
-    && nat_lt (count_by (solicit_counts now) solicits) 4096
+    && nat_lt (count_by (solicit_counts now) solicits) most_solicits
 
 -- those that still count
 abbrev pub counting_solicits : ℕ → List Solicitation → List Solicitation

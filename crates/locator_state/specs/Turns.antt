@@ -5,12 +5,13 @@ use Rattle.ip_headers.specs.declared.addr.Addr.{Addr}
 use Rattle.mapping_records.specs.Eids.{same_address}
 use Rattle.mapping_records.specs.Orders.{addr_order}
 use Rattle.router_log.specs.Moments.{younger}
+use Rattle.locator_state.specs.Limits.{rest_seconds}
 use Rattle.locator_state.specs.declared.target.Target.{Target}
 
--- the last probe of a locator, if one counts, is 60 seconds old (this router's choice)
+-- the last probe of a locator, if one counts, is so many seconds old
 abbrev pub has_rested : ℕ → Option ℕ → Bool
 has_rested now None = true
-has_rested now (Some moment) = not (younger now 60 moment)
+has_rested now (Some moment) = not (younger now rest_seconds moment)
 
 -- the turn of a locator: those without a probe come first, the others by its moment
 abbrev pub turn_of : Option ℕ → ℕ

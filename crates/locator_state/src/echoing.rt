@@ -3,24 +3,14 @@ ghost use Rattle.std.specs.Prelude.{◌≡◌, ◌≤◌, ◌&&◌, count_by, ma
 ghost use Rattle.std.specs.List.{list_any};
 ghost use Rattle.std.specs.Option.{option_copied};
 ghost use Rattle.mapping_records.specs.Eids.{same_address};
+ghost use Rattle.locator_state.specs.Limits.{most_starts, most_wishes};
 ghost use Rattle.locator_state.specs.Lists.{last_where};
 ghost use Rattle.locator_state.specs.Echoes.{answer_or, ask_or_plain, come_from, counting_starts, counting_wishes, data_due, echo_on, echo_up, echo_wanted, hear_from, is_deaf, is_on, is_other, last_start, start_counts, wish_counts};
 
+use crate::limits::{ECHO_WAIT, MOST_STARTS, MOST_WISHES, START_LIFE, WISH_LIFE};
 use ip_headers::Addr;
 use keyed_list::{Key, KeyedList};
 use router_log::{EchoOut, EchoStart, EchoWish};
-
-/// The most echoes that were asked for in less than 60 seconds (this router's choice).
-pub const MOST_STARTS: usize = 4096;
-
-/// The most echoes that are wanted within 2 seconds (this router's choice).
-pub const MOST_WISHES: usize = 4096;
-
-/// How long an echo that was asked for counts, in nanoseconds.
-const START_LIFE: u64 = 60_000_000_000;
-
-/// The same of one that is wanted.
-const WISH_LIFE: u64 = 2_000_000_000;
 
 fn start_counts(now: u64, start: &EchoStart) -> bool
     ensures { result ≡ start_counts now start.now }
@@ -37,14 +27,14 @@ fn wish_counts(now: u64, wish: &EchoWish) -> bool
 fn is_on(now: u64, start: &EchoStart) -> bool
     ensures { result ≡ is_on now start.now }
 {
-    now.saturating_sub(start.moment) < 10_000_000_000 && !start.heard
+    now.saturating_sub(start.moment) < ECHO_WAIT && !start.heard
 }
 
 fn is_deaf(now: u64, start: &EchoStart) -> bool
     ensures { result ≡ is_deaf now start.now }
 {
-    now.saturating_sub(start.moment) >= 10_000_000_000
-        && now.saturating_sub(start.moment) < 60_000_000_000
+    now.saturating_sub(start.moment) >= ECHO_WAIT
+        && now.saturating_sub(start.moment) < START_LIFE
         && !start.heard
         && start.came
 }
@@ -129,14 +119,14 @@ pub(crate) fn is_asked(now: u64, rloc: &Addr, starts: &KeyedList<EchoStart>) -> 
 
 /// One more echo may be asked for.
 pub(crate) fn few_starts(now: u64, starts: &KeyedList<EchoStart>) -> bool
-    ensures { result ≡ nat_lt (count_by (start_counts now) starts.now.items) 4096 }
+    ensures { result ≡ nat_lt (count_by (start_counts now) starts.now.items) most_starts }
 {
     starts.count(now, START_LIFE) < MOST_STARTS
 }
 
 /// One more echo may be wanted.
 pub(crate) fn few_wishes(now: u64, wishes: &KeyedList<EchoWish>) -> bool
-    ensures { result ≡ nat_lt (count_by (wish_counts now) wishes.now.items) 4096 }
+    ensures { result ≡ nat_lt (count_by (wish_counts now) wishes.now.items) most_wishes }
 {
     wishes.count(now, WISH_LIFE) < MOST_WISHES
 }

@@ -3,18 +3,21 @@
 #![tactic(auto)]
 
 mod echoing;
+mod limits;
 mod locators;
 mod probing;
 mod soliciting;
 mod target;
 mod turns;
 
-pub use echoing::{MOST_STARTS, MOST_WISHES};
 pub use ip_headers::Addr;
-pub use locators::{LocatorState, MOST_PROBES};
+pub use limits::{
+    ECHO_WAIT, MOST_PROBES, MOST_SOLICITS, MOST_STARTS, MOST_TARGETS, MOST_WISHES, PROBE_LIFE,
+    PROBE_REST, PROBE_WAIT, SOLICIT_LIFE, START_LIFE, WISH_LIFE, limits_are,
+};
+pub use locators::LocatorState;
 pub use mapping_records::Eid;
 pub use octets::NoMemory;
 pub use router_log::{EchoOut, EchoStart, EchoWish, Probe, ProbeState, Solicitation};
-pub use soliciting::MOST_SOLICITS;
 pub use target::Target;
-pub use turns::{MOST_TARGETS, has_rested, offer};
+pub use turns::{has_rested, offer};

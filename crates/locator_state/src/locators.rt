@@ -1,18 +1,18 @@
 // What is known of locators.
 ghost use Rattle.std.specs.Prelude.{◌≡◌, ◌≤◌, ◌<◌, ◌+◌, ◌*◌, length, max, nat_lt, [], OnOk, OnErr};
 ghost use Rattle.locator_state.specs.Echoes.{data_due, data_from, echo_heard, echo_on, echo_out, echo_started, may_start, may_want, wanted};
-ghost use Rattle.locator_state.specs.Observed.{HasRoom, UsesRoom, is_up, longest, recent, with_probes, with_solicits, with_starts, with_wishes};
+ghost use Rattle.locator_state.specs.Limits.{most_probes, most_reserved};
+ghost use Rattle.locator_state.specs.Observed.{HasNoRoom, HasPlaces, HasRoom, UsesRoom, is_up, longest, recent, with_probes, with_solicits, with_starts, with_wishes};
 ghost use Rattle.locator_state.specs.Probes.{last_probe, probe_answered, probe_count, probe_open, probed};
 ghost use Rattle.locator_state.specs.Solicits.{may_solicit, solicited};
-ghost use Rattle.locator_state.specs.declared.locators.TheConstants.{MOST_PROBES};
 
 use crate::echoing::{
     answer_or, ask_or_plain, come_all, data_due, drop_starts, drop_wishes, echo_on, echo_up,
     echo_wanted, few_starts, few_wishes, hear_all, is_asked, is_other,
 };
+use crate::limits::{MOST_PROBES, PROBE_LIFE};
 use crate::probing::{
-    PROBE_LIFE, drop_probes, is_judged, last_judged, last_of, last_with, probe_counts,
-    settle_nonce, up_by,
+    drop_probes, is_judged, last_judged, last_of, last_with, probe_counts, settle_nonce, up_by,
 };
 use crate::soliciting::{drop_solicits, few_solicits, is_solicited};
 use crate::{Addr, EchoOut, EchoStart, EchoWish, Eid, NoMemory, Probe, ProbeState, Solicitation};
@@ -20,14 +20,12 @@ use keyed_list::KeyedList;
 use std::alloc::Global;
 use std::marker::Model;
 
-/// The most probes younger than 600 seconds (this router's choice).
-pub const MOST_PROBES: usize = 9600;
-
 /// What is known of locators: their probes, the echoes that were asked of them (starts), the echoes
 /// that they want (wishes), and their solicitations; of each kind the oldest first. An item is kept
 /// until something is noted, or until a purge, at a moment at which it counts no longer: a probe
-/// counts for 600 seconds, a start for 60, a wish for 2, a solicitation for 10. What is asked at a
-/// moment is answered by those that count then. Moments are in nanoseconds.
+/// counts for `PROBE_LIFE`, a start for `START_LIFE`, a wish for `WISH_LIFE`, a solicitation for
+/// `SOLICIT_LIFE`. What is asked at a moment is answered by those that count then. Moments are in
+/// nanoseconds.
 #[derive(Drop)]
 pub struct LocatorState {
     probes: KeyedList<Probe>,
@@ -65,6 +63,7 @@ impl LocatorState {
     pub fn new(alloc: Global) -> LocatorState
         ensures observed { result.observed
             ≡ record { probes = []; starts = []; wishes = []; solicits = [] } }
+        ensures room { HasNoRoom result }
         ensures places { result.places ≡ 0 }
     {
         LocatorState {
@@ -80,6 +79,7 @@ impl LocatorState {
     pub fn len(&self) -> usize
         ensures len { result ≡ (length self.now.observed.probes + length self.now.observed.starts)
             + (length self.now.observed.wishes + length self.now.observed.solicits) }
+        ensures tied { HasPlaces self.now }
         ensures kept { self.now.kept ≤ 16 * self.now.places }
     {
         self.probes.len() + self.starts.len() + (self.wishes.len() + self.solicits.len())
@@ -87,8 +87,8 @@ impl LocatorState {
 
     /// Makes room for so many further probes, and for so many of each other kind.
     pub fn reserve(&mut self, probes: u32, others: u32) -> Result<(), NoMemory>
-        requires probes { probes ≤ 65536 }
-        requires others { others ≤ 65536 }
+        requires probes { probes ≤ most_reserved }
+        requires others { others ≤ most_reserved }
         ensures observed { self.new.observed ≡ self.old.observed }
         ensures ok { OnOk result (HasRoom probes others self.new) }
         ensures memory { OnErr result (HasRoom probes others self.old → ⊥) }
@@ -232,7 +232,7 @@ impl LocatorState {
         Ok(())
     }
 
-    /// The locator of the open probe with that nonce, for 3 seconds. None where there is none.
+    /// The locator of the open probe with that nonce, for `PROBE_WAIT`. None where there is none.
     pub fn probe_open(&self, m: u64, nonce: u64) -> Option<Addr>
         ensures { result ≡ probe_open m self.now.observed.probes nonce }
     {
@@ -265,12 +265,12 @@ impl LocatorState {
 
     /// There is room for one more probe at a moment.
     pub fn may_probe(&self, m: u64) -> bool
-        ensures { result ≡ nat_lt (probe_count m self.now.observed.probes) MOST_PROBES }
+        ensures { result ≡ nat_lt (probe_count m self.now.observed.probes) most_probes }
     {
         self.probes.count(m, PROBE_LIFE) < MOST_PROBES
     }
 
-    /// The nonce of the echo that is asked of a locator, for 10 seconds and until it is heard. None
+    /// The nonce of the echo that is asked of a locator, for `ECHO_WAIT` and until it is heard. None
     /// where none is asked.
     pub fn echo_on(&self, m: u64, rloc: &Addr) -> Option<u32>
         ensures { result ≡ echo_on m self.now.observed.starts rloc.now }
@@ -296,8 +296,8 @@ impl LocatorState {
         )
     }
 
-    /// An echo may be asked of a locator: none was for 60 seconds, it wants none itself, and fewer
-    /// than 4,096 are asked for.
+    /// An echo may be asked of a locator: none was for `START_LIFE`, it wants none itself, and fewer
+    /// than `MOST_STARTS` are asked for.
     pub fn may_start(&self, m: u64, rloc: &Addr) -> bool
         ensures { result
             ≡ may_start m self.now.observed.starts self.now.observed.wishes rloc.now }
@@ -307,15 +307,16 @@ impl LocatorState {
             && few_starts(m, &self.starts)
     }
 
-    /// That a locator wants this nonce may be noted: it doesn't want it already, and fewer than 4,096
-    /// are wanted.
+    /// That a locator wants this nonce may be noted: it doesn't want it already, and fewer than
+    /// `MOST_WISHES` are wanted.
     pub fn may_want(&self, m: u64, rloc: &Addr, nonce: u32) -> bool
         ensures { result ≡ may_want m self.now.observed.wishes rloc.now nonce }
     {
         is_other(nonce, echo_wanted(m, rloc, &self.wishes)) && few_wishes(m, &self.wishes)
     }
 
-    /// A locator may be solicited for an EID: it wasn't for 10 seconds, and fewer than 4,096 were.
+    /// A locator may be solicited for an EID: it wasn't for `SOLICIT_LIFE`, and fewer than
+    /// `MOST_SOLICITS` were.
     pub fn may_solicit(&self, m: u64, rloc: &Addr, eid: &Eid) -> bool
         ensures { result ≡ may_solicit m self.now.observed.solicits rloc.now eid.now }
     {
@@ -323,8 +324,8 @@ impl LocatorState {
     }
 
     /// Nothing speaks against a locator: the last probe that is judged was answered, and packets
-    /// came with the echo that was asked for. A probe is judged once it is answered or 3 seconds
-    /// old, until it is 600 seconds old; an echo from 10 to 60 seconds.
+    /// came with the echo that was asked for. A probe is judged once it is answered or
+    /// `PROBE_WAIT` old, until it is `PROBE_LIFE` old; an echo from `ECHO_WAIT` to `START_LIFE`.
     pub fn up(&self, m: u64, rloc: &Addr) -> bool
         ensures { result ≡ is_up m self.now.observed rloc.now }
     {

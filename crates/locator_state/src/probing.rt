@@ -5,12 +5,10 @@ ghost use Rattle.mapping_records.specs.Eids.{same_address};
 ghost use Rattle.locator_state.specs.Lists.{last_where};
 ghost use Rattle.locator_state.specs.Probes.{counting_probes, is_answered, is_judged, probe_counts, settle, settle_nonce, settled, up_by};
 
+use crate::limits::{PROBE_LIFE, PROBE_WAIT};
 use ip_headers::Addr;
 use keyed_list::{Key, KeyedList};
 use router_log::{Probe, ProbeState};
-
-/// How long a probe counts, in nanoseconds.
-pub(crate) const PROBE_LIFE: u64 = 600_000_000_000;
 
 pub(crate) fn same_address(a: &Addr, b: &Addr) -> bool
     ensures { result ≡ same_address a.now b.now }
@@ -36,7 +34,7 @@ fn is_answered(probe: &Probe) -> bool
 pub(crate) fn is_judged(now: u64, probe: &Probe) -> bool
     ensures { result ≡ is_judged now probe.now }
 {
-    is_answered(probe) || now.saturating_sub(probe.moment) >= 3_000_000_000
+    is_answered(probe) || now.saturating_sub(probe.moment) >= PROBE_WAIT
 }
 
 pub(crate) fn up_by(now: u64, last: Option<&Probe>) -> bool
@@ -64,7 +62,7 @@ pub(crate) fn last_of<'a>(rloc: &Addr, probes: &'a KeyedList<Probe>) -> Option<&
     probes.last(&Key::locator(*rloc), |_| true)
 }
 
-/// The last probe of a locator that is answered or has waited for 3 seconds.
+/// The last probe of a locator that is answered or has waited for `PROBE_WAIT`.
 pub(crate) fn last_judged<'a>(
     now: u64,
     rloc: &Addr,

@@ -1,18 +1,14 @@
 // Which solicitations count.
 ghost use Rattle.std.specs.Prelude.{◌≡◌, ◌≤◌, ◌&&◌, count_by, nat_lt};
 ghost use Rattle.std.specs.List.{list_any};
+ghost use Rattle.locator_state.specs.Limits.{most_solicits};
 ghost use Rattle.locator_state.specs.Solicits.{counting_solicits, is_of, solicit_counts};
 
+use crate::limits::{MOST_SOLICITS, SOLICIT_LIFE};
 use ip_headers::Addr;
 use keyed_list::{Key, KeyedList};
 use mapping_records::Eid;
 use router_log::Solicitation;
-
-/// The most solicitations in less than 10 seconds (this router's choice).
-pub const MOST_SOLICITS: usize = 4096;
-
-/// How long a solicitation counts, in nanoseconds.
-const SOLICIT_LIFE: u64 = 10_000_000_000;
 
 fn solicit_counts(now: u64, solicit: &Solicitation) -> bool
     ensures { result ≡ solicit_counts now solicit.now }
@@ -41,7 +37,7 @@ pub(crate) fn is_solicited(
 
 /// One more locator may be solicited.
 pub(crate) fn few_solicits(now: u64, solicits: &KeyedList<Solicitation>) -> bool
-    ensures { result ≡ nat_lt (count_by (solicit_counts now) solicits.now.items) 4096 }
+    ensures { result ≡ nat_lt (count_by (solicit_counts now) solicits.now.items) most_solicits }
 {
     solicits.count(now, SOLICIT_LIFE) < MOST_SOLICITS
 }

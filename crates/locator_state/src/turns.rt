@@ -4,23 +4,21 @@ ghost use Rattle.std.specs.Ordering.{is_lt};
 ghost use Rattle.std.specs.List.{position_or_len};
 ghost use Rattle.mapping_records.specs.Eids.{same_address};
 ghost use Rattle.mapping_records.specs.Orders.{addr_order};
+ghost use Rattle.locator_state.specs.Limits.{most_targets};
 ghost use Rattle.locator_state.specs.Turns.{goes_before, has_rested, is_at, turn_of, with_target};
-ghost use Rattle.locator_state.specs.declared.turns.TheConstants.{MOST_TARGETS};
 
 use crate::Target;
+use crate::limits::{MOST_TARGETS, PROBE_REST};
 use crate::probing::same_address;
 use ip_headers::Addr;
 
-/// The most probes in one second (this router's choice).
-pub const MOST_TARGETS: usize = 16;
-
-/// The last probe of a locator, if one counts, is 60 seconds old.
+/// The last probe of a locator, if one counts, is `PROBE_REST` old.
 pub fn has_rested(now: u64, last: Option<u64>) -> bool
     ensures { result ≡ has_rested now last }
 {
     match last {
         None => true,
-        Some(moment) => now.saturating_sub(moment) >= 60_000_000_000,
+        Some(moment) => now.saturating_sub(moment) >= PROBE_REST,
     }
 }
 
@@ -81,10 +79,10 @@ fn is_there(target: &Target, index: usize, targets: &[Target]) -> bool
 /// Puts a locator in its place among the first in order, of which there are at most so many. One
 /// that is there keeps its EID.
 pub fn offer(target: Target, first: &mut Vec<Target>)
-    requires few { vec_len first.old ≤ MOST_TARGETS }
-    requires room { MOST_TARGETS < vec_capacity first.old }
-    ensures items { first.new.items ≡ take MOST_TARGETS (with_target target first.old.items) }
-    ensures few { vec_len first.new ≤ MOST_TARGETS }
+    requires few { vec_len first.old ≤ most_targets }
+    requires room { most_targets < vec_capacity first.old }
+    ensures items { first.new.items ≡ take most_targets (with_target target first.old.items) }
+    ensures few { vec_len first.new ≤ most_targets }
     ensures capacity { vec_capacity first.old ≤ vec_capacity first.new }
 {
     let index = place(&target, first);
