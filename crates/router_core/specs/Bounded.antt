@@ -1,12 +1,12 @@
 -- What a table keeps fits the headers that are made of it, and keeps to a size.
 use Rattle.std.specs.Prelude.{◌≤◌, ◌<◌, ◌+◌, ◌*◌, ◌^◌, ℕ, List, All}
 use Rattle.locator_state.specs.Observed.{Located, Observed, longest}
-use Rattle.locator_state.specs.declared.locators.TheConstants.{MOST_PROBES}
+use Rattle.locator_state.specs.Limits.{most_probes}
 use Rattle.map_cache.specs.Cache.{Cache}
-use Rattle.map_cache.specs.declared.fault.TheConstants.{MOST_LOCATORS, MOST_MAPPINGS}
+use Rattle.map_cache.specs.Limits.{most_locators, most_mappings}
 use Rattle.map_cache.specs.declared.mapping.Mapping.{Mapping}
 use Rattle.request_queue.specs.Queue.{Queue}
-use Rattle.request_queue.specs.declared.fault.TheConstants.{MOST_REQUESTS}
+use Rattle.request_queue.specs.Limits.{most_requests}
 use Rattle.router_log.specs.declared.kept.EchoOut.{EchoOut}
 use Rattle.router_log.specs.declared.kept.EchoOut.TheVariants.{Plain, Answer, Ask}
 use Rattle.router_log.specs.declared.kept.EchoStart.{EchoStart}
@@ -42,9 +42,9 @@ IsShortOut (Ask nonce) = nonce < 2 ^ 24
 -- the lists of locators are as short as the limits make them, and all have place for no more than is kept at most
 -- and what is reserved at once: 255 mappings of a reply, 16,384 requests, 65,536 probes
 pub record AreBounded (cache : Cache) (queue : Queue) (located : Located) (own_count : ℕ) : Type 0 where
-  pub mappings : cache.mapping_places ≤ MOST_MAPPINGS + 255
-  pub locators : cache.locator_places ≤ MOST_LOCATORS * (MOST_MAPPINGS + 255)
-  pub requests : queue.places ≤ 2 * (MOST_REQUESTS + 16384)
-  pub probes : located.places ≤ 2 * (MOST_PROBES + 65536)
-  pub longest : longest located.observed ≤ MOST_PROBES
-  pub own : own_count ≤ MOST_LOCATORS
+  pub mappings : cache.mapping_places ≤ most_mappings + 255
+  pub locators : cache.locator_places ≤ most_locators * (most_mappings + 255)
+  pub requests : queue.places ≤ 2 * (most_requests + 16384)
+  pub probes : located.places ≤ 2 * (most_probes + 65536)
+  pub longest : longest located.observed ≤ most_probes
+  pub own : own_count ≤ most_locators

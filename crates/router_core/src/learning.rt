@@ -1,7 +1,7 @@
 // What a Map-Reply teaches.
 ghost use Rattle.std.specs.Prelude.{◌≡◌, ◌<◌, ◌≤◌, ◌+◌, ◌*◌, ◌^◌, ◌&&◌, ◌||◌, nat_lt, max, is_some, [], Some, not, length, IfOk, OnErr, vec_len, vec_capacity};
 ghost use Rattle.map_cache.specs.Cache.{exact, lasting};
-ghost use Rattle.map_cache.specs.declared.fault.TheConstants.{MOST_MAPPINGS};
+ghost use Rattle.mapping_records.specs.declared.limits.TheConstants.{MOST_MAPPINGS};
 ghost use Rattle.std.specs.List.{All, list_any};
 ghost use Rattle.map_messages.specs.Range.{InRangeReply};
 ghost use Rattle.mapping_records.specs.Record.{InRange};

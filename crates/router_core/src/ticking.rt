@@ -1,7 +1,7 @@
 // A second that begins.
 ghost use Rattle.std.specs.Prelude.{◌≡◌, ◌<◌, ◌≤◌, ◌+◌, ◌^◌, ◌∷◌, [], length, filter, map, All, IsTrue, IfOk, OnErr, vec_len, vec_capacity};
 ghost use Rattle.lisp_settings.specs.declared.settings.Settings.{Settings as SettingsValue};
-ghost use Rattle.locator_state.specs.declared.turns.TheConstants.{MOST_TARGETS};
+ghost use Rattle.locator_state.specs.declared.limits.TheConstants.{MOST_TARGETS};
 ghost use Rattle.request_queue.specs.Queue.{all_due, waiting};
 ghost use Rattle.router_log.specs.Moments.{seconds};
 ghost use Rattle.router_log.specs.declared.entry.Entry.TheVariants.{Retried};
