@@ -38,6 +38,10 @@ impl Table {
         ensures journal { IfOk result (λ decision. (journal : Journal)
             → Stands settings.now self.now.parts journal
             → decision ≡ decide settings.now journal m frame.now) }
+        ensures isolated { IfOk result (λ decision. (journal : Journal) (i : ℕ)
+            → Stands settings.now self.now.parts journal
+            → frame_instance settings.now frame.now ≡ Some i
+            → decision ≡ decide settings.now (of_instance journal i) (at journal m) frame.now) }
         ensures size { IfOk result (λ decision. FitsRecord decision.verdict) }
         ensures notices { IfOk result (λ decision. AreSound decision.notices) }
     {

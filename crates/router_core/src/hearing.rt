@@ -265,6 +265,7 @@ impl Table {
         from: Addr,
         reply: &MapReply,
     ) -> Result<Heard, NoMemory>
+        requires lawful { IsLawful settings.now }
         requires later { self.old.parts.now ≤ m }
         requires count { self.old.parts.count < 2 ^ 61 }
         requires range { InRangeReply reply.now }

@@ -1,14 +1,17 @@
 // What a Map-Reply teaches.
-ghost use Rattle.std.specs.Prelude.{◌≡◌, ◌<◌, ◌≤◌, ◌+◌, ◌*◌, ◌^◌, ◌&&◌, ◌||◌, nat_lt, max, is_some, [], Some, not, length, IfOk, OnErr, vec_len, vec_capacity};
+ghost use Rattle.std.specs.Prelude.{◌≡◌, ◌<◌, ◌≤◌, ◌+◌, ◌*◌, ◌^◌, ◌&&◌, ◌||◌, nat_lt, max, is_some, [], Some, not, length, map, IfOk, OnErr, vec_len, vec_capacity};
 ghost use Rattle.map_cache.specs.Cache.{exact, lasting};
 ghost use Rattle.mapping_records.specs.declared.limits.TheConstants.{MOST_MAPPINGS};
 ghost use Rattle.std.specs.List.{All, list_any};
+ghost use Rattle.std.specs.List.Sorted.{IsStrictlySortedBy};
+ghost use Rattle.lisp_settings.specs.Lawful.{IsLawful};
 ghost use Rattle.map_messages.specs.Range.{InRangeReply};
 ghost use Rattle.mapping_records.specs.Record.{InRange};
 ghost use Rattle.request_queue.specs.Queue.{waiting, with_nonce};
 ghost use Rattle.router_model.specs.Changes.{each, has_room, unchanged};
 ghost use Rattle.router_model.specs.Hear.{is_asked_for, is_fit, is_static, replied_to, taught};
 ghost use Rattle.mapping_records.specs.Eids.{same_eid};
+ghost use Rattle.mapping_records.specs.Orders.{eid_order};
 ghost use Rattle.router_model.specs.Parts.{table, view_in};
 ghost use Rattle.router_core.specs.Copies.{all_copies, copies_of};
 ghost use Rattle.router_core.specs.Table.{change_of, heard_seen};
@@ -23,6 +26,7 @@ use node_store::Reads;
 use octets::{Items, NoMemory};
 use request_queue::Request;
 use router_log::{Done, Entry, Reason, Verdict};
+use std::cmp::Ordering;
 
 impl Table {
     /// Takes a Map-Reply to a request that is open at a moment.
@@ -33,6 +37,7 @@ impl Table {
         request: &Request,
         reply: &MapReply,
     ) -> Result<Heard, NoMemory>
+        requires lawful { IsLawful settings.now }
         requires later { self.old.parts.now ≤ m }
         requires count { self.old.parts.count < 2 ^ 61 }
         requires range { InRangeReply reply.now }
@@ -90,6 +95,7 @@ impl Table {
         copies: &mut Vec<Copies>,
         entries: &mut Vec<Entry>,
     )
+        requires lawful { IsLawful settings.now }
         requires now { self.old.parts.now ≡ m }
         requires count { self.old.parts.count + length records.now < 2 ^ 62 }
         requires range { All InRange records.now }
@@ -124,6 +130,7 @@ impl Table {
         copies: Copies,
         entries: &mut Vec<Entry>,
     )
+        requires lawful { IsLawful settings.now }
         requires now { self.old.parts.now ≡ m }
         requires count { self.old.parts.count < 2 ^ 62 }
         requires range { InRange mapping.now }
@@ -162,6 +169,7 @@ impl Table {
         mappings: &[Record],
         mapping: &Record,
     ) -> bool
+        requires { IsLawful settings.now }
         ensures { result ≡ (is_asked_for asked.now mappings.now mapping.now
             && (not (is_static settings.now mapping.now)
             && has_room (view_in self.now.parts m) mapping.now)) }
@@ -210,26 +218,24 @@ fn is_asked_for(asked: &Eid, mappings: &[Record], mapping: &Record) -> bool
         || is_asked_for(asked, others, mapping)
 }
 
-// Its EID is that of a static mapping.
+// Its EID is that of a static mapping, of which the settings have each EID once and in order.
 fn is_static(settings: &Settings, mapping: &Record) -> bool
+    requires { IsLawful settings.now }
     ensures { result ≡ is_static settings.now mapping.now }
 {
     has_eid(settings.mappings.as_slice(), &mapping.eid)
 }
 
+// One of these, in order of EID, has the EID.
 fn has_eid(mappings: &[Record], eid: &Eid) -> bool
+    requires { IsStrictlySortedBy eid_order (map (λ mapping. mapping.eid) mappings.now) }
     ensures { result ≡ list_any (λ mapping. same_eid mapping.eid eid.now) mappings.now }
 {
-    for mapping in mappings {
-        if same_eid(&mapping.eid, eid) {
-            return true;
-        }
-    }
-    false
-}
-
-fn same_eid(a: &Eid, b: &Eid) -> bool
-    ensures { result ≡ same_eid a.now b.now }
-{
-    a == b
+    mappings
+        .binary_search_by(
+            |mapping: &Record| -> Ordering
+                ensures { result ≡ eid_order mapping.now.eid eid.now }
+            { mapping.eid.cmp(eid) },
+        )
+        .is_ok()
 }

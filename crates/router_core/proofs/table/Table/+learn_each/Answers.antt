@@ -19,18 +19,21 @@ learn_each-requires t c =
     let capacity = c.learn_one.ensures.capacity in (
       search rules,
       (
-        c.learn_one.ensures.now,
+        c.requires.lawful,
         (
-          omega (arith, fewer, some, count, one),
+          c.learn_one.ensures.now,
           (
-            all-left InRange records c.requires.range,
+            omega (arith, fewer, some, count, one),
             (
-              copies-left records c.args.copies.now.items c.remove-copy.new.self.items c.requires.copies c.remove-copy.ensures.by_index.2,
+              all-left InRange records c.requires.range,
               (
-                omega (arith, fewer, some, rooms, room),
+                copies-left records c.args.copies.now.items c.remove-copy.new.self.items c.requires.copies c.remove-copy.ensures.by_index.2,
                 (
-                  omega (arith, fewer, some, locator_rooms, locator_room),
-                  omega (arith, fewer, some, places, most, capacity),
+                  omega (arith, fewer, some, rooms, room),
+                  (
+                    omega (arith, fewer, some, locator_rooms, locator_room),
+                    omega (arith, fewer, some, places, most, capacity),
+                  ),
                 ),
               ),
             ),
