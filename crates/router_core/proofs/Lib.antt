@@ -14,6 +14,7 @@ pub mod OfferLemmas
 pub mod ProbeLemmas
 pub mod RenewingLemmas
 pub mod RestLemmas
+pub mod SearchLemmas
 pub mod SiteLemmas
 pub mod StaticLemmas
 pub mod TickingLemmas

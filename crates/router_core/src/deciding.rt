@@ -1,11 +1,12 @@
 // The router's decision on a frame that is no control message.
-ghost use Rattle.std.specs.Prelude.{◌≡◌, ◌<◌, ◌^◌, [], None, IfOk, IfSome, max, option_map};
+ghost use Rattle.std.specs.Prelude.{◌≡◌, ◌<◌, ◌^◌, ℕ, [], None, Some, IfOk, IfSome, max, option_map};
 ghost use Rattle.std.specs.Option.{option_copied};
 ghost use Rattle.lisp_settings.specs.Lawful.{IsLawful};
 ghost use Rattle.map_cache.specs.Lists.{IsFew};
 ghost use Rattle.router_model.specs.Cache.{held_of};
 ghost use Rattle.router_model.specs.Decide.{decide, decide_by, decide_course};
-ghost use Rattle.router_model.specs.Journal.{Journal};
+ghost use Rattle.router_model.specs.Isolation.{frame_instance, of_instance};
+ghost use Rattle.router_model.specs.Journal.{Journal, at};
 ghost use Rattle.router_model.specs.Lifting.{AreSound};
 ghost use Rattle.router_model.specs.Mappings.{exact, force};
 ghost use Rattle.router_model.specs.Parts.{Stands, view_in};

@@ -1,14 +1,16 @@
 // A packet from the site: into a tunnel, past the tunnels, or dropped.
-ghost use Rattle.std.specs.Prelude.{◌≡◌, ◌<◌, ◌^◌, IfOk, IfSome, Some, None};
+ghost use Rattle.std.specs.Prelude.{◌≡◌, ◌<◌, ◌≤◌, ◌^◌, IfOk, IfErr, IfSome, Some, None};
 ghost use Rattle.octets.specs.Rules.{first_failing};
 ghost use Rattle.ip_headers.specs.Addr.{width};
-ghost use Rattle.ip_headers.specs.Ip.{dest_of};
+ghost use Rattle.ip_headers.specs.Ip.{dest_of, source_of};
 ghost use Rattle.lisp_header.specs.Header.{InRange};
 ghost use Rattle.encap.specs.Rules.{encap_rules, forward_rules};
+ghost use Rattle.lisp_settings.specs.Home.{home_of};
 ghost use Rattle.lisp_settings.specs.Lawful.{IsLawful};
+ghost use Rattle.locator_choice.specs.Hash.{source_port};
 ghost use Rattle.map_cache.specs.Lists.{IsFew};
 ghost use Rattle.router_model.specs.Cache.{held_of};
-ghost use Rattle.router_model.specs.Decide.{asking, by_action, echo_notice, from_ours, is_multicast, mapped, natively, routed, sent, site_cases};
+ghost use Rattle.router_model.specs.Decide.{asking, by_action, echo_notice, from_ours, hash_of, home_version, is_multicast, mapped, natively, routed, sent, site_cases};
 ghost use Rattle.router_model.specs.Hosts.{host_eid};
 ghost use Rattle.router_model.specs.Lifting.{AreSound};
 ghost use Rattle.router_model.specs.Parts.{view_in};
@@ -21,7 +23,7 @@ ghost use Rattle.router_core.specs.Bounded.{IsVersioned};
 use crate::Table;
 use crate::choice::chosen;
 use crate::site::ours;
-use crate::tunnel_headers::{header_to, home_version};
+use crate::tunnel_headers::header_to;
 use encap::{EncapDrop, encapsulate, forward_native};
 use ip_headers::{Addr, IpPacket, five_tuple};
 use lisp_header::LispHeader;
@@ -49,12 +51,13 @@ pub(crate) fn routed(
     ensures size { IfOk result (λ decision. FitsRecord decision.verdict) }
     ensures notices { IfOk result (λ decision. AreSound decision.notices) }
 {
-    if let Some(verdict) = kept_out(settings, iid, packet) {
-        return Ok(table.alone(verdict));
-    }
+    let version = match leaving(settings, iid, packet) {
+        Ok(version) => version,
+        Err(verdict) => return Ok(table.alone(verdict)),
+    };
     let eid = host_eid(iid, packet.header.dest());
     match table.in_force(m, &eid) {
-        Some(mapping) => mapped(table, settings, m, iid, packet, mapping),
+        Some(mapping) => mapped(table, settings, m, iid, version, packet, mapping),
         None => asking(table.alloc, eid, packet, Reason::Miss),
     }
 }
@@ -92,22 +95,30 @@ fn asking(alloc: Global, eid: Eid, packet: &IpPacket, reason: Reason) -> Result<
     })
 }
 
-// The verdict on a packet that stays out of a tunnel.
-fn kept_out(settings: &Settings, iid: u32, packet: &IpPacket) -> Option<Verdict>
-    ensures verdict { result ≡ first_failing (site_cases settings.now iid packet.now.header) }
-    ensures none { IfSome result (λ verdict. packet_of verdict ≡ None) }
+// The version of the prefix of the site that a packet leaves, or the verdict on one that stays out of a
+// tunnel.
+fn leaving(settings: &Settings, iid: u32, packet: &IpPacket) -> Result<u16, Verdict>
+    requires { IsLawful settings.now }
+    ensures leaves { IfOk result (λ version.
+        first_failing (site_cases settings.now iid packet.now.header) ≡ None) }
+    ensures version { IfOk result (λ version. version
+        ≡ home_version (home_of settings.now.databases iid (source_of packet.now.header))) }
+    ensures bits { IfOk result (λ version. version ≤ 4095) }
+    ensures stays { IfErr result (λ verdict.
+        first_failing (site_cases settings.now iid packet.now.header) ≡ Some verdict) }
+    ensures quiet { IfErr result (λ verdict. packet_of verdict ≡ None) }
 {
     let dest = packet.header.dest();
     if is_multicast(dest) {
-        return Some(Verdict::Drop(Reason::Multicast));
+        return Err(Verdict::Drop(Reason::Multicast));
     }
     if home(settings, iid, &dest).is_some() {
-        return Some(Verdict::Local);
+        return Err(Verdict::Local);
     }
-    if home(settings, iid, &packet.header.source()).is_none() {
-        return Some(Verdict::Drop(Reason::NotSite));
+    match home(settings, iid, &packet.header.source()) {
+        Some(home) => Ok(home.version),
+        None => Err(Verdict::Drop(Reason::NotSite)),
     }
-    None
 }
 
 fn is_multicast(address: Addr) -> bool
@@ -119,17 +130,21 @@ fn is_multicast(address: Addr) -> bool
     }
 }
 
-// The decision by the mapping in force.
+// The decision by the mapping in force, on a packet from a prefix of the site that has that version.
 fn mapped(
     table: &Table,
     settings: &Settings,
     m: u64,
     iid: u32,
+    version: u16,
     packet: &IpPacket,
     mapping: &Mapping,
 ) -> Result<Decision, NoMemory>
     requires lawful { IsLawful settings.now }
     requires instance { iid < 2 ^ 24 }
+    requires source { version
+        ≡ home_version (home_of settings.now.databases iid (source_of packet.now.header)) }
+    requires bits { version ≤ 4095 }
     requires few { IsFew mapping.now }
     requires version { IsVersioned mapping.now }
     ensures decision { IfOk result (λ decision. decision
@@ -144,9 +159,9 @@ fn mapped(
     let hash = flow_hash(&five_tuple(packet));
     match chosen(table, settings, m, mapping, hash) {
         Some(to) => {
-            let versions = (home_version(settings, iid, packet), mapping.details.version);
+            let versions = (version, mapping.details.version);
             let header = header_to(table, settings, m, iid, to, versions);
-            towards(table, settings, m, packet, to, &header)
+            towards(table, settings, m, packet, to, source_port(hash), &header)
         }
         None => Ok(table.alone(Verdict::Drop(Reason::NoLocator))),
     }
@@ -196,6 +211,14 @@ fn natively(alloc: Global, packet: &IpPacket) -> Result<Verdict, NoMemory>
     }
 }
 
+// Between which locators a tunnel goes, and from which port a flow goes in it.
+#[derive(Clone, Copy)]
+struct Tunnel {
+    from: Addr,
+    to: Addr,
+    port: u16,
+}
+
 // The packet with its LISP header, in a tunnel to that locator.
 fn towards(
     table: &Table,
@@ -203,9 +226,11 @@ fn towards(
     m: u64,
     packet: &IpPacket,
     to: Addr,
+    port: u16,
     header: &LispHeader,
 ) -> Result<Decision, NoMemory>
-    requires { InRange header.now }
+    requires range { InRange header.now }
+    requires port { port ≡ source_port (hash_of (packet_seen packet.now)) }
     ensures decision { IfOk result (λ decision. decision
         ≡ from_ours settings.now (view_in table.now.parts m) header.now (packet_seen packet.now) to
         (ours settings.now.locators to)) }
@@ -213,7 +238,14 @@ fn towards(
     ensures notices { IfOk result (λ decision. AreSound decision.notices) }
 {
     match ours(settings.locators.as_slice(), to) {
-        Some(from) => sent(table, settings, m, packet, from, to, header),
+        Some(from) => sent(
+            table,
+            settings,
+            m,
+            packet,
+            Tunnel { from, to, port },
+            header,
+        ),
         None => Ok(table.alone(Verdict::Drop(Reason::NoLocator))),
     }
 }
@@ -225,19 +257,19 @@ fn sent(
     settings: &Settings,
     m: u64,
     packet: &IpPacket,
-    from: Addr,
-    to: Addr,
+    tunnel: Tunnel,
     header: &LispHeader,
 ) -> Result<Decision, NoMemory>
     requires range { InRange header.now }
-    requires family { width from ≡ width to }
+    requires family { width tunnel.from ≡ width tunnel.to }
+    requires port { tunnel.port ≡ source_port (hash_of (packet_seen packet.now)) }
     ensures decision { IfOk result (λ decision. decision
-        ≡ sent settings.now (view_in table.now.parts m) header.now (packet_seen packet.now) from to
-        (first_failing (encap_rules packet.now.octets.now from))) }
+        ≡ sent settings.now (view_in table.now.parts m) header.now (packet_seen packet.now)
+        tunnel.from tunnel.to (first_failing (encap_rules packet.now.octets.now tunnel.from))) }
     ensures size { IfOk result (λ decision. FitsRecord decision.verdict) }
     ensures notices { IfOk result (λ decision. AreSound decision.notices) }
 {
-    let port = source_port(flow_hash(&five_tuple(packet)));
+    let Tunnel { from, to, port } = tunnel;
     match encapsulate(table.alloc, packet, from, to, port, header) {
         Ok(packet) => Ok(Decision {
             verdict: Verdict::Encapsulated {

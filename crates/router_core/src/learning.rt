@@ -234,7 +234,7 @@ fn has_eid(mappings: &[Record], eid: &Eid) -> bool
     mappings
         .binary_search_by(
             |mapping: &Record| -> Ordering
-                ensures { result ≡ eid_order mapping.now.eid eid.now }
+                ensures { result ≡ eid_order mapping.now.eid eid.entry.now }
             { mapping.eid.cmp(eid) },
         )
         .is_ok()

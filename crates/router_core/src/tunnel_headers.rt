@@ -1,10 +1,8 @@
 // The LISP headers of the packets that this router sends (RFC 9300, section 5.3).
 ghost use Rattle.std.specs.Prelude.{◌≡◌, ◌≢◌, ◌<◌, ◌≤◌, ◌%◌, ◌^◌, ◌==◌, None, Some, if◌then◌else◌};
-ghost use Rattle.ip_headers.specs.Ip.{source_of};
 ghost use Rattle.lisp_header.specs.Header.{InRange};
-ghost use Rattle.lisp_settings.specs.Home.{home_of};
 ghost use Rattle.lisp_settings.specs.Lawful.{IsLawful};
-ghost use Rattle.router_model.specs.Decide.{asks_echo, echo_nonce, home_version, lisp_header, versions_of};
+ghost use Rattle.router_model.specs.Decide.{asks_echo, echo_nonce, lisp_header, versions_of};
 ghost use Rattle.router_model.specs.Parts.{view_in};
 ghost use Rattle.router_model.specs.Site.{own_bits};
 ghost use Rattle.router_core.specs.Bounded.{IsShortOut};
@@ -12,23 +10,10 @@ ghost use Rattle.router_core.specs.Bounded.{IsShortOut};
 use crate::Table;
 use crate::site::own_bits;
 use crate::versions::is_version;
-use ip_headers::{Addr, IpPacket};
+use ip_headers::Addr;
 use lisp_header::LispHeader;
-use lisp_settings::{Settings, home};
+use lisp_settings::Settings;
 use router_log::EchoOut;
-
-/// The version of the prefix of the site that a packet comes from, 0 without one.
-pub(crate) fn home_version(settings: &Settings, iid: u32, packet: &IpPacket) -> u16
-    requires { IsLawful settings.now }
-    ensures version { result
-        ≡ home_version (home_of settings.now.databases iid (source_of packet.now.header)) }
-    ensures bits { result ≤ 4095 }
-{
-    match home(settings, iid, &packet.header.source()) {
-        None => 0,
-        Some(database) => database.version,
-    }
-}
 
 /// The header of a packet of an instance to a locator, with the versions of its source and its
 /// destination.

@@ -3,7 +3,7 @@ use Rattle.std.proofs.lemmas.Bool.{cond-false}
 use Rattle.std.proofs.lemmas.Result.{IfOk-weaker}
 use Rattle.ip_headers.specs.declared.tuple.FiveTuple.{FiveTuple}
 use Rattle.lisp_header.specs.declared.header.LispHeader.{LispHeader}
-use Rattle.locator_choice.specs.Hash.{flow_hash}
+use Rattle.locator_choice.specs.Hash.{flow_hash, source_port}
 use Rattle.router_log.specs.declared.decision.Decision.{Decision}
 use Rattle.router_model.specs.Cache.{held_of}
 use Rattle.router_model.specs.Choice.{chosen}
@@ -27,6 +27,9 @@ returns-in-Some-clause-decision c =
     let header : LispHeader → Decision = λ lisp. from_ours settings v lisp packet c.in-Some.to (ours settings.locators c.in-Some.to) in
     IfOk-weaker c.towards.result _ _ (λ decision is.
     is ∙ ap header c.header_to-header.ensures.header
-    ∙ ap (λ (source : ℕ). header (lisp_header settings iid (v.echo_out c.in-Some.to) source version)) c.home_version.ensures.version
+    ∙ ap (λ (source : ℕ). header (lisp_header settings iid (v.echo_out c.in-Some.to) source version)) c.requires.source
     ∙ ap (towards settings v iid packet _ version) some
     ∙ sym (cond-false (length held.mapping.locators == 0) _ _ some_locators)) c.towards.ensures.decision
+
+pub towards-requires-clause-port : goal.towards-requires-clause-port
+towards-requires-clause-port c = c.source_port.ensures ∙ ap source_port (c.flow_hash-hash.ensures ∙ ap (λ (t : FiveTuple). flow_hash t) c.five_tuple.ensures)

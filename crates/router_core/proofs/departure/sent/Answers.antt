@@ -20,26 +20,24 @@ returns-in_ok-echo_notices-in-Ok-clause-decision c =
     let v = view_in c.args.table.now.parts c.args.m in
     let lisp = c.args.header.now in
     let octets = c.args.packet.now.octets.now in
-    let from = c.args.from in
-    let to = c.args.to in
+    let from = c.args.tunnel.from in
+    let to = c.args.tunnel.to in
     let none : first_failing (encap_rules octets from) ≡ None = sent_none (first_failing (encap_rules octets from)) c.in-Ok.packet c.in-Ok.ensures.refused in
-    let right = source_port (hash_of (packet_seen c.args.packet.now)) in
-    let port : c.source_port-port.result ≡ right = c.source_port-port.ensures ∙ ap source_port (c.flow_hash.ensures ∙ ap (λ (t : FiveTuple). flow_hash t) c.five_tuple.ensures) in
     let made : ℕ → List ℕ → List Notice → Decision = λ port packet notices. record { verdict = Encapsulated from to port packet; notices = notices } in
-    ap₂ (made c.source_port-port.result) c.in-Ok.ensures.ok c.in_ok-echo_notices-in-Ok.ensures.notices
-    ∙ ap (λ (port : ℕ). made port (wrapped octets from to port lisp) (echo_notice settings v to)) port
+    ap₂ (made c.args.tunnel.port) c.in-Ok.ensures.ok c.in_ok-echo_notices-in-Ok.ensures.notices
+    ∙ ap (λ (port : ℕ). made port (wrapped octets from to port lisp) (echo_notice settings v to)) c.requires.port
     ∙ sym (ap (sent settings v lisp (packet_seen c.args.packet.now) from to) none)
 
 pub returns-in-Err-TtlExpired-clause-decision : goal.returns-in-Err-TtlExpired-clause-decision
 returns-in-Err-TtlExpired-clause-decision c =
     let v = view_in c.args.table.now.parts c.args.m in
     let octets = c.args.packet.now.octets.now in
-    let some : first_failing (encap_rules octets c.args.from) ≡ Some unsent.TtlExpired = sent_expired _ (first_failing (encap_rules octets c.args.from)) (rw c.in-Err-TtlExpired.field-0-is at c.in-Err-TtlExpired.ensures.refused) in
-    c.alone.ensures ∙ sym (ap (sent c.args.settings.now v c.args.header.now (packet_seen c.args.packet.now) c.args.from c.args.to) some)
+    let some : first_failing (encap_rules octets c.args.tunnel.from) ≡ Some unsent.TtlExpired = sent_expired _ (first_failing (encap_rules octets c.args.tunnel.from)) (rw c.in-Err-TtlExpired.field-0-is at c.in-Err-TtlExpired.ensures.refused) in
+    c.alone.ensures ∙ sym (ap (sent c.args.settings.now v c.args.header.now (packet_seen c.args.packet.now) c.args.tunnel.from c.args.tunnel.to) some)
 
 pub returns-in-Err-TooBig-clause-decision : goal.returns-in-Err-TooBig-clause-decision
 returns-in-Err-TooBig-clause-decision c =
     let v = view_in c.args.table.now.parts c.args.m in
     let octets = c.args.packet.now.octets.now in
-    let some : first_failing (encap_rules octets c.args.from) ≡ Some unsent.TooBig = sent_big _ (first_failing (encap_rules octets c.args.from)) (rw c.in-Err-TooBig.field-0-is at c.in-Err-TooBig.ensures.refused) in
-    c.alone-in-Err-TooBig.ensures ∙ sym (ap (sent c.args.settings.now v c.args.header.now (packet_seen c.args.packet.now) c.args.from c.args.to) some)
+    let some : first_failing (encap_rules octets c.args.tunnel.from) ≡ Some unsent.TooBig = sent_big _ (first_failing (encap_rules octets c.args.tunnel.from)) (rw c.in-Err-TooBig.field-0-is at c.in-Err-TooBig.ensures.refused) in
+    c.alone-in-Err-TooBig.ensures ∙ sym (ap (sent c.args.settings.now v c.args.header.now (packet_seen c.args.packet.now) c.args.tunnel.from c.args.tunnel.to) some)

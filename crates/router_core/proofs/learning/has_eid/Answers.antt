@@ -1,4 +1,4 @@
-use Rattle.std.proofs.Common.{rules, of_calls}
+use Rattle.std.proofs.Common.{rules, of_calls, ◌∙◌}
 use Rattle.std.proofs.lemmas.Fn.{always_returns_same}
 use Rattle.mapping_records.specs.Orders.{eid_order}
 use Rattle.router_core.proofs.SearchLemmas.{searched-eid}

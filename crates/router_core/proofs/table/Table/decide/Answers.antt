@@ -7,6 +7,8 @@ use Rattle.router_model.specs.Decide.{decide_by, decide_course}
 use Rattle.router_model.specs.Parts.{view_in}
 use Rattle.router_model.specs.View.{View}
 use Rattle.router_model.proofs.FollowLemmas.{table-decides}
+use Rattle.router_model.proofs.IsolationLemmas.{rising-isolated}
+use Rattle.router_model.proofs.StandsLemmas.{proper-rises}
 use Rattle.router_core.proofs.table.Table.decide.Goals as goal
 
 by_course : (settings : Settings) (v : View) (frame : Frame) → decide_course settings v (course_of settings frame) ≡ decide_by settings v frame
@@ -21,3 +23,13 @@ returns-clause-journal c =
     IfOk-weaker c.decide_course.result _ _ (λ decision is journal stands.
     is ∙ ap (decide_course settings v) c.course_of.ensures.course ∙ by_course settings v c.args.frame.now
     ∙ table-decides settings p journal c.args.m c.args.frame.now stands) c.decide_course.ensures.parts
+
+pub returns-clause-isolated : goal.returns-clause-isolated
+returns-clause-isolated c =
+    let settings = c.args.settings.now in
+    let p = c.args.self.now.parts in
+    let v = view_in p c.args.m in
+    IfOk-weaker c.decide_course.result _ _ (λ decision is journal i stands of_i.
+    is ∙ ap (decide_course settings v) c.course_of.ensures.course ∙ by_course settings v c.args.frame.now
+    ∙ table-decides settings p journal c.args.m c.args.frame.now stands
+    ∙ rising-isolated settings journal i c.args.m c.args.frame.now (proper-rises settings journal stands.proper) of_i) c.decide_course.ensures.parts
