@@ -129,10 +129,10 @@ module _ {T : Type 0} where
         ∙ ap (λ items. take i (items_at store names) ++ item ∷ items) behind
         ∙ sym (set_split (items_at store names) i item (omega (arith, within, len)))
 
-    abbrev made : (items : List T) (kept : ℕ) → Named T
-    made items kept = record { items = items; names = names; spare = store.rooms; kept = kept }
+    abbrev made : (items : List T) (kept places : ℕ) → Named T
+    made items kept places = record { items = items; names = names; spare = store.rooms; kept = kept; places = places }
 
-    pub named_of-with_node : (capacity : ℕ) → IsNamedList store names capacity → i < length names → name ≡ get_or names i name → named_of (with_node store name item) names ≡ with_item (named_of store names) i item
+    pub named_of-with_node : (capacity : ℕ) → IsNamedList store names capacity → i < length names → name ≡ get_or names i name → named_of (with_node store name item) names capacity ≡ with_item (named_of store names capacity) i item
     named_of-with_node capacity is within read =
-        ap (λ slots. made (items_at (with_node store name item) names) (slots + (store.rooms + length names))) (length-set store.slots name (Some item))
-        ∙ ap (λ items. made items (length store.slots + (store.rooms + length names))) (items_edit capacity is within read)
+        ap (λ slots. made (items_at (with_node store name item) names) (slots + (store.rooms + length names)) capacity) (length-set store.slots name (Some item))
+        ∙ ap (λ items. made items (length store.slots + (store.rooms + length names)) capacity) (items_edit capacity is within read)

@@ -2,13 +2,14 @@
 use Rattle.std.specs.Prelude.{◌≡◌, ◌+◌, ◌≤◌, ◌==◌, ℕ, List, [], ◌∷◌, length, All, Option, None, Some, count_by, if◌then◌else◌}
 use Rattle.node_store.specs.Store.{Store, node_at, IsLive}
 
--- the items in order, their names in the same order, for how many more there is room, and how many
--- items its vectors have in all
+-- the items in order, their names in the same order, for how many more there is room, how many items
+-- its vectors have in all, and for how many names there is place
 pub record Named (T : Type 0) : Type 0 where
   pub items : List T
   pub names : List ℕ
   pub spare : ℕ
   pub kept : ℕ
+  pub places : ℕ
 
 -- the item of that name
 abbrev pub item_named : {T : Type 0} → List ℕ → List T → ℕ → Option T
@@ -32,13 +33,14 @@ items_at store (name ∷ names) = before (node_at store name) (items_at store na
 abbrev pub times : ℕ → List ℕ → ℕ
 times name names = count_by (λ n. n == name) names
 
--- what a contract sees of a store and names in order
-abbrev pub named_of : {T : Type 0} → Store T → List ℕ → Named T
-named_of store names = record {
+-- what a contract sees of a store and names in order, for so many of which there is place
+abbrev pub named_of : {T : Type 0} → Store T → List ℕ → ℕ → Named T
+named_of store names capacity = record {
   items = items_at store names;
   names = names;
   spare = store.rooms;
   kept = length store.slots + (store.rooms + length names);
+  places = capacity;
 }
 
 -- each name is that of a node, none stands twice, all slots but the rooms have their name in the

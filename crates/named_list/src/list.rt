@@ -1,5 +1,5 @@
 // The list: nodes in a store, and their names in order.
-ghost use Rattle.std.specs.Prelude.{◌≡◌, ◌≤◌, ◌<◌, ◌+◌, ◌-◌, ◌*◌, ◌^◌, [], true, false, length, max, slice_get, IfSome, IsSome, IsOk, OnOk, OnErr, None, Some};
+ghost use Rattle.std.specs.Prelude.{◌≡◌, ◌≤◌, ◌<◌, ◌+◌, ◌-◌, ◌*◌, ◌^◌, [], true, false, length, max, slice_get, IfSome, IsSome, IsOk, OnOk, OnErr, None, Some, vec_len, vec_capacity};
 ghost use Rattle.std.specs.Borrow.{sem};
 ghost use Rattle.std.specs.Fn.{FnReturnsAt};
 ghost use Rattle.std.specs.List.{insert, remove};
@@ -25,9 +25,26 @@ impl<T> Model for NamedList<T> {
 
     ghost Value = { Named T };
 
-    ghost view = { λ list. named_of list.store list.order.items };
+    ghost view = { λ list. named_of list.store list.order.items
+        (vec_capacity list.order) };
 
     ghost invariant = { λ list. IsNamedList list.store list.order.items (vec_capacity list.order) };
+}
+
+// Makes place for `n` further names. Where there isn't, what is made is at least as much as there are,
+// so that names are seldom moved.
+fn make_place(names: &mut Vec<u32>, n: usize) -> Result<(), NoMemory>
+    ensures items { names.new.items ≡ names.old.items }
+    ensures ok { OnOk result (vec_len names.old + n ≤ vec_capacity names.new) }
+    ensures capacity { vec_capacity names.old ≤ vec_capacity names.new }
+    ensures at_most { vec_capacity names.new
+        ≤ max (vec_capacity names.old) (2 * (vec_len names.old + n)) }
+{
+    let len = names.len();
+    if names.capacity() - len < n {
+        names.reserve_exact(n.max(len))?;
+    }
+    Ok(())
 }
 
 impl<T> NamedList<T> {
@@ -53,10 +70,12 @@ impl<T> NamedList<T> {
         ensures ok { OnOk result (self.new.spare ≡ max self.old.spare n) }
         ensures enough { n ≤ self.old.spare → IsOk result }
         ensures err { OnErr result (self.new.spare ≡ self.old.spare) }
+        ensures places { self.new.places
+            ≤ max self.old.places (2 * (length self.old.items + n)) }
     {
         let rooms = self.store.rooms();
         if n > rooms {
-            self.order.reserve(n as usize)?;
+            make_place(&mut self.order, n as usize)?;
             self.store.make_room(n)?;
         }
         Ok(())
@@ -132,6 +151,7 @@ impl<T> NamedList<T> {
         ensures names { self.new.names ≡ insert self.old.names index result }
         ensures fresh { item_named self.old.names self.old.items result ≡ None }
         ensures spare { self.new.spare + 1 ≡ self.old.spare }
+        ensures places { self.new.places ≡ self.old.places }
     {
         let name = self.store.put(item);
         let _ = self.order.insert(index, name);
@@ -145,6 +165,7 @@ impl<T> NamedList<T> {
         ensures items { self.new.items ≡ remove self.old.items index }
         ensures names { self.new.names ≡ remove self.old.names index }
         ensures spare { self.new.spare ≡ self.old.spare + 1 }
+        ensures places { self.new.places ≡ self.old.places }
     {
         let name = self.order.remove(index);
         self.store.drop_node(name)

@@ -14,12 +14,13 @@ module _ {K : Type 0} (order : K → K → Ordering) where
   abbrev pub Ascends : List K → Type 0
   Ascends keys = AllPairs (λ a b. order a b ≡ Less) keys
 
--- what a contract sees of a set: its keys in order, for how many more there is room, and how many items
--- its vectors have in all
+-- what a contract sees of a set: its keys in order, for how many more there is room, how many items its
+-- vectors have in all, and for how many names of keys there is place
 pub record Keys (K : Type 0) : Type 0 where
   pub keys : List K
   pub spare : ℕ
   pub kept : ℕ
+  pub places : ℕ
 
 -- ### where a key stands; no public clause cites what follows
 

@@ -25,6 +25,7 @@ impl<K: Ordered> Model for OrderedSet<K> {
       keys = set.list.items;
       spare = set.list.spare;
       kept = set.list.kept;
+      places = set.list.places;
     } };
 
     ghost invariant = { λ set. Ascends K.order set.list.items };
@@ -48,6 +49,8 @@ impl<K: Ordered> OrderedSet<K> {
         ensures ok { OnOk result (self.new.spare ≡ max self.old.spare n) }
         ensures enough { n ≤ self.old.spare → IsOk result }
         ensures err { OnErr result (self.new.spare ≡ self.old.spare) }
+        ensures places { self.new.places
+            ≤ max self.old.places (2 * (length self.old.keys + n)) }
     {
         self.list.reserve(n)
     }
@@ -103,6 +106,7 @@ impl<K: Ordered> OrderedSet<K> {
             ≡ (is_eq (K.order key other) || has K.order other self.old.keys) }
         ensures len { length self.new.keys ≡ length self.old.keys + (if result then 1 else 0) }
         ensures spare { self.new.spare ≡ self.old.spare - (if result then 1 else 0) }
+        ensures places { self.new.places ≡ self.old.places }
     {
         let place = self.place_of(&key);
         if self.is_at(place, &key) {
@@ -120,6 +124,7 @@ impl<K: Ordered> OrderedSet<K> {
             ≡ (not (is_eq (K.order key.now other)) && has K.order other self.old.keys) }
         ensures len { length self.new.keys + (if result then 1 else 0) ≡ length self.old.keys }
         ensures spare { self.new.spare ≡ self.old.spare + (if result then 1 else 0) }
+        ensures places { self.new.places ≡ self.old.places }
     {
         let place = self.place_of(key);
         if !self.is_at(place, key) {
