@@ -1,5 +1,5 @@
 -- What a search finds among EIDs in order.
-use Rattle.std.proofs.Common.{◌≡◌, ◌<◌, ◌≤◌, ◌+◌, ℕ, zero, suc, Bool, true, false, List, [], ◌∷◌, length, map, Result, Ok, Err, Ordering, Less, Equal, Greater, is_lt, is_eq, inl, inr, refl, sym, ap, subst, ◌∙◌, arith}
+use Rattle.std.proofs.Common.{◌≡◌, ◌<◌, ◌≤◌, ◌+◌, ℕ, zero, suc, Bool, true, false, List, [], ◌∷◌, length, map, Result, Ok, Err, Ordering, Less, Equal, Greater, is_lt, is_eq, refl, sym, ap, subst, ◌∙◌, arith, inl, inr}
 use Rattle.std.specs.Ordering.{ordering_index, ordering_reverse}
 use Rattle.std.specs.Prelude.{slice_index_or, is_ok}
 use Rattle.std.specs.List.{list_any}
@@ -18,15 +18,15 @@ use Rattle.map_cache.proofs.EidLemmas.{is_eq-eid}
 abbrev Ascends : List Record → Type 0
 Ascends mappings = IsStrictlySortedBy eid_order (map (λ mapping. mapping.eid) mappings)
 
-next-above : (mappings : List Record) (k : ℕ) (d : Record) → Ascends mappings → suc k < length mappings → eid_order (slice_index_or mappings k d).eid (slice_index_or mappings (suc k) d).eid ≡ Less
+next-above : (mappings : List Record) (k : ℕ) (d : Record) → Ascends mappings → k + 1 < length mappings → eid_order (slice_index_or mappings k d).eid (slice_index_or mappings (k + 1) d).eid ≡ Less
 unfolding IsStrictlySortedBy
 next-above [] k d ascends within = absurd (omega (arith, within))
 next-above (mapping ∷ []) k d ascends within = absurd (omega (arith, within))
 next-above (mapping ∷ next ∷ mappings) zero d ascends within = ascends.0.0
-next-above (mapping ∷ next ∷ mappings) (suc k) d ascends within = next-above (next ∷ mappings) k d ascends.1 (omega (arith, within))
-
-one_more : (k : ℕ) → suc k ≡ k + 1
-one_more k = omega arith
+next-above (mapping ∷ next ∷ mappings) (suc k) d ascends within =
+    let one_more : suc (k + 1) ≡ suc k + 1 = omega arith in
+    subst (λ (j : ℕ). eid_order (slice_index_or (next ∷ mappings) k d).eid (slice_index_or (mapping ∷ next ∷ mappings) j d).eid ≡ Less) one_more
+    (next-above (next ∷ mappings) k d ascends.1 (omega (arith, within)))
 
 not_below : (a b : Eid) → eid_order a b ≡ Less → is_lt (eid_order b a) ≡ false
 not_below a b less = ap is_lt (eid_order-total.antisymm b a ∙ ap ordering_reverse less)
@@ -35,9 +35,7 @@ not_below a b less = ap is_lt (eid_order-total.antisymm b a ∙ ap ordering_reve
 answers_rise : (mappings : List Record) (eid : Eid) → Ascends mappings → IsNonDecreasingBy (λ (mapping : Record). ordering_index (eid_order mapping.eid eid)) mappings
 answers_rise mappings eid ascends =
     searchable_from_sorted eid_order-total (λ (mapping : Record). mapping.eid) mappings eid
-    (λ k d from within.
-    subst (λ (n : ℕ). is_lt (eid_order (slice_index_or mappings n d).eid (slice_index_or mappings k d).eid) ≡ false) (one_more k)
-    (not_below (slice_index_or mappings k d).eid (slice_index_or mappings (suc k) d).eid (next-above mappings k d ascends (omega (arith, within)))))
+    (λ k d from within. not_below (slice_index_or mappings k d).eid (slice_index_or mappings (k + 1) d).eid (next-above mappings k d ascends within))
 
 same_at : (a b : Eid) (o : Ordering) → eid_order a b ≡ o → same_eid a b ≡ is_eq o
 same_at a b o is = sym (is_eq-eid a b) ∙ ap is_eq is

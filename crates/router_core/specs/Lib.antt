@@ -5,5 +5,6 @@ pub mod Renewing
 pub mod Resting
 pub mod Seen
 pub mod Sendable
+pub mod Steps
 pub mod Table
 pub mod Ticking

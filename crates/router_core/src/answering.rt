@@ -13,7 +13,8 @@ ghost use Rattle.router_model.specs.Hear.{answered, answering, first_path, own_l
 ghost use Rattle.router_model.specs.Site.{database_of};
 ghost use Rattle.router_core.specs.Answering.{is_hit};
 ghost use Rattle.router_core.specs.Seen.{asker_seen, path_seen};
-ghost use Rattle.router_core.specs.Sendable.{IsSendable, IsSendableReply};
+ghost use Rattle.router_core.specs.Sendable.{IsSendableReply};
+ghost use Rattle.router_core.specs.Steps.{AreSent};
 ghost use Rattle.router_core.specs.Table.{heard_seen};
 
 use crate::site::{ours, same_address};
@@ -53,8 +54,7 @@ impl Table {
         ensures parts { IfOk result (λ heard. heard_seen self.now.parts heard
             ≡ answered settings.now (asker_seen asker) request.now
             (unchanged self.now.parts)) }
-        ensures sendable { IfOk result (λ heard. All (IsSendable settings.now) heard.emits) }
-        ensures few { IfOk result (λ heard. length heard.emits ≤ 1) }
+        ensures sent { IfOk result (λ heard. AreSent settings.now 1 heard.emits) }
     {
         let reply = reply_of(self.alloc, settings, asker, request)?;
         if reply.mappings.len() == 0 {
@@ -72,9 +72,8 @@ impl Table {
         ensures parts { IfOk result (λ heard. heard_seen self.now.parts heard
             ≡ replied (asker_seen asker) reply (Some (path_seen path))
             (unchanged self.now.parts)) }
-        ensures sendable { IfOk result (λ heard. (settings : SettingsValue)
-            → All (IsSendable settings) heard.emits) }
-        ensures few { IfOk result (λ heard. length heard.emits ≤ 1) }
+        ensures sent { IfOk result (λ heard. (settings : SettingsValue)
+            → AreSent settings 1 heard.emits) }
     {
         let count = reply.mappings.len() as u32;
         let mut emits = Items::new(self.alloc);

@@ -7,6 +7,7 @@ ghost use Rattle.router_log.specs.declared.entry.Entry.TheVariants.{Asked, EchoS
 ghost use Rattle.router_model.specs.Journal.{Journal};
 ghost use Rattle.router_model.specs.Parts.{Stands, absorbed, admits, view_in, with_entry};
 ghost use Rattle.router_model.specs.Proper.{fits};
+ghost use Rattle.router_core.specs.Steps.{IsTaken, MayEnter};
 
 use crate::Table;
 use crate::copies::copied;
@@ -95,14 +96,11 @@ impl Table {
 
     // Takes the entry of a mapping that was learned.
     fn apply_learned(&mut self, m: u64, mapping: &Record) -> Result<(), NoMemory>
-        requires later { self.old.parts.now ≤ m }
+        requires may { MayEnter 1 m self.old.parts }
         requires locators { length mapping.now.locators ≤ 32 }
         requires version { mapping.now.version ≤ 4095 }
         requires place { IsTrue (has_room mapping.now (lasting m self.old.parts.mappings)) }
-        requires count { self.old.parts.count < 2 ^ 62 }
-        ensures ok { OnOk result (self.new.parts
-            ≡ with_entry (Learned m mapping.now false) self.old.parts) }
-        ensures err { OnErr result (self.new.parts ≡ self.old.parts) }
+        ensures taken { IsTaken (Learned m mapping.now false) self.old.parts self.new.parts result }
     {
         let mapping = copied(self.alloc, mapping)?;
         self.reserve_mappings(1, mapping.locators.len() as u32)?;
@@ -119,12 +117,9 @@ impl Table {
         invoked: bool,
         nonce: u64,
     ) -> Result<(), NoMemory>
-        requires later { self.old.parts.now ≤ m }
+        requires may { MayEnter 1 m self.old.parts }
         requires place { length (waiting m self.old.parts.requests) < 1024 }
-        requires count { self.old.parts.count < 2 ^ 62 }
-        ensures ok { OnOk result (self.new.parts
-            ≡ with_entry (Asked m eid source invoked nonce) self.old.parts) }
-        ensures err { OnErr result (self.new.parts ≡ self.old.parts) }
+        ensures taken { IsTaken (Asked m eid source invoked nonce) self.old.parts self.new.parts result }
     {
         self.reserve_requests(1)?;
         self.ask(m, eid, source, invoked, nonce);
@@ -133,12 +128,9 @@ impl Table {
 
     // Takes the entry of a probe that was sent.
     fn apply_probed(&mut self, m: u64, rloc: Addr, nonce: u64) -> Result<(), NoMemory>
-        requires later { self.old.parts.now ≤ m }
+        requires may { MayEnter 1 m self.old.parts }
         requires place { (view_in self.old.parts m).probe_count < 9600 }
-        requires count { self.old.parts.count < 2 ^ 62 }
-        ensures ok { OnOk result (self.new.parts
-            ≡ with_entry (Probed m rloc nonce) self.old.parts) }
-        ensures err { OnErr result (self.new.parts ≡ self.old.parts) }
+        ensures taken { IsTaken (Probed m rloc nonce) self.old.parts self.new.parts result }
     {
         self.reserve_probes(1)?;
         self.probe(m, rloc, nonce);
@@ -147,13 +139,10 @@ impl Table {
 
     // Takes the entry of an echo that is asked for.
     fn apply_started(&mut self, m: u64, rloc: Addr, nonce: u32) -> Result<(), NoMemory>
-        requires later { self.old.parts.now ≤ m }
+        requires may { MayEnter 1 m self.old.parts }
         requires short { nonce < 2 ^ 24 }
         requires place { IsTrue ((view_in self.old.parts m).may_start rloc) }
-        requires count { self.old.parts.count < 2 ^ 62 }
-        ensures ok { OnOk result (self.new.parts
-            ≡ with_entry (EchoStarted m rloc nonce) self.old.parts) }
-        ensures err { OnErr result (self.new.parts ≡ self.old.parts) }
+        ensures taken { IsTaken (EchoStarted m rloc nonce) self.old.parts self.new.parts result }
     {
         self.reserve_others()?;
         self.start_echo(m, rloc, nonce);
@@ -162,13 +151,10 @@ impl Table {
 
     // Takes the entry of an echo that a locator wants.
     fn apply_wanted(&mut self, m: u64, rloc: Addr, nonce: u32) -> Result<(), NoMemory>
-        requires later { self.old.parts.now ≤ m }
+        requires may { MayEnter 1 m self.old.parts }
         requires short { nonce < 2 ^ 24 }
         requires place { IsTrue ((view_in self.old.parts m).may_want rloc nonce) }
-        requires count { self.old.parts.count < 2 ^ 62 }
-        ensures ok { OnOk result (self.new.parts
-            ≡ with_entry (EchoWanted m rloc nonce) self.old.parts) }
-        ensures err { OnErr result (self.new.parts ≡ self.old.parts) }
+        ensures taken { IsTaken (EchoWanted m rloc nonce) self.old.parts self.new.parts result }
     {
         self.reserve_others()?;
         self.want_echo(m, rloc, nonce);
@@ -177,12 +163,9 @@ impl Table {
 
     // Takes the entry of a locator that was solicited.
     fn apply_solicited(&mut self, m: u64, rloc: Addr, eid: Eid, nonce: u64) -> Result<(), NoMemory>
-        requires later { self.old.parts.now ≤ m }
+        requires may { MayEnter 1 m self.old.parts }
         requires place { IsTrue ((view_in self.old.parts m).may_solicit rloc eid) }
-        requires count { self.old.parts.count < 2 ^ 62 }
-        ensures ok { OnOk result (self.new.parts
-            ≡ with_entry (Solicited m rloc eid nonce) self.old.parts) }
-        ensures err { OnErr result (self.new.parts ≡ self.old.parts) }
+        ensures taken { IsTaken (Solicited m rloc eid nonce) self.old.parts self.new.parts result }
     {
         self.reserve_others()?;
         self.solicit(m, rloc, eid, nonce);

@@ -1,5 +1,5 @@
 // The router's decision on a frame that is no control message.
-ghost use Rattle.std.specs.Prelude.{◌≡◌, ◌<◌, ◌^◌, ℕ, [], None, Some, IfOk, IfSome, max, option_map};
+ghost use Rattle.std.specs.Prelude.{◌≡◌, ◌<◌, ◌^◌, [], None, Some, ℕ, IfOk, IfSome, max, option_map};
 ghost use Rattle.std.specs.Option.{option_copied};
 ghost use Rattle.lisp_settings.specs.Lawful.{IsLawful};
 ghost use Rattle.map_cache.specs.Lists.{IsFew};

@@ -1,5 +1,5 @@
 // A control message, heard.
-ghost use Rattle.std.specs.Prelude.{◌≡◌, ◌<◌, ◌≤◌, ◌+◌, ◌^◌, [], length, All, IfOk, OnErr};
+ghost use Rattle.std.specs.Prelude.{◌≡◌, ◌<◌, ◌+◌, ◌^◌, [], length, IfOk};
 ghost use Rattle.lisp_settings.specs.Lawful.{IsLawful};
 ghost use Rattle.lisp_settings.specs.declared.settings.Settings.{Settings as SettingsValue};
 ghost use Rattle.map_messages.specs.Range.{InRange, InRangeEcm, InRangeReply, InRangeRequest};
@@ -11,7 +11,7 @@ ghost use Rattle.router_model.specs.Journal.{Journal};
 ghost use Rattle.router_model.specs.Lifting.{AreOctets, Follows, MayGo};
 ghost use Rattle.router_model.specs.Parts.{Stands, table, view_in};
 ghost use Rattle.router_core.specs.Seen.{asker_seen, course_seen, datagram_seen, route_seen};
-ghost use Rattle.router_core.specs.Sendable.{IsSendable};
+ghost use Rattle.router_core.specs.Steps.{AreSent, IsStep, MayStep};
 ghost use Rattle.router_core.specs.Table.{change_of, heard_seen};
 
 use crate::answering::Asker;
@@ -51,8 +51,7 @@ impl Table {
     /// other frame is decided, and here dropped. Where memory is refused, the table is as it was.
     pub fn hear(&mut self, settings: &Settings, m: u64, frame: &Frame) -> Result<Heard, NoMemory>
         requires lawful { IsLawful settings.now }
-        requires later { self.old.parts.now ≤ m }
-        requires count { self.old.parts.count < 2 ^ 61 }
+        requires may { MayStep m self.old.parts }
         ensures parts { IfOk result (λ heard. heard_seen self.new.parts heard
             ≡ hear_by table settings.now m frame.now (unchanged self.old.parts)) }
         ensures verdict { IfOk result (λ heard. (journal : Journal)
@@ -64,12 +63,8 @@ impl Table {
             (hear settings.now journal m frame.now).change) }
         ensures drop { IfOk result (λ heard. (why : ReasonValue) → heard.verdict ≡ Drop why
             → heard_seen self.new.parts heard ≡ drops why (unchanged self.old.parts)) }
-        ensures sendable { IfOk result (λ heard. All (IsSendable settings.now) heard.emits) }
-        ensures few { IfOk result (λ heard. length heard.emits ≤ 256) }
-        ensures count { IfOk result (λ heard.
-            self.new.parts.count ≤ self.old.parts.count + 256) }
-        ensures now { IfOk result (λ heard. self.new.parts.now ≤ m) }
-        ensures err { OnErr result (self.new.parts ≡ self.old.parts) }
+        ensures sent { IfOk result (λ heard. AreSent settings.now 256 heard.emits) }
+        ensures step { IsStep 256 m self.old.parts self.new.parts result }
     {
         fit(frame.octets.as_slice());
         self.hear_course(settings, m, course_of(settings, frame))
@@ -83,17 +78,12 @@ impl Table {
         course: Course,
     ) -> Result<Heard, NoMemory>
         requires lawful { IsLawful settings.now }
-        requires later { self.old.parts.now ≤ m }
-        requires count { self.old.parts.count < 2 ^ 61 }
+        requires may { MayStep m self.old.parts }
         ensures parts { IfOk result (λ heard. heard_seen self.new.parts heard
             ≡ course_heard table settings.now m (course_seen course.entry)
             (unchanged self.old.parts)) }
-        ensures sendable { IfOk result (λ heard. All (IsSendable settings.now) heard.emits) }
-        ensures few { IfOk result (λ heard. length heard.emits ≤ 256) }
-        ensures count { IfOk result (λ heard.
-            self.new.parts.count ≤ self.old.parts.count + 256) }
-        ensures now { IfOk result (λ heard. self.new.parts.now ≤ m) }
-        ensures err { OnErr result (self.new.parts ≡ self.old.parts) }
+        ensures sent { IfOk result (λ heard. AreSent settings.now 256 heard.emits) }
+        ensures step { IsStep 256 m self.old.parts self.new.parts result }
     {
         match course {
             Course::Control(datagram) => self.hear_datagram(settings, m, &datagram),
@@ -110,17 +100,12 @@ impl Table {
         datagram: &Datagram,
     ) -> Result<Heard, NoMemory>
         requires lawful { IsLawful settings.now }
-        requires later { self.old.parts.now ≤ m }
-        requires count { self.old.parts.count < 2 ^ 61 }
+        requires may { MayStep m self.old.parts }
         ensures parts { IfOk result (λ heard. heard_seen self.new.parts heard
             ≡ datagram_heard table settings.now m (datagram_seen datagram.now)
             (unchanged self.old.parts)) }
-        ensures sendable { IfOk result (λ heard. All (IsSendable settings.now) heard.emits) }
-        ensures few { IfOk result (λ heard. length heard.emits ≤ 256) }
-        ensures count { IfOk result (λ heard.
-            self.new.parts.count ≤ self.old.parts.count + 256) }
-        ensures now { IfOk result (λ heard. self.new.parts.now ≤ m) }
-        ensures err { OnErr result (self.new.parts ≡ self.old.parts) }
+        ensures sent { IfOk result (λ heard. AreSent settings.now 256 heard.emits) }
+        ensures step { IsStep 256 m self.old.parts self.new.parts result }
     {
         let (packet, udp) = (&datagram.packet, &datagram.udp);
         match check_udp(packet, udp, false) {
@@ -144,18 +129,13 @@ impl Table {
         payload: &[u8],
     ) -> Result<Heard, NoMemory>
         requires lawful { IsLawful settings.now }
-        requires later { self.old.parts.now ≤ m }
-        requires count { self.old.parts.count < 2 ^ 61 }
+        requires may { MayStep m self.old.parts }
         requires place { base + length payload.now < 2 ^ 32 }
         ensures parts { IfOk result (λ heard. heard_seen self.new.parts heard
             ≡ payload_heard table settings.now m (route_seen route) base payload.now
             (unchanged self.old.parts)) }
-        ensures sendable { IfOk result (λ heard. All (IsSendable settings.now) heard.emits) }
-        ensures few { IfOk result (λ heard. length heard.emits ≤ 256) }
-        ensures count { IfOk result (λ heard.
-            self.new.parts.count ≤ self.old.parts.count + 256) }
-        ensures now { IfOk result (λ heard. self.new.parts.now ≤ m) }
-        ensures err { OnErr result (self.new.parts ≡ self.old.parts) }
+        ensures sent { IfOk result (λ heard. AreSent settings.now 256 heard.emits) }
+        ensures step { IsStep 256 m self.old.parts self.new.parts result }
     {
         match read_message(self.alloc, payload, base) {
             Ok((message, _)) => self.hear_message(settings, m, route, &message),
@@ -173,18 +153,13 @@ impl Table {
         message: &Message,
     ) -> Result<Heard, NoMemory>
         requires lawful { IsLawful settings.now }
-        requires later { self.old.parts.now ≤ m }
-        requires count { self.old.parts.count < 2 ^ 61 }
+        requires may { MayStep m self.old.parts }
         requires range { InRange message.now }
         ensures parts { IfOk result (λ heard. heard_seen self.new.parts heard
             ≡ message_heard table settings.now m (route_seen route) message.now
             (unchanged self.old.parts)) }
-        ensures sendable { IfOk result (λ heard. All (IsSendable settings.now) heard.emits) }
-        ensures few { IfOk result (λ heard. length heard.emits ≤ 256) }
-        ensures count { IfOk result (λ heard.
-            self.new.parts.count ≤ self.old.parts.count + 256) }
-        ensures now { IfOk result (λ heard. self.new.parts.now ≤ m) }
-        ensures err { OnErr result (self.new.parts ≡ self.old.parts) }
+        ensures sent { IfOk result (λ heard. AreSent settings.now 256 heard.emits) }
+        ensures step { IsStep 256 m self.old.parts self.new.parts result }
     {
         match message {
             Message::Reply(reply) => self.hear_reply(settings, m, route.from, reply),
@@ -206,18 +181,13 @@ impl Table {
         ecm: &Ecm,
     ) -> Result<Heard, NoMemory>
         requires lawful { IsLawful settings.now }
-        requires later { self.old.parts.now ≤ m }
-        requires count { self.old.parts.count < 2 ^ 61 }
+        requires may { MayStep m self.old.parts }
         requires range { InRangeEcm ecm.now }
         ensures parts { IfOk result (λ heard. heard_seen self.new.parts heard
             ≡ carried table settings.now m dest ecm.now.source_port ecm.now.request
             (unchanged self.old.parts)) }
-        ensures sendable { IfOk result (λ heard. All (IsSendable settings.now) heard.emits) }
-        ensures few { IfOk result (λ heard. length heard.emits ≤ 256) }
-        ensures count { IfOk result (λ heard.
-            self.new.parts.count ≤ self.old.parts.count + 256) }
-        ensures now { IfOk result (λ heard. self.new.parts.now ≤ m) }
-        ensures err { OnErr result (self.new.parts ≡ self.old.parts) }
+        ensures sent { IfOk result (λ heard. AreSent settings.now 256 heard.emits) }
+        ensures step { IsStep 256 m self.old.parts self.new.parts result }
     {
         let Some(request) = &ecm.request else {
             return Ok(self.dropped(Reason::Unexpected));
@@ -237,18 +207,13 @@ impl Table {
         request: &MapRequest,
     ) -> Result<Heard, NoMemory>
         requires lawful { IsLawful settings.now }
-        requires later { self.old.parts.now ≤ m }
-        requires count { self.old.parts.count < 2 ^ 61 }
+        requires may { MayStep m self.old.parts }
         requires range { InRangeRequest request.now }
         ensures parts { IfOk result (λ heard. heard_seen self.new.parts heard
             ≡ requested table settings.now m (asker_seen asker) request.now
             (unchanged self.old.parts)) }
-        ensures sendable { IfOk result (λ heard. All (IsSendable settings.now) heard.emits) }
-        ensures few { IfOk result (λ heard. length heard.emits ≤ 256) }
-        ensures count { IfOk result (λ heard.
-            self.new.parts.count ≤ self.old.parts.count + 256) }
-        ensures now { IfOk result (λ heard. self.new.parts.now ≤ m) }
-        ensures err { OnErr result (self.new.parts ≡ self.old.parts) }
+        ensures sent { IfOk result (λ heard. AreSent settings.now 256 heard.emits) }
+        ensures step { IsStep 256 m self.old.parts self.new.parts result }
     {
         if request.smr && !asker.probe {
             return self.renew(settings, m, request);
@@ -266,16 +231,12 @@ impl Table {
         reply: &MapReply,
     ) -> Result<Heard, NoMemory>
         requires lawful { IsLawful settings.now }
-        requires later { self.old.parts.now ≤ m }
-        requires count { self.old.parts.count < 2 ^ 61 }
+        requires may { MayStep m self.old.parts }
         requires range { InRangeReply reply.now }
         ensures parts { IfOk result (λ heard. heard_seen self.new.parts heard
             ≡ reply_heard table settings.now m from reply.now (unchanged self.old.parts)) }
-        ensures emits { IfOk result (λ heard. heard.emits ≡ []) }
-        ensures count { IfOk result (λ heard.
-            self.new.parts.count ≤ self.old.parts.count + 256) }
-        ensures now { IfOk result (λ heard. self.new.parts.now ≤ m) }
-        ensures err { OnErr result (self.new.parts ≡ self.old.parts) }
+        ensures quiet { IfOk result (λ heard. heard.emits ≡ []) }
+        ensures step { IsStep 256 m self.old.parts self.new.parts result }
     {
         if reply.probe {
             return self.hear_probe_reply(m, from, reply);
@@ -288,16 +249,12 @@ impl Table {
 
     // Hears an answer to a probe, which counts from the locator that was probed.
     fn hear_probe_reply(&mut self, m: u64, from: Addr, reply: &MapReply) -> Result<Heard, NoMemory>
-        requires later { self.old.parts.now ≤ m }
-        requires count { self.old.parts.count < 2 ^ 61 }
+        requires may { MayStep m self.old.parts }
         ensures parts { IfOk result (λ heard. (settings : SettingsValue)
             → heard_seen self.new.parts heard ≡ probe_replied table settings m from reply.now
             ((view_in self.old.parts m).probe_open reply.now.nonce) (unchanged self.old.parts)) }
-        ensures emits { IfOk result (λ heard. heard.emits ≡ []) }
-        ensures count { IfOk result (λ heard.
-            self.new.parts.count ≤ self.old.parts.count + 1) }
-        ensures now { IfOk result (λ heard. self.new.parts.now ≤ m) }
-        ensures err { OnErr result (self.new.parts ≡ self.old.parts) }
+        ensures quiet { IfOk result (λ heard. heard.emits ≡ []) }
+        ensures step { IsStep 1 m self.old.parts self.new.parts result }
     {
         let nonce = reply.nonce;
         let Some(rloc) = self.locators.probe_open(m, nonce) else {

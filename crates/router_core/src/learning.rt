@@ -1,5 +1,5 @@
 // What a Map-Reply teaches.
-ghost use Rattle.std.specs.Prelude.{◌≡◌, ◌<◌, ◌≤◌, ◌+◌, ◌*◌, ◌^◌, ◌&&◌, ◌||◌, nat_lt, max, is_some, [], Some, not, length, map, IfOk, OnErr, vec_len, vec_capacity};
+ghost use Rattle.std.specs.Prelude.{◌≡◌, ◌<◌, ◌≤◌, ◌+◌, ◌*◌, ◌&&◌, ◌||◌, nat_lt, max, is_some, [], Some, not, length, map, IfOk, vec_len, vec_capacity};
 ghost use Rattle.map_cache.specs.Cache.{exact, lasting};
 ghost use Rattle.mapping_records.specs.declared.limits.TheConstants.{MOST_MAPPINGS};
 ghost use Rattle.std.specs.List.{All, list_any};
@@ -14,9 +14,11 @@ ghost use Rattle.mapping_records.specs.Eids.{same_eid};
 ghost use Rattle.mapping_records.specs.Orders.{eid_order};
 ghost use Rattle.router_model.specs.Parts.{table, view_in};
 ghost use Rattle.router_core.specs.Copies.{all_copies, copies_of};
+ghost use Rattle.router_core.specs.Steps.{AreAdded, HasEntered, IsStep, MayEnter, MayStep};
 ghost use Rattle.router_core.specs.Table.{change_of, heard_seen};
 
 use crate::copies::{Copies, all_copies};
+use crate::grounds::Grounds;
 use crate::{Heard, Table};
 use lisp_settings::Settings;
 use map_cache::{MOST_LOCATORS, MOST_MAPPINGS};
@@ -38,19 +40,15 @@ impl Table {
         reply: &MapReply,
     ) -> Result<Heard, NoMemory>
         requires lawful { IsLawful settings.now }
-        requires later { self.old.parts.now ≤ m }
-        requires count { self.old.parts.count < 2 ^ 61 }
+        requires may { MayStep m self.old.parts }
         requires range { InRangeReply reply.now }
         requires open { with_nonce (waiting m self.old.parts.requests) reply.now.nonce
             ≡ Some request.now }
         ensures parts { IfOk result (λ heard. heard_seen self.new.parts heard
             ≡ replied_to table settings.now m reply.now (Some request.now)
             (unchanged self.old.parts)) }
-        ensures emits { IfOk result (λ heard. heard.emits ≡ []) }
-        ensures count { IfOk result (λ heard.
-            self.new.parts.count ≤ self.old.parts.count + 256) }
-        ensures now { IfOk result (λ heard. self.new.parts.now ≤ m) }
-        ensures err { OnErr result (self.new.parts ≡ self.old.parts) }
+        ensures quiet { IfOk result (λ heard. heard.emits ≡ []) }
+        ensures step { IsStep 256 m self.old.parts self.new.parts result }
     {
         let mappings = reply.mappings.as_slice();
         if !is_fit(&request.eid, mappings) {
@@ -66,15 +64,13 @@ impl Table {
             moment: m,
             nonce: reply.nonce,
         });
-        self.learn_each(
+        let grounds = Grounds {
             settings,
             m,
-            &request.eid,
+            asked: &request.eid,
             mappings,
-            mappings,
-            &mut copies,
-            &mut entries,
-        );
+        };
+        self.learn_each(&grounds, mappings, &mut copies, &mut entries);
         let learned = entries.len() - 1;
         let passed_over = mappings.len() - learned;
         Ok(Heard {
@@ -87,96 +83,78 @@ impl Table {
     // Learns each of these records that is to be learned, and passes over the others.
     fn learn_each(
         &mut self,
-        settings: &Settings,
-        m: u64,
-        asked: &Eid,
-        mappings: &[Record],
+        grounds: &Grounds<'_>,
         records: &[Record],
         copies: &mut Vec<Copies>,
         entries: &mut Vec<Entry>,
     )
-        requires lawful { IsLawful settings.now }
-        requires now { self.old.parts.now ≡ m }
-        requires count { self.old.parts.count + length records.now < 2 ^ 62 }
+        requires lawful { IsLawful grounds.now.settings.now }
+        requires may { MayEnter (length records.now) grounds.now.m self.old.parts }
         requires range { All InRange records.now }
         requires copies { copies.old.items ≡ all_copies records.now }
         requires mapping_room { length records.now ≤ self.old.mapping_room }
         requires locator_room { 32 * length records.now ≤ self.old.locator_room }
         requires room { vec_len entries.old + length records.now ≤ vec_capacity entries.old }
         ensures change { change_of self.new.parts entries.new.items []
-            ≡ each (taught table settings.now m asked.now mappings.now) records.now
+            ≡ each (taught table grounds.now.settings.now grounds.now.m grounds.now.asked.now
+            grounds.now.mappings.now) records.now
             (change_of self.old.parts entries.old.items []) }
-        ensures now { self.new.parts.now ≡ m }
-        ensures count { self.new.parts.count ≤ self.old.parts.count + length records.now }
-        ensures more { vec_len entries.old ≤ vec_len entries.new }
-        ensures most { vec_len entries.new ≤ vec_len entries.old + length records.now }
+        ensures entered { HasEntered (length records.now) grounds.now.m self.old.parts self.new.parts }
+        ensures entries { AreAdded (length records.now) entries.old entries.new }
     {
         let [mapping, others @ ..] = records else {
             return;
         };
         let copy = copies.remove(0);
-        self.learn_one(settings, m, asked, mappings, mapping, copy, entries);
-        self.learn_each(settings, m, asked, mappings, others, copies, entries);
+        self.learn_one(grounds, mapping, copy, entries);
+        self.learn_each(grounds, others, copies, entries);
     }
 
     // Learns a record, if it is to be learned.
     fn learn_one(
         &mut self,
-        settings: &Settings,
-        m: u64,
-        asked: &Eid,
-        mappings: &[Record],
+        grounds: &Grounds<'_>,
         mapping: &Record,
         copies: Copies,
         entries: &mut Vec<Entry>,
     )
-        requires lawful { IsLawful settings.now }
-        requires now { self.old.parts.now ≡ m }
-        requires count { self.old.parts.count < 2 ^ 62 }
+        requires lawful { IsLawful grounds.now.settings.now }
+        requires may { MayEnter 1 grounds.now.m self.old.parts }
         requires range { InRange mapping.now }
         requires copies { copies ≡ copies_of mapping.now }
         requires mapping_room { 0 < self.old.mapping_room }
         requires locator_room { 32 ≤ self.old.locator_room }
         requires room { vec_len entries.old < vec_capacity entries.old }
         ensures change { change_of self.new.parts entries.new.items []
-            ≡ taught table settings.now m asked.now mappings.now mapping.now
+            ≡ taught table grounds.now.settings.now grounds.now.m grounds.now.asked.now
+            grounds.now.mappings.now mapping.now
             (change_of self.old.parts entries.old.items []) }
-        ensures now { self.new.parts.now ≡ m }
-        ensures count { self.new.parts.count ≤ self.old.parts.count + 1 }
+        ensures entered { HasEntered 1 grounds.now.m self.old.parts self.new.parts }
         ensures mapping_room { self.old.mapping_room ≤ self.new.mapping_room + 1 }
         ensures locator_room { self.old.locator_room ≤ self.new.locator_room + 32 }
-        ensures more { vec_len entries.old ≤ vec_len entries.new }
-        ensures most { vec_len entries.new ≤ vec_len entries.old + 1 }
-        ensures capacity { vec_capacity entries.new ≡ vec_capacity entries.old }
+        ensures entries { AreAdded 1 entries.old entries.new }
     {
-        if !self.is_taken(settings, m, asked, mappings, mapping) {
+        if !self.is_taken(grounds, mapping) {
             return;
         }
-        self.learn(m, copies.kept, false);
+        self.learn(grounds.m, copies.kept, false);
         entries.push_reserved(Entry::Learned {
-            moment: m,
+            moment: grounds.m,
             mapping: copies.told,
             fixed: false,
         });
     }
 
     // The record is to be learned.
-    fn is_taken(
-        &self,
-        settings: &Settings,
-        m: u64,
-        asked: &Eid,
-        mappings: &[Record],
-        mapping: &Record,
-    ) -> bool
-        requires { IsLawful settings.now }
-        ensures { result ≡ (is_asked_for asked.now mappings.now mapping.now
-            && (not (is_static settings.now mapping.now)
-            && has_room (view_in self.now.parts m) mapping.now)) }
+    fn is_taken(&self, grounds: &Grounds<'_>, mapping: &Record) -> bool
+        requires { IsLawful grounds.now.settings.now }
+        ensures { result ≡ (is_asked_for grounds.now.asked.now grounds.now.mappings.now mapping.now
+            && (not (is_static grounds.now.settings.now mapping.now)
+            && has_room (view_in self.now.parts grounds.now.m) mapping.now)) }
     {
-        is_asked_for(asked, mappings, mapping)
-            && !is_static(settings, mapping)
-            && self.has_room(m, mapping)
+        is_asked_for(grounds.asked, grounds.mappings, mapping)
+            && !is_static(grounds.settings, mapping)
+            && self.has_room(grounds.m, mapping)
     }
 
     // The mapping may be learned: it takes one away, replaces one, or is within the limit.

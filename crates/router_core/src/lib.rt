@@ -14,6 +14,7 @@ mod datagram;
 mod deciding;
 mod departure;
 mod emitting;
+mod grounds;
 mod hearing;
 mod learning;
 mod noting;

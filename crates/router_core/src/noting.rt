@@ -1,5 +1,5 @@
 // What is noticed, noted.
-ghost use Rattle.std.specs.Prelude.{◌≡◌, ◌<◌, ◌≤◌, ◌^◌, ◌∷◌, ◌+◌, ◌==◌, ◌||◌, [], true, length, is_some, All, IsTrue, IfOk, OnErr};
+ghost use Rattle.std.specs.Prelude.{◌≡◌, ◌<◌, ◌==◌, ◌||◌, [], true, length, is_some, IsTrue, IfOk};
 ghost use Rattle.request_queue.specs.Queue.{waiting};
 ghost use Rattle.lisp_settings.specs.declared.settings.Settings.{Settings as SettingsValue};
 ghost use Rattle.router_log.specs.declared.notice.Notice.TheVariants.{Ask, Bits};
@@ -9,7 +9,7 @@ ghost use Rattle.router_model.specs.Lifting.{Follows, MayGo, is_sound};
 ghost use Rattle.router_model.specs.Note.{is_missing, is_news, is_wanting, note, noted};
 ghost use Rattle.router_model.specs.Mappings.{exact, force};
 ghost use Rattle.router_model.specs.Parts.{Stands, table, view_in};
-ghost use Rattle.router_core.specs.Sendable.{IsSendable};
+ghost use Rattle.router_core.specs.Steps.{AreSent, IsStep, MayStep};
 ghost use Rattle.router_core.specs.Table.{changed_seen};
 
 use crate::changed::only;
@@ -34,8 +34,7 @@ impl Table {
         m: u64,
         notice: &Notice,
     ) -> Result<Changed, NoMemory>
-        requires later { self.old.parts.now ≤ m }
-        requires count { self.old.parts.count < 2 ^ 61 }
+        requires may { MayStep m self.old.parts }
         requires sound { is_sound notice.now ≡ true }
         ensures parts { IfOk result (λ changed. changed_seen self.new.parts changed
             ≡ noted table settings.now m notice.now (unchanged self.old.parts)) }
@@ -43,12 +42,8 @@ impl Table {
             → Stands settings.now self.old.parts journal → MayGo journal m
             → Follows settings.now (changed_seen self.new.parts changed)
             (note settings.now journal m notice.now)) }
-        ensures sendable { IfOk result (λ changed. All (IsSendable settings.now) changed.emits) }
-        ensures few { IfOk result (λ changed. length changed.emits ≤ 1) }
-        ensures count { IfOk result (λ changed.
-            self.new.parts.count ≤ self.old.parts.count + 1) }
-        ensures now { IfOk result (λ changed. self.new.parts.now ≤ m) }
-        ensures err { OnErr result (self.new.parts ≡ self.old.parts) }
+        ensures sent { IfOk result (λ changed. AreSent settings.now 1 changed.emits) }
+        ensures step { IsStep 1 m self.old.parts self.new.parts result }
     {
         match notice {
             Notice::Ask { eid, source } => self.note_missing(settings, m, eid, *source),
@@ -77,17 +72,13 @@ impl Table {
         bits: u32,
         width: u8,
     ) -> Result<Changed, NoMemory>
-        requires later { self.old.parts.now ≤ m }
-        requires count { self.old.parts.count < 2 ^ 61 }
+        requires may { MayStep m self.old.parts }
         requires width { ((width == 8) || (width == 32)) ≡ true }
         ensures parts { IfOk result (λ changed. (settings : SettingsValue)
             → changed_seen self.new.parts changed
             ≡ noted table settings m (Bits eid.now rloc.now bits width) (unchanged self.old.parts)) }
         ensures quiet { IfOk result (λ changed. changed.emits ≡ []) }
-        ensures count { IfOk result (λ changed.
-            self.new.parts.count ≤ self.old.parts.count + 1) }
-        ensures now { IfOk result (λ changed. self.new.parts.now ≤ m) }
-        ensures err { OnErr result (self.new.parts ≡ self.old.parts) }
+        ensures step { IsStep 1 m self.old.parts self.new.parts result }
     {
         if !self.is_news(m, eid, rloc, bits, width) {
             return Ok(self.nothing());
@@ -128,16 +119,11 @@ impl Table {
         eid: &Eid,
         source: Option<Addr>,
     ) -> Result<Changed, NoMemory>
-        requires later { self.old.parts.now ≤ m }
-        requires count { self.old.parts.count < 2 ^ 61 }
+        requires may { MayStep m self.old.parts }
         ensures parts { IfOk result (λ changed. changed_seen self.new.parts changed
             ≡ noted table settings.now m (Ask eid.now source) (unchanged self.old.parts)) }
-        ensures sendable { IfOk result (λ changed. All (IsSendable settings.now) changed.emits) }
-        ensures few { IfOk result (λ changed. length changed.emits ≤ 1) }
-        ensures count { IfOk result (λ changed.
-            self.new.parts.count ≤ self.old.parts.count + 1) }
-        ensures now { IfOk result (λ changed. self.new.parts.now ≤ m) }
-        ensures err { OnErr result (self.new.parts ≡ self.old.parts) }
+        ensures sent { IfOk result (λ changed. AreSent settings.now 1 changed.emits) }
+        ensures step { IsStep 1 m self.old.parts self.new.parts result }
     {
         if !self.is_missing(settings, m, eid) {
             return Ok(self.nothing());
@@ -183,18 +169,13 @@ impl Table {
         source: Option<Addr>,
         invoked: bool,
     ) -> Result<Changed, NoMemory>
-        requires later { self.old.parts.now ≤ m }
-        requires count { self.old.parts.count < 2 ^ 61 }
+        requires may { MayStep m self.old.parts }
         requires place { length (waiting m self.old.parts.requests) < 1024 }
         requires resolver { IsTrue (is_some settings.now.resolver) }
         ensures parts { IfOk result (λ changed. changed_seen self.new.parts changed
             ≡ asked table settings.now m eid source invoked (unchanged self.old.parts)) }
-        ensures sendable { IfOk result (λ changed. All (IsSendable settings.now) changed.emits) }
-        ensures few { IfOk result (λ changed. length changed.emits ≤ 1) }
-        ensures count { IfOk result (λ changed.
-            self.new.parts.count ≤ self.old.parts.count + 1) }
-        ensures now { IfOk result (λ changed. self.new.parts.now ≤ m) }
-        ensures err { OnErr result (self.new.parts ≡ self.old.parts) }
+        ensures sent { IfOk result (λ changed. AreSent settings.now 1 changed.emits) }
+        ensures step { IsStep 1 m self.old.parts self.new.parts result }
     {
         let nonce = nonce_at(settings, self.drawn);
         let entries = only(

@@ -1,11 +1,12 @@
 // What is noticed of echoes, noted (RFC 9300, section 10.1).
-ghost use Rattle.std.specs.Prelude.{◌≡◌, ◌<◌, ◌≤◌, ◌^◌, ◌&&◌, ◌+◌, [], true, IfOk, OnErr};
+ghost use Rattle.std.specs.Prelude.{◌≡◌, ◌<◌, ◌&&◌, [], true, IfOk};
 ghost use Rattle.lisp_settings.specs.declared.settings.Settings.{Settings as SettingsValue};
 ghost use Rattle.router_log.specs.declared.notice.Notice.TheVariants.{DataFrom, EchoDue, EchoHeard, EchoWanted};
 ghost use Rattle.router_model.specs.Changes.{unchanged};
 ghost use Rattle.router_model.specs.Note.{is_echo, noted};
 ghost use Rattle.router_model.specs.Parts.{table, view_in};
 ghost use Rattle.router_model.specs.Proper.{is_short};
+ghost use Rattle.router_core.specs.Steps.{IsStep, MayStep};
 ghost use Rattle.router_core.specs.Table.{changed_seen};
 
 use crate::changed::only;
@@ -24,17 +25,13 @@ impl Table {
         rloc: Addr,
         nonce: u32,
     ) -> Result<Changed, NoMemory>
-        requires later { self.old.parts.now ≤ m }
-        requires count { self.old.parts.count < 2 ^ 61 }
+        requires may { MayStep m self.old.parts }
         requires short { is_short nonce ≡ true }
         ensures parts { IfOk result (λ changed. (settings : SettingsValue)
             → changed_seen self.new.parts changed
             ≡ noted table settings m (EchoWanted rloc nonce) (unchanged self.old.parts)) }
         ensures quiet { IfOk result (λ changed. changed.emits ≡ []) }
-        ensures count { IfOk result (λ changed.
-            self.new.parts.count ≤ self.old.parts.count + 1) }
-        ensures now { IfOk result (λ changed. self.new.parts.now ≤ m) }
-        ensures err { OnErr result (self.new.parts ≡ self.old.parts) }
+        ensures step { IsStep 1 m self.old.parts self.new.parts result }
     {
         if !self.may_want(m, &rloc, nonce) {
             return Ok(self.nothing());
@@ -68,16 +65,12 @@ impl Table {
         rloc: &Addr,
         nonce: u32,
     ) -> Result<Changed, NoMemory>
-        requires later { self.old.parts.now ≤ m }
-        requires count { self.old.parts.count < 2 ^ 61 }
+        requires may { MayStep m self.old.parts }
         ensures parts { IfOk result (λ changed. (settings : SettingsValue)
             → changed_seen self.new.parts changed
             ≡ noted table settings m (EchoHeard rloc.now nonce) (unchanged self.old.parts)) }
         ensures quiet { IfOk result (λ changed. changed.emits ≡ []) }
-        ensures count { IfOk result (λ changed.
-            self.new.parts.count ≤ self.old.parts.count + 1) }
-        ensures now { IfOk result (λ changed. self.new.parts.now ≤ m) }
-        ensures err { OnErr result (self.new.parts ≡ self.old.parts) }
+        ensures step { IsStep 1 m self.old.parts self.new.parts result }
     {
         if !self.is_echo(m, rloc, nonce) {
             return Ok(self.nothing());
@@ -107,16 +100,12 @@ impl Table {
     /// Notes that a packet came from a locator that asks for no echo.
     #[tactic(auto, unfolding(router_model::specs::Note::noted))]
     pub(crate) fn note_data(&mut self, m: u64, rloc: &Addr) -> Result<Changed, NoMemory>
-        requires later { self.old.parts.now ≤ m }
-        requires count { self.old.parts.count < 2 ^ 61 }
+        requires may { MayStep m self.old.parts }
         ensures parts { IfOk result (λ changed. (settings : SettingsValue)
             → changed_seen self.new.parts changed
             ≡ noted table settings m (DataFrom rloc.now) (unchanged self.old.parts)) }
         ensures quiet { IfOk result (λ changed. changed.emits ≡ []) }
-        ensures count { IfOk result (λ changed.
-            self.new.parts.count ≤ self.old.parts.count + 1) }
-        ensures now { IfOk result (λ changed. self.new.parts.now ≤ m) }
-        ensures err { OnErr result (self.new.parts ≡ self.old.parts) }
+        ensures step { IsStep 1 m self.old.parts self.new.parts result }
     {
         if !self.is_data_due(m, rloc) {
             return Ok(self.nothing());
@@ -148,15 +137,11 @@ impl Table {
         m: u64,
         rloc: Addr,
     ) -> Result<Changed, NoMemory>
-        requires later { self.old.parts.now ≤ m }
-        requires count { self.old.parts.count < 2 ^ 61 }
+        requires may { MayStep m self.old.parts }
         ensures parts { IfOk result (λ changed. changed_seen self.new.parts changed
             ≡ noted table settings.now m (EchoDue rloc) (unchanged self.old.parts)) }
         ensures quiet { IfOk result (λ changed. changed.emits ≡ []) }
-        ensures count { IfOk result (λ changed.
-            self.new.parts.count ≤ self.old.parts.count + 1) }
-        ensures now { IfOk result (λ changed. self.new.parts.now ≤ m) }
-        ensures err { OnErr result (self.new.parts ≡ self.old.parts) }
+        ensures step { IsStep 1 m self.old.parts self.new.parts result }
     {
         if !self.is_echo_due(settings, m, &rloc) {
             return Ok(self.nothing());

@@ -1,12 +1,12 @@
 // What is noticed of Map-Versions, noted (RFC 9302, section 7).
-ghost use Rattle.std.specs.Prelude.{◌≡◌, ◌<◌, ◌≤◌, ◌^◌, ◌&&◌, ◌+◌, length, is_some, All, IsTrue, IfOk, OnErr};
+ghost use Rattle.std.specs.Prelude.{◌≡◌, ◌<◌, ◌&&◌, is_some, IfOk};
 ghost use Rattle.router_log.specs.declared.notice.Notice.TheVariants.{Refresh, Solicit};
 ghost use Rattle.router_model.specs.Changes.{may_ask, unchanged};
 ghost use Rattle.router_model.specs.Mappings.{exact};
 ghost use Rattle.router_model.specs.Note.{is_learnt, noted};
 ghost use Rattle.router_model.specs.Parts.{table, view_in};
 ghost use Rattle.router_model.specs.Site.{ours};
-ghost use Rattle.router_core.specs.Sendable.{IsSendable};
+ghost use Rattle.router_core.specs.Steps.{AreSent, IsStep, MayStep};
 ghost use Rattle.router_core.specs.Table.{changed_seen};
 
 use crate::changed::only;
@@ -28,16 +28,11 @@ impl Table {
         m: u64,
         eid: &Eid,
     ) -> Result<Changed, NoMemory>
-        requires later { self.old.parts.now ≤ m }
-        requires count { self.old.parts.count < 2 ^ 61 }
+        requires may { MayStep m self.old.parts }
         ensures parts { IfOk result (λ changed. changed_seen self.new.parts changed
             ≡ noted table settings.now m (Refresh eid.now) (unchanged self.old.parts)) }
-        ensures sendable { IfOk result (λ changed. All (IsSendable settings.now) changed.emits) }
-        ensures few { IfOk result (λ changed. length changed.emits ≤ 1) }
-        ensures count { IfOk result (λ changed.
-            self.new.parts.count ≤ self.old.parts.count + 1) }
-        ensures now { IfOk result (λ changed. self.new.parts.now ≤ m) }
-        ensures err { OnErr result (self.new.parts ≡ self.old.parts) }
+        ensures sent { IfOk result (λ changed. AreSent settings.now 1 changed.emits) }
+        ensures step { IsStep 1 m self.old.parts self.new.parts result }
     {
         if !self.may_renew(settings, m, eid) {
             return Ok(self.nothing());
@@ -72,16 +67,11 @@ impl Table {
         rloc: Addr,
         eid: Eid,
     ) -> Result<Changed, NoMemory>
-        requires later { self.old.parts.now ≤ m }
-        requires count { self.old.parts.count < 2 ^ 61 }
+        requires may { MayStep m self.old.parts }
         ensures parts { IfOk result (λ changed. changed_seen self.new.parts changed
             ≡ noted table settings.now m (Solicit rloc eid) (unchanged self.old.parts)) }
-        ensures sendable { IfOk result (λ changed. All (IsSendable settings.now) changed.emits) }
-        ensures few { IfOk result (λ changed. length changed.emits ≤ 1) }
-        ensures count { IfOk result (λ changed.
-            self.new.parts.count ≤ self.old.parts.count + 1) }
-        ensures now { IfOk result (λ changed. self.new.parts.now ≤ m) }
-        ensures err { OnErr result (self.new.parts ≡ self.old.parts) }
+        ensures sent { IfOk result (λ changed. AreSent settings.now 1 changed.emits) }
+        ensures step { IsStep 1 m self.old.parts self.new.parts result }
     {
         if !self.may_solicit(settings, m, &rloc, &eid) {
             return Ok(self.nothing());

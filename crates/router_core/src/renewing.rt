@@ -1,5 +1,5 @@
 // What a solicitation makes the router ask for again (RFC 9301, section 6.1).
-ghost use Rattle.std.specs.Prelude.{◌≡◌, ◌<◌, ◌≤◌, ◌+◌, ◌^◌, length, map, option_to_list, All, IfOk, IfSome, OnErr, vec_capacity, vec_len};
+ghost use Rattle.std.specs.Prelude.{◌≡◌, ◌<◌, ◌≤◌, ◌+◌, ◌^◌, length, map, option_to_list, All, IfOk, IfSome};
 ghost use Rattle.map_messages.specs.Range.{InRangeRequest};
 ghost use Rattle.router_model.specs.Changes.{each, unchanged};
 ghost use Rattle.router_model.specs.Hear.{counted, ranges_of, renewable, renewed};
@@ -7,6 +7,7 @@ ghost use Rattle.router_model.specs.Mappings.{force};
 ghost use Rattle.router_model.specs.Parts.{table, view_in};
 ghost use Rattle.router_core.specs.Renewing.{range_of, source_range};
 ghost use Rattle.router_core.specs.Sendable.{IsSendable};
+ghost use Rattle.router_core.specs.Steps.{AreAdded, AreSent, HasEntered, HaveRoom, IsStep, MayEnter, MayStep};
 ghost use Rattle.router_core.specs.Table.{change_of, heard_seen};
 
 use crate::departure::host_eid;
@@ -26,18 +27,13 @@ impl Table {
         m: u64,
         request: &MapRequest,
     ) -> Result<Heard, NoMemory>
-        requires later { self.old.parts.now ≤ m }
-        requires count { self.old.parts.count < 2 ^ 61 }
+        requires may { MayStep m self.old.parts }
         requires range { InRangeRequest request.now }
         ensures parts { IfOk result (λ heard. heard_seen self.new.parts heard
             ≡ counted table settings.now m (each (renewed table settings.now m)
             (ranges_of request.now) (unchanged self.old.parts))) }
-        ensures sendable { IfOk result (λ heard. All (IsSendable settings.now) heard.emits) }
-        ensures few { IfOk result (λ heard. length heard.emits ≤ 256) }
-        ensures count { IfOk result (λ heard.
-            self.new.parts.count ≤ self.old.parts.count + 256) }
-        ensures now { IfOk result (λ heard. self.new.parts.now ≤ m) }
-        ensures err { OnErr result (self.new.parts ≡ self.old.parts) }
+        ensures sent { IfOk result (λ heard. AreSent settings.now 256 heard.emits) }
+        ensures step { IsStep 256 m self.old.parts self.new.parts result }
     {
         let eids = request.eids.as_slice();
         let mut entries = Vec::new(self.alloc);
@@ -63,24 +59,19 @@ impl Table {
         entries: &mut Vec<Entry>,
         emits: &mut Vec<Emit>,
     )
-        requires later { self.old.parts.now ≤ m }
-        requires count { self.old.parts.count < 2 ^ 62 }
+        requires may { MayEnter 1 m self.old.parts }
         requires instance { IfSome source (λ source. source.0 < 2 ^ 24) }
         requires request_room { 0 < self.old.request_room }
-        requires entries { vec_len entries.old < vec_capacity entries.old }
-        requires emits { vec_len emits.old < vec_capacity emits.old }
+        requires places { HaveRoom 1 entries.old emits.old }
         requires sendable { All (IsSendable settings.now) emits.old.items }
         ensures change { change_of self.new.parts entries.new.items emits.new.items
             ≡ each (renewed table settings.now m) (map source_range (option_to_list source))
             (change_of self.old.parts entries.old.items emits.old.items) }
         ensures sendable { All (IsSendable settings.now) emits.new.items }
-        ensures now { self.new.parts.now ≤ m }
-        ensures count { self.new.parts.count ≤ self.old.parts.count + 1 }
+        ensures entered { HasEntered 1 m self.old.parts self.new.parts }
         ensures request_room { self.old.request_room ≤ self.new.request_room + 1 }
-        ensures entries { vec_len entries.new ≤ vec_len entries.old + 1 }
-        ensures entry_room { vec_capacity entries.new ≡ vec_capacity entries.old }
-        ensures emits { vec_len emits.new ≤ vec_len emits.old + 1 }
-        ensures emit_room { vec_capacity emits.new ≡ vec_capacity emits.old }
+        ensures entries { AreAdded 1 entries.old entries.new }
+        ensures emits { AreAdded 1 emits.old emits.new }
     {
         let Some((iid, addr)) = source else {
             return;
@@ -97,20 +88,17 @@ impl Table {
         entries: &mut Vec<Entry>,
         emits: &mut Vec<Emit>,
     )
-        requires later { self.old.parts.now ≤ m }
-        requires count { self.old.parts.count + length eids.now < 2 ^ 62 }
+        requires may { MayEnter (length eids.now) m self.old.parts }
         requires request_room { length eids.now ≤ self.old.request_room }
-        requires entries { vec_len entries.old + length eids.now ≤ vec_capacity entries.old }
-        requires emits { vec_len emits.old + length eids.now ≤ vec_capacity emits.old }
+        requires places { HaveRoom (length eids.now) entries.old emits.old }
         requires sendable { All (IsSendable settings.now) emits.old.items }
         ensures change { change_of self.new.parts entries.new.items emits.new.items
             ≡ each (renewed table settings.now m) (map range_of eids.now)
             (change_of self.old.parts entries.old.items emits.old.items) }
         ensures sendable { All (IsSendable settings.now) emits.new.items }
-        ensures now { self.new.parts.now ≤ m }
-        ensures count { self.new.parts.count ≤ self.old.parts.count + length eids.now }
-        ensures entries { vec_len entries.new ≤ vec_len entries.old + length eids.now }
-        ensures emits { vec_len emits.new ≤ vec_len emits.old + length eids.now }
+        ensures entered { HasEntered (length eids.now) m self.old.parts self.new.parts }
+        ensures entries { AreAdded (length eids.now) entries.old entries.new }
+        ensures emits { AreAdded (length eids.now) emits.old emits.new }
     {
         let [eid, others @ ..] = eids else {
             return;
@@ -128,23 +116,18 @@ impl Table {
         entries: &mut Vec<Entry>,
         emits: &mut Vec<Emit>,
     )
-        requires later { self.old.parts.now ≤ m }
-        requires count { self.old.parts.count < 2 ^ 62 }
+        requires may { MayEnter 1 m self.old.parts }
         requires request_room { 0 < self.old.request_room }
-        requires entries { vec_len entries.old < vec_capacity entries.old }
-        requires emits { vec_len emits.old < vec_capacity emits.old }
+        requires places { HaveRoom 1 entries.old emits.old }
         requires sendable { All (IsSendable settings.now) emits.old.items }
         ensures change { change_of self.new.parts entries.new.items emits.new.items
             ≡ renewed table settings.now m (range_of eid.now)
             (change_of self.old.parts entries.old.items emits.old.items) }
         ensures sendable { All (IsSendable settings.now) emits.new.items }
-        ensures now { self.new.parts.now ≤ m }
-        ensures count { self.new.parts.count ≤ self.old.parts.count + 1 }
+        ensures entered { HasEntered 1 m self.old.parts self.new.parts }
         ensures request_room { self.old.request_room ≤ self.new.request_room + 1 }
-        ensures entries { vec_len entries.new ≤ vec_len entries.old + 1 }
-        ensures entry_room { vec_capacity entries.new ≡ vec_capacity entries.old }
-        ensures emits { vec_len emits.new ≤ vec_len emits.old + 1 }
-        ensures emit_room { vec_capacity emits.new ≡ vec_capacity emits.old }
+        ensures entries { AreAdded 1 entries.old entries.new }
+        ensures emits { AreAdded 1 emits.old emits.new }
     {
         let Some(eid) = self.renewable(settings, m, eid) else {
             return;

@@ -6,6 +6,7 @@ ghost use Rattle.lisp_settings.specs.Lawful.{IsLawful, IsLawfulMapping};
 ghost use Rattle.router_log.specs.declared.entry.Entry.TheVariants.{Answered, Asked, Bits, DataFrom, EchoHeard, EchoStarted, EchoWanted, Learned, ProbeAnswered, Probed, Retried, Solicited};
 ghost use Rattle.router_model.specs.Journal.{statics};
 ghost use Rattle.router_model.specs.Parts.{Stands, parts_in, view_in, with_entry};
+ghost use Rattle.router_core.specs.Steps.{MayEnter};
 
 use crate::copies::copied;
 use crate::resting::Rest;
@@ -176,14 +177,13 @@ impl Table {
 
     /// Takes the entry of a mapping that was learned, for which there is room.
     pub(crate) fn learn(&mut self, m: u64, mapping: Record, fixed: bool)
-        requires later { self.old.parts.now ≤ m }
+        requires may { MayEnter 1 m self.old.parts }
         requires locators { length mapping.locators ≤ 32 }
         requires version { mapping.version ≤ 4095 }
         requires fixed { IsTrue fixed → mapping.ttl ≢ 0 }
         requires place { IsTrue (has_room mapping (lasting m self.old.parts.mappings)) }
         requires room { 0 < self.old.mapping_room }
         requires locator_room { length mapping.locators ≤ self.old.locator_room }
-        requires count { self.old.parts.count < 2 ^ 63 }
         ensures parts { self.new.parts ≡ with_entry (Learned m mapping fixed) self.old.parts }
         ensures mapping_room { self.old.mapping_room ≤ self.new.mapping_room + 1 }
         ensures locator_room { self.old.locator_room
@@ -201,10 +201,9 @@ impl Table {
 
     /// Takes the entry of a request that was made, for which there is room.
     pub(crate) fn ask(&mut self, m: u64, eid: Eid, source: Option<Addr>, invoked: bool, nonce: u64)
-        requires later { self.old.parts.now ≤ m }
+        requires may { MayEnter 1 m self.old.parts }
         requires place { length (waiting m self.old.parts.requests) < 1024 }
         requires room { 0 < self.old.request_room }
-        requires count { self.old.parts.count < 2 ^ 63 }
         ensures parts { self.new.parts
             ≡ with_entry (Asked m eid source invoked nonce) self.old.parts }
         ensures request_room { self.old.request_room ≤ self.new.request_room + 1 }
@@ -221,8 +220,7 @@ impl Table {
 
     /// Takes the entry of a request that was answered.
     pub(crate) fn answer(&mut self, m: u64, nonce: u64)
-        requires later { self.old.parts.now ≤ m }
-        requires count { self.old.parts.count < 2 ^ 63 }
+        requires may { MayEnter 1 m self.old.parts }
         ensures parts { self.new.parts ≡ with_entry (Answered m nonce) self.old.parts }
         ensures mapping_room { self.old.mapping_room ≤ self.new.mapping_room }
         ensures locator_room { self.old.locator_room ≤ self.new.locator_room }
@@ -238,9 +236,8 @@ impl Table {
 
     /// Takes the entry of a request that was sent again.
     pub(crate) fn retry(&mut self, m: u64, nonce: u64)
-        requires later { self.old.parts.now ≤ m }
+        requires may { MayEnter 1 m self.old.parts }
         requires again { IsTrue (may_send_again nonce (waiting m self.old.parts.requests)) }
-        requires count { self.old.parts.count < 2 ^ 63 }
         ensures parts { self.new.parts ≡ with_entry (Retried m nonce) self.old.parts }
         ensures probe_room { self.old.probe_room ≤ self.new.probe_room }
     {
@@ -254,10 +251,9 @@ impl Table {
 
     /// Takes the entry of a probe that was sent, for which there is room.
     pub(crate) fn probe(&mut self, m: u64, rloc: Addr, nonce: u64)
-        requires later { self.old.parts.now ≤ m }
+        requires may { MayEnter 1 m self.old.parts }
         requires room { 0 < self.old.probe_room }
         requires place { (view_in self.old.parts m).probe_count < 9600 }
-        requires count { self.old.parts.count < 2 ^ 63 }
         ensures parts { self.new.parts ≡ with_entry (Probed m rloc nonce) self.old.parts }
         ensures probe_room { self.old.probe_room ≤ self.new.probe_room + 1 }
     {
@@ -271,8 +267,7 @@ impl Table {
 
     /// Takes the entry of a probe that was answered.
     pub(crate) fn answer_probe(&mut self, m: u64, nonce: u64)
-        requires later { self.old.parts.now ≤ m }
-        requires count { self.old.parts.count < 2 ^ 63 }
+        requires may { MayEnter 1 m self.old.parts }
         ensures parts { self.new.parts ≡ with_entry (ProbeAnswered m nonce) self.old.parts }
     {
         self.rest.until = 0;
@@ -284,11 +279,10 @@ impl Table {
 
     /// Takes the entry of an echo that is asked for, for which there is room.
     pub(crate) fn start_echo(&mut self, m: u64, rloc: Addr, nonce: u32)
-        requires later { self.old.parts.now ≤ m }
+        requires may { MayEnter 1 m self.old.parts }
         requires room { 0 < self.old.start_room }
         requires place { IsTrue ((view_in self.old.parts m).may_start rloc) }
         requires short { nonce < 2 ^ 24 }
-        requires count { self.old.parts.count < 2 ^ 63 }
         ensures parts { self.new.parts ≡ with_entry (EchoStarted m rloc nonce) self.old.parts }
     {
         self.rest.until = 0;
@@ -301,8 +295,7 @@ impl Table {
 
     /// Takes the entry of an echo that came.
     pub(crate) fn hear_echo(&mut self, m: u64, rloc: &Addr)
-        requires later { self.old.parts.now ≤ m }
-        requires count { self.old.parts.count < 2 ^ 63 }
+        requires may { MayEnter 1 m self.old.parts }
         ensures parts { self.new.parts ≡ with_entry (EchoHeard m rloc.now) self.old.parts }
     {
         self.rest.until = 0;
@@ -314,8 +307,7 @@ impl Table {
 
     /// Takes the entry of a packet that came from a locator.
     pub(crate) fn take_data(&mut self, m: u64, rloc: &Addr)
-        requires later { self.old.parts.now ≤ m }
-        requires count { self.old.parts.count < 2 ^ 63 }
+        requires may { MayEnter 1 m self.old.parts }
         ensures parts { self.new.parts ≡ with_entry (DataFrom m rloc.now) self.old.parts }
     {
         self.rest.until = 0;
@@ -327,11 +319,10 @@ impl Table {
 
     /// Takes the entry of an echo that a locator wants, for which there is room.
     pub(crate) fn want_echo(&mut self, m: u64, rloc: Addr, nonce: u32)
-        requires later { self.old.parts.now ≤ m }
+        requires may { MayEnter 1 m self.old.parts }
         requires room { 0 < self.old.wish_room }
         requires place { IsTrue ((view_in self.old.parts m).may_want rloc nonce) }
         requires short { nonce < 2 ^ 24 }
-        requires count { self.old.parts.count < 2 ^ 63 }
         ensures parts { self.new.parts ≡ with_entry (EchoWanted m rloc nonce) self.old.parts }
     {
         self.rest.until = 0;
@@ -343,10 +334,9 @@ impl Table {
 
     /// Takes the entry of a locator that was solicited, for which there is room.
     pub(crate) fn solicit(&mut self, m: u64, rloc: Addr, eid: Eid, nonce: u64)
-        requires later { self.old.parts.now ≤ m }
+        requires may { MayEnter 1 m self.old.parts }
         requires room { 0 < self.old.solicit_room }
         requires place { IsTrue ((view_in self.old.parts m).may_solicit rloc eid) }
-        requires count { self.old.parts.count < 2 ^ 63 }
         ensures parts { self.new.parts ≡ with_entry (Solicited m rloc eid nonce) self.old.parts }
     {
         self.rest.until = 0;
@@ -359,9 +349,8 @@ impl Table {
 
     /// Takes the entry of status bits that were told.
     pub(crate) fn tell(&mut self, m: u64, eid: &Eid, bits: u32, width: u8)
-        requires later { self.old.parts.now ≤ m }
+        requires may { MayEnter 1 m self.old.parts }
         requires width { width ≤ 32 }
-        requires count { self.old.parts.count < 2 ^ 63 }
         ensures parts { self.new.parts ≡ with_entry (Bits m eid.now bits width) self.old.parts }
     {
         self.rest.until = 0;

@@ -1,5 +1,5 @@
 // A second that begins.
-ghost use Rattle.std.specs.Prelude.{◌≡◌, ◌<◌, ◌≤◌, ◌+◌, ◌^◌, ◌∷◌, [], length, filter, map, All, IsTrue, IfOk, OnErr, vec_len, vec_capacity};
+ghost use Rattle.std.specs.Prelude.{◌≡◌, ◌<◌, ◌≤◌, ◌+◌, ◌∷◌, [], length, filter, map, All, IsTrue, IfOk, vec_len, vec_capacity};
 ghost use Rattle.lisp_settings.specs.declared.settings.Settings.{Settings as SettingsValue};
 ghost use Rattle.locator_state.specs.declared.limits.TheConstants.{MOST_TARGETS};
 ghost use Rattle.request_queue.specs.Queue.{all_due, waiting};
@@ -11,6 +11,7 @@ ghost use Rattle.router_model.specs.Lifting.{Follows, MayGo};
 ghost use Rattle.router_model.specs.Parts.{Stands, table, view_in, with_entry};
 ghost use Rattle.router_model.specs.Tick.{all_probed, is_probed, may_take, next_targets, probed, retried, target_of, tick, ticked};
 ghost use Rattle.router_core.specs.Sendable.{IsSendable};
+ghost use Rattle.router_core.specs.Steps.{AreAdded, AreSent, HasEntered, HaveRoom, IsStep, MayEnter, MayStep};
 ghost use Rattle.router_core.specs.Table.{change_of, changed_seen};
 ghost use Rattle.router_core.specs.Ticking.{offered, AreOwed, HasSender, IsOwed};
 
@@ -30,20 +31,15 @@ impl Table {
     /// the settings say so (RFC 9301, section 7.1). It takes the entries that come of it. Where memory
     /// is refused, the table is as it was. A second in which nothing is to be done takes none.
     pub fn tick(&mut self, settings: &Settings, second: u32) -> Result<Changed, NoMemory>
-        requires later { self.old.parts.now ≤ seconds second }
-        requires count { self.old.parts.count < 2 ^ 61 }
+        requires may { MayStep (seconds second) self.old.parts }
         ensures parts { IfOk result (λ changed. changed_seen self.new.parts changed
             ≡ ticked table settings.now (seconds second) (unchanged self.old.parts)) }
         ensures journal { IfOk result (λ changed. (journal : Journal)
             → Stands settings.now self.old.parts journal → MayGo journal (seconds second)
             → Follows settings.now (changed_seen self.new.parts changed)
             (tick settings.now journal second)) }
-        ensures sendable { IfOk result (λ changed. All (IsSendable settings.now) changed.emits) }
-        ensures few { IfOk result (λ changed. length changed.emits ≤ 1040) }
-        ensures count { IfOk result (λ changed.
-            self.new.parts.count ≤ self.old.parts.count + 1040) }
-        ensures now { IfOk result (λ changed. self.new.parts.now ≤ seconds second) }
-        ensures err { OnErr result (self.new.parts ≡ self.old.parts) }
+        ensures sent { IfOk result (λ changed. AreSent settings.now 1040 changed.emits) }
+        ensures step { IsStep 1040 (seconds second) self.old.parts self.new.parts result }
     {
         let m = u64::from(second) * 1_000_000_000;
         if self.is_idle(settings, m) {
@@ -87,16 +83,11 @@ impl Table {
     // What a second makes of the table, at its moment.
     #[tactic(auto, unfolding(router_model::specs::Tick::ticked))]
     fn tick_at(&mut self, settings: &Settings, m: u64) -> Result<Changed, NoMemory>
-        requires later { self.old.parts.now ≤ m }
-        requires count { self.old.parts.count < 2 ^ 61 }
+        requires may { MayStep m self.old.parts }
         ensures parts { IfOk result (λ changed. changed_seen self.new.parts changed
             ≡ ticked table settings.now m (unchanged self.old.parts)) }
-        ensures sendable { IfOk result (λ changed. All (IsSendable settings.now) changed.emits) }
-        ensures few { IfOk result (λ changed. length changed.emits ≤ 1040) }
-        ensures count { IfOk result (λ changed.
-            self.new.parts.count ≤ self.old.parts.count + 1040) }
-        ensures now { IfOk result (λ changed. self.new.parts.now ≤ m) }
-        ensures err { OnErr result (self.new.parts ≡ self.old.parts) }
+        ensures sent { IfOk result (λ changed. AreSent settings.now 1040 changed.emits) }
+        ensures step { IsStep 1040 m self.old.parts self.new.parts result }
     {
         let due = self.due_requests(m)?;
         let most = due.len() + MOST_TARGETS;
@@ -142,24 +133,19 @@ impl Table {
         entries: &mut Vec<Entry>,
         emits: &mut Vec<Emit>,
     )
-        requires later { self.old.parts.now ≤ m }
-        requires count { self.old.parts.count + length requests.now < 2 ^ 62 }
+        requires may { MayEnter (length requests.now) m self.old.parts }
         requires owed { AreOwed (waiting m self.old.parts.requests) requests.now }
-        requires entries { vec_len entries.old + length requests.now ≤ vec_capacity entries.old }
-        requires emits { vec_len emits.old + length requests.now ≤ vec_capacity emits.old }
+        requires places { HaveRoom (length requests.now) entries.old emits.old }
         ensures change { (settings : SettingsValue)
             → change_of self.new.parts entries.new.items emits.new.items
             ≡ each (retried table settings m) requests.now
             (change_of self.old.parts entries.old.items emits.old.items) }
         ensures sendable { (settings : SettingsValue) → All (IsSendable settings) emits.old.items
             → All (IsSendable settings) emits.new.items }
-        ensures now { self.new.parts.now ≤ m }
-        ensures count { self.new.parts.count ≤ self.old.parts.count + length requests.now }
+        ensures entered { HasEntered (length requests.now) m self.old.parts self.new.parts }
         ensures probe_room { self.old.probe_room ≤ self.new.probe_room }
-        ensures entries { vec_len entries.new ≤ vec_len entries.old + length requests.now }
-        ensures entry_room { vec_capacity entries.new ≡ vec_capacity entries.old }
-        ensures emits { vec_len emits.new ≤ vec_len emits.old + length requests.now }
-        ensures emit_room { vec_capacity emits.new ≡ vec_capacity emits.old }
+        ensures entries { AreAdded (length requests.now) entries.old entries.new }
+        ensures emits { AreAdded (length requests.now) emits.old emits.new }
     {
         let [request, others @ ..] = requests else {
             return;
@@ -176,25 +162,20 @@ impl Table {
         entries: &mut Vec<Entry>,
         emits: &mut Vec<Emit>,
     )
-        requires later { self.old.parts.now ≤ m }
-        requires count { self.old.parts.count < 2 ^ 62 }
+        requires may { MayEnter 1 m self.old.parts }
         requires owed { IsOwed (waiting m self.old.parts.requests) request.now }
-        requires entries { vec_len entries.old < vec_capacity entries.old }
-        requires emits { vec_len emits.old < vec_capacity emits.old }
+        requires places { HaveRoom 1 entries.old emits.old }
         ensures change { (settings : SettingsValue)
             → change_of self.new.parts entries.new.items emits.new.items
             ≡ retried table settings m request.now
             (change_of self.old.parts entries.old.items emits.old.items) }
         ensures parts { self.new.parts ≡ with_entry (Retried m request.now.nonce) self.old.parts }
-        ensures now { self.new.parts.now ≤ m }
-        ensures count { self.new.parts.count ≤ self.old.parts.count + 1 }
+        ensures entered { HasEntered 1 m self.old.parts self.new.parts }
         ensures sendable { (settings : SettingsValue) → All (IsSendable settings) emits.old.items
             → All (IsSendable settings) emits.new.items }
         ensures probe_room { self.old.probe_room ≤ self.new.probe_room }
-        ensures entries { vec_len entries.new ≡ vec_len entries.old + 1 }
-        ensures entry_room { vec_capacity entries.new ≡ vec_capacity entries.old }
-        ensures emits { vec_len emits.new ≡ vec_len emits.old + 1 }
-        ensures emit_room { vec_capacity emits.new ≡ vec_capacity emits.old }
+        ensures entries { AreAdded 1 entries.old entries.new }
+        ensures emits { AreAdded 1 emits.old emits.new }
     {
         let nonce = request.nonce;
         self.retry(m, nonce);
@@ -218,21 +199,18 @@ impl Table {
         entries: &mut Vec<Entry>,
         emits: &mut Vec<Emit>,
     )
-        requires later { self.old.parts.now ≤ m }
-        requires count { self.old.parts.count < 2 ^ 61 + 1024 }
+        requires may { MayEnter MOST_TARGETS m self.old.parts }
         requires none { first.old.items ≡ [] }
         requires targets { MOST_TARGETS < vec_capacity first.old }
         requires room { MOST_TARGETS ≤ self.old.probe_room }
-        requires entries { vec_len entries.old + MOST_TARGETS ≤ vec_capacity entries.old }
-        requires emits { vec_len emits.old + MOST_TARGETS ≤ vec_capacity emits.old }
+        requires places { HaveRoom MOST_TARGETS entries.old emits.old }
         requires sendable { All (IsSendable settings.now) emits.old.items }
         ensures change { change_of self.new.parts entries.new.items emits.new.items
             ≡ all_probed table settings.now m
             (change_of self.old.parts entries.old.items emits.old.items) }
         ensures sendable { All (IsSendable settings.now) emits.new.items }
-        ensures now { self.new.parts.now ≤ m }
-        ensures count { self.new.parts.count ≤ self.old.parts.count + MOST_TARGETS }
-        ensures emits { vec_len emits.new ≤ vec_len emits.old + MOST_TARGETS }
+        ensures entered { HasEntered MOST_TARGETS m self.old.parts self.new.parts }
+        ensures emits { AreAdded MOST_TARGETS emits.old emits.new }
     {
         if !settings.probe {
             return;
@@ -324,20 +302,17 @@ impl Table {
         entries: &mut Vec<Entry>,
         emits: &mut Vec<Emit>,
     )
-        requires later { self.old.parts.now ≤ m }
-        requires count { self.old.parts.count + length targets.now < 2 ^ 62 }
+        requires may { MayEnter (length targets.now) m self.old.parts }
         requires senders { All (HasSender settings.now) targets.now }
         requires room { length targets.now ≤ self.old.probe_room }
-        requires entries { vec_len entries.old + length targets.now ≤ vec_capacity entries.old }
-        requires emits { vec_len emits.old + length targets.now ≤ vec_capacity emits.old }
+        requires places { HaveRoom (length targets.now) entries.old emits.old }
         requires sendable { All (IsSendable settings.now) emits.old.items }
         ensures change { change_of self.new.parts entries.new.items emits.new.items
             ≡ each (probed table settings.now m) targets.now
             (change_of self.old.parts entries.old.items emits.old.items) }
         ensures sendable { All (IsSendable settings.now) emits.new.items }
-        ensures now { self.new.parts.now ≤ m }
-        ensures count { self.new.parts.count ≤ self.old.parts.count + length targets.now }
-        ensures emits { vec_len emits.new ≤ vec_len emits.old + length targets.now }
+        ensures entered { HasEntered (length targets.now) m self.old.parts self.new.parts }
+        ensures emits { AreAdded (length targets.now) emits.old emits.new }
     {
         let [target, others @ ..] = targets else {
             return;
@@ -355,24 +330,19 @@ impl Table {
         entries: &mut Vec<Entry>,
         emits: &mut Vec<Emit>,
     )
-        requires later { self.old.parts.now ≤ m }
-        requires count { self.old.parts.count < 2 ^ 62 }
+        requires may { MayEnter 1 m self.old.parts }
         requires sender { HasSender settings.now target.now }
         requires room { 0 < self.old.probe_room }
-        requires entries { vec_len entries.old < vec_capacity entries.old }
-        requires emits { vec_len emits.old < vec_capacity emits.old }
+        requires places { HaveRoom 1 entries.old emits.old }
         requires sendable { All (IsSendable settings.now) emits.old.items }
         ensures change { change_of self.new.parts entries.new.items emits.new.items
             ≡ probed table settings.now m target.now
             (change_of self.old.parts entries.old.items emits.old.items) }
         ensures sendable { All (IsSendable settings.now) emits.new.items }
-        ensures now { self.new.parts.now ≤ m }
-        ensures count { self.new.parts.count ≤ self.old.parts.count + 1 }
+        ensures entered { HasEntered 1 m self.old.parts self.new.parts }
         ensures probe_room { self.old.probe_room ≤ self.new.probe_room + 1 }
-        ensures entries { vec_len entries.new ≤ vec_len entries.old + 1 }
-        ensures entry_room { vec_capacity entries.new ≡ vec_capacity entries.old }
-        ensures emits { vec_len emits.new ≤ vec_len emits.old + 1 }
-        ensures emit_room { vec_capacity emits.new ≡ vec_capacity emits.old }
+        ensures entries { AreAdded 1 entries.old entries.new }
+        ensures emits { AreAdded 1 emits.old emits.new }
     {
         if !self.locators.may_probe(m) {
             return;

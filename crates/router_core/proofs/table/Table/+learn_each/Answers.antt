@@ -8,32 +8,29 @@ learn_each-requires t c =
     let records = c.args.records.now in
     let fewer = length-left records c.in-len1-up.len_at_least in
     let some = c.in-len1-up.len_at_least in
-    let count = c.requires.count in
-    let one = c.learn_one.ensures.count in
+    let count = c.requires.may.count in
+    let one = c.learn_one.ensures.entered.count in
     let rooms = c.requires.mapping_room in
     let room = c.learn_one.ensures.mapping_room in
     let locator_rooms = c.requires.locator_room in
     let locator_room = c.learn_one.ensures.locator_room in
     let places = c.requires.room in
-    let most = c.learn_one.ensures.most in
-    let capacity = c.learn_one.ensures.capacity in (
+    let most = c.learn_one.ensures.entries.most_more in
+    let capacity = c.learn_one.ensures.entries.capacity in (
       search rules,
       (
         c.requires.lawful,
         (
-          c.learn_one.ensures.now,
+          record { later = c.learn_one.ensures.entered.now; count = omega (arith, fewer, some, count, one) },
           (
-            omega (arith, fewer, some, count, one),
+            all-left InRange records c.requires.range,
             (
-              all-left InRange records c.requires.range,
+              copies-left records c.args.copies.now.items c.remove-copy.new.self.items c.requires.copies c.remove-copy.ensures.by_index.2,
               (
-                copies-left records c.args.copies.now.items c.remove-copy.new.self.items c.requires.copies c.remove-copy.ensures.by_index.2,
+                omega (arith, fewer, some, rooms, room),
                 (
-                  omega (arith, fewer, some, rooms, room),
-                  (
-                    omega (arith, fewer, some, locator_rooms, locator_room),
-                    omega (arith, fewer, some, places, most, capacity),
-                  ),
+                  omega (arith, fewer, some, locator_rooms, locator_room),
+                  omega (arith, fewer, some, places, most, capacity),
                 ),
               ),
             ),

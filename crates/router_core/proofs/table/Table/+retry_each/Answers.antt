@@ -15,28 +15,22 @@ retry_each-requires t c =
     let requests = c.args.requests.now in
     let some = c.in-len1-up.len_at_least in
     let fewer = length-left requests some in
-    let count = c.requires.count in
-    let one = c.retry_one.ensures.count in
-    let entries = c.requires.entries in
-    let emits = c.requires.emits in
-    let entered = c.retry_one.ensures.entries in
-    let entry_room = c.retry_one.ensures.entry_room in
-    let emitted = c.retry_one.ensures.emits in
-    let emit_room = c.retry_one.ensures.emit_room in
+    let count = c.requires.may.count in
+    let one = c.retry_one.ensures.entered.count in
+    let places = c.requires.places in
+    let entries = c.retry_one.ensures.entries in
+    let emits = c.retry_one.ensures.emits in
     let named = ap (λ (r : Request). with_entry (Retried c.args.m r.nonce) c.args.self.now.parts) c.request-item.is in (
       search rules,
       (
-        c.retry_one.ensures.now,
+        record { later = c.retry_one.ensures.entered.now; count = omega (arith, fewer, some, count, one) },
         (
-          omega (arith, fewer, some, count, one),
-          (
-            subst (λ (p : Parts). AreOwed (waiting c.args.m p.requests) (take (length requests - 1) (drop 1 requests))) (sym (c.retry_one.ensures.parts ∙ named))
-                (owed-left c.args.m c.args.self.now.parts requests c.request-item.result some c.requires.owed),
-            (
-              omega (arith, fewer, some, entries, entered, entry_room),
-              omega (arith, fewer, some, emits, emitted, emit_room),
-            ),
-          ),
+          subst (λ (p : Parts). AreOwed (waiting c.args.m p.requests) (take (length requests - 1) (drop 1 requests))) (sym (c.retry_one.ensures.parts ∙ named))
+              (owed-left c.args.m c.args.self.now.parts requests c.request-item.result some c.requires.owed),
+          record {
+            entries = omega (arith, fewer, some, places.entries, entries.most_more, entries.capacity);
+            emits = omega (arith, fewer, some, places.emits, emits.most_more, emits.capacity);
+          },
         ),
       ),
     )

@@ -16,7 +16,7 @@ apply_asked-requires-clause-place c =
 pub returns-in-Learned-clause-parts : goal.returns-in-Learned-clause-parts
 returns-in-Learned-clause-parts c =
     let entry = c.in-Learned in
-    on_ok_weaker c.apply_learned.result (λ is. is ∙ absorbed-learned c.args.self.now.parts entry.moment entry.mapping entry.fixed c.args.entry.now entry.is c.requires) c.apply_learned.ensures.ok
+    on_ok_weaker c.apply_learned.result (λ is. is ∙ absorbed-learned c.args.self.now.parts entry.moment entry.mapping entry.fixed c.args.entry.now entry.is c.requires) c.apply_learned.ensures.taken.ok
 
 pub returns-in-Learned-clause-journal : goal.returns-in-Learned-clause-journal
 returns-in-Learned-clause-journal c =
@@ -24,7 +24,7 @@ returns-in-Learned-clause-journal c =
 
 pub returns-in-Asked-clause-parts : goal.returns-in-Asked-clause-parts
 returns-in-Asked-clause-parts c =
-    on_ok_weaker c.apply_asked.result (λ is. is ∙ absorbed-as c.args.self.now.parts c.args.entry.now _ c.in-Asked.is c.requires) c.apply_asked.ensures.ok
+    on_ok_weaker c.apply_asked.result (λ is. is ∙ absorbed-as c.args.self.now.parts c.args.entry.now _ c.in-Asked.is c.requires) c.apply_asked.ensures.taken.ok
 
 pub returns-in-Asked-clause-journal : goal.returns-in-Asked-clause-journal
 returns-in-Asked-clause-journal c =
@@ -62,7 +62,7 @@ apply_probed-requires-clause-place c =
 
 pub returns-in-Probed-clause-parts : goal.returns-in-Probed-clause-parts
 returns-in-Probed-clause-parts c =
-    on_ok_weaker c.apply_probed.result (λ is. is ∙ absorbed-as c.args.self.now.parts c.args.entry.now _ c.in-Probed.is c.requires) c.apply_probed.ensures.ok
+    on_ok_weaker c.apply_probed.result (λ is. is ∙ absorbed-as c.args.self.now.parts c.args.entry.now _ c.in-Probed.is c.requires) c.apply_probed.ensures.taken.ok
 
 pub returns-in-Probed-clause-journal : goal.returns-in-Probed-clause-journal
 returns-in-Probed-clause-journal c =
@@ -80,7 +80,7 @@ apply_started-requires-clause-place c =
 
 pub returns-in-EchoStarted-clause-parts : goal.returns-in-EchoStarted-clause-parts
 returns-in-EchoStarted-clause-parts c =
-    on_ok_weaker c.apply_started.result (λ is. is ∙ absorbed-as c.args.self.now.parts c.args.entry.now _ c.in-EchoStarted.is c.requires) c.apply_started.ensures.ok
+    on_ok_weaker c.apply_started.result (λ is. is ∙ absorbed-as c.args.self.now.parts c.args.entry.now _ c.in-EchoStarted.is c.requires) c.apply_started.ensures.taken.ok
 
 pub returns-in-EchoStarted-clause-journal : goal.returns-in-EchoStarted-clause-journal
 returns-in-EchoStarted-clause-journal c =
@@ -104,7 +104,7 @@ apply_wanted-requires-clause-place c =
 
 pub returns-in-EchoWanted-clause-parts : goal.returns-in-EchoWanted-clause-parts
 returns-in-EchoWanted-clause-parts c =
-    on_ok_weaker c.apply_wanted.result (λ is. is ∙ absorbed-as c.args.self.now.parts c.args.entry.now _ c.in-EchoWanted.is c.requires) c.apply_wanted.ensures.ok
+    on_ok_weaker c.apply_wanted.result (λ is. is ∙ absorbed-as c.args.self.now.parts c.args.entry.now _ c.in-EchoWanted.is c.requires) c.apply_wanted.ensures.taken.ok
 
 pub returns-in-EchoWanted-clause-journal : goal.returns-in-EchoWanted-clause-journal
 returns-in-EchoWanted-clause-journal c =
@@ -116,7 +116,7 @@ apply_solicited-requires-clause-place c =
 
 pub returns-in-Solicited-clause-parts : goal.returns-in-Solicited-clause-parts
 returns-in-Solicited-clause-parts c =
-    on_ok_weaker c.apply_solicited.result (λ is. is ∙ absorbed-as c.args.self.now.parts c.args.entry.now _ c.in-Solicited.is c.requires) c.apply_solicited.ensures.ok
+    on_ok_weaker c.apply_solicited.result (λ is. is ∙ absorbed-as c.args.self.now.parts c.args.entry.now _ c.in-Solicited.is c.requires) c.apply_solicited.ensures.taken.ok
 
 pub returns-in-Solicited-clause-journal : goal.returns-in-Solicited-clause-journal
 returns-in-Solicited-clause-journal c =

@@ -27,9 +27,5 @@ returns-clause-journal c =
 pub returns-clause-isolated : goal.returns-clause-isolated
 returns-clause-isolated c =
     let settings = c.args.settings.now in
-    let p = c.args.self.now.parts in
-    let v = view_in p c.args.m in
-    IfOk-weaker c.decide_course.result _ _ (λ decision is journal i stands of_i.
-    is ∙ ap (decide_course settings v) c.course_of.ensures.course ∙ by_course settings v c.args.frame.now
-    ∙ table-decides settings p journal c.args.m c.args.frame.now stands
-    ∙ rising-isolated settings journal i c.args.m c.args.frame.now (proper-rises settings journal stands.proper) of_i) c.decide_course.ensures.parts
+    IfOk-weaker c.decide_course.result _ _ (λ decision told journal i stands is.
+    told journal stands ∙ rising-isolated settings journal i c.args.m c.args.frame.now (proper-rises settings journal stands.proper) is) (returns-clause-journal c)

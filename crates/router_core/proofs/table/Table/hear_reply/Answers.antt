@@ -10,7 +10,7 @@ returns-in-Some-clause-parts c =
     let p = c.args.self.now.parts in
     let reply = c.args.reply.now in
     let among = λ (t : Memory). with_nonce (waiting c.args.m t.parts.requests) reply.nonce in
-    let found = sym (found-now p c.args.m reply.nonce c.requires.later) ∙ sym (ap among c.self.view_is) ∙ sym c.find.ensures ∙ sym c.copied.ensures ∙ c.in-Some.is in
+    let found = sym (found-now p c.args.m reply.nonce c.requires.may.later) ∙ sym (ap among c.self.view_is) ∙ sym c.find.ensures ∙ sym c.copied.ensures ∙ c.in-Some.is in
     IfOk-weaker c.learn_reply.result _ _ (λ heard is. is ∙ reply-by c.args.settings.now c.args.m c.args.from reply p (Some c.in-Some.request) c.if-reply.false found) c.learn_reply.ensures.parts
 
 pub returns-in-None-clause-parts : goal.returns-in-None-clause-parts
@@ -18,7 +18,7 @@ returns-in-None-clause-parts c =
     let p = c.args.self.now.parts in
     let reply = c.args.reply.now in
     let among = λ (t : Memory). with_nonce (waiting c.args.m t.parts.requests) reply.nonce in
-    let found = sym (found-now p c.args.m reply.nonce c.requires.later) ∙ sym (ap among c.self.view_is) ∙ sym c.find.ensures ∙ sym c.copied.ensures ∙ c.in-None.is in
+    let found = sym (found-now p c.args.m reply.nonce c.requires.may.later) ∙ sym (ap among c.self.view_is) ∙ sym c.find.ensures ∙ sym c.copied.ensures ∙ c.in-None.is in
     ap (heard_seen p) c.dropped.ensures ∙ reply-by c.args.settings.now c.args.m c.args.from reply p None c.if-reply.false found
 
 pub returns-then-reply-clause-parts : goal.returns-then-reply-clause-parts

@@ -12,9 +12,6 @@ use Rattle.router_core.specs.declared.copies.Copies.{Copies}
 use Rattle.router_core.proofs.ChangeLemmas.{both, learned-place, taught-so}
 use Rattle.router_core.proofs.table.Table.learn_one.Goals as goal
 
-not_over : (a b : ℕ) → a ≡ b → a ≤ b
-not_over a b same = omega (arith, same)
-
 few : (mapping : Record) → length (shortened mapping).locators ≤ 32
 few mapping = least (length (take 32 mapping.locators)) (length mapping.locators) (length-take 32 mapping.locators)
   where
@@ -41,19 +38,19 @@ pub learn-requires-clause-place : goal.learn-requires-clause-place
 learn-requires-clause-place c =
     let mapping = c.args.mapping.now in
     let p = c.args.self.now.parts in
-    let is : (is_asked_for c.args.asked.now c.args.mappings.now mapping && (not (is_static c.args.settings.now mapping) && has_room (view_in p c.args.m) mapping)) ≡ true = sym c.is_taken.ensures ∙ c.if-not-is_taken.false in
+    let is : (is_asked_for c.args.grounds.now.asked.now c.args.grounds.now.mappings.now mapping && (not (is_static c.args.grounds.now.settings.now mapping) && has_room (view_in p c.args.grounds.now.m) mapping)) ≡ true = sym c.is_taken.ensures ∙ c.if-not-is_taken.false in
     rw (ap (λ (copy : Copies). copy.kept) c.requires.copies)
-    (learned-place p c.args.m (shortened mapping) (not_over p.now c.args.m c.requires.now) (both _ _ (both (is_asked_for c.args.asked.now c.args.mappings.now mapping) _ is).1).1)
+    (learned-place p c.args.grounds.now.m (shortened mapping) c.requires.may.later (both _ _ (both (is_asked_for c.args.grounds.now.asked.now c.args.grounds.now.mappings.now mapping) _ is).1).1)
 
 pub returns-clause-change : goal.returns-clause-change
 returns-clause-change c =
     let mapping = c.args.mapping.now in
     let p = c.args.self.now.parts in
     let entries = c.args.entries.now.items in
-    let after : Record → List Entry → _ = λ r e. change_of (with_entry (Learned c.args.m r false) p) e [] in
+    let after : Record → List Entry → _ = λ r e. change_of (with_entry (Learned c.args.grounds.now.m r false) p) e [] in
     let range = c.requires.range in
     ap (λ (q : Parts). change_of q c.push_reserved.new.self.items []) c.learn.ensures.parts
     ∙ ap (λ (e : List Entry). after c.args.copies.kept e) c.push_reserved.ensures.items
-    ∙ ap (λ (copy : Copies). after copy.kept (entries ++ Learned c.args.m copy.told false ∷ [])) c.requires.copies
-    ∙ taught-so c.args.settings.now c.args.m c.args.asked.now c.args.mappings.now mapping p entries (not_over p.now c.args.m c.requires.now) c.requires.count
+    ∙ ap (λ (copy : Copies). after copy.kept (entries ++ Learned c.args.grounds.now.m copy.told false ∷ [])) c.requires.copies
+    ∙ taught-so c.args.grounds.now.settings.now c.args.grounds.now.m c.args.grounds.now.asked.now c.args.grounds.now.mappings.now mapping p entries c.requires.may.later (omega (arith, c.requires.may.count))
     range.action range.version (few mapping) (sym c.is_taken.ensures ∙ c.if-not-is_taken.false)

@@ -21,19 +21,19 @@ returns-clause-parts c =
     let request = c.args.request.now in
     let after = c.learn_each.new.self.parts in
     let entries = c.learn_each.new.entries.items in
-    let count = c.requires.count in
+    let count = c.requires.may.count in
     let answered = Answered m reply.nonce in
     let fits = ap (is_fit request.eid) (sym c.as_slice-mappings.ensures) ∙ sym c.is_fit.ensures ∙ c.if-not-is_fit.false in
     let first : change_of c.answer.new.self.parts c.push_reserved.new.self.items [] ≡ entered table settings m answered (unchanged p) =
     ap (λ (q : Parts). change_of q c.push_reserved.new.self.items []) (c.answer.ensures.parts ∙ ap (with_entry answered) c.in_ok-reserve_mappings.ensures.parts)
     ∙ ap (λ (e : List Entry). change_of (with_entry answered p) e []) (c.push_reserved.ensures.items ∙ ap (λ (e : List Entry). e ++ answered ∷ []) (c.in_ok-reserve.ensures.items ∙ c.new-entries.ensures.items))
-    ∙ answered-change settings m reply.nonce p c.requires.later (omega (arith, count)) (ap is_some c.requires.open) in
+    ∙ answered-change settings m reply.nonce p c.requires.may.later (omega (arith, count)) (ap is_some c.requires.open) in
     let taught_all = c.learn_each.ensures.change
     ∙ ap (λ (ms : List Record). each (taught table settings m request.eid ms) ms (change_of c.answer.new.self.parts c.push_reserved.new.self.items [])) c.as_slice-mappings.ensures
     ∙ ap (each (taught table settings m request.eid reply.mappings) reply.mappings) first in
     let ok = c.learn_each.new.entries.ok.0 in
     let counted = c.len-learned.ensures in
-    let more = c.learn_each.ensures.more in
+    let more = c.learn_each.ensures.entries.more in
     let pushed = c.push_reserved.ensures.len in
     let len : c.len-learned.result ≡ length entries = omega (arith, ok, counted) in
     let some : 1 ≤ length entries = omega (arith, ok, more, pushed) in

@@ -17,10 +17,10 @@ pub returns-clause-parts : goal.returns-clause-parts
 returns-clause-parts c =
     let settings = c.args.settings.now in
     let p = c.args.self.now.parts in
-    let few = c.requires.count in
+    let few = c.requires.may.count in
     let n = c.nonce_at.result in
     let entry : Entry = EchoStarted c.args.m c.args.rloc (n % 2 ^ 24) in
     let drawn : n ≡ nonce_of settings.seed settings.nonces p.drawn =
     c.nonce_at.ensures ∙ ap (λ (t : Memory). nonce_of settings.seed settings.nonces t.parts.drawn) c.self.view_is in
     quiet-entered p _ entry c.in_ok-entries.entries c.quiet.result (c.start_echo.ensures.parts ∙ ap (with_entry entry) c.in_ok-reserve_others.ensures.parts) c.in_ok-entries.ensures c.quiet.ensures
-    ∙ due-change settings c.args.m p c.requires.later (omega (arith, few)) c.args.rloc n drawn (sym c.is_echo_due.ensures ∙ c.if-not-is_echo_due.false)
+    ∙ due-change settings c.args.m p c.requires.may.later (omega (arith, few)) c.args.rloc n drawn (sym c.is_echo_due.ensures ∙ c.if-not-is_echo_due.false)

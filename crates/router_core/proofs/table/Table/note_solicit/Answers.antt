@@ -19,10 +19,10 @@ pub returns-clause-parts : goal.returns-clause-parts
 returns-clause-parts c =
     let settings = c.args.settings.now in
     let p = c.args.self.now.parts in
-    let few = c.requires.count in
+    let few = c.requires.may.count in
     let n = c.nonce_at-nonce.result in
     let entry : Entry = Solicited c.args.m c.args.rloc c.args.eid n in
     let drawn : n ≡ nonce_of settings.seed settings.nonces p.drawn =
     c.nonce_at-nonce.ensures ∙ ap (λ (t : Memory). nonce_of settings.seed settings.nonces t.parts.drawn) c.self.view_is in
     one-entered p _ entry c.in_ok-entries.entries c.in_ok-emits.emits (emit.Solicit c.args.rloc c.args.eid n ∷ []) (c.solicit.ensures.parts ∙ ap (with_entry entry) c.in_ok-reserve_others.ensures.parts) c.in_ok-entries.ensures c.in_ok-emits.ensures
-    ∙ solicited-change settings c.args.m p c.requires.later (omega (arith, few)) c.args.rloc c.args.eid n drawn (sym c.may_solicit.ensures ∙ c.if-not-may_solicit.false)
+    ∙ solicited-change settings c.args.m p c.requires.may.later (omega (arith, few)) c.args.rloc c.args.eid n drawn (sym c.may_solicit.ensures ∙ c.if-not-may_solicit.false)

@@ -12,6 +12,6 @@ want_echo-requires-clause-place c =
 pub returns-clause-parts : goal.returns-clause-parts
 returns-clause-parts c settings =
     let p = c.args.self.now.parts in
-    let few = c.requires.count in
+    let few = c.requires.may.count in
     quiet-entered p _ (EchoWanted c.args.m c.args.rloc c.args.nonce) c.in_ok-entries.entries c.quiet.result (c.want_echo.ensures.parts ∙ ap (with_entry (EchoWanted c.args.m c.args.rloc c.args.nonce)) c.in_ok-reserve_others.ensures.parts) c.in_ok-entries.ensures c.quiet.ensures
-    ∙ wanted-change settings c.args.m p c.requires.later (omega (arith, few)) c.args.rloc c.args.nonce (sym c.may_want.ensures ∙ c.if-not-may_want.false) c.requires.short
+    ∙ wanted-change settings c.args.m p c.requires.may.later (omega (arith, few)) c.args.rloc c.args.nonce (sym c.may_want.ensures ∙ c.if-not-may_want.false) c.requires.short

@@ -34,7 +34,7 @@ invariant_of-self c =
     let room = subst (λ (t : Memory). 0 < t.probe_room) (sym c.self.view_is) c.requires.room in
     let os : c.probed.new.self.observed ≡ with_probes m (probed m c.args.rloc c.args.nonce inside.locators.observed.probes) inside.locators.observed =
     was_kept c.probed.result inside.locators.probe_room c.probed.ensures.ok c.probed.ensures.memory room in
-    let place = subst (λ (t : Memory). probe_count m t.parts.observed.probes < 9600) (sym c.self.view_is) (few-probes c.args.self.now.parts m c.requires.later c.requires.place) in (
+    let place = subst (λ (t : Memory). probe_count m t.parts.observed.probes < 9600) (sym c.self.view_is) (few-probes c.args.self.now.parts m c.requires.may.later c.requires.place) in (
       omega (arith, few),
       refl,
       subst AreVersioned (sym c.purge.ensures.mappings) (lasting-versioned m inside.cache.mappings c.self.invariant.2),

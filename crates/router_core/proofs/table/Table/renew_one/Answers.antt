@@ -1,4 +1,4 @@
-use Rattle.std.proofs.Common.{◌≡◌, ◌∙◌, ℕ, true, None, List, [], ◌∷◌, ◌++◌, sym, ap, ap₂}
+use Rattle.std.proofs.Common.{◌≡◌, ◌∙◌, ℕ, true, None, List, [], ◌∷◌, ◌++◌, sym, ap, ap₂, arith}
 use Rattle.lisp_settings.specs.Nonces.{nonce_of}
 use Rattle.router_log.specs.declared.emit.Emit.{Emit}
 use Rattle.router_log.specs.declared.emit.Emit.TheVariants.{Request}
@@ -12,7 +12,7 @@ use Rattle.router_core.proofs.table.Table.renew_one.Goals as goal
 
 pub ask-requires-clause-place : goal.ask-requires-clause-place
 ask-requires-clause-place c =
-    renewable-place c.args.settings.now c.args.m c.args.self.now.parts _ c.in-Some.eid c.requires.later (sym c.renewable.ensures ∙ c.in-Some.is)
+    renewable-place c.args.settings.now c.args.m c.args.self.now.parts _ c.in-Some.eid c.requires.may.later (sym c.renewable.ensures ∙ c.in-Some.is)
 
 pub returns-clause-change : goal.returns-clause-change
 returns-clause-change c =
@@ -30,4 +30,4 @@ returns-clause-change c =
     ap (λ (q : Parts). change_of q c.push_reserved.new.self.items c.push_reserved-2.new.self.items) c.ask.ensures.parts
     ∙ ap₂ (λ (e : List Entry) (f : List Emit). change_of (with_entry (entry n) p) e f) c.push_reserved.ensures.items c.push_reserved-2.ensures.items
     ∙ ap (λ (n : ℕ). change_of (with_entry (entry n) p) (entries ++ entry n ∷ []) (emits ++ emit n ∷ [])) drawn
-    ∙ renewed-so settings m p (range_of c.args.eid.now) eid entries emits c.requires.later c.requires.count (sym c.renewable.ensures ∙ c.in-Some.is)
+    ∙ renewed-so settings m p (range_of c.args.eid.now) eid entries emits c.requires.may.later (omega (arith, c.requires.may.count)) (sym c.renewable.ensures ∙ c.in-Some.is)

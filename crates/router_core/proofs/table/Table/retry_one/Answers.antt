@@ -1,4 +1,4 @@
-use Rattle.std.proofs.Common.{◌∙◌, List, ap, ap₂}
+use Rattle.std.proofs.Common.{◌∙◌, List, ap, ap₂, arith}
 use Rattle.router_log.specs.declared.emit.Emit.{Emit}
 use Rattle.router_log.specs.declared.entry.Entry.{Entry}
 use Rattle.router_log.specs.declared.entry.Entry.TheVariants.{Retried}
@@ -18,4 +18,4 @@ returns-clause-change c settings =
     let request = c.args.request.now in
     ap (λ (q : Parts). change_of q c.push_reserved.new.self.items c.push_reserved-2.new.self.items) c.retry.ensures.parts
     ∙ ap₂ (λ (e : List Entry) (f : List Emit). change_of (with_entry (Retried m request.nonce) p) e f) c.push_reserved.ensures.items c.push_reserved-2.ensures.items
-    ∙ retried-change settings m request p c.args.entries.now.items c.args.emits.now.items c.requires.later c.requires.count c.requires.owed
+    ∙ retried-change settings m request p c.args.entries.now.items c.args.emits.now.items c.requires.may.later (omega (arith, c.requires.may.count)) c.requires.owed

@@ -37,7 +37,7 @@ invariant_of-self c =
     let room = subst (λ (t : Memory). 0 < t.solicit_room) (sym c.self.view_is) c.requires.room in
     let os : c.solicited.new.self.observed ≡ with_solicits m (solicited m c.args.rloc c.args.eid inside.locators.observed.solicits) inside.locators.observed =
     was_kept c.solicited.result inside.locators.solicit_room c.solicited.ensures.ok c.solicited.ensures.memory room in
-    let place = subst (λ (t : Memory). count_by (solicit_counts m) t.parts.observed.solicits < 4096) (sym c.self.view_is) (few-solicits c.args.self.now.parts m c.requires.later c.args.rloc c.args.eid c.requires.place) in (
+    let place = subst (λ (t : Memory). count_by (solicit_counts m) t.parts.observed.solicits < 4096) (sym c.self.view_is) (few-solicits c.args.self.now.parts m c.requires.may.later c.args.rloc c.args.eid c.requires.place) in (
       omega (arith, few),
       refl,
       subst AreVersioned (sym c.purge.ensures.mappings) (lasting-versioned m inside.cache.mappings c.self.invariant.2),

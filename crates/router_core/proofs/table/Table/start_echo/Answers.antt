@@ -37,7 +37,7 @@ invariant_of-self c =
     let room = subst (λ (t : Memory). 0 < t.start_room) (sym c.self.view_is) c.requires.room in
     let os : c.echo_started.new.self.observed ≡ with_starts m (echo_started m c.args.rloc c.args.nonce inside.locators.observed.starts) inside.locators.observed =
     was_kept c.echo_started.result inside.locators.start_room c.echo_started.ensures.ok c.echo_started.ensures.memory room in
-    let place = subst (λ (t : Memory). count_by (start_counts m) t.parts.observed.starts < 4096) (sym c.self.view_is) (few-starts c.args.self.now.parts m c.requires.later c.args.rloc c.requires.place) in (
+    let place = subst (λ (t : Memory). count_by (start_counts m) t.parts.observed.starts < 4096) (sym c.self.view_is) (few-starts c.args.self.now.parts m c.requires.may.later c.args.rloc c.requires.place) in (
       omega (arith, few),
       refl,
       subst AreVersioned (sym c.purge.ensures.mappings) (lasting-versioned m inside.cache.mappings c.self.invariant.2),

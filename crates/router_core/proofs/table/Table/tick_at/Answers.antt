@@ -29,4 +29,4 @@ returns-clause-parts c =
     (c.as_slice.ensures.value ∙ c.in_ok-due.ensures.items) c.in_ok-reserve_probes.ensures.parts (c.in_ok-reserve.ensures.items ∙ c.new-entries.ensures.items) (c.in_ok-reserve-2.ensures.items ∙ c.new-emits.ensures.items) in
     ap₂ (λ (e : List Entry) (f : List Emit). change_of c.probe_next.new.self.parts e f) c.from_vec.ensures c.from_vec-2.ensures
     ∙ c.probe_next.ensures.change
-    ∙ ticked-by settings m p change c.requires.later first
+    ∙ ticked-by settings m p change c.requires.may.later first

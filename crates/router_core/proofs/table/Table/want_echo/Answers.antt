@@ -37,7 +37,7 @@ invariant_of-self c =
     let room = subst (λ (t : Memory). 0 < t.wish_room) (sym c.self.view_is) c.requires.room in
     let os : c.echo_wanted.new.self.observed ≡ with_wishes m (wanted m c.args.rloc c.args.nonce inside.locators.observed.wishes) inside.locators.observed =
     was_kept c.echo_wanted.result inside.locators.wish_room c.echo_wanted.ensures.ok c.echo_wanted.ensures.memory room in
-    let place = subst (λ (t : Memory). count_by (wish_counts m) t.parts.observed.wishes < 4096) (sym c.self.view_is) (few-wishes c.args.self.now.parts m c.requires.later c.args.rloc c.args.nonce c.requires.place) in (
+    let place = subst (λ (t : Memory). count_by (wish_counts m) t.parts.observed.wishes < 4096) (sym c.self.view_is) (few-wishes c.args.self.now.parts m c.requires.may.later c.args.rloc c.args.nonce c.requires.place) in (
       omega (arith, few),
       refl,
       subst AreVersioned (sym c.purge.ensures.mappings) (lasting-versioned m inside.cache.mappings c.self.invariant.2),

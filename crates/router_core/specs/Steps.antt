@@ -1,0 +1,54 @@
+-- What a step of a table asks for, and what it leaves.
+use Rattle.std.specs.Prelude.{◌≡◌, ◌≤◌, ◌<◌, ◌+◌, ◌^◌, ℕ, List, Result, All, OnErr, OnOk, Vec, length, vec_len, vec_capacity}
+use Rattle.std.specs.Global.{Global}
+use Rattle.lisp_settings.specs.declared.settings.Settings.{Settings}
+use Rattle.router_log.specs.declared.emit.Emit.{Emit}
+use Rattle.router_log.specs.declared.entry.Entry.{Entry}
+use Rattle.router_model.specs.Parts.{Parts, with_entry}
+use Rattle.router_core.specs.Sendable.{IsSendable}
+
+-- ### what goes in
+
+-- a step may be taken at a moment: it isn't before the last entry's, and the journal is far from as long as a number of
+-- 64 bits can say
+pub record MayStep (m : ℕ) (parts : Parts) : Type 0 where
+  pub later : parts.now ≤ m
+  pub count : parts.count < 2 ^ 61
+
+-- so many entries may be taken within a step, one after another
+pub record MayEnter (most m : ℕ) (parts : Parts) : Type 0 where
+  pub later : parts.now ≤ m
+  pub count : parts.count + most ≤ 2 ^ 62
+
+-- there is room for so many entries and as many emits
+pub record HaveRoom (most : ℕ) (written : Vec Entry Global) (sent : Vec Emit Global) : Type 0 where
+  pub entries : vec_len written + most ≤ vec_capacity written
+  pub emits : vec_len sent + most ≤ vec_capacity sent
+
+-- ### what comes out
+
+-- at most so many entries were taken, and the last isn't past the moment
+pub record HasEntered (most m : ℕ) (old new : Parts) : Type 0 where
+  pub now : new.now ≤ m
+  pub count : new.count ≤ old.count + most
+
+-- a step took at most so many entries; where it is refused, all is as it was
+pub record IsStep {T E : Type 0} (most m : ℕ) (old new : Parts) (result : Result T E) : Type 0 where
+  pub entered : OnOk result (HasEntered most m old new)
+  pub err : OnErr result (new ≡ old)
+
+-- just this entry was taken; where that is refused, all is as it was
+pub record IsTaken {T E : Type 0} (entry : Entry) (old new : Parts) (result : Result T E) : Type 0 where
+  pub ok : OnOk result (new ≡ with_entry entry old)
+  pub err : OnErr result (new ≡ old)
+
+-- at most so many emits, and the packet of each can be made
+pub record AreSent (settings : Settings) (most : ℕ) (emits : List Emit) : Type 0 where
+  pub sendable : All (IsSendable settings) emits
+  pub few : length emits ≤ most
+
+-- at most so many items were added, within the room that there was
+pub record AreAdded {T : Type 0} (most : ℕ) (old new : Vec T Global) : Type 0 where
+  pub more : vec_len old ≤ vec_len new
+  pub most_more : vec_len new ≤ vec_len old + most
+  pub capacity : vec_capacity new ≡ vec_capacity old

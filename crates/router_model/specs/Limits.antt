@@ -1,0 +1,25 @@
+-- The limits of a router, and what follows from them.
+use Rattle.std.specs.Prelude.{ℕ, ◌+◌, ◌*◌}
+pub use Rattle.map_cache.specs.Limits.{most_locators, most_mappings}
+pub use Rattle.request_queue.specs.Limits.{most_requests, most_retries}
+pub use Rattle.locator_state.specs.Limits.{most_probes, most_solicits, most_starts, most_targets, most_wishes}
+
+-- records of a Map-Reply or of a Map-Request, at most (RFC 9301, sections 5.2 and 5.4: a count of 8 bits)
+abbrev pub most_message_records : ℕ
+most_message_records = 255
+
+-- entries that come of a message, and emits, at most: of a Map-Reply its answer, and each of its records
+abbrev pub most_heard : ℕ
+most_heard = 1 + most_message_records
+
+-- entries that come of a second, and emits, at most: each request is sent again, and each target is probed
+abbrev pub most_ticked : ℕ
+most_ticked = most_requests + most_targets
+
+-- what a decision notices, at most
+abbrev pub most_notices : ℕ
+most_notices = 5
+
+-- entries that come of an event, at most, which is no sharp bound
+abbrev pub most_entries : ℕ
+most_entries = 2 * most_requests
