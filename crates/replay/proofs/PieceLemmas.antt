@@ -5,6 +5,7 @@ use Rattle.std.proofs.lemmas.List.{take_all, take-append-drop, length-append}
 use Rattle.desk.specs.World.{World, found_at, left_of, content, after_open, after_read, Fills}
 use Rattle.desk.proofs.Entries.{found_at-more}
 use Rattle.desk.proofs.Reading.{left-after_read}
+use Rattle.lisp_settings.specs.Limits.{most_text_octets}
 use Rattle.lisp_settings.specs.Settings.{settings_of}
 use Rattle.lisp_settings.proofs.ReadingLemmas.{settings_of-long}
 use Rattle.replay.specs.Readings.{ReadsAs}
@@ -47,7 +48,7 @@ came-last id n octets buf (Some w) (Some v) came fills short =
     inl (ap (λ (l : List ℕ). octets ++ l) (fills.octets ∙ all) ∙ sym came)
 
 -- more octets came than settings may have
-pub came-long : (id : ℕ) (octets : List ℕ) (old now : Option World) → Came id octets old now → 16777216 < length octets → IfSome old (λ w. ReadsAs octets (left_of id w))
+pub came-long : (id : ℕ) (octets : List ℕ) (old now : Option World) → Came id octets old now → most_text_octets < length octets → IfSome old (λ w. ReadsAs octets (left_of id w))
 came-long id octets None now came long = tt
 came-long id octets (Some w) None came long = absurd came
 came-long id octets (Some w) (Some v) came long =

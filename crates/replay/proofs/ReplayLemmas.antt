@@ -121,11 +121,6 @@ pub decided : (settings : Settings) (parts : Parts) (frame : Frame) (course : Co
 unfolding decide_by
 decided settings parts frame course is apart = rw (apart, is) refl
 
--- two facts make a third, where there is a value
-pub on_ok_two : {T E A B C : Type 0} (r : Result T E) → OnOk r A → OnOk r B → (A → B → C) → OnOk r C
-on_ok_two (Ok x) a b all = all a b
-on_ok_two (Err e) a b all = tt
-
 -- the packets of emits are what a second gives
 pub second-gathers : (router : Router Parts) (moment : ℕ) (change : Change Parts) (old new : Output)
     → Sends (emit_packets router.settings moment change.emits) old new → length change.emits ≤ 1040 → Gathers (after_tick table router moment change) old new

@@ -6,6 +6,7 @@ use Rattle.capture_io.specs.Capture.{header_rules}
 use Rattle.capture_io.specs.Frames.{Run, capture}
 use Rattle.capture_io.specs.Output.{out_header}
 use Rattle.capture_io.specs.declared.fault.CaptureFault.{CaptureFault}
+use Rattle.lisp_settings.specs.Limits.{most_text_octets}
 use Rattle.lisp_settings.specs.declared.settings.Settings.{Settings}
 use Rattle.playback.specs.Events.{Outcome, records_of}
 use Rattle.playback.specs.Playing.{outcome_of}
@@ -16,7 +17,7 @@ use Rattle.replay.specs.declared.replaying.Counts.{Counts}
 
 -- the octets are the text, or both are longer than settings may be
 abbrev pub ReadsAs : List ℕ → List ℕ → Type 0
-ReadsAs octets text = (octets ≡ text) ⊎ ((16777216 < length octets) × (16777216 < length text))
+ReadsAs octets text = (octets ≡ text) ⊎ ((most_text_octets < length octets) × (most_text_octets < length text))
 
 -- the outcome of a replay
 abbrev pub replay_of : Settings → Run → Outcome (Router Journal)

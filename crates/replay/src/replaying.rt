@@ -10,6 +10,7 @@ ghost use Rattle.capture_io.specs.Reading.{beginning};
 ghost use Rattle.lisp_settings.specs.Lawful.{IsLawful};
 ghost use Rattle.lisp_settings.specs.Settings.{settings_of};
 ghost use Rattle.playback.specs.Events.{second_of};
+ghost use Rattle.router_model.specs.Limits.{most_heard, most_mappings, most_ticked};
 ghost use Rattle.router_model.specs.Parts.{Parts, table};
 ghost use Rattle.router_model.specs.Plain.{Router, after_event};
 ghost use Rattle.replay.specs.Taking.{router_of};
@@ -54,11 +55,11 @@ impl<'a> Machine for Replay<'a> {
 
     ghost step = { after_event table };
 
-    // A frame adds at most 256 entries, a second 1,040.
+    // What frames and seconds add at most to the static mappings.
     ghost IsReady = { λ progress replay. IsLawful replay.settings.now
         × ((replay.table.parts.now ≤ unwrap_or progress.moment 0)
         × (replay.table.parts.count
-        ≤ 65536 + 256 * progress.frames + 1040 * second_of (unwrap_or progress.moment 0))) };
+        ≤ most_mappings + most_heard * progress.frames + most_ticked * second_of (unwrap_or progress.moment 0))) };
 
     fn tick(
         &mut self,

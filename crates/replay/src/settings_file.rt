@@ -8,12 +8,9 @@ ghost use Rattle.lisp_settings.specs.Settings.{settings_of};
 ghost use Rattle.replay.specs.Readings.{ReadsAs};
 
 use desk::{Desk, DeskFault, FileId, read_full};
-use lisp_settings::{Settings, SettingsFault, read_settings};
+use lisp_settings::{MOST_TEXT_OCTETS, Settings, SettingsFault, read_settings};
 use octets::Octets;
 use std::alloc::{AllocError, Global};
-
-// The most octets that a settings file may have.
-const MOST_OCTETS: usize = 16_777_216;
 
 // The octets that are read at once.
 const PIECE: usize = 65_536;
@@ -68,7 +65,7 @@ fn read_pieces<D: Desk>(alloc: Global, desk: &mut D, id: FileId) -> Result<Octet
     loop {
         let n = read_full(alloc, desk, id, &mut piece)?;
         text.append(&piece[..n])?;
-        if n < PIECE || text.len() > MOST_OCTETS {
+        if n < PIECE || text.len() > MOST_TEXT_OCTETS {
             return Ok(text);
         }
     }

@@ -6,10 +6,13 @@ ghost use Rattle.playback.specs.Events.{Arrival, Tick};
 ghost use Rattle.playback.specs.Playing.{Gathers};
 ghost use Rattle.router_core.specs.Seen.{course_seen, IfLeaving, IfSettled};
 ghost use Rattle.router_core.specs.Sendable.{IsSendable};
+ghost use Rattle.router_core.specs.Steps.{HasEntered, MayStep};
+ghost use Rattle.router_log.specs.Moments.{seconds};
 ghost use Rattle.router_model.specs.Changes.{each, unchanged};
 ghost use Rattle.router_model.specs.Decide.{decide_course};
 ghost use Rattle.router_model.specs.Hear.{course_heard};
 ghost use Rattle.router_model.specs.Lifting.{is_sound};
+ghost use Rattle.router_model.specs.Limits.{most_heard, most_notices, most_ticked};
 ghost use Rattle.router_model.specs.Note.{noted};
 ghost use Rattle.router_model.specs.Parts.{table, view_in};
 ghost use Rattle.router_model.specs.Plain.{after_decision, after_event, after_message, emit_packets, packet_of, packets_of, FitsRecord};
@@ -32,16 +35,15 @@ pub(crate) fn take_second(
     output: &mut Output,
 ) -> Result<(), NoMemory>
     requires lawful { IsLawful settings.now }
-    requires later { memory.old.parts.now ≤ second * 1000000000 }
-    requires count { memory.old.parts.count < 2 ^ 61 }
+    requires may { MayStep (seconds second) memory.old.parts }
     requires room { output.old.written < 2 ^ 48 }
     ensures gathers { OnOk result (Gathers
         (after_event table (router_of settings.now memory.old.parts) (Tick second))
         output.old output.new) }
     ensures state { OnOk result (router_of settings.now memory.new.parts
         ≡ (after_event table (router_of settings.now memory.old.parts) (Tick second)).after) }
-    ensures now { OnOk result (memory.new.parts.now ≤ second * 1000000000) }
-    ensures count { OnOk result (memory.new.parts.count ≤ memory.old.parts.count + 1040) }
+    ensures entered { OnOk result
+        (HasEntered most_ticked (seconds second) memory.old.parts memory.new.parts) }
 {
     let changed = memory.tick(settings, second)?;
     let moment = u64::from(second) * 1_000_000_000;
@@ -66,8 +68,8 @@ pub(crate) fn take_frame(
         output.old output.new) }
     ensures state { OnOk result (router_of settings.now memory.new.parts
         ≡ (after_event table (router_of settings.now memory.old.parts) (Arrival frame.now)).after) }
-    ensures now { OnOk result (memory.new.parts.now ≤ frame.now.moment) }
-    ensures count { OnOk result (memory.new.parts.count ≤ memory.old.parts.count + 256) }
+    ensures entered { OnOk result
+        (HasEntered most_heard frame.now.moment memory.old.parts memory.new.parts) }
 {
     let course = course_of(settings, frame);
     if course.is_message() {
@@ -87,8 +89,7 @@ fn hear(
     output: &mut Output,
 ) -> Result<(), NoMemory>
     requires lawful { IsLawful settings.now }
-    requires later { memory.old.parts.now ≤ frame.now.moment }
-    requires count { memory.old.parts.count < 2 ^ 61 }
+    requires may { MayStep frame.now.moment memory.old.parts }
     requires moment { frame.now.moment < 2 ^ 32 * 1000000000 }
     requires room { output.old.written < 2 ^ 48 }
     ensures gathers { OnOk result (Gathers
@@ -98,8 +99,8 @@ fn hear(
     ensures state { OnOk result (memory.new.parts
         ≡ (course_heard table settings.now frame.now.moment (course_seen course.entry)
         (unchanged memory.old.parts)).change.after) }
-    ensures now { OnOk result (memory.new.parts.now ≤ frame.now.moment) }
-    ensures count { OnOk result (memory.new.parts.count ≤ memory.old.parts.count + 256) }
+    ensures entered { OnOk result
+        (HasEntered most_heard frame.now.moment memory.old.parts memory.new.parts) }
 {
     let entries = memory.count();
     let heard = memory.hear_course(settings, frame.moment, course)?;
@@ -144,8 +145,8 @@ fn decide(
         ≡ (after_decision table (router_of settings.now memory.old.parts) frame.now
         (decide_course settings.now (view_in memory.old.parts frame.now.moment)
         (course_seen course.entry))).after) }
-    ensures now { OnOk result (memory.new.parts.now ≤ frame.now.moment) }
-    ensures count { OnOk result (memory.new.parts.count ≤ memory.old.parts.count + 5) }
+    ensures entered { OnOk result
+        (HasEntered most_notices frame.now.moment memory.old.parts memory.new.parts) }
 {
     let entries = memory.count();
     let Decision { verdict, notices } = memory.decide_course(settings, frame.moment, course)?;
@@ -214,9 +215,8 @@ fn note_all(
         ≡ (each (noted table settings.now moment) notices.now (unchanged memory.old.parts)).after) }
     ensures few { OnOk result (length (each (noted table settings.now moment) notices.now
         (unchanged memory.old.parts)).emits ≤ length notices.now) }
-    ensures now { OnOk result (memory.new.parts.now ≤ moment) }
-    ensures count { OnOk result (memory.new.parts.count
-        ≤ memory.old.parts.count + length notices.now) }
+    ensures entered { OnOk result
+        (HasEntered (length notices.now) moment memory.old.parts memory.new.parts) }
 {
     let [notice, others @ ..] = notices else {
         return Ok(());

@@ -7,6 +7,7 @@ use Rattle.map_cache.specs.Limits.{most_locators, most_mappings}
 use Rattle.map_cache.specs.declared.mapping.Mapping.{Mapping}
 use Rattle.request_queue.specs.Queue.{Queue}
 use Rattle.request_queue.specs.Limits.{most_requests}
+use Rattle.router_model.specs.Limits.{most_message_records}
 use Rattle.router_log.specs.declared.kept.EchoOut.{EchoOut}
 use Rattle.router_log.specs.declared.kept.EchoOut.TheVariants.{Plain, Answer, Ask}
 use Rattle.router_log.specs.declared.kept.EchoStart.{EchoStart}
@@ -40,10 +41,10 @@ IsShortOut (Ask nonce) = nonce < 2 ^ 24
 -- ### size
 
 -- the lists of locators are as short as the limits make them, and all have place for no more than is kept at most
--- and what is reserved at once: 255 mappings of a reply, 16,384 requests, 65,536 probes
+-- and what is reserved at once: all mappings of a reply, 16,384 requests, 65,536 probes
 pub record AreBounded (cache : Cache) (queue : Queue) (located : Located) (own_count : ℕ) : Type 0 where
-  pub mappings : cache.mapping_places ≤ most_mappings + 255
-  pub locators : cache.locator_places ≤ most_locators * (most_mappings + 255)
+  pub mappings : cache.mapping_places ≤ most_mappings + most_message_records
+  pub locators : cache.locator_places ≤ most_locators * (most_mappings + most_message_records)
   pub requests : queue.places ≤ 2 * (most_requests + 16384)
   pub probes : located.places ≤ 2 * (most_probes + 65536)
   pub longest : longest located.observed ≤ most_probes

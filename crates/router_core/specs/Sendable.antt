@@ -5,7 +5,7 @@ use Rattle.ip_headers.specs.declared.addr.Addr.{Addr}
 use Rattle.map_messages.specs.Range.{InRangeReply}
 use Rattle.map_messages.specs.Reply.{canonical_reply}
 use Rattle.map_messages.specs.declared.message.MapReply.{MapReply}
-use Rattle.map_messages.specs.declared.limits.TheConstants.{MOST_MESSAGE_OCTETS}
+use Rattle.map_messages.specs.Limits.{most_message_octets}
 use Rattle.lisp_settings.specs.declared.settings.Settings.{Settings}
 use Rattle.router_log.specs.declared.emit.Emit.{Emit}
 use Rattle.router_log.specs.declared.emit.Emit.TheVariants.{Request, Probe, Solicit, Reply}
@@ -15,7 +15,7 @@ use Rattle.router_model.specs.Site.{ours}
 pub record IsSendableReply (from to : Addr) (reply : MapReply) : Type 0 where
   pub family : width from ≡ width to
   pub range : InRangeReply reply
-  pub short : length (canonical_reply reply) ≤ MOST_MESSAGE_OCTETS
+  pub short : length (canonical_reply reply) ≤ most_message_octets
 
 -- an own locator of the receiver's family is up; a reply can be written
 abbrev pub IsSendable : Settings → Emit → Type 0

@@ -4,7 +4,7 @@ ghost use Rattle.std.specs.List.{list_any};
 ghost use Rattle.ip_headers.specs.Addr.{width};
 ghost use Rattle.map_messages.specs.Range.{InRangeReply};
 ghost use Rattle.map_messages.specs.Reply.{canonical_reply};
-ghost use Rattle.map_messages.specs.declared.limits.TheConstants.{MOST_MESSAGE_OCTETS};
+ghost use Rattle.map_messages.specs.Limits.{most_message_octets};
 ghost use Rattle.mapping_records.specs.Eids.{longer, same_address};
 ghost use Rattle.lisp_settings.specs.Lawful.{IsLawful};
 ghost use Rattle.lisp_settings.specs.declared.settings.Settings.{Settings as SettingsValue};
@@ -104,7 +104,7 @@ fn reply_of(
         (answering settings.now.databases request.now.eids)) }
     ensures range { IfOk result (λ reply. InRangeReply reply) }
     ensures short { IfOk result (λ reply.
-        length (canonical_reply reply) ≤ MOST_MESSAGE_OCTETS) }
+        length (canonical_reply reply) ≤ most_message_octets) }
 {
     let databases = settings.databases.as_slice();
     let mut hits = Vec::new(alloc);

@@ -5,6 +5,7 @@ ghost use Rattle.map_cache.specs.Cache.{has_room, lasting};
 ghost use Rattle.request_queue.specs.Queue.{waiting};
 ghost use Rattle.router_log.specs.declared.entry.Entry.TheVariants.{Asked, EchoStarted, EchoWanted, Learned, Probed, Solicited};
 ghost use Rattle.router_model.specs.Journal.{Journal};
+ghost use Rattle.router_model.specs.Limits.{most_locators, most_probes, most_requests};
 ghost use Rattle.router_model.specs.Parts.{Stands, absorbed, admits, view_in, with_entry};
 ghost use Rattle.router_model.specs.Proper.{fits};
 ghost use Rattle.router_core.specs.Steps.{IsTaken, MayEnter};
@@ -97,7 +98,7 @@ impl Table {
     // Takes the entry of a mapping that was learned.
     fn apply_learned(&mut self, m: u64, mapping: &Record) -> Result<(), NoMemory>
         requires may { MayEnter 1 m self.old.parts }
-        requires locators { length mapping.now.locators ≤ 32 }
+        requires locators { length mapping.now.locators ≤ most_locators }
         requires version { mapping.now.version ≤ 4095 }
         requires place { IsTrue (has_room mapping.now (lasting m self.old.parts.mappings)) }
         ensures taken { IsTaken (Learned m mapping.now false) self.old.parts self.new.parts result }
@@ -118,7 +119,7 @@ impl Table {
         nonce: u64,
     ) -> Result<(), NoMemory>
         requires may { MayEnter 1 m self.old.parts }
-        requires place { length (waiting m self.old.parts.requests) < 1024 }
+        requires place { length (waiting m self.old.parts.requests) < most_requests }
         ensures taken { IsTaken (Asked m eid source invoked nonce) self.old.parts self.new.parts result }
     {
         self.reserve_requests(1)?;
@@ -129,7 +130,7 @@ impl Table {
     // Takes the entry of a probe that was sent.
     fn apply_probed(&mut self, m: u64, rloc: Addr, nonce: u64) -> Result<(), NoMemory>
         requires may { MayEnter 1 m self.old.parts }
-        requires place { (view_in self.old.parts m).probe_count < 9600 }
+        requires place { (view_in self.old.parts m).probe_count < most_probes }
         ensures taken { IsTaken (Probed m rloc nonce) self.old.parts self.new.parts result }
     {
         self.reserve_probes(1)?;

@@ -1,11 +1,11 @@
 // Control messages in the packets that this router makes.
 ghost use Rattle.std.specs.Prelude.{◌≡◌, ◌≤◌, length, IfOk};
 ghost use Rattle.ip_headers.specs.Addr.{width};
-ghost use Rattle.capture_io.specs.declared.limits.TheConstants.{MOST_FRAME_OCTETS};
+ghost use Rattle.capture_io.specs.Limits.{most_frame_octets};
 ghost use Rattle.map_messages.specs.Message.{canonical_message};
 ghost use Rattle.map_messages.specs.Range.{InRange};
 ghost use Rattle.map_messages.specs.Reply.{canonical_reply};
-ghost use Rattle.map_messages.specs.declared.limits.TheConstants.{MOST_MESSAGE_OCTETS};
+ghost use Rattle.map_messages.specs.Limits.{most_message_octets};
 ghost use Rattle.router_model.specs.Emits.{message_packet};
 ghost use Rattle.router_core.specs.Sendable.{IsSendableReply};
 
@@ -26,10 +26,10 @@ pub(crate) fn message_packet(
 ) -> Result<Octets, NoMemory>
     requires family { width from ≡ width to }
     requires range { InRange message.now }
-    requires short { length (canonical_message message.now) ≤ MOST_MESSAGE_OCTETS }
+    requires short { length (canonical_message message.now) ≤ most_message_octets }
     ensures octets { IfOk result (λ packet. packet
         ≡ message_packet from to port (canonical_message message.now)) }
-    ensures size { IfOk result (λ packet. length packet ≤ MOST_FRAME_OCTETS) }
+    ensures size { IfOk result (λ packet. length packet ≤ most_frame_octets) }
 {
     let mut payload = Octets::new(alloc);
     write_message(alloc, message, &mut payload)?;
@@ -47,7 +47,7 @@ pub(crate) fn reply_packet(
     requires { IsSendableReply from to reply.now }
     ensures octets { IfOk result (λ packet. packet
         ≡ message_packet from to port (canonical_reply reply.now)) }
-    ensures size { IfOk result (λ packet. length packet ≤ MOST_FRAME_OCTETS) }
+    ensures size { IfOk result (λ packet. length packet ≤ most_frame_octets) }
 {
     let mut payload = Octets::new(alloc);
     write_reply(alloc, reply, &mut payload)?;
@@ -63,9 +63,9 @@ fn datagram_packet(
     payload: &[u8],
 ) -> Result<Octets, NoMemory>
     requires family { width from ≡ width to }
-    requires short { length payload.now ≤ MOST_MESSAGE_OCTETS }
+    requires short { length payload.now ≤ most_message_octets }
     ensures octets { IfOk result (λ packet. packet ≡ message_packet from to port payload.now) }
-    ensures size { IfOk result (λ packet. length packet ≤ MOST_FRAME_OCTETS) }
+    ensures size { IfOk result (λ packet. length packet ≤ most_frame_octets) }
 {
     let mut packet = Octets::new(alloc);
     write_control_header(from, to, 8 + payload.len() as u16, &mut packet)?;

@@ -1,9 +1,9 @@
 // The packets that this router makes itself.
 ghost use Rattle.std.specs.Prelude.{◌≡◌, ◌≤◌, IsTrue, is_some, length, IfOk};
-ghost use Rattle.capture_io.specs.declared.limits.TheConstants.{MOST_FRAME_OCTETS};
+ghost use Rattle.capture_io.specs.Limits.{most_frame_octets};
 ghost use Rattle.map_messages.specs.Message.{canonical_message};
 ghost use Rattle.map_messages.specs.Range.{InRange};
-ghost use Rattle.map_messages.specs.declared.limits.TheConstants.{MOST_MESSAGE_OCTETS};
+ghost use Rattle.map_messages.specs.Limits.{most_message_octets};
 ghost use Rattle.lisp_settings.specs.Lawful.{IsLawful};
 ghost use Rattle.lisp_settings.specs.declared.settings.Settings.{Settings as SettingsValue};
 ghost use Rattle.router_log.specs.declared.emit.Emit.TheVariants as emits;
@@ -28,7 +28,7 @@ pub fn emit_octets(alloc: Global, settings: &Settings, emit: &Emit) -> Result<Oc
     requires lawful { IsLawful settings.now }
     requires sendable { IsSendable settings.now emit.now }
     ensures octets { IfOk result (λ packet. packet ≡ emit_packet settings.now emit.now) }
-    ensures size { IfOk result (λ packet. length packet ≤ MOST_FRAME_OCTETS) }
+    ensures size { IfOk result (λ packet. length packet ≤ most_frame_octets) }
 {
     match emit {
         Emit::Request {
@@ -61,7 +61,7 @@ fn request_octets(
     requires lawful { IsLawful settings.now }
     ensures octets { IfOk result (λ packet. packet
         ≡ emit_packet settings.now (emits.Request eid source invoked nonce)) }
-    ensures size { IfOk result (λ packet. length packet ≤ MOST_FRAME_OCTETS) }
+    ensures size { IfOk result (λ packet. length packet ≤ most_frame_octets) }
 {
     let Some(resolver) = settings.resolver else {
         return Ok(Octets::new(alloc));
@@ -83,7 +83,7 @@ fn probe_octets(
     requires sender { IsTrue (is_some (ours settings.now.locators to)) }
     ensures octets { IfOk result (λ packet. packet
         ≡ emit_packet settings.now (emits.Probe to eid nonce)) }
-    ensures size { IfOk result (λ packet. length packet ≤ MOST_FRAME_OCTETS) }
+    ensures size { IfOk result (λ packet. length packet ≤ most_frame_octets) }
 {
     let message = probe_message(alloc, settings, eid, nonce)?;
     packet_to(alloc, settings, to, &message)
@@ -102,7 +102,7 @@ fn solicit_octets(
     requires sender { IsTrue (is_some (ours settings.now.locators to)) }
     ensures octets { IfOk result (λ packet. packet
         ≡ emit_packet settings.now (emits.Solicit to eid nonce)) }
-    ensures size { IfOk result (λ packet. length packet ≤ MOST_FRAME_OCTETS) }
+    ensures size { IfOk result (λ packet. length packet ≤ most_frame_octets) }
 {
     let message = solicit_message(alloc, settings, eid, nonce)?;
     packet_to(alloc, settings, to, &message)
@@ -120,7 +120,7 @@ fn reply_octets(
     requires { IsSendableReply from to reply.now }
     ensures octets { IfOk result (λ packet. (settings : SettingsValue)
         → packet ≡ emit_packet settings (emits.Reply from to port reply.now)) }
-    ensures size { IfOk result (λ packet. length packet ≤ MOST_FRAME_OCTETS) }
+    ensures size { IfOk result (λ packet. length packet ≤ most_frame_octets) }
 {
     reply_packet(alloc, from, to, port, reply)
 }
@@ -134,9 +134,9 @@ fn packet_to(
 ) -> Result<Octets, NoMemory>
     requires sender { IsTrue (is_some (ours settings.now.locators to)) }
     requires range { InRange message.now }
-    requires short { length (canonical_message message.now) ≤ MOST_MESSAGE_OCTETS }
+    requires short { length (canonical_message message.now) ≤ most_message_octets }
     ensures octets { IfOk result (λ packet. packet ≡ packet_to settings.now to message.now) }
-    ensures size { IfOk result (λ packet. length packet ≤ MOST_FRAME_OCTETS) }
+    ensures size { IfOk result (λ packet. length packet ≤ most_frame_octets) }
 {
     let Some(from) = ours(settings.locators.as_slice(), to) else {
         unreachable!()

@@ -9,6 +9,7 @@ ghost use Rattle.router_model.specs.Changes.{unchanged};
 ghost use Rattle.router_model.specs.Hear.{carried, course_heard, datagram_heard, drops, hear, hear_by, message_heard, payload_heard, probe_replied, reply_heard, requested, route_of};
 ghost use Rattle.router_model.specs.Journal.{Journal};
 ghost use Rattle.router_model.specs.Lifting.{AreOctets, Follows, MayGo};
+ghost use Rattle.router_model.specs.Limits.{most_heard};
 ghost use Rattle.router_model.specs.Parts.{Stands, table, view_in};
 ghost use Rattle.router_core.specs.Seen.{asker_seen, course_seen, datagram_seen, route_seen};
 ghost use Rattle.router_core.specs.Steps.{AreSent, IsStep, MayStep};
@@ -63,8 +64,8 @@ impl Table {
             (hear settings.now journal m frame.now).change) }
         ensures drop { IfOk result (λ heard. (why : ReasonValue) → heard.verdict ≡ Drop why
             → heard_seen self.new.parts heard ≡ drops why (unchanged self.old.parts)) }
-        ensures sent { IfOk result (λ heard. AreSent settings.now 256 heard.emits) }
-        ensures step { IsStep 256 m self.old.parts self.new.parts result }
+        ensures sent { IfOk result (λ heard. AreSent settings.now most_heard heard.emits) }
+        ensures step { IsStep most_heard m self.old.parts self.new.parts result }
     {
         fit(frame.octets.as_slice());
         self.hear_course(settings, m, course_of(settings, frame))
@@ -82,8 +83,8 @@ impl Table {
         ensures parts { IfOk result (λ heard. heard_seen self.new.parts heard
             ≡ course_heard table settings.now m (course_seen course.entry)
             (unchanged self.old.parts)) }
-        ensures sent { IfOk result (λ heard. AreSent settings.now 256 heard.emits) }
-        ensures step { IsStep 256 m self.old.parts self.new.parts result }
+        ensures sent { IfOk result (λ heard. AreSent settings.now most_heard heard.emits) }
+        ensures step { IsStep most_heard m self.old.parts self.new.parts result }
     {
         match course {
             Course::Control(datagram) => self.hear_datagram(settings, m, &datagram),
@@ -104,8 +105,8 @@ impl Table {
         ensures parts { IfOk result (λ heard. heard_seen self.new.parts heard
             ≡ datagram_heard table settings.now m (datagram_seen datagram.now)
             (unchanged self.old.parts)) }
-        ensures sent { IfOk result (λ heard. AreSent settings.now 256 heard.emits) }
-        ensures step { IsStep 256 m self.old.parts self.new.parts result }
+        ensures sent { IfOk result (λ heard. AreSent settings.now most_heard heard.emits) }
+        ensures step { IsStep most_heard m self.old.parts self.new.parts result }
     {
         let (packet, udp) = (&datagram.packet, &datagram.udp);
         match check_udp(packet, udp, false) {
@@ -134,8 +135,8 @@ impl Table {
         ensures parts { IfOk result (λ heard. heard_seen self.new.parts heard
             ≡ payload_heard table settings.now m (route_seen route) base payload.now
             (unchanged self.old.parts)) }
-        ensures sent { IfOk result (λ heard. AreSent settings.now 256 heard.emits) }
-        ensures step { IsStep 256 m self.old.parts self.new.parts result }
+        ensures sent { IfOk result (λ heard. AreSent settings.now most_heard heard.emits) }
+        ensures step { IsStep most_heard m self.old.parts self.new.parts result }
     {
         match read_message(self.alloc, payload, base) {
             Ok((message, _)) => self.hear_message(settings, m, route, &message),
@@ -158,8 +159,8 @@ impl Table {
         ensures parts { IfOk result (λ heard. heard_seen self.new.parts heard
             ≡ message_heard table settings.now m (route_seen route) message.now
             (unchanged self.old.parts)) }
-        ensures sent { IfOk result (λ heard. AreSent settings.now 256 heard.emits) }
-        ensures step { IsStep 256 m self.old.parts self.new.parts result }
+        ensures sent { IfOk result (λ heard. AreSent settings.now most_heard heard.emits) }
+        ensures step { IsStep most_heard m self.old.parts self.new.parts result }
     {
         match message {
             Message::Reply(reply) => self.hear_reply(settings, m, route.from, reply),
@@ -186,8 +187,8 @@ impl Table {
         ensures parts { IfOk result (λ heard. heard_seen self.new.parts heard
             ≡ carried table settings.now m dest ecm.now.source_port ecm.now.request
             (unchanged self.old.parts)) }
-        ensures sent { IfOk result (λ heard. AreSent settings.now 256 heard.emits) }
-        ensures step { IsStep 256 m self.old.parts self.new.parts result }
+        ensures sent { IfOk result (λ heard. AreSent settings.now most_heard heard.emits) }
+        ensures step { IsStep most_heard m self.old.parts self.new.parts result }
     {
         let Some(request) = &ecm.request else {
             return Ok(self.dropped(Reason::Unexpected));
@@ -212,8 +213,8 @@ impl Table {
         ensures parts { IfOk result (λ heard. heard_seen self.new.parts heard
             ≡ requested table settings.now m (asker_seen asker) request.now
             (unchanged self.old.parts)) }
-        ensures sent { IfOk result (λ heard. AreSent settings.now 256 heard.emits) }
-        ensures step { IsStep 256 m self.old.parts self.new.parts result }
+        ensures sent { IfOk result (λ heard. AreSent settings.now most_heard heard.emits) }
+        ensures step { IsStep most_heard m self.old.parts self.new.parts result }
     {
         if request.smr && !asker.probe {
             return self.renew(settings, m, request);
@@ -236,7 +237,7 @@ impl Table {
         ensures parts { IfOk result (λ heard. heard_seen self.new.parts heard
             ≡ reply_heard table settings.now m from reply.now (unchanged self.old.parts)) }
         ensures quiet { IfOk result (λ heard. heard.emits ≡ []) }
-        ensures step { IsStep 256 m self.old.parts self.new.parts result }
+        ensures step { IsStep most_heard m self.old.parts self.new.parts result }
     {
         if reply.probe {
             return self.hear_probe_reply(m, from, reply);

@@ -1,7 +1,6 @@
 // What a Map-Reply teaches.
 ghost use Rattle.std.specs.Prelude.{◌≡◌, ◌<◌, ◌≤◌, ◌+◌, ◌*◌, ◌&&◌, ◌||◌, nat_lt, max, is_some, [], Some, not, length, map, IfOk, vec_len, vec_capacity};
 ghost use Rattle.map_cache.specs.Cache.{exact, lasting};
-ghost use Rattle.mapping_records.specs.declared.limits.TheConstants.{MOST_MAPPINGS};
 ghost use Rattle.std.specs.List.{All, list_any};
 ghost use Rattle.std.specs.List.Sorted.{IsStrictlySortedBy};
 ghost use Rattle.lisp_settings.specs.Lawful.{IsLawful};
@@ -12,6 +11,7 @@ ghost use Rattle.router_model.specs.Changes.{each, has_room, unchanged};
 ghost use Rattle.router_model.specs.Hear.{is_asked_for, is_fit, is_static, replied_to, taught};
 ghost use Rattle.mapping_records.specs.Eids.{same_eid};
 ghost use Rattle.mapping_records.specs.Orders.{eid_order};
+ghost use Rattle.router_model.specs.Limits.{most_heard, most_mappings};
 ghost use Rattle.router_model.specs.Parts.{table, view_in};
 ghost use Rattle.router_core.specs.Copies.{all_copies, copies_of};
 ghost use Rattle.router_core.specs.Steps.{AreAdded, HasEntered, IsStep, MayEnter, MayStep};
@@ -48,7 +48,7 @@ impl Table {
             ≡ replied_to table settings.now m reply.now (Some request.now)
             (unchanged self.old.parts)) }
         ensures quiet { IfOk result (λ heard. heard.emits ≡ []) }
-        ensures step { IsStep 256 m self.old.parts self.new.parts result }
+        ensures step { IsStep most_heard m self.old.parts self.new.parts result }
     {
         let mappings = reply.mappings.as_slice();
         if !is_fit(&request.eid, mappings) {
@@ -167,7 +167,7 @@ impl Table {
     // A mapping of the EID is live, or there are fewer than the limit.
     fn has_place(&self, m: u64, eid: &Eid) -> bool
         ensures { let mappings = lasting (max m self.now.parts.now) self.now.parts.mappings in
-            result ≡ (is_some (exact mappings eid.now) || nat_lt (length mappings) MOST_MAPPINGS) }
+            result ≡ (is_some (exact mappings eid.now) || nat_lt (length mappings) most_mappings) }
     {
         let now = self.moment_at(m);
         self.cache.exact(now, eid, &mut Reads::new()).is_some()

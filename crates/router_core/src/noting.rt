@@ -6,6 +6,7 @@ ghost use Rattle.router_log.specs.declared.notice.Notice.TheVariants.{Ask, Bits}
 ghost use Rattle.router_model.specs.Changes.{asked, may_ask, unchanged};
 ghost use Rattle.router_model.specs.Journal.{Journal};
 ghost use Rattle.router_model.specs.Lifting.{Follows, MayGo, is_sound};
+ghost use Rattle.router_model.specs.Limits.{most_requests};
 ghost use Rattle.router_model.specs.Note.{is_missing, is_news, is_wanting, note, noted};
 ghost use Rattle.router_model.specs.Mappings.{exact, force};
 ghost use Rattle.router_model.specs.Parts.{Stands, table, view_in};
@@ -170,7 +171,7 @@ impl Table {
         invoked: bool,
     ) -> Result<Changed, NoMemory>
         requires may { MayStep m self.old.parts }
-        requires place { length (waiting m self.old.parts.requests) < 1024 }
+        requires place { length (waiting m self.old.parts.requests) < most_requests }
         requires resolver { IsTrue (is_some settings.now.resolver) }
         ensures parts { IfOk result (λ changed. changed_seen self.new.parts changed
             ≡ asked table settings.now m eid source invoked (unchanged self.old.parts)) }

@@ -3,6 +3,7 @@ ghost use Rattle.std.specs.Prelude.{◌≡◌, ◌<◌, ◌≤◌, ◌+◌, ◌^
 ghost use Rattle.map_messages.specs.Range.{InRangeRequest};
 ghost use Rattle.router_model.specs.Changes.{each, unchanged};
 ghost use Rattle.router_model.specs.Hear.{counted, ranges_of, renewable, renewed};
+ghost use Rattle.router_model.specs.Limits.{most_heard};
 ghost use Rattle.router_model.specs.Mappings.{force};
 ghost use Rattle.router_model.specs.Parts.{table, view_in};
 ghost use Rattle.router_core.specs.Renewing.{range_of, source_range};
@@ -32,8 +33,8 @@ impl Table {
         ensures parts { IfOk result (λ heard. heard_seen self.new.parts heard
             ≡ counted table settings.now m (each (renewed table settings.now m)
             (ranges_of request.now) (unchanged self.old.parts))) }
-        ensures sent { IfOk result (λ heard. AreSent settings.now 256 heard.emits) }
-        ensures step { IsStep 256 m self.old.parts self.new.parts result }
+        ensures sent { IfOk result (λ heard. AreSent settings.now most_heard heard.emits) }
+        ensures step { IsStep most_heard m self.old.parts self.new.parts result }
     {
         let eids = request.eids.as_slice();
         let mut entries = Vec::new(self.alloc);

@@ -5,6 +5,7 @@ ghost use Rattle.request_queue.specs.Queue.{may_send_again, waiting};
 ghost use Rattle.lisp_settings.specs.Lawful.{IsLawful, IsLawfulMapping};
 ghost use Rattle.router_log.specs.declared.entry.Entry.TheVariants.{Answered, Asked, Bits, DataFrom, EchoHeard, EchoStarted, EchoWanted, Learned, ProbeAnswered, Probed, Retried, Solicited};
 ghost use Rattle.router_model.specs.Journal.{statics};
+ghost use Rattle.router_model.specs.Limits.{all_locators, most_locators, most_mappings, most_message_records, most_probes, most_requests};
 ghost use Rattle.router_model.specs.Parts.{Stands, parts_in, view_in, with_entry};
 ghost use Rattle.router_core.specs.Steps.{MayEnter};
 
@@ -108,8 +109,8 @@ impl Table {
     // Makes room for so many static mappings, with so many locators in all, where there is none yet.
     fn reserve_statics(&mut self, n: u32, locators: u32) -> Result<(), NoMemory>
         requires none { self.old.parts.mappings ≡ [] }
-        requires n { n ≤ 65536 }
-        requires locators { locators ≤ 2097152 }
+        requires n { n ≤ most_mappings }
+        requires locators { locators ≤ all_locators }
         ensures parts { self.new.parts ≡ self.old.parts }
         ensures room { OnOk result (n ≤ self.new.mapping_room) }
         ensures locator_room { OnOk result (locators ≤ self.new.locator_room) }
@@ -134,7 +135,7 @@ impl Table {
 
     /// Makes room for so many further mappings, at most those of a reply, with so many locators in all.
     pub(crate) fn reserve_mappings(&mut self, n: u32, locators: u32) -> Result<(), NoMemory>
-        requires n { n ≤ 255 }
+        requires n { n ≤ most_message_records }
         requires locators { locators ≤ 8160 }
         ensures parts { self.new.parts ≡ self.old.parts }
         ensures room { OnOk result (n ≤ self.new.mapping_room) }
@@ -178,7 +179,7 @@ impl Table {
     /// Takes the entry of a mapping that was learned, for which there is room.
     pub(crate) fn learn(&mut self, m: u64, mapping: Record, fixed: bool)
         requires may { MayEnter 1 m self.old.parts }
-        requires locators { length mapping.locators ≤ 32 }
+        requires locators { length mapping.locators ≤ most_locators }
         requires version { mapping.version ≤ 4095 }
         requires fixed { IsTrue fixed → mapping.ttl ≢ 0 }
         requires place { IsTrue (has_room mapping (lasting m self.old.parts.mappings)) }
@@ -202,7 +203,7 @@ impl Table {
     /// Takes the entry of a request that was made, for which there is room.
     pub(crate) fn ask(&mut self, m: u64, eid: Eid, source: Option<Addr>, invoked: bool, nonce: u64)
         requires may { MayEnter 1 m self.old.parts }
-        requires place { length (waiting m self.old.parts.requests) < 1024 }
+        requires place { length (waiting m self.old.parts.requests) < most_requests }
         requires room { 0 < self.old.request_room }
         ensures parts { self.new.parts
             ≡ with_entry (Asked m eid source invoked nonce) self.old.parts }
@@ -253,7 +254,7 @@ impl Table {
     pub(crate) fn probe(&mut self, m: u64, rloc: Addr, nonce: u64)
         requires may { MayEnter 1 m self.old.parts }
         requires room { 0 < self.old.probe_room }
-        requires place { (view_in self.old.parts m).probe_count < 9600 }
+        requires place { (view_in self.old.parts m).probe_count < most_probes }
         ensures parts { self.new.parts ≡ with_entry (Probed m rloc nonce) self.old.parts }
         ensures probe_room { self.old.probe_room ≤ self.new.probe_room + 1 }
     {
@@ -364,10 +365,10 @@ impl Table {
 
 // How many locators mappings have in all.
 fn locator_count(mappings: &[Record]) -> u32
-    requires few_mappings { length mappings.now ≤ 65536 }
+    requires few_mappings { length mappings.now ≤ most_mappings }
     requires lawful { All IsLawfulMapping mappings.now }
     ensures count { result ≡ sum_by (λ mapping. length mapping.locators) mappings.now }
-    ensures most { result ≤ 2097152 }
+    ensures most { result ≤ all_locators }
 {
     let mut count = 0;
     for mapping in mappings {

@@ -1,13 +1,13 @@
 // A second that begins.
 ghost use Rattle.std.specs.Prelude.{◌≡◌, ◌<◌, ◌≤◌, ◌+◌, ◌∷◌, [], length, filter, map, All, IsTrue, IfOk, vec_len, vec_capacity};
 ghost use Rattle.lisp_settings.specs.declared.settings.Settings.{Settings as SettingsValue};
-ghost use Rattle.locator_state.specs.declared.limits.TheConstants.{MOST_TARGETS};
 ghost use Rattle.request_queue.specs.Queue.{all_due, waiting};
 ghost use Rattle.router_log.specs.Moments.{seconds};
 ghost use Rattle.router_log.specs.declared.entry.Entry.TheVariants.{Retried};
 ghost use Rattle.router_model.specs.Changes.{each, unchanged};
 ghost use Rattle.router_model.specs.Journal.{Journal};
 ghost use Rattle.router_model.specs.Lifting.{Follows, MayGo};
+ghost use Rattle.router_model.specs.Limits.{most_requests, most_targets, most_ticked};
 ghost use Rattle.router_model.specs.Parts.{Stands, table, view_in, with_entry};
 ghost use Rattle.router_model.specs.Tick.{all_probed, is_probed, may_take, next_targets, probed, retried, target_of, tick, ticked};
 ghost use Rattle.router_core.specs.Sendable.{IsSendable};
@@ -38,8 +38,8 @@ impl Table {
             → Stands settings.now self.old.parts journal → MayGo journal (seconds second)
             → Follows settings.now (changed_seen self.new.parts changed)
             (tick settings.now journal second)) }
-        ensures sent { IfOk result (λ changed. AreSent settings.now 1040 changed.emits) }
-        ensures step { IsStep 1040 (seconds second) self.old.parts self.new.parts result }
+        ensures sent { IfOk result (λ changed. AreSent settings.now most_ticked changed.emits) }
+        ensures step { IsStep most_ticked (seconds second) self.old.parts self.new.parts result }
     {
         let m = u64::from(second) * 1_000_000_000;
         if self.is_idle(settings, m) {
@@ -86,8 +86,8 @@ impl Table {
         requires may { MayStep m self.old.parts }
         ensures parts { IfOk result (λ changed. changed_seen self.new.parts changed
             ≡ ticked table settings.now m (unchanged self.old.parts)) }
-        ensures sent { IfOk result (λ changed. AreSent settings.now 1040 changed.emits) }
-        ensures step { IsStep 1040 m self.old.parts self.new.parts result }
+        ensures sent { IfOk result (λ changed. AreSent settings.now most_ticked changed.emits) }
+        ensures step { IsStep most_ticked m self.old.parts self.new.parts result }
     {
         let due = self.due_requests(m)?;
         let most = due.len() + MOST_TARGETS;
@@ -111,7 +111,7 @@ impl Table {
     // The requests that are due, in asking order.
     fn due_requests(&self, m: u64) -> Result<Vec<Request>, NoMemory>
         ensures items { IfOk result (λ due. due.items ≡ all_due m self.now.parts.requests) }
-        ensures few { IfOk result (λ due. vec_len due ≤ 1024) }
+        ensures few { IfOk result (λ due. vec_len due ≤ most_requests) }
         ensures owed { IfOk result (λ due.
             AreOwed (waiting m self.now.parts.requests) due.items) }
     {
@@ -199,18 +199,18 @@ impl Table {
         entries: &mut Vec<Entry>,
         emits: &mut Vec<Emit>,
     )
-        requires may { MayEnter MOST_TARGETS m self.old.parts }
+        requires may { MayEnter most_targets m self.old.parts }
         requires none { first.old.items ≡ [] }
-        requires targets { MOST_TARGETS < vec_capacity first.old }
-        requires room { MOST_TARGETS ≤ self.old.probe_room }
-        requires places { HaveRoom MOST_TARGETS entries.old emits.old }
+        requires targets { most_targets < vec_capacity first.old }
+        requires room { most_targets ≤ self.old.probe_room }
+        requires places { HaveRoom most_targets entries.old emits.old }
         requires sendable { All (IsSendable settings.now) emits.old.items }
         ensures change { change_of self.new.parts entries.new.items emits.new.items
             ≡ all_probed table settings.now m
             (change_of self.old.parts entries.old.items emits.old.items) }
         ensures sendable { All (IsSendable settings.now) emits.new.items }
-        ensures entered { HasEntered MOST_TARGETS m self.old.parts self.new.parts }
-        ensures emits { AreAdded MOST_TARGETS emits.old emits.new }
+        ensures entered { HasEntered most_targets m self.old.parts self.new.parts }
+        ensures emits { AreAdded most_targets emits.old emits.new }
     {
         if !settings.probe {
             return;
@@ -223,9 +223,9 @@ impl Table {
     fn find_targets(&self, settings: &Settings, m: u64, first: &mut Vec<Target>)
         requires now { self.now.parts.now ≤ m }
         requires none { first.old.items ≡ [] }
-        requires room { MOST_TARGETS < vec_capacity first.old }
+        requires room { most_targets < vec_capacity first.old }
         ensures items { first.new.items ≡ next_targets settings.now (view_in self.now.parts m) }
-        ensures few { vec_len first.new ≤ MOST_TARGETS }
+        ensures few { vec_len first.new ≤ most_targets }
         ensures senders { All (HasSender settings.now) first.new.items }
     {
         for index in 0..self.cache.len() {
@@ -247,12 +247,12 @@ impl Table {
         first: &mut Vec<Target>,
     )
         requires now { self.now.parts.now ≤ m }
-        requires few { vec_len first.old ≤ MOST_TARGETS }
-        requires room { MOST_TARGETS < vec_capacity first.old }
+        requires few { vec_len first.old ≤ most_targets }
+        requires room { most_targets < vec_capacity first.old }
         ensures items { first.new.items ≡ offered (filter (is_probed settings.now m)
             (map (target_of (view_in self.now.parts m) eid.now) (filter may_take locators.now)))
             first.old.items }
-        ensures few { vec_len first.new ≤ MOST_TARGETS }
+        ensures few { vec_len first.new ≤ most_targets }
         ensures capacity { vec_capacity first.old ≤ vec_capacity first.new }
     {
         let [locator, others @ ..] = locators else {
@@ -272,12 +272,12 @@ impl Table {
         first: &mut Vec<Target>,
     )
         requires now { self.now.parts.now ≤ m }
-        requires few { vec_len first.old ≤ MOST_TARGETS }
-        requires room { MOST_TARGETS < vec_capacity first.old }
+        requires few { vec_len first.old ≤ most_targets }
+        requires room { most_targets < vec_capacity first.old }
         ensures items { first.new.items ≡ offered (filter (is_probed settings.now m)
             (map (target_of (view_in self.now.parts m) eid.now)
             (filter may_take (locator.now ∷ [])))) first.old.items }
-        ensures few { vec_len first.new ≤ MOST_TARGETS }
+        ensures few { vec_len first.new ≤ most_targets }
         ensures capacity { vec_capacity first.old ≤ vec_capacity first.new }
     {
         if locator.priority == 255 {

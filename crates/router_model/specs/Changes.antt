@@ -10,6 +10,7 @@ use Rattle.router_log.specs.declared.emit.Emit.TheVariants as emit
 use Rattle.router_log.specs.declared.entry.Entry.{Entry}
 use Rattle.router_log.specs.declared.entry.Entry.TheVariants as entry
 use Rattle.router_model.specs.Journal.{Journal}
+use Rattle.router_model.specs.Limits.{most_mappings, most_requests}
 use Rattle.router_model.specs.Mappings.{exact}
 use Rattle.request_queue.specs.Queue.{covered}
 use Rattle.router_model.specs.View.{View, view}
@@ -44,12 +45,12 @@ emitted packet change = record change { emits = change.emits ++ packet ∷ [] }
 
 -- an EID may be asked for: there is a resolver, no open request covers it, and there is room
 abbrev pub may_ask : Settings → View → Eid → Bool
-may_ask settings v eid = is_some settings.resolver && (not (covered v.requests eid) && nat_lt (length v.requests) 1024)
+may_ask settings v eid = is_some settings.resolver && (not (covered v.requests eid) && nat_lt (length v.requests) most_requests)
 
 -- a mapping may be learnt: it takes one away, or replaces one, or there is room
 abbrev pub has_room : View → Record → Bool
 has_room v mapping =
-    (mapping.ttl == 0) || (is_some (exact v.mappings mapping.eid) || nat_lt (length v.mappings) 65536)
+    (mapping.ttl == 0) || (is_some (exact v.mappings mapping.eid) || nat_lt (length v.mappings) most_mappings)
 
 module _ {S : Type 0} (ledger : Ledger S) (settings : Settings) (m : ℕ) where
   -- what is seen by now

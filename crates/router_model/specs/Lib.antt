@@ -11,6 +11,7 @@ pub mod Isolation
 pub mod Journal
 pub mod Kept
 pub mod Lifting
+pub mod Limits
 pub mod Mappings
 pub mod Note
 pub mod Observed

@@ -25,6 +25,7 @@ use Rattle.router_model.specs.Course.{Control, Datagram, course_of}
 use Rattle.router_model.specs.Decide.{decide, decide_by}
 use Rattle.router_model.specs.Hear.{Heard, Route, hear, hear_by, message_heard, ranges_of}
 use Rattle.router_model.specs.Journal.{Journal, IsRising, last_moment, moment_of, statics}
+use Rattle.router_model.specs.Limits.{most_entries, most_notices, most_targets}
 use Rattle.router_model.specs.Mappings.{bit, bit_told, exact, held, live, live_mappings}
 use Rattle.router_model.specs.Note.{note, noted}
 use Rattle.router_model.specs.Parts.{Parts, Stands, absorbed, admits, parts_in, parts_of, table, view_in}
@@ -100,7 +101,7 @@ is_sound _ = true
 
 -- notices as a decision gives them: at most five
 abbrev pub AreSound : List Notice → Type 0
-AreSound notices = (list_all is_sound notices ≡ true) × (length notices ≤ 5)
+AreSound notices = (list_all is_sound notices ≡ true) × (length notices ≤ most_notices)
 
 -- a notice is noted by a table as by the journal: the same entries, which fit, and the same emits
 abbrev pub NotesLift : Type 0
@@ -109,7 +110,7 @@ NotesLift = (settings : Settings) (m more : ℕ) (notice : Notice) (before : Cha
 -- a second is for a table what it is for the journal: the same entries, which fit, and the same emits; at most as many
 -- as requests are open, and 16
 abbrev pub TicksLift : Type 0
-TicksLift = (settings : Settings) (m more : ℕ) (before : Change Journal) → Ready settings m (more + 16 + length (view before.after m).requests) before.after → Goes settings m more (ticked table settings m (tabled before)) (ticked of_journal settings m before)
+TicksLift = (settings : Settings) (m more : ℕ) (before : Change Journal) → Ready settings m (more + most_targets + length (view before.after m).requests) before.after → Goes settings m more (ticked table settings m (tabled before)) (ticked of_journal settings m before)
 
 -- a table answered a message as the journal
 pub record Hears (settings : Settings) (m more : ℕ) (by_table : Heard Parts) (by_journal : Heard Journal) : Type 0 where
@@ -209,7 +210,7 @@ outcome_tabled outcome =
 -- from the static mappings on a table gives the lines and packets of the plain router, and its parts are those of that
 -- router's journal, which is proper
 abbrev pub TableReplays : Type 0
-TableReplays = (settings : Settings) (events : List Event) → AreInOrder 0 events → length (statics settings) + 2048 * length events ≤ 2 ^ 62 → (played (after_event table) (router_tabled (started settings)) events ≡ outcome_tabled (played plain (started settings) events)) × IsProper settings (played plain (started settings) events).after.memory
+TableReplays = (settings : Settings) (events : List Event) → AreInOrder 0 events → length (statics settings) + most_entries * length events ≤ 2 ^ 62 → (played (after_event table) (router_tabled (started settings)) events ≡ outcome_tabled (played plain (started settings) events)) × IsProper settings (played plain (started settings) events).after.memory
 
 -- the frames of a capture are in order, and have octets
 abbrev pub FramesInOrder : ℕ → List Frame → Type 0
@@ -230,7 +231,7 @@ ReadInOrder = (format : Format) (octets : List ℕ) → WereRead format octets �
 
 -- and a journal has room for all that comes of them and of the seconds between them
 abbrev pub ReadFits : Type 0
-ReadFits = (settings : Settings) (format : Format) (octets : List ℕ) → IsLawful settings → WereRead format octets → length (statics settings) + 2048 * length (events (read_on format begin octets).frames) ≤ 2 ^ 62
+ReadFits = (settings : Settings) (format : Format) (octets : List ℕ) → IsLawful settings → WereRead format octets → length (statics settings) + most_entries * length (events (read_on format begin octets).frames) ≤ 2 ^ 62
 
 -- so of a run that was read a table gives the lines and packets of the plain router, and its parts are those of that
 -- router's journal, which is proper

@@ -1,7 +1,7 @@
 -- The plain router: it decides each packet of a capture by all of its journal.
 use Rattle.std.specs.Prelude.{ℕ, ◌≤◌, List, [], ◌∷◌, ◌++◌, length, map, Option, Some, None, IfSome, if◌then◌else◌}
 use Rattle.capture_io.specs.Frame.{Frame}
-use Rattle.capture_io.specs.declared.limits.TheConstants.{MOST_FRAME_OCTETS}
+use Rattle.capture_io.specs.Limits.{most_frame_octets}
 use Rattle.lisp_settings.specs.declared.settings.Settings.{Settings}
 use Rattle.playback.specs.Events.{Event, Outcome, Packet, Tick, Arrival}
 use Rattle.router_log.specs.Lines.{frame_line}
@@ -98,4 +98,4 @@ plain router event = after_event ledgers.journal router event
 
 -- the packet that a verdict sends, if it sends one, fits a record
 abbrev pub FitsRecord : Verdict → Type 0
-FitsRecord verdict = IfSome (packet_of verdict) (λ packet. length packet ≤ MOST_FRAME_OCTETS)
+FitsRecord verdict = IfSome (packet_of verdict) (λ packet. length packet ≤ most_frame_octets)

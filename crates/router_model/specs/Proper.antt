@@ -7,19 +7,20 @@ use Rattle.router_log.specs.declared.entry.Entry.{Entry}
 use Rattle.router_log.specs.declared.entry.Entry.TheVariants.{Learned, Asked, Retried, Answered, Probed, ProbeAnswered, Bits, EchoStarted, EchoHeard, DataFrom, EchoWanted, Solicited}
 use Rattle.router_model.specs.Changes.{has_room}
 use Rattle.router_model.specs.Journal.{Journal, drawn, last_moment, moment_of, statics}
+use Rattle.router_model.specs.Limits.{most_locators, most_probes, most_requests, most_retries}
 use Rattle.router_model.specs.Mappings.{exact}
 use Rattle.request_queue.specs.Queue.{with_nonce}
 use Rattle.request_queue.specs.declared.request.Request.{Request}
 use Rattle.router_model.specs.View.{View, view}
 
--- action and version of a record have their bits, and its locators are at most 32
+-- action and version of a record have their bits, and its locators are no more than a mapping may have
 abbrev pub is_in_range : Record → Bool
-is_in_range mapping = nat_le mapping.action 7 && (nat_le mapping.version 4095 && nat_le (length mapping.locators) 32)
+is_in_range mapping = nat_le mapping.action 7 && (nat_le mapping.version 4095 && nat_le (length mapping.locators) most_locators)
 
--- an open request was sent again less than twice
+-- an open request may be sent again once more
 abbrev pub may_retry : Option Request → Bool
 may_retry None = false
-may_retry (Some request) = nat_lt request.sent_again 2
+may_retry (Some request) = nat_lt request.sent_again most_retries
 
 -- the nonce of an echo has 24 bits (RFC 9300, section 5.1)
 abbrev pub is_short : ℕ → Bool
@@ -28,11 +29,11 @@ is_short nonce = nat_lt nonce (2 ^ 24)
 -- the entry may follow what is seen at its moment
 abbrev pub suits : View → Entry → Bool
 suits v (Learned moment mapping fixed) = not fixed && (is_in_range mapping && has_room v mapping)
-suits v (Asked moment eid source invoked nonce) = nat_lt (length v.requests) 1024
+suits v (Asked moment eid source invoked nonce) = nat_lt (length v.requests) most_requests
 suits v (Retried moment nonce) = may_retry (with_nonce v.requests nonce)
 suits v (Answered moment nonce) = is_some (with_nonce v.requests nonce)
 suits v (Bits moment eid bits width) = is_some (exact v.mappings eid) && ((width == 8) || (width == 32))
-suits v (Probed moment rloc nonce) = nat_lt v.probe_count 9600
+suits v (Probed moment rloc nonce) = nat_lt v.probe_count most_probes
 suits v (ProbeAnswered moment nonce) = is_some (v.probe_open nonce)
 suits v (EchoStarted moment rloc nonce) = v.may_start rloc && is_short nonce
 suits v (EchoHeard moment rloc) = is_some (v.echo_on rloc)

@@ -10,6 +10,7 @@ use Rattle.router_model.specs.Course.{control}
 use Rattle.router_model.specs.Cut.{AreShort, AreWithin, Filling, StaysOpen, cut, cut_on, is_full, with_frame, with_frames}
 use Rattle.router_model.specs.Journal.{Journal, extended, first, last_moment, statics}
 use Rattle.router_model.specs.Lifting.{AreInOrder, FramesInOrder}
+use Rattle.router_model.specs.Limits.{most_entries}
 use Rattle.router_model.specs.Parts.{Parts, Stands, parts_in, table}
 use Rattle.router_model.specs.Plain.{Router, plain, started}
 use Rattle.router_model.specs.Proper.{IsProper}
@@ -198,7 +199,7 @@ pub record MayBegin (settings : Settings) (m : ℕ) (journal : Journal) (events 
   pub proper : IsProper settings journal
   pub last : last_moment journal ≤ m
   pub order : AreInOrder m events
-  pub room : length journal + 2048 * length events ≤ 2 ^ 62
+  pub room : length journal + most_entries * length events ≤ 2 ^ 62
 
 -- the events of frames in order are in order, from the moment of the frame before them on
 abbrev pub RoundInOrder : Type 0
@@ -207,7 +208,7 @@ RoundInOrder = (previous : Option ℕ) (frames : List Frame) → FramesInOrder (
 -- the journal after a round is one that a router can have; its last entry isn't later than the round's last frame, and
 -- at most 2,048 entries came for each event
 abbrev pub RoundStays : Type 0
-RoundStays = (settings : Settings) (previous : Option ℕ) (frames : List Frame) (journal : Journal) (ns : List ℕ) (m : ℕ) → MayBegin settings m journal (events_after previous frames) → let after = (round settings previous frames journal ns).after in IsProper settings after × ((last_moment after ≤ max m (closing_moment frames)) × (length after ≤ length journal + 2048 * length (events_after previous frames)))
+RoundStays = (settings : Settings) (previous : Option ℕ) (frames : List Frame) (journal : Journal) (ns : List ℕ) (m : ℕ) → MayBegin settings m journal (events_after previous frames) → let after = (round settings previous frames journal ns).after in IsProper settings after × ((last_moment after ≤ max m (closing_moment frames)) × (length after ≤ length journal + most_entries * length (events_after previous frames)))
 
 -- what was written, with the parts of the journal
 abbrev pub writing_tabled : Writing Journal → Writing Parts

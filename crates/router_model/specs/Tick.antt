@@ -12,6 +12,7 @@ use Rattle.router_log.specs.declared.emit.Emit.TheVariants as emit
 use Rattle.router_log.specs.declared.entry.Entry.TheVariants as entry
 use Rattle.router_model.specs.Changes.{Change, Ledger, each, emitted, entered, journal, next_nonce, seen, unchanged}
 use Rattle.router_model.specs.Journal.{Journal}
+use Rattle.router_model.specs.Limits.{most_probes, most_targets}
 use Rattle.router_model.specs.Mappings.{Held}
 use Rattle.router_model.specs.Site.{is_own, ours}
 use Rattle.router_model.specs.View.{View}
@@ -45,7 +46,7 @@ candidates settings v =
 
 -- those to be probed now, at most 16 a second (this router's choice)
 abbrev pub next_targets : Settings → View → List Target
-next_targets settings v = take 16 (candidates settings v)
+next_targets settings v = take most_targets (candidates settings v)
 
 module _ {S : Type 0} (ledger : Ledger S) (settings : Settings) (m : ℕ) where
   -- a request goes out again
@@ -62,7 +63,7 @@ module _ {S : Type 0} (ledger : Ledger S) (settings : Settings) (m : ℕ) where
   -- where fewer than 9,600 are younger than 600 seconds
   abbrev pub probed : Target → Change S → Change S
   probed target change =
-      if nat_lt (seen ledger settings m change).probe_count 9600
+      if nat_lt (seen ledger settings m change).probe_count most_probes
       then probed_with (next_nonce ledger settings m change) target change else change
 
   -- the requests that are due, in asking order

@@ -10,7 +10,7 @@ loop-text-preserved g c =
     let front : c.append.new.self ≡ c.loop-text.text ++ take c.in_ok-n.n c.read_full.new.buf = grind (arith, common_steps) in
     record {
       size = omega (arith, length_refill c.loop-text.piece.len c.loop-text.piece.items c.read_full.new.buf c.loop-text.piece.ok.0, c.loop-text.piece.ok.0, inv.size);
-      short = omega (arith, c.len.ensures, c.if-len-gt-MOST_OCTETS.false);
+      short = omega (arith, c.len.ensures, c.if-len-gt-MOST_TEXT_OCTETS.false);
       came = subst (λ (text : List ℕ). Came c.args.id.number text (g.D.Desk.told c.args.desk.now) (g.D.Desk.told c.read_full.new.desk)) (sym front)
           (came-more c.args.id.number c.in_ok-n.n c.loop-text.text c.read_full.new.buf (g.D.Desk.told c.args.desk.now) (g.D.Desk.told c.loop-text.desk) (g.D.Desk.told c.read_full.new.desk) inv.came c.in_ok-n.ensures.octets c.in_ok-n.ensures.told);
       shown = c.in_ok-n.ensures.shown ∙ inv.shown;

@@ -23,6 +23,16 @@ noted-first t c =
     ap (λ (l : List Notice). each (noted table settings c.args.moment) l (unchanged c.args.memory.now.parts)) (first-left notices notice c.in-len1-up.len_at_least c.notice-item.is)
     ∙ all-from settings c.args.moment notice left c.args.memory.now.parts c.note.new.self.parts c.in_ok-changed.changed.entries c.in_ok-changed.changed.emits c.in_ok-changed.ensures.parts
 
+pub note-requires-clause-may : goal.note-requires-clause-may
+note-requires-clause-may t c = record { later = c.requires.later; count = omega (arith, c.requires.count, c.in-len1-up.len_at_least) }
+
+pub returns-clause-entered : goal.returns-clause-entered
+returns-clause-entered t c =
+    let some = c.in-len1-up.len_at_least in
+    let split = ap (λ (l : List Notice). length l) (first-left c.args.notices.now c.notice-item.result some c.notice-item.is) in
+    let first = c.in_ok-changed.ensures.step.entered in
+    on_ok_weaker c.note_all.result (λ others. record { now = others.now; count = omega (arith, others.count, first.count, split) }) c.note_all.ensures.entered
+
 pub returns-clause-sends : goal.returns-clause-sends
 returns-clause-sends t c =
     let settings = c.args.settings.now in
@@ -48,7 +58,7 @@ returns-clause-few t c =
     let notices = c.args.notices.now in
     let emits = c.in_ok-changed.changed.emits in
     let left : Change Parts = each (noted table c.args.settings.now c.args.moment) (take (length notices - 1) (drop 1 notices)) (unchanged c.note.new.self.parts) in
-    let one = c.in_ok-changed.ensures.few in
+    let one = c.in_ok-changed.ensures.sent.few in
     let some = c.in-len1-up.len_at_least in
     let split = ap (λ (l : List Notice). length l) (first-left notices c.notice-item.result some c.notice-item.is) in
     let both = length-append emits left.emits in

@@ -1,4 +1,4 @@
-use Rattle.std.proofs.Common.{◌≡◌, ◌∙◌, ◌++◌, ℕ, List, ap, refl, subst}
+use Rattle.std.proofs.Common.{◌≡◌, ◌∙◌, ◌++◌, ℕ, List, ap, refl, subst, sym}
 use Rattle.std.proofs.lemmas.Result.{on_ok_weaker}
 use Rattle.capture_io.specs.Frame.{Frame}
 use Rattle.playback.specs.Playing.{Gathers}
@@ -7,13 +7,24 @@ use Rattle.router_log.specs.Lines.{frame_line}
 use Rattle.router_log.specs.declared.emit.Emit.{Emit}
 use Rattle.router_model.specs.Changes.{unchanged}
 use Rattle.router_model.specs.Hear.{Heard, course_heard}
+use Rattle.router_model.specs.Limits.{most_heard}
 use Rattle.router_model.specs.Parts.{Parts, table}
 use Rattle.router_model.specs.Plain.{after_message, emit_packets}
 use Rattle.router_core.specs.Seen.{course_seen}
+use Rattle.router_core.specs.Steps.{HasEntered, MayStep}
 use Rattle.router_core.specs.Table.{heard_seen}
 use Rattle.replay.specs.Taking.{router_of, Sends}
 use Rattle.replay.proofs.ReplayLemmas.{message-gathers}
 use Rattle.replay.proofs.taking.hear.Goals as goal
+
+pub hear_course-requires-clause-may : goal.hear_course-requires-clause-may
+hear_course-requires-clause-may c =
+    subst (λ (f : Frame). MayStep f.moment c.args.memory.now.parts) (sym c.frame.view_is) c.requires.may
+
+pub returns-clause-entered : goal.returns-clause-entered
+returns-clause-entered c =
+    on_ok_weaker c.push_emits.result (λ sends.
+    subst (λ (f : Frame). HasEntered most_heard f.moment c.args.memory.now.parts c.hear_course.new.self.parts) c.frame.view_is c.in_ok-heard.ensures.step.entered) c.push_emits.ensures
 
 pub returns-clause-gathers : goal.returns-clause-gathers
 returns-clause-gathers c =
@@ -37,4 +48,4 @@ returns-clause-gathers c =
     subst (λ (m : ℕ). Sends (emit_packets settings m heard.change.emits) first new) now
     (subst (λ (l : List Emit). Sends (emit_packets settings inside.moment l) first new) c.as_slice.ensures sends) in
     subst (λ (h : Heard Parts). Gathers (after_message table (router_of settings parts) frame h) old new) is
-    (message-gathers (router_of settings parts) frame heard old first new lines refl refl sent c.in_ok-heard.ensures.few)) c.push_emits.ensures
+    (message-gathers (router_of settings parts) frame heard old first new lines refl refl sent c.in_ok-heard.ensures.sent.few)) c.push_emits.ensures

@@ -1,4 +1,5 @@
-use Rattle.std.proofs.Common.{◌≡◌, ◌∙◌, false, ap, sym, subst}
+use Rattle.std.proofs.Common.{◌≡◌, ◌∙◌, false, ap, sym, subst, arith}
+use Rattle.std.proofs.lemmas.Result.{on_ok_weaker}
 use Rattle.std.specs.Result.{OnOk}
 use Rattle.playback.specs.Events.{Outcome}
 use Rattle.playback.specs.Playing.{Gathers}
@@ -22,3 +23,10 @@ returns-else-is_message-clause-state c =
     ap is_message (sym c.course_of-course.ensures.course) ∙ sym c.is_message.ensures ∙ c.if-is_message.false in
     subst (λ (o : Outcome (Router Parts)). OnOk c.decide.result (router_of c.args.settings.now c.decide.new.memory.parts ≡ o.after))
     (decided c.args.settings.now c.args.memory.now.parts c.args.frame.now _ c.course_of-course.ensures.course apart) c.decide.ensures.state
+
+pub hear-requires-clause-may : goal.hear-requires-clause-may
+hear-requires-clause-may c = record { later = c.requires.later; count = omega (arith, c.requires.count) }
+
+pub returns-else-is_message-clause-entered : goal.returns-else-is_message-clause-entered
+returns-else-is_message-clause-entered c =
+    on_ok_weaker c.decide.result (λ entered. record { now = entered.now; count = omega (arith, entered.count) }) c.decide.ensures.entered

@@ -1,5 +1,6 @@
 use Rattle.std.proofs.Common.{arith, unwrap_or}
-use Rattle.replay.proofs.ReplayLemmas.{on_ok_two, ready-more, room-left}
+use Rattle.std.proofs.lemmas.Result.{on_ok_weaker}
+use Rattle.replay.proofs.ReplayLemmas.{ready-more, room-left}
 use Rattle.replay.proofs.replaying.ReplayMachine.take.Goals as goal
 
 pub take_frame-requires-clause-count : goal.take_frame-requires-clause-count
@@ -13,5 +14,5 @@ take_frame-requires-clause-count c =
 pub returns-clause-ready : goal.returns-clause-ready
 returns-clause-ready c =
     let ready = c.requires.ready in
-    on_ok_two c.take_frame.result c.take_frame.ensures.now c.take_frame.ensures.count (λ now count.
-    (ready.0, (now, ready-more c.args._progress.frames c.args.frame.now.number _ _ (unwrap_or c.args._progress.moment 0) c.args.frame.now.moment c.requires.next c.requires.later ready.1.1 count)))
+    on_ok_weaker c.take_frame.result (λ entered.
+    (ready.0, (entered.now, ready-more c.args._progress.frames c.args.frame.now.number _ _ (unwrap_or c.args._progress.moment 0) c.args.frame.now.moment c.requires.next c.requires.later ready.1.1 entered.count))) c.take_frame.ensures.entered
