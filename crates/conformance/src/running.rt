@@ -28,11 +28,11 @@ pub fn differences(alloc: Global, names: &Names<'_>, row: &Row) -> Result<String
 }
 
 // Adds what differs in the runs of one list of words.
-fn push_each(
+fn push_each<'a>(
     alloc: Global,
     names: &Names<'_>,
-    row: &Row,
-    words: &str,
+    row: &'a Row,
+    words: &'a str,
     found: &mut String,
 ) -> Result<()> {
     let Some(several) = &row.each else {

@@ -30,6 +30,32 @@ pub fn read(alloc: Global, text: &str) -> Result<Settings, Fail> {
     Ok(settings)
 }
 
+// The word of a fault, as a report says it.
+fn word_of(fault: &SettingsFault) -> &'static str {
+    match fault {
+        SettingsFault::NotToml => "not-toml",
+        SettingsFault::UnknownKey(_) => "unknown-key",
+        SettingsFault::Missing(_) => "missing",
+        SettingsFault::BadValue(_) => "bad-value",
+        SettingsFault::Duplicate(_) => "duplicate",
+        SettingsFault::TooMany(_) => "too-many",
+        SettingsFault::TooLong => "too-long",
+        SettingsFault::Memory => "memory",
+    }
+}
+
+// The place of a fault, empty where it has none.
+fn place_of(fault: &SettingsFault) -> &[u8] {
+    match fault {
+        SettingsFault::UnknownKey(key) => key.as_slice(),
+        SettingsFault::Missing(key) => key.as_slice(),
+        SettingsFault::BadValue(key) => key.as_slice(),
+        SettingsFault::Duplicate(key) => key.as_slice(),
+        SettingsFault::TooMany(key) => key.as_slice(),
+        SettingsFault::NotToml | SettingsFault::TooLong | SettingsFault::Memory => b"".as_slice(),
+    }
+}
+
 /// The first fault of a text is of this word, and at this place.
 pub fn assert_fault(
     rt: &impl Abort,
@@ -39,17 +65,7 @@ pub fn assert_fault(
     place: &str,
 ) -> Result<(), Fail> {
     let fault = read_settings(alloc, text).err().ok_or("settings")?;
-    let (said, at) = match &fault {
-        SettingsFault::NotToml => ("not-toml", b"".as_slice()),
-        SettingsFault::UnknownKey(key) => ("unknown-key", key.as_slice()),
-        SettingsFault::Missing(key) => ("missing", key.as_slice()),
-        SettingsFault::BadValue(key) => ("bad-value", key.as_slice()),
-        SettingsFault::Duplicate(key) => ("duplicate", key.as_slice()),
-        SettingsFault::TooMany(key) => ("too-many", key.as_slice()),
-        SettingsFault::TooLong => ("too-long", b"".as_slice()),
-        SettingsFault::Memory => ("memory", b"".as_slice()),
-    };
-    assert_eq!(rt; said, word);
-    assert_eq!(rt; at, place.as_bytes());
+    assert_eq!(rt; word_of(&fault), word);
+    assert_eq!(rt; place_of(&fault), place.as_bytes());
     Ok(())
 }

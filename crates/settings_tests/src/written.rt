@@ -1,4 +1,6 @@
 // Settings that are written, and read back.
+ghost use Rattle.lisp_settings.specs.Lawful.{IsLawful};
+
 use crate::sameness::assert_same;
 use crate::texts::{LOCATOR, SITE};
 use lisp_settings::{
@@ -17,7 +19,9 @@ fn read_back(
     alloc: Global,
     first: &Settings,
     most: usize,
-) -> Result<Settings, Fail> {
+) -> Result<Settings, Fail>
+    requires { IsLawful first.now }
+{
     let written = write_settings(alloc, first)?;
     assert!(rt; written.len() <= most);
     let again = read_settings(alloc, written.as_slice())?;
