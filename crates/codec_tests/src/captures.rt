@@ -1,10 +1,11 @@
 // Files that Python's struct module packed.
 use capture_io::{
-    CaptureFault, CaptureReader, Link, NoMemory, link_payload, write_header, write_packet,
+    CaptureFault, CaptureReader, Frame, Link, NoMemory, link_payload, write_header, write_packet,
 };
 use desk::{Calls, Desk, Files, MemoryDesk, NamedFile};
 use octets::Octets;
 use std::alloc::Global;
+use std::process::Abort;
 use std::test::Fail;
 
 // Big-endian, nanoseconds, Ethernet: a frame with the tag 0xa00a, and one of an earlier moment.
@@ -44,21 +45,35 @@ fn desk_with(alloc: Global, octets: &[u8]) -> Result<MemoryDesk, NoMemory> {
 
 #[test]
 fn frames_are_read_in_the_other_order(rt: HostRuntime) -> Result<(), Fail> {
-    let alloc = rt.alloc();
-    let mut desk = desk_with(alloc, &BIG)?;
+    let mut desk = desk_with(rt.alloc(), &BIG)?;
+    reads_two_frames(&rt, rt.alloc(), &mut desk)
+}
+
+fn reads_two_frames(rt: &impl Abort, alloc: Global, desk: &mut MemoryDesk) -> Result<(), Fail> {
     let id = desk.open_file(alloc, "in")?;
-    let mut reader = CaptureReader::start(alloc, &mut desk, id)?;
+    let mut reader = CaptureReader::start(alloc, desk, id)?;
     for (number, vlan, packet) in [(1, 10, b"\x45\x00".as_slice()), (2, 0, b"\x60".as_slice())] {
-        let frame = reader.next(alloc, &mut desk)?.ok_or("a frame is missing")?;
-        assert_eq!(rt; frame.number, number);
-        assert_eq!(rt; frame.moment, 1_700_000_000_000_000_005);
-        assert_eq!(rt; frame.link, Link::Ethernet);
-        let (tag, octets) = link_payload(&frame)?;
-        assert_eq!(rt; tag, vlan);
-        assert_eq!(rt; octets, packet);
+        let frame = reader.next(alloc, desk)?.ok_or("a frame is missing")?;
+        assert_frame(rt, &frame, number, vlan, packet)?;
     }
-    assert!(rt; reader.next(alloc, &mut desk)?.is_none());
-    assert!(rt; reader.next(alloc, &mut desk)?.is_none());
+    assert!(rt; reader.next(alloc, desk)?.is_none());
+    assert!(rt; reader.next(alloc, desk)?.is_none());
+    Ok(())
+}
+
+fn assert_frame(
+    rt: &impl Abort,
+    frame: &Frame,
+    number: u32,
+    vlan: u16,
+    packet: &[u8],
+) -> Result<(), Fail> {
+    assert_eq!(rt; frame.number, number);
+    assert_eq!(rt; frame.moment, 1_700_000_000_000_000_005);
+    assert_eq!(rt; frame.link, Link::Ethernet);
+    let (tag, octets) = link_payload(frame)?;
+    assert_eq!(rt; tag, vlan);
+    assert_eq!(rt; octets, packet);
     Ok(())
 }
 

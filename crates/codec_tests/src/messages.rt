@@ -1,9 +1,10 @@
 // A worked reply, and messages that no router here sends.
 ghost use Rattle.std.specs.Prelude.{◌≤◌, length};
 
-use map_messages::{Addr, Eid, Message, Prefix, read_message, write_message};
+use map_messages::{Addr, Eid, MapReply, Message, Prefix, read_message, write_message};
 use octets::Octets;
 use std::alloc::Global;
+use std::process::Abort;
 use std::test::Fail;
 
 /// One record: 10.2.0.0/16 of instance 100 with the locator 198.51.100.7.
@@ -34,29 +35,43 @@ fn written(alloc: Global, octets: &[u8]) -> Result<Octets, Fail>
     Ok(out)
 }
 
-#[test]
-fn a_worked_reply_is_read_and_written_again(rt: HostRuntime) -> Result<(), Fail> {
-    let (message, left) = read_message(rt.alloc(), &REPLY, 0).ok().ok_or("a message")?;
-    let Message::Reply(reply) = &message else {
-        return Err("a Map-Reply")?;
-    };
-    assert_eq!(rt;
-        (reply.probe, reply.nonce, left),
-        (false, 0x0102_0304_0506_0708, 0)
-    );
+// What is written of the message that these octets spell.
+fn assert_written(
+    rt: &impl Abort,
+    alloc: Global,
+    octets: &[u8],
+    expected: &[u8],
+) -> Result<(), Fail>
+    requires { length octets.now ≤ 65000 }
+{
+    let out = written(alloc, octets)?;
+    assert_eq!(rt; out.as_slice(), expected);
+    Ok(())
+}
+
+fn assert_reply(rt: &impl Abort, reply: &MapReply) -> Result<(), Fail> {
+    assert_eq!(rt; (reply.probe, reply.nonce), (false, 0x0102_0304_0506_0708));
     let mapping = reply.mappings.as_slice().first().ok_or("a record")?;
     let prefix = Prefix::new(Addr::V4(0x0a02_0000), 16).ok_or("16 bits")?;
     assert_eq!(rt; (mapping.ttl, mapping.eid), (60, Eid { iid: 100, prefix }));
     assert_eq!(rt; (reply.mappings.len(), mapping.locators.len()), (1, 1));
-    let out = written(rt.alloc(), &REPLY)?;
-    assert_eq!(rt; out.as_slice(), REPLY.as_slice());
     Ok(())
 }
 
 #[test]
+fn a_worked_reply_is_read_and_written_again(rt: HostRuntime) -> Result<(), Fail> {
+    let (message, left) = read_message(rt.alloc(), &REPLY, 0).ok().ok_or("a message")?;
+    assert_eq!(rt; left, 0);
+    match &message {
+        Message::Reply(reply) => assert_reply(&rt, reply)?,
+        _ => return Err("a Map-Reply")?,
+    }
+    assert_written(&rt, rt.alloc(), &REPLY, &REPLY)
+}
+
+#[test]
 fn what_is_ignored_is_written_as_0_and_all_else_again(rt: HostRuntime) -> Result<(), Fail> {
-    let out = written(rt.alloc(), &ECM_V6)?;
-    assert_eq!(rt; out.as_slice(), ECM_V6.as_slice());
+    assert_written(&rt, rt.alloc(), &ECM_V6, &ECM_V6)?;
     // All flags, of which A isn't kept, two ITR-RLOCs, no EID record, and one record.
     let octets = [
         0x1f, 0xff, 0xe1, 0, 1, 2, 3, 4, 5, 6, 7, 8, 0, 1, 10, 1, 0, 5, 0, 1, 192, 0, 2, 1, 0, 2,
@@ -67,7 +82,5 @@ fn what_is_ignored_is_written_as_0_and_all_else_again(rt: HostRuntime) -> Result
     expected[0] = 0x17;
     expected[1] = 0x40;
     expected[2] = 1;
-    let out = written(rt.alloc(), &octets)?;
-    assert_eq!(rt; out.as_slice(), expected.as_slice());
-    Ok(())
+    assert_written(&rt, rt.alloc(), &octets, &expected)
 }

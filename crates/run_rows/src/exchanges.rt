@@ -1,8 +1,7 @@
 // Exchanges with a resolver: the frames that come, what is reported, and the packets that are sent.
 use crate::packets::{CONTROL, PACKET, REPLY, SENT, WRITTEN, changed, push_record};
-use octets::Octets;
+use octets::{NoMemory, Octets};
 use std::alloc::Global;
-use std::test::Fail;
 
 /// A frame that comes: its second behind 1,700,000,000, its fraction as the capture counts it, its
 /// octets, and the line of the report.
@@ -52,13 +51,12 @@ pub const USED: Arrival<'static> = (
 pub const CARRIED: Departure<'static> = (0, 200_000_000, &SENT, &[(28, 0x48), (34, 0x64)]);
 
 // A record at so many seconds behind 1,700,000,000.
-fn push_at(second: u32, fraction: u32, octets: &[u8], out: &mut Octets) -> Result<(), Fail> {
-    let second = second.checked_add(1_700_000_000).ok_or("no such second")?;
-    push_record(second, fraction, octets, out)
+fn push_at(second: u32, fraction: u32, octets: &[u8], out: &mut Octets) -> Result<(), NoMemory> {
+    push_record(second.wrapping_add(1_700_000_000), fraction, octets, out)
 }
 
 /// The capture of those frames.
-pub fn capture_of(alloc: Global, header: &[u8], frames: &[Arrival<'_>]) -> Result<Octets, Fail> {
+pub fn capture_of(alloc: Global, header: &[u8], frames: &[Arrival<'_>]) -> Result<Octets, NoMemory> {
     let mut capture = Octets::copied(alloc, header)?;
     for (second, fraction, octets, _) in frames {
         push_at(*second, *fraction, octets, &mut capture)?;
@@ -67,7 +65,7 @@ pub fn capture_of(alloc: Global, header: &[u8], frames: &[Arrival<'_>]) -> Resul
 }
 
 /// The output of those packets.
-pub fn output_of(alloc: Global, packets: &[Departure<'_>]) -> Result<Octets, Fail> {
+pub fn output_of(alloc: Global, packets: &[Departure<'_>]) -> Result<Octets, NoMemory> {
     let mut output = Octets::copied(alloc, &WRITTEN)?;
     for (second, nanosecond, octets, edits) in packets {
         let packet = changed(alloc, octets, octets.len(), edits)?;
@@ -77,7 +75,7 @@ pub fn output_of(alloc: Global, packets: &[Departure<'_>]) -> Result<Octets, Fai
 }
 
 /// The lines of those frames, and the last one.
-pub fn report_of(alloc: Global, frames: &[Arrival<'_>], end: &str) -> Result<String, Fail> {
+pub fn report_of(alloc: Global, frames: &[Arrival<'_>], end: &str) -> Result<String, NoMemory> {
     let mut report = String::new(alloc);
     for (_, _, _, line) in frames {
         report.push_str(line)?;

@@ -1,7 +1,6 @@
 // Captures and packets, and what changes in them.
-use octets::Octets;
+use octets::{NoMemory, Octets};
 use std::alloc::Global;
-use std::test::Fail;
 
 /// The header of a capture of raw packets, little-endian, in microseconds.
 pub const RAW: [u8; 24] = [
@@ -53,17 +52,19 @@ pub const CONTROL: [u8; 116] = [
 ];
 
 /// So many of the octets, with some of them changed, each by place and value. Behind their end are
-/// zeros.
+/// zeros. A place past all of them changes nothing.
 pub fn changed(
     alloc: Global,
     octets: &[u8],
     size: usize,
     edits: &[(usize, u8)],
-) -> Result<Vec<u8>, Fail> {
+) -> Result<Vec<u8>, NoMemory> {
     let mut changed = octets.to_vec(alloc)?;
     changed.resize(size, 0)?;
     for (place, value) in edits {
-        *changed.get_mut(*place).ok_or("no such place")? = *value;
+        if let Some(octet) = changed.get_mut(*place) {
+            *octet = *value;
+        }
     }
     Ok(changed)
 }
@@ -74,8 +75,8 @@ pub fn push_record(
     fraction: u32,
     octets: &[u8],
     out: &mut Octets,
-) -> Result<(), Fail> {
-    let size = u32::try_from(octets.len())?.to_le_bytes();
+) -> Result<(), NoMemory> {
+    let size = u32::try_from(octets.len()).unwrap_or(u32::MAX).to_le_bytes();
     out.append(&second.to_le_bytes())?;
     out.append(&fraction.to_le_bytes())?;
     out.append(&size)?;

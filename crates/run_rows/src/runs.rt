@@ -1,10 +1,10 @@
 // Runs over a desk in memory, and what they end with.
 use desk::{Calls, Desk, Files, MemoryDesk, NamedFile};
-use octets::Octets;
+use octets::{NoMemory, Octets};
 use replay::{Status, Word, run};
 use std::alloc::Global;
 use std::str;
-use std::test::Fail;
+use std::str::Utf8Error;
 
 /// The words of a replay.
 pub const REPLAY: [&str; 7] = [
@@ -17,7 +17,7 @@ pub const REPLAY: [&str; 7] = [
     "out",
 ];
 
-fn named(alloc: Global, name: &str, octets: Octets) -> Result<NamedFile, Fail> {
+fn named(alloc: Global, name: &str, octets: Octets) -> Result<NamedFile, NoMemory> {
     Ok(NamedFile {
         name: Octets::copied(alloc, name.as_bytes())?,
         octets,
@@ -25,7 +25,7 @@ fn named(alloc: Global, name: &str, octets: Octets) -> Result<NamedFile, Fail> {
 }
 
 /// Files by name, and what they hold.
-pub fn files_of(alloc: Global, rows: &[(&str, &[u8])]) -> Result<Files, Fail> {
+pub fn files_of(alloc: Global, rows: &[(&str, &[u8])]) -> Result<Files, NoMemory> {
     let mut files = Files::new(alloc);
     for (name, octets) in rows {
         files.push(named(alloc, name, Octets::copied(alloc, octets)?)?)?;
@@ -39,7 +39,7 @@ pub fn desk_with(
     settings: &str,
     capture: Octets,
     fails: Calls,
-) -> Result<MemoryDesk, Fail> {
+) -> Result<MemoryDesk, NoMemory> {
     let mut files = Files::new(alloc);
     let octets = Octets::copied(alloc, settings.as_bytes())?;
     files.push(named(alloc, "settings", octets)?)?;
@@ -48,7 +48,7 @@ pub fn desk_with(
 }
 
 /// Runs the words over the desk.
-pub fn run_words<D: Desk>(alloc: Global, words: &[&str], desk: &mut D) -> Result<Status, Fail> {
+pub fn run_words<D: Desk>(alloc: Global, words: &[&str], desk: &mut D) -> Result<Status, NoMemory> {
     let mut owned: Vec<Word> = Vec::new(alloc);
     for word in words {
         owned.push(String::from_str(alloc, word)?)?;
@@ -61,18 +61,18 @@ pub fn replayed(
     alloc: Global,
     settings: &str,
     capture: Octets,
-) -> Result<(Status, MemoryDesk), Fail> {
+) -> Result<(Status, MemoryDesk), NoMemory> {
     let mut desk = desk_with(alloc, settings, capture, Calls::new(alloc))?;
     let status = run_words(alloc, &REPLAY, &mut desk)?;
     Ok((status, desk))
 }
 
 /// A report as text.
-pub fn text(report: &[u8]) -> Result<&str, Fail> {
-    Ok(str::from_utf8(report)?)
+pub fn text(report: &[u8]) -> Result<&str, Utf8Error> {
+    str::from_utf8(report)
 }
 
 /// The report.
-pub fn said(desk: &MemoryDesk) -> Result<&str, Fail> {
+pub fn said(desk: &MemoryDesk) -> Result<&str, Utf8Error> {
     text(desk.said())
 }

@@ -1,9 +1,12 @@
 // As many mappings as may be live at once.
+use desk::MemoryDesk;
+use octets::NoMemory;
 use replay::Status;
 use run_rows::exchanges::{ASKED, Arrival, TENANT, capture_of, output_of, report_of};
 use run_rows::packets::{PACKET, REPLY, WRITTEN};
-use run_rows::runs::{replayed, said};
+use run_rows::runs::replayed;
 use std::alloc::Global;
+use std::process::Abort;
 use std::test::Fail;
 
 // A miss and its reply where no mapping more may be live.
@@ -18,7 +21,7 @@ const FULL: [Arrival<'static>; 2] = [
 ];
 
 // The site with 65,536 mappings of addresses.
-fn full_site(alloc: Global) -> Result<String, Fail> {
+fn full_site(alloc: Global) -> Result<String, NoMemory> {
     let mut settings = String::from_str(alloc, TENANT)?;
     for number in 0..=u16::MAX {
         let [high, low] = number.to_be_bytes();
@@ -29,16 +32,30 @@ fn full_site(alloc: Global) -> Result<String, Fail> {
     Ok(settings)
 }
 
-#[test]
-fn so_many_mappings_are_live_at_once(rt: HostRuntime) -> Result<(), Fail> {
-    let alloc = rt.alloc();
+// What a replay at the full site ends with.
+fn replayed_in_full(alloc: Global) -> Result<(Status, MemoryDesk), NoMemory> {
     let settings = full_site(alloc)?;
     let capture = capture_of(alloc, &WRITTEN, &FULL)?;
+    replayed(alloc, settings.as_str(), capture)
+}
+
+fn assert_report(rt: &impl Abort, alloc: Global, desk: &MemoryDesk) -> Result<(), NoMemory> {
     let report = report_of(alloc, &FULL, "end frames=2 written=1 entries=65538")?;
+    assert_eq!(rt; desk.said(), report.as_str().as_bytes());
+    Ok(())
+}
+
+fn assert_output(rt: &impl Abort, alloc: Global, desk: &MemoryDesk) -> Result<(), NoMemory> {
     let output = output_of(alloc, &[ASKED])?;
-    let (status, desk) = replayed(alloc, settings.as_str(), capture)?;
-    assert_eq!(rt; said(&desk)?, report.as_str());
-    assert_eq!(rt; status, Status::Done);
     assert_eq!(rt; desk.file("out"), Some(output.as_slice()));
+    Ok(())
+}
+
+#[test]
+fn so_many_mappings_are_live_at_once(rt: HostRuntime) -> Result<(), Fail> {
+    let (status, desk) = replayed_in_full(rt.alloc())?;
+    assert_eq!(rt; status, Status::Done);
+    assert_report(&rt, rt.alloc(), &desk)?;
+    assert_output(&rt, rt.alloc(), &desk)?;
     Ok(())
 }

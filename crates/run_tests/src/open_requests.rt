@@ -1,14 +1,16 @@
 // As many requests as may be open at once.
-use octets::Octets;
+use desk::MemoryDesk;
+use octets::{NoMemory, Octets};
 use replay::Status;
 use run_rows::exchanges::TENANT;
 use run_rows::packets::{CONTROL, PACKET, WRITTEN, changed, push_record};
-use run_rows::runs::{replayed, said};
+use run_rows::runs::replayed;
 use std::alloc::Global;
+use std::process::Abort;
 use std::test::Fail;
 
 // The packet to the address so many behind 10.2.0.0.
-fn packet_to(alloc: Global, number: u16) -> Result<Vec<u8>, Fail> {
+fn packet_to(alloc: Global, number: u16) -> Result<Vec<u8>, NoMemory> {
     let [high, low] = number.to_be_bytes();
     let [first, second] = 0x66ca_u16.wrapping_sub(number).to_be_bytes();
     let edits = [(10, first), (11, second), (18, high), (19, low)];
@@ -17,7 +19,7 @@ fn packet_to(alloc: Global, number: u16) -> Result<Vec<u8>, Fail> {
 
 // Packets to 1,025 addresses, each a millisecond after the one before, and one more to the last
 // address at 7 s.
-fn capture_of_misses(alloc: Global) -> Result<Octets, Fail> {
+fn capture_of_misses(alloc: Global) -> Result<Octets, NoMemory> {
     let mut capture = Octets::copied(alloc, &WRITTEN)?;
     for number in 0..1025_u16 {
         let millisecond = u32::from(number);
@@ -30,7 +32,7 @@ fn capture_of_misses(alloc: Global) -> Result<Octets, Fail> {
 }
 
 // What is said of them. At 1 s the first request is sent again, and by 7 s each of 1,024 was twice.
-fn report_of_misses(alloc: Global) -> Result<String, Fail> {
+fn report_of_misses(alloc: Global) -> Result<String, NoMemory> {
     let mut report = String::new(alloc);
     for number in 0..1025_u32 {
         let frame = number + 1;
@@ -52,14 +54,10 @@ fn record_of(
     second: u32,
     nanosecond: u32,
     edits: &[(usize, u8)],
-) -> Result<Octets, Fail> {
+) -> Result<Octets, NoMemory> {
+    let packet = changed(alloc, &CONTROL, 116, edits)?;
     let mut record = Octets::new(alloc);
-    push_record(
-        second,
-        nanosecond,
-        &changed(alloc, &CONTROL, 116, edits)?,
-        &mut record,
-    )?;
+    push_record(second, nanosecond, &packet, &mut record)?;
     Ok(record)
 }
 
@@ -127,27 +125,33 @@ const LATE_ASKED: [(usize, u8); 18] = [
 
 #[test]
 fn so_many_requests_are_open_at_once(rt: HostRuntime) -> Result<(), Fail> {
-    let alloc = rt.alloc();
-    let (status, desk) = replayed(alloc, TENANT, capture_of_misses(alloc)?)?;
-    assert_eq!(rt; said(&desk)?, report_of_misses(alloc)?.as_str());
+    let capture = capture_of_misses(rt.alloc())?;
+    let (status, desk) = replayed(rt.alloc(), TENANT, capture)?;
     assert_eq!(rt; status, Status::Done);
-    let output = desk.file("out").ok_or("no output")?;
+    assert_report(&rt, rt.alloc(), &desk)?;
+    assert_requests(&rt, rt.alloc(), desk.file("out").unwrap_or(&[]))?;
+    Ok(())
+}
+
+fn assert_report(rt: &impl Abort, alloc: Global, desk: &MemoryDesk) -> Result<(), NoMemory> {
+    let report = report_of_misses(alloc)?;
+    assert_eq!(rt; desk.said(), report.as_str().as_bytes());
+    Ok(())
+}
+
+// The first request of all, and those for the addresses named above, stand where they do.
+fn assert_requests(rt: &impl Abort, alloc: Global, output: &[u8]) -> Result<(), NoMemory> {
     assert_eq!(rt; output.len(), 405_660);
-    let first = record_of(alloc, 1_700_000_000, 0, &FIRST_ASKED)?;
-    let again = record_of(alloc, 1_700_000_001, 0, &FIRST_ASKED)?;
-    let second = record_of(alloc, 1_700_000_000, 1_000_000, &SECOND_ASKED)?;
-    let last = record_of(alloc, 1_700_000_001, 23_000_000, &LAST_ASKED)?;
-    let last_again = record_of(alloc, 1_700_000_005, 0, &LAST_ASKED)?;
-    let late = record_of(alloc, 1_700_000_007, 0, &LATE_ASKED)?;
-    let rows = [
-        (24, first),
-        (156, second),
-        (132_024, again),
-        (135_192, last),
-        (405_396, last_again),
-        (405_528, late),
+    let rows: [(usize, u32, u32, &[(usize, u8)]); 6] = [
+        (24, 1_700_000_000, 0, &FIRST_ASKED),
+        (156, 1_700_000_000, 1_000_000, &SECOND_ASKED),
+        (132_024, 1_700_000_001, 0, &FIRST_ASKED),
+        (135_192, 1_700_000_001, 23_000_000, &LAST_ASKED),
+        (405_396, 1_700_000_005, 0, &LAST_ASKED),
+        (405_528, 1_700_000_007, 0, &LATE_ASKED),
     ];
-    for (place, record) in rows {
+    for (place, second, nanosecond, edits) in rows {
+        let record = record_of(alloc, second, nanosecond, edits)?;
         assert_eq!(rt; output.get(place..place + 132), Some(record.as_slice()));
     }
     Ok(())

@@ -1,10 +1,11 @@
 // Trials: the largest one, and the hash of an output.
 use desk::{Calls, Files, MemoryDesk, SteadyDesk};
-use octets::Octets;
+use octets::{NoMemory, Octets};
 use replay::Status;
 use run_rows::packets::{RAW, changed, push_record};
-use run_rows::runs::{REPLAY, files_of, run_words, said, text};
+use run_rows::runs::{REPLAY, files_of, run_words};
 use std::alloc::Global;
+use std::process::Abort;
 use std::test::Fail;
 use trial_input::trial_capture;
 
@@ -64,23 +65,38 @@ fn hash_of(octets: &[u8]) -> u32 {
 
 #[test]
 fn the_largest_trial_says_one_line_and_makes_no_file(rt: HostRuntime) -> Result<(), Fail> {
-    let alloc = rt.alloc();
-    let mut desk = MemoryDesk::new(alloc, Files::new(alloc), Calls::new(alloc));
-    let status = run_words(alloc, &["trial", "50000"], &mut desk)?;
-    assert_eq!(rt;
-        said(&desk)?,
-        "trial 50000 frames=50001 written=50000 entries=50000 hash=45ce7d18\n"
-    );
+    let mut desk = MemoryDesk::new(rt.alloc(), Files::new(rt.alloc()), Calls::new(rt.alloc()));
+    let status = run_words(rt.alloc(), &["trial", "50000"], &mut desk)?;
     assert_eq!(rt; status, Status::Done);
-    assert_eq!(rt; desk.file("in"), None);
-    assert_eq!(rt; desk.file("out"), None);
+    assert_line_alone(&rt, &desk);
     Ok(())
 }
 
-#[test]
-fn the_hash_of_a_trial_is_that_of_the_output_of_its_replay(rt: HostRuntime) -> Result<(), Fail> {
-    let alloc = rt.alloc();
-    // Frame j of three goes to mapping 7 j modulo 3, so each to its own; the last goes elsewhere.
+fn assert_line_alone(rt: &impl Abort, desk: &MemoryDesk) {
+    let line = b"trial 50000 frames=50001 written=50000 entries=50000 hash=45ce7d18\n";
+    assert_eq!(rt; desk.said(), line.as_slice());
+    assert_eq!(rt; desk.file("in"), None);
+    assert_eq!(rt; desk.file("out"), None);
+}
+
+// A desk with settings and a capture, on which they were replayed, and the status of that.
+fn replayed(
+    alloc: Global,
+    settings: &str,
+    capture: &[u8],
+) -> Result<(Status, SteadyDesk), NoMemory> {
+    let files = files_of(
+        alloc,
+        &[("settings", settings.as_bytes()), ("in", capture)],
+    )?;
+    let mut desk = SteadyDesk::new(alloc, files);
+    let status = run_words(alloc, &REPLAY, &mut desk)?;
+    Ok((status, desk))
+}
+
+// The packets of a trial of three mappings. Frame j of three goes to mapping 7 j modulo 3, so each to
+// its own; the last goes elsewhere.
+fn three_packets(alloc: Global) -> Result<Octets, NoMemory> {
     let rows: [(u32, &[(usize, u8)]); 4] = [
         (0, &[]),
         (1, &[(10, 0xa5), (18, 1)]),
@@ -92,26 +108,27 @@ fn the_hash_of_a_trial_is_that_of_the_output_of_its_replay(rt: HostRuntime) -> R
         let frame = changed(alloc, &FIRST, 28, edits)?;
         push_record(1_700_000_000, microsecond, &frame, &mut capture)?;
     }
-    let files = files_of(
-        alloc,
-        &[("settings", THREE.as_bytes()), ("in", capture.as_slice())],
-    )?;
-    let mut desk = SteadyDesk::new(alloc, files);
-    let status = run_words(alloc, &REPLAY, &mut desk)?;
+    Ok(capture)
+}
+
+// The end of the report, and the hash of the output.
+fn assert_ended(rt: &impl Abort, desk: &SteadyDesk, end: &[u8], hash: u32) {
+    assert!(rt; desk.said().ends_with(end));
+    assert_eq!(rt; hash_of(desk.file("out").unwrap_or(&[])), hash);
+}
+
+#[test]
+fn the_hash_of_a_trial_is_that_of_the_output_of_its_replay(rt: HostRuntime) -> Result<(), Fail> {
+    let capture = three_packets(rt.alloc())?;
+    let (status, desk) = replayed(rt.alloc(), THREE, capture.as_slice())?;
     assert_eq!(rt; status, Status::Done);
-    let report = text(desk.said())?;
-    assert!(rt;
-        report.ends_with("end frames=4 written=3 entries=3\n"),
-        "{report}"
-    );
-    let output = desk.file("out").ok_or("no output")?;
-    assert_eq!(rt; output.len(), 264);
-    assert_eq!(rt; hash_of(output), 0x8e6d_bc18);
+    assert_ended(&rt, &desk, b"end frames=4 written=3 entries=3\n", 0x8e6d_bc18);
+    assert_eq!(rt; desk.file("out").unwrap_or(&[]).len(), 264);
     Ok(())
 }
 
 // The settings of a trial of as many mappings as it can have.
-fn most_settings(alloc: Global) -> Result<String, Fail> {
+fn most_settings(alloc: Global) -> Result<String, NoMemory> {
     let mut text = String::from_str(alloc, SITE)?;
     for i in 0..MOST_MAPPINGS {
         let (high, low, host) = (i / 256, i % 256, i % 254 + 1);
@@ -124,24 +141,16 @@ fn most_settings(alloc: Global) -> Result<String, Fail> {
     Ok(text)
 }
 
-#[test]
-fn the_largest_trial_is_replayed_from_its_files(rt: HostRuntime) -> Result<(), Fail> {
-    let alloc = rt.alloc();
+fn largest_replayed(alloc: Global) -> Result<(Status, SteadyDesk), NoMemory> {
     let settings = most_settings(alloc)?;
     let capture = trial_capture(alloc, MOST_MAPPINGS)?;
-    let files = files_of(
-        alloc,
-        &[
-            ("settings", settings.as_str().as_bytes()),
-            ("in", capture.as_slice()),
-        ],
-    )?;
-    let mut desk = SteadyDesk::new(alloc, files);
-    let status = run_words(alloc, &REPLAY, &mut desk)?;
+    replayed(alloc, settings.as_str(), capture.as_slice())
+}
+
+#[test]
+fn the_largest_trial_is_replayed_from_its_files(rt: HostRuntime) -> Result<(), Fail> {
+    let (status, desk) = largest_replayed(rt.alloc())?;
     assert_eq!(rt; status, Status::Done);
-    let report = text(desk.said())?;
-    assert!(rt; report.ends_with("end frames=50001 written=50000 entries=50000\n"));
-    let output = desk.file("out").ok_or("no output")?;
-    assert_eq!(rt; hash_of(output), 0x45ce_7d18);
+    assert_ended(&rt, &desk, b"end frames=50001 written=50000 entries=50000\n", 0x45ce_7d18);
     Ok(())
 }
