@@ -56,7 +56,11 @@ fn push_at(second: u32, fraction: u32, octets: &[u8], out: &mut Octets) -> Resul
 }
 
 /// The capture of those frames.
-pub fn capture_of(alloc: Global, header: &[u8], frames: &[Arrival<'_>]) -> Result<Octets, NoMemory> {
+pub fn capture_of(
+    alloc: Global,
+    header: &[u8],
+    frames: &[Arrival<'_>],
+) -> Result<Octets, NoMemory> {
     let mut capture = Octets::copied(alloc, header)?;
     for (second, fraction, octets, _) in frames {
         push_at(*second, *fraction, octets, &mut capture)?;

@@ -76,7 +76,9 @@ pub fn push_record(
     octets: &[u8],
     out: &mut Octets,
 ) -> Result<(), NoMemory> {
-    let size = u32::try_from(octets.len()).unwrap_or(u32::MAX).to_le_bytes();
+    let size = u32::try_from(octets.len())
+        .unwrap_or(u32::MAX)
+        .to_le_bytes();
     out.append(&second.to_le_bytes())?;
     out.append(&fraction.to_le_bytes())?;
     out.append(&size)?;

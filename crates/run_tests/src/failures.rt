@@ -47,7 +47,8 @@ fn ends_within(
     let (status, desk) = failing_at(alloc, whole.capture.as_slice(), call)?;
     assert!(rt; whole.report.as_str().as_bytes().starts_with(desk.said()));
     assert!(rt;
-        whole.output
+        whole
+            .output
             .as_slice()
             .starts_with(desk.file("out").unwrap_or(&[]))
     );

@@ -85,10 +85,7 @@ fn replayed(
     settings: &str,
     capture: &[u8],
 ) -> Result<(Status, SteadyDesk), NoMemory> {
-    let files = files_of(
-        alloc,
-        &[("settings", settings.as_bytes()), ("in", capture)],
-    )?;
+    let files = files_of(alloc, &[("settings", settings.as_bytes()), ("in", capture)])?;
     let mut desk = SteadyDesk::new(alloc, files);
     let status = run_words(alloc, &REPLAY, &mut desk)?;
     Ok((status, desk))
@@ -122,7 +119,12 @@ fn the_hash_of_a_trial_is_that_of_the_output_of_its_replay(rt: HostRuntime) -> R
     let capture = three_packets(rt.alloc())?;
     let (status, desk) = replayed(rt.alloc(), THREE, capture.as_slice())?;
     assert_eq!(rt; status, Status::Done);
-    assert_ended(&rt, &desk, b"end frames=4 written=3 entries=3\n", 0x8e6d_bc18);
+    assert_ended(
+        &rt,
+        &desk,
+        b"end frames=4 written=3 entries=3\n",
+        0x8e6d_bc18,
+    );
     assert_eq!(rt; desk.file("out").unwrap_or(&[]).len(), 264);
     Ok(())
 }
@@ -151,6 +153,11 @@ fn largest_replayed(alloc: Global) -> Result<(Status, SteadyDesk), NoMemory> {
 fn the_largest_trial_is_replayed_from_its_files(rt: HostRuntime) -> Result<(), Fail> {
     let (status, desk) = largest_replayed(rt.alloc())?;
     assert_eq!(rt; status, Status::Done);
-    assert_ended(&rt, &desk, b"end frames=50001 written=50000 entries=50000\n", 0x45ce_7d18);
+    assert_ended(
+        &rt,
+        &desk,
+        b"end frames=50001 written=50000 entries=50000\n",
+        0x45ce_7d18,
+    );
     Ok(())
 }
