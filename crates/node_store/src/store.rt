@@ -1,9 +1,12 @@
 // Nodes under names that the store picks.
-ghost use Rattle.std.specs.Prelude.{◌≡◌, ◌+◌, ◌^◌, ◌<◌, ◌≤◌, [], ◌∷◌, ◌++◌, max, length, OnOk, OnErr, Some, None, IsOk, IsSome, vec_len, vec_capacity};
+ghost use Rattle.std.specs.Prelude.{◌≡◌, ◌+◌, ◌^◌, ◌<◌, ◌≤◌, [], ◌∷◌, ◌++◌, max, length, OnOk, OnErr, Some, None, IfOk, IsOk, IsSome, is_some, vec_len, vec_capacity};
 ghost use Rattle.std.specs.Borrow.{sem};
+ghost use Rattle.std.specs.Fn.{FnReturnsAt};
+ghost use Rattle.node_store.specs.Copies.{MakesCopies};
 ghost use Rattle.node_store.specs.LendsSlot.{lends_slot};
 ghost use Rattle.node_store.specs.Store.{node_at, IsLive, live, SameNodes, Changes};
 
+use crate::copies::{copied, copied_slots};
 use crate::{NoMemory, Reads};
 use std::alloc::Global;
 use std::marker::Model;
@@ -119,6 +122,16 @@ impl<T> NodeStore<T> {
         node
     }
 
+    // A node has that name.
+    pub(crate) fn has(&self, name: u32) -> bool
+        ensures { result ≡ is_some (node_at self.now name) }
+    {
+        match self.slots.get(name as usize) {
+            Some(slot) => slot.is_some(),
+            None => false,
+        }
+    }
+
     /// Puts a node under a name that had none. Takes no memory.
     pub fn put(&mut self, node: T) -> u32
         requires { 0 < self.old.rooms }
@@ -161,5 +174,32 @@ impl<T> NodeStore<T> {
             }
             None => unreachable!(),
         }
+    }
+}
+
+impl<T: Drop> NodeStore<T> {
+    /// A store of its own with the same nodes under the same names, and with as much room. `each`
+    /// makes the copy of a node, which is read once.
+    pub fn copy<F: Fn(&T) -> Result<T, NoMemory>>(
+        &self,
+        each: F,
+        reads: &mut Reads,
+    ) -> Result<Self, NoMemory>
+        requires callable { F.IsAlwaysCallable each }
+        requires copies { MakesCopies (FnReturnsAt F.Fn each) }
+        requires counts { reads.old < 2 ^ 63 }
+        ensures copy { IfOk result (λ copy. copy ≡ self.now) }
+        ensures count { OnOk result (reads.new ≡ reads.old + live self.now) }
+    {
+        let len = self.slots.len() as u32;
+        let capacity = self.slots.capacity();
+        let alloc = *self.slots.allocator();
+        let slots = copied_slots(alloc, self, len, capacity, &each, reads)?;
+        let free = copied(&self.free)?;
+        Ok(NodeStore {
+            slots,
+            free,
+            fresh: self.fresh,
+        })
     }
 }
