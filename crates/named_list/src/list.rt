@@ -1,12 +1,13 @@
 // The list: nodes in a store, and their names in order.
-ghost use Rattle.std.specs.Prelude.{◌≡◌, ◌≤◌, ◌<◌, ◌+◌, ◌-◌, ◌*◌, ◌^◌, [], true, false, length, max, slice_get, IfSome, IsSome, IsOk, OnOk, OnErr, None, Some, vec_len, vec_capacity};
+ghost use Rattle.std.specs.Prelude.{◌≡◌, ◌≤◌, ◌<◌, ◌+◌, ◌-◌, ◌*◌, ◌^◌, [], true, false, length, max, slice_get, IfOk, IfSome, IsSome, IsOk, OnOk, OnErr, None, Some, vec_len, vec_capacity};
 ghost use Rattle.std.specs.Borrow.{sem};
 ghost use Rattle.std.specs.Fn.{FnReturnsAt};
 ghost use Rattle.std.specs.List.{insert, remove};
 ghost use Rattle.std.specs.Option.{option_copied};
+ghost use Rattle.node_store.specs.Copies.{MakesCopies};
 ghost use Rattle.named_list.specs.Named.{item_named};
 
-use node_store::{NoMemory, NodeStore, Reads};
+use node_store::{NoMemory, NodeStore, Reads, copied};
 use std::alloc::Global;
 use std::marker::Model;
 
@@ -178,5 +179,19 @@ impl<T> NamedList<T> {
         ensures item { slice_get self.old.items index ≡ Some result.now }
     {
         self.store.edit(self.order[index])
+    }
+}
+
+impl<T: Drop> NamedList<T> {
+    /// A list of its own with the same items under the same names, and with as much room. `each`
+    /// makes the copy of an item.
+    pub fn copy<F: Fn(&T) -> Result<T, NoMemory>>(&self, each: F) -> Result<Self, NoMemory>
+        requires callable { F.IsAlwaysCallable each }
+        requires copies { MakesCopies (FnReturnsAt F.Fn each) }
+        ensures { IfOk result (λ copy. copy ≡ self.now) }
+    {
+        let store = self.store.copy(each, &mut Reads::new())?;
+        let order = copied(&self.order)?;
+        Ok(NamedList { store, order })
     }
 }

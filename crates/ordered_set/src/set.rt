@@ -1,5 +1,5 @@
 // The set: a list of keys in order.
-ghost use Rattle.std.specs.Prelude.{◌≡◌, ◌≤◌, ◌<◌, ◌+◌, ◌-◌, ◌*◌, ◌^◌, ◌&&◌, ◌||◌, not, [], true, false, length, max, slice_get, IfSome, IsOk, OnOk, OnErr, if◌then◌else◌};
+ghost use Rattle.std.specs.Prelude.{◌≡◌, ◌≤◌, ◌<◌, ◌+◌, ◌-◌, ◌*◌, ◌^◌, ◌&&◌, ◌||◌, not, [], true, false, length, max, slice_get, IfOk, IfSome, IsOk, OnOk, OnErr, if◌then◌else◌};
 ghost use Rattle.std.specs.Fn.{FnReturnsAt};
 ghost use Rattle.std.specs.Option.{option_copied};
 ghost use Rattle.std.specs.Ordering.{is_eq};
@@ -149,5 +149,15 @@ impl<K: Ordered> OrderedSet<K> {
             None => false,
             Some(other) => other.compare(key).is_eq(),
         }
+    }
+}
+
+impl<K: Ordered + Copy> OrderedSet<K> {
+    /// A set of its own with the same keys, and with as much room.
+    pub fn copy(&self) -> Result<Self, NoMemory>
+        ensures { IfOk result (λ copy. copy ≡ self.now) }
+    {
+        let list = self.list.copy(|key| Ok(*key))?;
+        Ok(OrderedSet { list })
     }
 }
