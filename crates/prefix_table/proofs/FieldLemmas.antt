@@ -1,5 +1,5 @@
 -- The fields of a table after each call.
-use Rattle.std.proofs.Common.{◌≡◌, ℕ, zero, suc, ◌+◌, ◌-◌, ◌*◌, ◌^◌, ◌/◌, ◌%◌, ◌<◌, ◌≤◌, true, false, cond, is_some, List, [], ◌∷◌, length, All, Option, Some, None, inl, inr, refl, sym, ap, ◌∙◌, arith, subst}
+use Rattle.std.proofs.Common.{◌≡◌, ℕ, zero, suc, ◌+◌, ◌-◌, ◌*◌, ◌/◌, ◌%◌, ◌<◌, ◌≤◌, true, false, cond, is_some, List, [], ◌∷◌, length, All, Option, Some, None, inl, inr, refl, sym, ap, ◌∙◌, arith, subst}
 use Rattle.std.proofs.lemmas.Bool.{cases_Bool}
 use Rattle.std.proofs.lemmas.List.{length-append}
 use Rattle.std.proofs.lemmas.List.Elements.{All-head, All-tail, All-weaker}
@@ -10,6 +10,7 @@ use Rattle.prefix_table.specs.declared.node.Root.{Root}
 use Rattle.prefix_table.specs.Tree.{Tree, pairs, size, IsTrie, IsSomething}
 use Rattle.prefix_table.specs.Tree.Tree.{none, node}
 use Rattle.prefix_table.specs.Keys.{key_len}
+use Rattle.prefix_table.specs.Limits.{most_pairs}
 use Rattle.prefix_table.specs.Tree.{side_bits}
 use Rattle.prefix_table.specs.Pairs.{is_below, with_pair, without_pair, value_in}
 use Rattle.prefix_table.specs.Spelled.{name_of, Spells, tree_within, grown, tree_of}
@@ -185,7 +186,7 @@ module _ {V : Type 0} (old new : Store (Node V)) (same : SameNodes old new) wher
   pub forest_same : (roots : List Root) → IsForest old roots → IsForest new roots
   forest_same roots f = record { each = All-weaker (IsRootIn old) (IsRootIn new) root_same roots f.each; rise = f.rise }
 
-  pub table_reserved : (roots after : List Root) (spare more len old_capacity capacity : ℕ) → IsTable old roots spare len old_capacity → after ≡ roots → new.rooms + length old.slots ≡ length new.slots + old.rooms → length new.slots ≡ 2 * (len + more) → len + more ≤ capacity → len + more ≤ 2 ^ 30 → IsTable new after more len capacity
+  pub table_reserved : (roots after : List Root) (spare more len old_capacity capacity : ℕ) → IsTable old roots spare len old_capacity → after ≡ roots → new.rooms + length old.slots ≡ length new.slots + old.rooms → length new.slots ≡ 2 * (len + more) → len + more ≤ capacity → len + more ≤ most_pairs → IsTable new after more len capacity
   table_reserved roots after spare more len old_capacity capacity t is rooms slots enough small = record {
     forest = subst (λ (l : List Root). IsForest new l) (sym is) (forest_same roots t.forest);
     counted = t.counted ∙ ap length (sym (ap (pairs_under new) is ∙ under_same roots));

@@ -14,6 +14,7 @@ use Rattle.mapping_records.specs.Eids.{covers_eid}
 use Rattle.prefix_table.specs.Keys.{key_width, key_len, key_bits}
 use Rattle.prefix_table.specs.Tree.{Tree, pairs, IsTrie, side_bits}
 use Rattle.prefix_table.specs.Tree.Tree.{none, node}
+use Rattle.prefix_table.specs.Limits.{most_nodes}
 use Rattle.prefix_table.specs.Longest.{IsRefused, IsLongestWhere, After}
 use Rattle.prefix_table.specs.Longest.After.{passed, refused, valueless}
 use Rattle.prefix_table.specs.Spelled.{name_of, Spells}
@@ -63,7 +64,7 @@ module _ {V : Type 0} (answers : V → Bool → Type 0) (eid : Eid) (store : Sto
     pub named : name_of rest ≡ at
     pub spelled : Spells store rest
     pub trie : IsTrie eid.iid (key_width eid) bits len rest
-    pub within : len ≤ 129
+    pub within : len ≤ most_nodes
     pub counted : reads ≤ start + len
     pub rises : start ≤ reads
     pub goes_on : (result : Option (Eid × V)) → Answers answers eid rest best result → Answers answers eid whole None result
@@ -94,7 +95,7 @@ module _ {V : Type 0} (answers : V → Bool → Type 0) (eid : Eid) (store : Sto
   pub fits_top : (at : Option ℕ) (name : ℕ) (best : Option (Eid × V)) (start reads : ℕ) (s : Searching at best start reads) (top : Node V) (o : Opened store s.rest name top) → IsTrie eid.iid (key_width eid) s.bits s.len (node name top.eid top.value o.low o.high)
   fits_top at name best start reads s top o = subst (λ (t : Tree V). IsTrie eid.iid (key_width eid) s.bits s.len t) o.is s.trie
 
-  pub within : (at : Option ℕ) (name : ℕ) (best : Option (Eid × V)) (start reads : ℕ) (top : Node V) → Searching at best start reads → at ≡ Some name → node_at store name ≡ Some top → reads + 1 ≤ start + 129
+  pub within : (at : Option ℕ) (name : ℕ) (best : Option (Eid × V)) (start reads : ℕ) (top : Node V) → Searching at best start reads → at ≡ Some name → node_at store name ≡ Some top → reads + 1 ≤ start + most_nodes
   within at name best start reads top s is found =
       let o = opened store s.rest name top (s.named ∙ is) s.spelled found in
       let t = fits_top at name best start reads s top o in

@@ -1,9 +1,10 @@
 -- What a contract sees of a table: its pairs, and for how many more there is room.
-use Rattle.std.specs.Prelude.{◌≡◌, ℕ, ◌+◌, ◌*◌, ◌/◌, ◌%◌, ◌^◌, ◌≤◌, List, [], ◌∷◌, ◌++◌, length, All, Some}
+use Rattle.std.specs.Prelude.{◌≡◌, ℕ, ◌+◌, ◌*◌, ◌/◌, ◌%◌, ◌≤◌, List, [], ◌∷◌, ◌++◌, length, All, Some}
 use Rattle.mapping_records.specs.declared.eid.Eid.{Eid}
 use Rattle.node_store.specs.Store.{Store}
 use Rattle.prefix_table.specs.declared.node.Node.{Node}
 use Rattle.prefix_table.specs.declared.node.Root.{Root}
+use Rattle.prefix_table.specs.Limits.{most_pairs}
 use Rattle.prefix_table.specs.Roots.{Rises}
 use Rattle.prefix_table.specs.Keys.{key_width}
 use Rattle.prefix_table.specs.Tree.{pairs, size}
@@ -54,4 +55,4 @@ pub record IsTable {V : Type 0} (store : Store (Node V)) (roots : List Root) (sp
   pub slots : length store.slots ≡ 2 * (len + spare)
   pub rooms : store.rooms + size_under store roots ≡ length store.slots
   pub enough : len + spare ≤ capacity
-  pub small : len + spare ≤ 2 ^ 30
+  pub small : len + spare ≤ most_pairs

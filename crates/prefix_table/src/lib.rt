@@ -4,6 +4,7 @@
 mod common;
 mod insert;
 mod key;
+mod limits;
 mod node;
 mod nodes;
 mod place;
@@ -13,5 +14,6 @@ mod roots;
 mod search;
 mod table;
 
+pub use limits::{MOST_NODES, MOST_PAIRS, limits_are};
 pub use node_store::{NoMemory, Reads};
 pub use table::PrefixTable;

@@ -1,5 +1,7 @@
 // Nodes, of which a way down reads little, and their EIDs beside them.
-ghost use Rattle.std.specs.Prelude.{◌≡◌, ◌+◌, ◌^◌, ◌<◌, ◌≤◌, [], max, length, slice_get, vec_capacity, OnOk, OnErr, Some, None, IsOk};
+ghost use Rattle.std.specs.Prelude.{◌≡◌, ◌+◌, ◌^◌, ◌<◌, ◌≤◌, [], max, length, slice_get, vec_capacity, OnOk, OnErr, Some, None, IfOk, IsOk};
+ghost use Rattle.std.specs.Fn.{FnReturnsAt};
+ghost use Rattle.node_store.specs.Copies.{MakesCopies};
 ghost use Rattle.node_store.specs.Store.{node_at, IsLive, live, SameNodes, Changes};
 ghost use Rattle.prefix_table.specs.Keys.{key_of};
 ghost use Rattle.prefix_table.specs.Nodes.{with_eid};
@@ -8,7 +10,7 @@ use crate::key::Key;
 use crate::node::{Node, SlimNode};
 use ip_headers::{Addr, Prefix};
 use mapping_records::Eid;
-use node_store::{NoMemory, NodeStore, Reads};
+use node_store::{NoMemory, NodeStore, Reads, copied};
 use std::alloc::Global;
 use std::marker::Model;
 
@@ -102,6 +104,54 @@ impl<V> Nodes<V> {
         self.eids[name as usize] = eid;
         name
     }
+}
+
+impl<V: Drop> Nodes<V> {
+    /// Nodes of their own, the same under the same names, and with as much room. `each` makes the
+    /// copy of a value.
+    pub(crate) fn copy<F: Fn(&V) -> Result<V, NoMemory>>(&self, each: F) -> Result<Self, NoMemory>
+        requires callable { F.IsAlwaysCallable each }
+        requires copies { MakesCopies (FnReturnsAt F.Fn each) }
+        ensures { IfOk result (λ copy. copy ≡ self.now) }
+    {
+        let slim = self
+            .slim
+            .copy(|node| copied_node(node, &each), &mut Reads::new())?;
+        let eids = copied(&self.eids)?;
+        Ok(Nodes { slim, eids })
+    }
+}
+
+fn copied_value<V: Drop, F: Fn(&V) -> Result<V, NoMemory>>(
+    value: &Option<V>,
+    each: &F,
+) -> Result<Option<V>, NoMemory>
+    requires callable { F.IsAlwaysCallable each.now }
+    requires copies { MakesCopies (FnReturnsAt F.Fn each.now) }
+    ensures { IfOk result (λ copy. copy ≡ value.now) }
+{
+    let Some(value) = value else {
+        return Ok(None);
+    };
+    let copy = each(value)?;
+    Ok(Some(copy))
+}
+
+fn copied_node<V: Drop, F: Fn(&V) -> Result<V, NoMemory>>(
+    node: &SlimNode<V>,
+    each: &F,
+) -> Result<SlimNode<V>, NoMemory>
+    requires callable { F.IsAlwaysCallable each.now }
+    requires copies { MakesCopies (FnReturnsAt F.Fn each.now) }
+    ensures { IfOk result (λ copy. copy ≡ node.now) }
+{
+    let value = copied_value(&node.value, each)?;
+    Ok(SlimNode {
+        key: node.key,
+        zero: node.zero,
+        one: node.one,
+        value,
+    })
 }
 
 // Adds EIDs, whichever, until there are so many. Takes no memory.

@@ -4,6 +4,7 @@ ghost use Rattle.std.specs.Fn.{FnReturnsAt};
 ghost use Rattle.std.specs.Option.{option_map};
 ghost use Rattle.ip_headers.specs.Addr.{first_bits, width};
 ghost use Rattle.prefix_table.specs.Keys.{key_width};
+ghost use Rattle.prefix_table.specs.Limits.{most_nodes};
 ghost use Rattle.prefix_table.specs.Tree.{pairs};
 ghost use Rattle.prefix_table.specs.Longest.{IsRefused, IsLongestWhere, After, seen};
 ghost use Rattle.prefix_table.specs.Spelled.{tree_of, IsRoot};
@@ -61,7 +62,7 @@ pub(crate) fn longest_where<'a, V, F: Fn(&V) -> bool>(
         (λ found. IsLongestWhere (FnReturnsAt F.Fn test) eid.now
         (pairs (tree_of store.now root)) (seen found)) }
     ensures counted { reads.old ≤ reads.new }
-    ensures reads { reads.new ≤ reads.old + 129 }
+    ensures reads { reads.new ≤ reads.old + most_nodes }
 {
     let sought = Key::of(eid);
     let mut at = root;

@@ -1,6 +1,8 @@
 // The table: a trie for each instance and family.
-ghost use Rattle.std.specs.Prelude.{◌≡◌, ◌≤◌, ◌+◌, ◌*◌, ◌^◌, ◌<◌, [], ◌≢◌, length, All, Contains, MatchOption, option_copied, ◌-◌, None, is_some, max, OnOk, OnErr, IsOk, if◌then◌else◌};
+ghost use Rattle.std.specs.Prelude.{◌≡◌, ◌≤◌, ◌+◌, ◌*◌, ◌^◌, ◌<◌, [], ◌≢◌, length, All, Contains, MatchOption, option_copied, ◌-◌, None, is_some, max, OnOk, OnErr, IfOk, IsOk, if◌then◌else◌};
 ghost use Rattle.std.specs.Fn.{FnReturnsAt};
+ghost use Rattle.node_store.specs.Copies.{MakesCopies};
+ghost use Rattle.prefix_table.specs.Limits.{most_nodes, most_pairs};
 ghost use Rattle.prefix_table.specs.Pairs.{Ascends, with_pair, without_pair, value_in};
 ghost use Rattle.prefix_table.specs.Table.{root_key};
 ghost use Rattle.prefix_table.specs.Longest.{IsRefused, IsLongestWhere, seen};
@@ -11,7 +13,7 @@ use crate::rooted::{put, take};
 use crate::roots::find_root;
 use crate::search;
 use mapping_records::Eid;
-use node_store::{NoMemory, Reads};
+use node_store::{NoMemory, Reads, copied};
 use std::alloc::Global;
 use std::marker::Model;
 
@@ -59,7 +61,7 @@ impl<V> PrefixTable<V> {
 
     /// Makes room for `n` further EIDs in all, with those that there is room for already.
     pub fn reserve(&mut self, n: u32) -> Result<(), NoMemory>
-        requires { length self.old.pairs + n ≤ 2 ^ 30 }
+        requires { length self.old.pairs + n ≤ most_pairs }
         ensures pairs { self.new.pairs ≡ self.old.pairs }
         ensures ok { OnOk result (self.new.spare ≡ max self.old.spare n) }
         ensures enough { n ≤ self.old.spare → IsOk result }
@@ -90,7 +92,7 @@ impl<V> PrefixTable<V> {
             (All (IsRefused (FnReturnsAt F.Fn test) eid.now) self.now.pairs)
             (λ found. IsLongestWhere (FnReturnsAt F.Fn test) eid.now self.now.pairs (seen found)) }
         ensures counted { reads.old ≤ reads.new }
-        ensures reads { reads.new ≤ reads.old + 129 }
+        ensures reads { reads.new ≤ reads.old + most_nodes }
     {
         match find_root(&self.roots, root_key(eid)) {
             Ok(at) => {
@@ -106,7 +108,7 @@ impl<V> PrefixTable<V> {
         requires { reads.old < 2 ^ 63 }
         ensures value { option_copied result ≡ value_in eid.now self.now.pairs }
         ensures counted { reads.old ≤ reads.new }
-        ensures reads { reads.new ≤ reads.old + 129 }
+        ensures reads { reads.new ≤ reads.old + most_nodes }
     {
         // The fields are named, since the proof rests on what is kept of them.
         let _ = &self.roots;
@@ -160,5 +162,27 @@ impl<V> PrefixTable<V> {
         ensures kept { self.now.kept ≤ 7 * (result + self.now.spare) }
     {
         self.len
+    }
+}
+
+impl<V: Drop> PrefixTable<V> {
+    /// A table of its own with the same pairs, and with as much room. `each` makes the copy of a
+    /// value.
+    pub fn copy<F: Fn(&V) -> Result<V, NoMemory>>(
+        &self,
+        each: F,
+    ) -> Result<PrefixTable<V>, NoMemory>
+        requires callable { F.IsAlwaysCallable each }
+        requires copies { MakesCopies (FnReturnsAt F.Fn each) }
+        ensures { IfOk result (λ copy. copy ≡ self.now) }
+    {
+        let store = self.store.copy(each)?;
+        let roots = copied(&self.roots)?;
+        Ok(PrefixTable {
+            store,
+            roots,
+            spare: self.spare,
+            len: self.len,
+        })
     }
 }
