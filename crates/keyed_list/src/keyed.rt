@@ -30,3 +30,12 @@ pub(crate) struct Numbered<T> {
     pub number: u64,
     pub item: T,
 }
+
+pub(crate) fn copied<T: Copy>(numbered: &Numbered<T>) -> Numbered<T>
+    ensures { result ≡ numbered.now }
+{
+    Numbered {
+        number: numbered.number,
+        item: numbered.item,
+    }
+}

@@ -1,5 +1,5 @@
 // The list: numbered items, their keys and their ages.
-ghost use Rattle.std.specs.Prelude.{◌≡◌, ◌≤◌, ◌<◌, ◌+◌, ◌*◌, ◌^◌, [], ◌∷◌, ◌++◌, Bool, not, count_by, filter, length, map, max, slice_get, Some, false, is_some, true, IsOk, OnOk, OnErr, IfSome, ◌&&◌};
+ghost use Rattle.std.specs.Prelude.{◌≡◌, ◌≤◌, ◌<◌, ◌+◌, ◌*◌, ◌^◌, [], ◌∷◌, ◌++◌, Bool, not, count_by, filter, length, map, max, slice_get, Some, false, is_some, true, IsOk, OnOk, OnErr, IfOk, IfSome, ◌&&◌};
 ghost use Rattle.std.specs.List.{list_all, remove};
 ghost use Rattle.std.specs.Fn.{FnReturnsAt};
 ghost use Rattle.std.specs.Option.{option_copied};
@@ -10,7 +10,7 @@ ghost use Rattle.keyed_list.specs.Lists.{last_where};
 use crate::ages::{add_age, drop_age};
 use crate::finding::{count_young, later, old_place, place_below};
 use crate::key::{Age, Mark};
-use crate::keyed::Numbered;
+use crate::keyed::{Numbered, copied};
 use crate::marks::{add_marks, drop_marks};
 use crate::{Key, Keyed, MOST_ITEMS, NoMemory};
 use named_list::NamedList;
@@ -247,5 +247,22 @@ impl<T: Keyed> KeyedList<T> {
         drop_marks(&marks, number, &mut self.index);
         drop_age(&marks, number, &mut self.ages);
         item
+    }
+}
+
+impl<T: Keyed + Copy> KeyedList<T> {
+    /// A list of its own with the same items, and with as much room.
+    pub fn copy(&self) -> Result<Self, NoMemory>
+        ensures { IfOk result (λ copy. copy ≡ self.now) }
+    {
+        let list = self.list.copy(|numbered| Ok(copied(numbered)))?;
+        let index = self.index.copy()?;
+        let ages = self.ages.copy()?;
+        Ok(KeyedList {
+            list,
+            index,
+            ages,
+            next: self.next,
+        })
     }
 }
