@@ -1,6 +1,7 @@
 // A map-cache: what was learned, and the moment until which it was purged.
-ghost use Rattle.std.specs.Prelude.{◌≡◌, ◌≤◌, ◌<◌, ◌+◌, ◌*◌, ◌^◌, ◌↔◌, ◌≢◌, ◌||◌, nat_lt, is_some, Some, IfSome, IsTrue, IsFalse, IsOk, [], length, max, slice_get, Err, OnOk, OnErr};
+ghost use Rattle.std.specs.Prelude.{◌≡◌, ◌≤◌, ◌<◌, ◌+◌, ◌*◌, ◌^◌, ◌↔◌, ◌≢◌, ◌||◌, nat_lt, is_some, Some, IfOk, IfSome, IsTrue, IsFalse, IsOk, [], length, max, slice_get, Err, OnOk, OnErr};
 ghost use Rattle.std.specs.Option.{option_copied};
+ghost use Rattle.prefix_table.specs.Limits.{most_nodes};
 ghost use Rattle.map_cache.specs.Cache.{bits_told, exact, has_room, in_force, lasting, learned};
 ghost use Rattle.map_cache.specs.Limits.{all_locators, most_locators, most_mappings};
 ghost use Rattle.map_cache.specs.Lists.{IsFew};
@@ -60,6 +61,17 @@ impl MapCache {
             now: 0,
             indexed: Indexed::new(alloc),
         }
+    }
+
+    /// A cache of its own with the same mappings, at the same moment, and with as much room.
+    pub fn copy(&self) -> Result<MapCache, NoMemory>
+        ensures { IfOk result (λ copy. copy ≡ self.entry.now) }
+    {
+        let indexed = self.indexed.copy()?;
+        Ok(MapCache {
+            now: self.now,
+            indexed,
+        })
     }
 
     /// The greatest moment that was handed to `purge` or `learn`, in nanoseconds, or 0.
@@ -198,7 +210,7 @@ impl MapCache {
             ≡ in_force (lasting m self.entry.now.mappings) eid.now }
         ensures few { IfSome (option_copied result) IsFew }
         ensures counted { reads.old ≤ reads.new }
-        ensures bound { reads.new ≤ reads.old + 129 }
+        ensures bound { reads.new ≤ reads.old + most_nodes }
     {
         self.indexed.in_force(m, eid, reads)
     }
@@ -210,7 +222,7 @@ impl MapCache {
         requires reads { reads.old < 2 ^ 63 }
         ensures found { option_copied result ≡ exact (lasting m self.entry.now.mappings) eid.now }
         ensures counted { reads.old ≤ reads.new }
-        ensures bound { reads.new ≤ reads.old + 129 }
+        ensures bound { reads.new ≤ reads.old + most_nodes }
     {
         self.indexed.exact(m, eid, reads)
     }

@@ -1,13 +1,15 @@
 // Mappings in order of EID, and what finds them.
-ghost use Rattle.std.specs.Prelude.{◌≡◌, ◌≤◌, ◌<◌, ◌+◌, ◌*◌, ◌^◌, [], false, length, max, slice_get, Some, is_some, IfSome, OnOk, IsOk};
+ghost use Rattle.std.specs.Prelude.{◌≡◌, ◌≤◌, ◌<◌, ◌+◌, ◌*◌, ◌^◌, [], false, length, max, slice_get, Some, is_some, IfOk, IfSome, OnOk, IsOk};
 ghost use Rattle.std.specs.Option.{option_copied};
 ghost use Rattle.mapping_records.specs.Orders.{eid_order, put_in_order};
+ghost use Rattle.prefix_table.specs.Limits.{most_nodes};
 ghost use Rattle.map_cache.specs.Cache.{bits_told, exact, in_force, lasting, without_eid};
 ghost use Rattle.map_cache.specs.Limits.{all_locators, most_locators, most_mappings};
 ghost use Rattle.map_cache.specs.Lists.{AllFew, IsAscending, IsPlace};
 ghost use Rattle.map_cache.specs.Named.{least_named, named_above};
 
 use crate::bits::tell;
+use crate::copies::copied;
 use crate::endings::{add_ending, drop_ending};
 use crate::keys::{Ending, Naming};
 use crate::lasting::first_lasting;
@@ -32,6 +34,8 @@ pub(crate) struct Indexed {
     // Of those that end.
     endings: OrderedSet<Ending>,
     naming: OrderedSet<Naming>,
+    // Of copies.
+    alloc: Global,
 }
 
 impl Model for Indexed {
@@ -71,7 +75,26 @@ impl Indexed {
             by_eid: PrefixTable::new(alloc),
             endings: OrderedSet::new(alloc),
             naming: OrderedSet::new(alloc),
+            alloc,
         }
+    }
+
+    /// The same of their own, with as much room.
+    pub(crate) fn copy(&self) -> Result<Indexed, NoMemory>
+        ensures { IfOk result (λ copy. copy ≡ self.now) }
+    {
+        let alloc = self.alloc;
+        let mappings = self.mappings.copy(|mapping| copied(alloc, mapping))?;
+        let by_eid = self.by_eid.copy(|stay| Ok(*stay))?;
+        let endings = self.endings.copy()?;
+        let naming = self.naming.copy()?;
+        Ok(Indexed {
+            mappings,
+            by_eid,
+            endings,
+            naming,
+            alloc,
+        })
     }
 
     /// Makes room for `n` further mappings with so many locators in all.
@@ -253,7 +276,7 @@ impl Indexed {
         requires { reads.old < 2 ^ 63 }
         ensures found { option_copied result ≡ in_force (lasting m self.now.mappings) eid.now }
         ensures counted { reads.old ≤ reads.new }
-        ensures bound { reads.new ≤ reads.old + 129 }
+        ensures bound { reads.new ≤ reads.old + most_nodes }
     {
         // The list says that each mapping has a name.
         let _ = self.mappings.len();
@@ -271,7 +294,7 @@ impl Indexed {
         requires { reads.old < 2 ^ 63 }
         ensures found { option_copied result ≡ exact (lasting m self.now.mappings) eid.now }
         ensures counted { reads.old ≤ reads.new }
-        ensures bound { reads.new ≤ reads.old + 129 }
+        ensures bound { reads.new ≤ reads.old + most_nodes }
     {
         // The list says that each mapping has a name.
         let _ = self.mappings.len();

@@ -3,6 +3,7 @@
 
 mod bits;
 mod cache;
+mod copies;
 mod endings;
 mod fault;
 mod indexed;
