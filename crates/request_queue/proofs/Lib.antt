@@ -3,5 +3,6 @@ pub mod DistinctLemmas
 pub mod DropLemmas
 pub mod EidLemmas
 pub mod FoundLemmas
+pub mod PairLemmas
 mod PassingLemmas
 pub mod RestLemmas

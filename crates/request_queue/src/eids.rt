@@ -3,6 +3,7 @@ ghost use Rattle.std.specs.Prelude.{◌≡◌, ◌≤◌, ◌<◌, ◌+◌, ◌+
 ghost use Rattle.std.specs.List.{remove};
 ghost use Rattle.std.specs.Option.{option_copied};
 ghost use Rattle.keyed_list.specs.Keyed.{greater};
+ghost use Rattle.prefix_table.specs.Limits.{most_nodes};
 ghost use Rattle.prefix_table.specs.Pairs.{value_in};
 ghost use Rattle.request_queue.specs.Found.{AreEids, with_latest};
 ghost use Rattle.request_queue.specs.Queue.{covered, waiting};
@@ -20,7 +21,7 @@ pub(crate) fn is_covered(m: u64, eid: &Eid, eids: &PrefixTable<u64>, reads: &mut
     ensures covered { (requests : List Request) → AreEids eids.now.pairs requests
         → result ≡ covered (waiting m requests) eid.now }
     ensures counted { reads.old ≤ reads.new }
-    ensures bound { reads.new ≤ reads.old + 129 }
+    ensures bound { reads.new ≤ reads.old + most_nodes }
 {
     eids.longest_where(eid, |start| waits(m, *start), reads)
         .is_some()

@@ -1,6 +1,7 @@
 // The queue: requests in asking order, and a trie of their EIDs.
-ghost use Rattle.std.specs.Prelude.{◌≡◌, ◌≤◌, ◌<◌, ◌+◌, ◌*◌, ◌^◌, ◌↔◌, [], ◌∷◌, true, length, max, slice_get, Err, Some, IfSome, IsTrue, OnOk, OnErr, vec_len, vec_capacity};
+ghost use Rattle.std.specs.Prelude.{◌≡◌, ◌≤◌, ◌<◌, ◌+◌, ◌*◌, ◌^◌, ◌↔◌, [], ◌∷◌, true, length, max, slice_get, Err, Some, IfOk, IfSome, IsTrue, OnOk, OnErr, vec_len, vec_capacity};
 ghost use Rattle.std.specs.Option.{option_copied};
+ghost use Rattle.prefix_table.specs.Limits.{most_nodes};
 ghost use Rattle.request_queue.specs.Queue.{all_due, asked, asked_after, behind, covered, may_send_again, sent_again, waiting, with_nonce, without_nonce};
 ghost use Rattle.request_queue.specs.Limits.{most_requests, most_reserved};
 ghost use Rattle.request_queue.specs.Lists.{are_distinct};
@@ -64,6 +65,19 @@ impl RequestQueue {
             eids: PrefixTable::new(alloc),
             wake: u64::MAX,
         }
+    }
+
+    /// A queue of its own with the same requests, and with as much room.
+    pub fn copy(&self) -> Result<RequestQueue, NoMemory>
+        ensures { IfOk result (λ copy. copy ≡ self.now) }
+    {
+        let requests = self.requests.copy()?;
+        let eids = self.eids.copy(|start| Ok(*start))?;
+        Ok(RequestQueue {
+            requests,
+            eids,
+            wake: self.wake,
+        })
     }
 
     /// Makes room for `n` further requests.
@@ -178,7 +192,7 @@ impl RequestQueue {
         requires { reads.old < 2 ^ 63 }
         ensures covered { result ≡ covered (waiting m self.now.requests) eid.now }
         ensures counted { reads.old ≤ reads.new }
-        ensures bound { reads.new ≤ reads.old + 129 }
+        ensures bound { reads.new ≤ reads.old + most_nodes }
     {
         is_covered(m, eid, &self.eids, reads)
     }
