@@ -1,5 +1,5 @@
 // What is known of locators.
-ghost use Rattle.std.specs.Prelude.{◌≡◌, ◌≤◌, ◌<◌, ◌+◌, ◌*◌, length, max, nat_lt, [], OnOk, OnErr};
+ghost use Rattle.std.specs.Prelude.{◌≡◌, ◌≤◌, ◌<◌, ◌+◌, ◌*◌, length, max, nat_lt, [], IfOk, OnOk, OnErr};
 ghost use Rattle.locator_state.specs.Echoes.{data_due, data_from, echo_heard, echo_on, echo_out, echo_started, may_start, may_want, wanted};
 ghost use Rattle.locator_state.specs.Limits.{most_probes, most_reserved};
 ghost use Rattle.locator_state.specs.Observed.{HasNoRoom, HasPlaces, HasRoom, UsesRoom, is_up, longest, recent, with_probes, with_solicits, with_starts, with_wishes};
@@ -72,6 +72,22 @@ impl LocatorState {
             wishes: KeyedList::new(alloc),
             solicits: KeyedList::new(alloc),
         }
+    }
+
+    /// The same of its own, with as much room.
+    pub fn copy(&self) -> Result<LocatorState, NoMemory>
+        ensures { IfOk result (λ copy. copy ≡ self.now) }
+    {
+        let probes = self.probes.copy()?;
+        let starts = self.starts.copy()?;
+        let wishes = self.wishes.copy()?;
+        let solicits = self.solicits.copy()?;
+        Ok(LocatorState {
+            probes,
+            starts,
+            wishes,
+            solicits,
+        })
     }
 
     /// How many items are kept in all. What all lists have in all is at most 16 for each key for which
