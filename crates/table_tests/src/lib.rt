@@ -1,10 +1,12 @@
 //! Tests of the node store, the prefix table, the map-cache, the queue of requests, what is known
 //! of locators (probes, echoes, solicitations) and the choice among them: times, limits,
-//! replacement, the longest match, shares.
+//! replacement, the longest match, shares, copies.
 #![tactic(auto)]
 
 #[cfg(test)]
 mod choices;
+#[cfg(test)]
+mod copies;
 #[cfg(test)]
 mod echoes;
 #[cfg(test)]

@@ -1,10 +1,10 @@
 // Times and limits of mappings, by hand.
-ghost use Rattle.std.specs.Prelude.{◌≡◌, ◌≤◌, IfOk};
+ghost use Rattle.std.specs.Prelude.{◌≡◌, ◌≤◌};
 
-use crate::rows::{SECOND, eid, record};
+use crate::rows::{SECOND, eid, locator, record, record_to};
 use ip_headers::{Addr, Prefix};
 use map_cache::{LearnFault, MapCache};
-use mapping_records::{Eid, Locator, Locators, Record};
+use mapping_records::Eid;
 use node_store::Reads;
 use std::alloc::Global;
 use std::process::Abort;
@@ -73,30 +73,6 @@ fn fixed_without_end(rt: &impl Abort, alloc: Global, cache: &mut MapCache) -> Re
     cache.learn(MINUTE, record(alloc, tenant, 0), false)?;
     assert_eq!(rt; cache.live_count(MINUTE), 0);
     Ok(())
-}
-
-// A locator of that address.
-fn locator(addr: Addr, priority: u8) -> Locator {
-    Locator {
-        addr,
-        priority,
-        weight: 100,
-        m_priority: 255,
-        m_weight: 0,
-        local: false,
-        probed: false,
-        reachable: true,
-    }
-}
-
-// The record of a mapping of so many minutes to locators.
-fn record_to(alloc: Global, eid: Eid, ttl: u32, locators: &[Locator]) -> Result<Record, Fail>
-    ensures ttl { IfOk result (λ mapping. mapping.ttl ≡ ttl) }
-    ensures locators { IfOk result (λ mapping. mapping.locators ≡ locators.now) }
-{
-    let mut mapping = record(alloc, eid, ttl);
-    mapping.locators = Locators::from_vec(Vec::from_slice(alloc, locators)?);
-    Ok(mapping)
 }
 
 // The least address above another.

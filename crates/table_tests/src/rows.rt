@@ -1,8 +1,8 @@
 // EIDs and records for rows.
-ghost use Rattle.std.specs.Prelude.{◌≡◌, length};
+ghost use Rattle.std.specs.Prelude.{◌≡◌, IfOk, length};
 
 use ip_headers::{Addr, Prefix};
-use mapping_records::{Eid, Locators, Record};
+use mapping_records::{Eid, Locator, Locators, Record};
 use std::alloc::Global;
 use std::test::Fail;
 
@@ -28,4 +28,28 @@ pub fn record(alloc: Global, eid: Eid, ttl: u32) -> Record
         eid,
         locators: Locators::new(alloc),
     }
+}
+
+/// A locator of that address.
+pub fn locator(addr: Addr, priority: u8) -> Locator {
+    Locator {
+        addr,
+        priority,
+        weight: 100,
+        m_priority: 255,
+        m_weight: 0,
+        local: false,
+        probed: false,
+        reachable: true,
+    }
+}
+
+/// The record of a mapping of so many minutes to locators.
+pub fn record_to(alloc: Global, eid: Eid, ttl: u32, locators: &[Locator]) -> Result<Record, Fail>
+    ensures ttl { IfOk result (λ mapping. mapping.ttl ≡ ttl) }
+    ensures locators { IfOk result (λ mapping. mapping.locators ≡ locators.now) }
+{
+    let mut mapping = record(alloc, eid, ttl);
+    mapping.locators = Locators::from_vec(Vec::from_slice(alloc, locators)?);
+    Ok(mapping)
 }
