@@ -8,7 +8,7 @@ use Rattle.router_log.specs.declared.notice.Notice.{Notice}
 use Rattle.router_log.specs.declared.notice.Notice.TheVariants as notice
 use Rattle.router_model.specs.Changes.{Change, each, may_ask, unchanged}
 use Rattle.router_model.specs.Mappings.{exact}
-use Rattle.router_model.specs.Note.{is_echo, is_learnt, is_missing, is_news, noted}
+use Rattle.router_model.specs.Note.{is_echo, is_learned, is_missing, is_news, noted}
 use Rattle.router_model.specs.Parts.{Parts, table}
 use Rattle.router_model.specs.Site.{ours}
 use Rattle.router_core.specs.Table.{change_of}
@@ -37,7 +37,7 @@ module _ (settings : Settings) (m : ℕ) where
   noted-behind (notice.Ask eid source) p entries emits =
       if-behind p entries emits (is_missing settings (table.see p m) eid) _ _ refl
   noted-behind (notice.Refresh eid) p entries emits =
-      if-behind p entries emits (is_learnt (exact (table.see p m).mappings eid) && may_ask settings (table.see p m) eid) _ _ refl
+      if-behind p entries emits (is_learned (exact (table.see p m).mappings eid) && may_ask settings (table.see p m) eid) _ _ refl
   noted-behind (notice.Bits eid rloc bits width) p entries emits =
       if-behind p entries emits (is_news rloc bits width (exact (table.see p m).mappings eid)) _ _ (quiet-behind p entries emits _ _)
   noted-behind (notice.EchoWanted rloc nonce) p entries emits =

@@ -119,6 +119,6 @@ may-start p m rloc nonce is = (both ((view_in p m).may_start rloc) _ (may p (Ech
 pub may-want : (p : Parts) (m : ℕ) (rloc : Addr) (nonce : ℕ) → admits p (EchoWanted m rloc nonce) ≡ true → IsTrue ((view_in p m).may_want rloc nonce)
 may-want p m rloc nonce is = (both ((view_in p m).may_want rloc nonce) _ (may p (EchoWanted m rloc nonce) is).suit).0
 
--- a locator that may be solicited
+-- an SMR that may be sent
 pub may-solicit : (p : Parts) (m : ℕ) (rloc : Addr) (eid : Eid) (nonce : ℕ) → admits p (Solicited m rloc eid nonce) ≡ true → IsTrue ((view_in p m).may_solicit rloc eid)
 may-solicit p m rloc eid nonce is = (may p (Solicited m rloc eid nonce) is).suit

@@ -272,7 +272,7 @@ wanted-parts count drawn now ms rs o m rloc nonce =
     whole : absorb wish_kind (wish_counts m) (EchoWanted m rloc nonce) o.wishes ≡ wanted m rloc nonce o.wishes
     whole = rw (fresh_wish m) (ap (λ (l : List EchoWish). l ++ new ∷ []) (filter_map-all (counting_wishes m o.wishes)))
 
--- ### a locator that was solicited
+-- ### an SMR that was sent
 
 pub solicited-parts : (count drawn now : ℕ) (ms : List Mapping) (rs : List Request) (o : Observed) (m : ℕ) (rloc : Addr) (eid : Eid) (nonce : ℕ) → parts_with (count + 1) (drawn + 1) m (lasting m ms) (waiting m rs) (with_solicits m (solicited m rloc eid o.solicits) o) ≡ with_entry (Solicited m rloc eid nonce) (parts_with count drawn now ms rs o)
 solicited-parts count drawn now ms rs o m rloc eid nonce =

@@ -1,4 +1,4 @@
--- The prefixes that a solicitation names.
+-- The prefixes that an SMR names.
 use Rattle.std.specs.Prelude.{ℕ}
 use Rattle.ip_headers.specs.Addr.{width}
 use Rattle.ip_headers.specs.declared.addr.Addr.{Addr}

@@ -9,7 +9,7 @@ use Rattle.router_core.specs.declared.changed.Changed.{Changed}
 use Rattle.router_core.specs.declared.changed.Heard.{Heard}
 
 -- the parts of a table, of each kind how many more it has room for, and how many items all its lists have
-pub record Memory : Type 0 where
+pub record TableSeen : Type 0 where
   pub parts : Parts
   pub mapping_room : ℕ
   pub locator_room : ℕ

@@ -162,7 +162,7 @@ impl Table {
         Ok(())
     }
 
-    // Takes the entry of a locator that was solicited.
+    // Takes the entry of an SMR that was sent to a locator.
     fn apply_solicited(&mut self, m: u64, rloc: Addr, eid: Eid, nonce: u64) -> Result<(), NoMemory>
         requires may { MayEnter 1 m self.old.parts }
         requires place { IsTrue ((view_in self.old.parts m).may_solicit rloc eid) }

@@ -15,7 +15,7 @@ ghost use Rattle.router_core.specs.Seen.{datagram_seen};
 
 use crate::Table;
 use crate::datagram::Datagram;
-use crate::departure::host_eid;
+use crate::hosts::host_eid;
 use crate::tellings::notices;
 use crate::versions::wrong_version;
 use decap::{DecapDrop, OpenDrop, Tunnelled, deliver, open_tunnel};

@@ -1,6 +1,7 @@
 // What the calls of a table answer.
 ghost use Rattle.std.specs.Prelude.{◌≡◌, ◌∷◌, [], IfOk};
 
+use crate::Table;
 use octets::{Items, NoMemory};
 use router_log::{Emits, Entries, Verdict};
 use std::alloc::Global;
@@ -18,6 +19,28 @@ pub struct Heard {
 pub struct Changed {
     pub entries: Entries,
     pub emits: Emits,
+}
+
+impl Table {
+    /// Entries without emits.
+    pub(crate) fn quiet(&self, entries: Entries) -> Changed
+        ensures { result ≡ record { entries = entries; emits = [] } }
+    {
+        Changed {
+            entries,
+            emits: Items::new(self.alloc),
+        }
+    }
+
+    /// No entries, and no emits.
+    pub(crate) fn nothing(&self) -> Changed
+        ensures { result ≡ record { entries = []; emits = [] } }
+    {
+        Changed {
+            entries: Items::new(self.alloc),
+            emits: Items::new(self.alloc),
+        }
+    }
 }
 
 /// A list of one item.

@@ -22,6 +22,7 @@ ghost use Rattle.router_core.specs.Bounded.{IsVersioned};
 
 use crate::Table;
 use crate::choice::chosen;
+use crate::hosts::host_eid;
 use crate::site::ours;
 use crate::tunnel_headers::header_to;
 use encap::{EncapDrop, encapsulate, forward_native};
@@ -30,7 +31,7 @@ use lisp_header::LispHeader;
 use lisp_settings::{Settings, home};
 use locator_choice::{flow_hash, source_port};
 use map_cache::Mapping;
-use mapping_records::{Action, Eid, Prefix};
+use mapping_records::{Action, Eid};
 use octets::{Items, NoMemory};
 use router_log::{Decision, Notice, Notices, Reason, Verdict};
 use std::alloc::Global;
@@ -59,20 +60,6 @@ pub(crate) fn routed(
     match table.in_force(m, &eid) {
         Some(mapping) => mapped(table, settings, m, iid, version, packet, mapping),
         None => asking(table.alloc, eid, packet, Reason::Miss),
-    }
-}
-
-/// The EID of one address.
-pub(crate) fn host_eid(iid: u32, addr: Addr) -> Eid
-    requires { iid < 2 ^ 24 }
-    ensures host { host_eid iid addr ≡ Some result }
-    ensures iid { result.iid ≡ iid }
-    ensures addr { result.prefix.addr ≡ addr }
-    ensures len { result.prefix.len ≡ width addr }
-{
-    Eid {
-        iid,
-        prefix: Prefix::host(addr),
     }
 }
 

@@ -22,7 +22,7 @@ use router_log::Emit;
 use std::alloc::Global;
 
 /// The packet that an emit stands for, with its IP and UDP headers (RFC 9301, section 5). A
-/// Map-Request goes to the resolver, encapsulated; one that probes or solicits goes to its locator;
+/// Map-Request goes to the resolver, encapsulated; one that probes and an SMR go to their locators;
 /// a Map-Reply goes to whom asked. Without a resolver a Map-Request has no octets.
 pub fn emit_octets(alloc: Global, settings: &Settings, emit: &Emit) -> Result<Octets, NoMemory>
     requires lawful { IsLawful settings.now }
@@ -89,7 +89,7 @@ fn probe_octets(
     packet_to(alloc, settings, to, &message)
 }
 
-// A Map-Request that solicits one.
+// An SMR.
 #[tactic(auto, unfolding(router_model::specs::Emits::emit_packet))]
 fn solicit_octets(
     alloc: Global,

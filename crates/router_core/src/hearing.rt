@@ -198,7 +198,7 @@ impl Table {
         self.hear_request(settings, m, Asker { dest, port, probe }, request)
     }
 
-    // Hears a Map-Request: a solicitation, or a question for mappings of the site.
+    // Hears a Map-Request: an SMR, or a question for mappings of the site.
     #[tactic(auto, unfolding(router_model::specs::Hear::requested))]
     fn hear_request(
         &mut self,

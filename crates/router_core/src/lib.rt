@@ -1,10 +1,11 @@
-//! The router: what a frame is to it, what it does with it by its settings and its memory, and what
-//! that memory makes of a message or a notice.
+//! The router: what a frame is to it, what it does with it by its settings and its table, and what
+//! that table makes of a message or a notice.
 #![tactic(auto)]
 
 mod answering;
 mod applying;
 mod arrival;
+mod asking;
 mod changed;
 mod choice;
 mod control_writing;
@@ -16,11 +17,13 @@ mod departure;
 mod emitting;
 mod grounds;
 mod hearing;
+mod hosts;
 mod learning;
 mod noting;
 mod noting_echoes;
 mod noting_versions;
 mod own_requests;
+mod questions;
 mod renewing;
 mod resting;
 mod site;

@@ -1,12 +1,10 @@
 // What is noticed, noted.
-ghost use Rattle.std.specs.Prelude.{◌≡◌, ◌<◌, ◌==◌, ◌||◌, [], true, length, is_some, IsTrue, IfOk};
-ghost use Rattle.request_queue.specs.Queue.{waiting};
+ghost use Rattle.std.specs.Prelude.{◌≡◌, ◌==◌, ◌||◌, [], true, IfOk};
 ghost use Rattle.lisp_settings.specs.declared.settings.Settings.{Settings as SettingsValue};
 ghost use Rattle.router_log.specs.declared.notice.Notice.TheVariants.{Ask, Bits};
-ghost use Rattle.router_model.specs.Changes.{asked, may_ask, unchanged};
+ghost use Rattle.router_model.specs.Changes.{unchanged};
 ghost use Rattle.router_model.specs.Journal.{Journal};
 ghost use Rattle.router_model.specs.Lifting.{Follows, MayGo, is_sound};
-ghost use Rattle.router_model.specs.Limits.{most_requests};
 ghost use Rattle.router_model.specs.Note.{is_missing, is_news, is_wanting, note, noted};
 ghost use Rattle.router_model.specs.Mappings.{exact, force};
 ghost use Rattle.router_model.specs.Parts.{Stands, table, view_in};
@@ -17,13 +15,10 @@ use crate::changed::only;
 use crate::status::{differs, is_named};
 use crate::{Changed, Table};
 use ip_headers::Addr;
-use lisp_settings::{Settings, nonce_at};
+use lisp_settings::Settings;
 use mapping_records::Eid;
-use node_store::Reads;
-use octets::{Items, NoMemory};
-use request_queue::MOST_REQUESTS;
-use router_log::{Emit, Entries, Entry, Notice};
-use std::alloc::Global;
+use octets::NoMemory;
+use router_log::{Entry, Notice};
 
 impl Table {
     /// Notes what was noticed at a moment: it takes the entries that come of it. Where memory is
@@ -147,79 +142,6 @@ impl Table {
         match self.in_force(m, eid) {
             None => true,
             Some(mapping) => mapping.details.locators.len() == 0 && mapping.details.action == 2,
-        }
-    }
-
-    /// There is a resolver, no open request covers the EID, and there is room for one more.
-    #[tactic(auto, unfolding(router_model::specs::Parts::view_in))]
-    pub(crate) fn may_ask(&self, settings: &Settings, m: u64, eid: &Eid) -> bool
-        ensures { result ≡ may_ask settings.now (view_in self.now.parts m) eid.now }
-    {
-        let now = self.moment_at(m);
-        settings.resolver.is_some()
-            && !self.queue.open_for(now, eid, &mut Reads::new())
-            && (self.queue.open_count(now) as usize) < MOST_REQUESTS
-    }
-
-    /// Makes a request with the next nonce.
-    pub(crate) fn make_request(
-        &mut self,
-        settings: &Settings,
-        m: u64,
-        eid: Eid,
-        source: Option<Addr>,
-        invoked: bool,
-    ) -> Result<Changed, NoMemory>
-        requires may { MayStep m self.old.parts }
-        requires place { length (waiting m self.old.parts.requests) < most_requests }
-        requires resolver { IsTrue (is_some settings.now.resolver) }
-        ensures parts { IfOk result (λ changed. changed_seen self.new.parts changed
-            ≡ asked table settings.now m eid source invoked (unchanged self.old.parts)) }
-        ensures sent { IfOk result (λ changed. AreSent settings.now 1 changed.emits) }
-        ensures step { IsStep 1 m self.old.parts self.new.parts result }
-    {
-        let nonce = nonce_at(settings, self.drawn);
-        let entries = only(
-            self.alloc,
-            Entry::Asked {
-                moment: m,
-                eid,
-                source,
-                invoked,
-                nonce,
-            },
-        )?;
-        let emits = only(
-            self.alloc,
-            Emit::Request {
-                eid,
-                source,
-                invoked,
-                nonce,
-            },
-        )?;
-        self.reserve_requests(1)?;
-        self.ask(m, eid, source, invoked, nonce);
-        Ok(Changed { entries, emits })
-    }
-
-    /// Entries without emits.
-    pub(crate) fn quiet(&self, entries: Entries) -> Changed
-        ensures { result ≡ record { entries = entries; emits = [] } }
-    {
-        Changed {
-            entries,
-            emits: Items::new(self.alloc),
-        }
-    }
-
-    /// No entries, and no emits.
-    pub(crate) fn nothing(&self) -> Changed
-        ensures { result ≡ record { entries = []; emits = [] } }
-    {
-        Changed {
-            entries: Items::new(self.alloc),
-            emits: Items::new(self.alloc),
         }
     }
 }

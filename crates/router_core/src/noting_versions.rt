@@ -3,7 +3,7 @@ ghost use Rattle.std.specs.Prelude.{◌≡◌, ◌<◌, ◌&&◌, is_some, IfOk}
 ghost use Rattle.router_log.specs.declared.notice.Notice.TheVariants.{Refresh, Solicit};
 ghost use Rattle.router_model.specs.Changes.{may_ask, unchanged};
 ghost use Rattle.router_model.specs.Mappings.{exact};
-ghost use Rattle.router_model.specs.Note.{is_learnt, noted};
+ghost use Rattle.router_model.specs.Note.{is_learned, noted};
 ghost use Rattle.router_model.specs.Parts.{table, view_in};
 ghost use Rattle.router_model.specs.Site.{ours};
 ghost use Rattle.router_core.specs.Steps.{AreSent, IsStep, MayStep};
@@ -19,7 +19,7 @@ use octets::NoMemory;
 use router_log::{Emit, Entry};
 
 impl Table {
-    /// Notes that the mapping of an EID is older than the other side's: if it was learnt, it is asked
+    /// Notes that the mapping of an EID is older than the other side's: if it was learned, it is asked
     /// for again.
     #[tactic(auto, unfolding(router_model::specs::Note::noted))]
     pub(crate) fn note_old(
@@ -40,16 +40,16 @@ impl Table {
         self.make_request(settings, m, *eid, None, false)
     }
 
-    // The EID has a learnt mapping of its own, and may be asked for.
+    // The EID has a learned mapping of its own, and may be asked for.
     fn may_renew(&self, settings: &Settings, m: u64, eid: &Eid) -> bool
-        ensures { result ≡ (is_learnt (exact (view_in self.now.parts m).mappings eid.now)
+        ensures { result ≡ (is_learned (exact (view_in self.now.parts m).mappings eid.now)
             && may_ask settings.now (view_in self.now.parts m) eid.now) }
     {
-        self.is_learnt(m, eid) && self.may_ask(settings, m, eid)
+        self.is_learned(m, eid) && self.may_ask(settings, m, eid)
     }
 
-    fn is_learnt(&self, m: u64, eid: &Eid) -> bool
-        ensures { result ≡ is_learnt (exact (view_in self.now.parts m).mappings eid.now) }
+    fn is_learned(&self, m: u64, eid: &Eid) -> bool
+        ensures { result ≡ is_learned (exact (view_in self.now.parts m).mappings eid.now) }
     {
         match self.exact(m, eid) {
             None => false,
@@ -57,8 +57,8 @@ impl Table {
         }
     }
 
-    /// Notes that a locator knows an old version of the mapping of an EID of the site: it is solicited,
-    /// with the next nonce.
+    /// Notes that a locator knows an old version of the mapping of an EID of the site: it is sent
+    /// an SMR with the next nonce.
     #[tactic(auto, unfolding(router_model::specs::Note::noted))]
     pub(crate) fn note_solicit(
         &mut self,
@@ -99,7 +99,7 @@ impl Table {
         Ok(Changed { entries, emits })
     }
 
-    // An own locator of its family is up, and it may be solicited for the EID.
+    // An own locator of its family is up, and an SMR for the EID may be sent.
     #[tactic(auto, unfolding(router_model::specs::Parts::view_in))]
     fn may_solicit(&self, settings: &Settings, m: u64, rloc: &Addr, eid: &Eid) -> bool
         ensures { result ≡ (is_some (ours settings.now.locators rloc.now)

@@ -44,7 +44,7 @@ pub(crate) fn probe_message(
     Ok(Message::Request(request))
 }
 
-/// A Map-Request that solicits one, from an EID of the site.
+/// An SMR: a Map-Request with S, from an EID of the site.
 pub(crate) fn solicit_message(
     alloc: Global,
     settings: &Settings,

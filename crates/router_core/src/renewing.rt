@@ -1,4 +1,4 @@
-// What a solicitation makes the router ask for again (RFC 9301, section 6.1).
+// What an SMR, a Map-Request with S, makes the router ask for again (RFC 9301, section 6.1).
 ghost use Rattle.std.specs.Prelude.{◌≡◌, ◌<◌, ◌≤◌, ◌+◌, ◌^◌, length, map, option_to_list, All, IfOk, IfSome};
 ghost use Rattle.map_messages.specs.Range.{InRangeRequest};
 ghost use Rattle.router_model.specs.Changes.{each, unchanged};
@@ -11,7 +11,7 @@ ghost use Rattle.router_core.specs.Sendable.{IsSendable};
 ghost use Rattle.router_core.specs.Steps.{AreAdded, AreSent, HasEntered, HaveRoom, IsStep, MayEnter, MayStep};
 ghost use Rattle.router_core.specs.Table.{change_of, heard_seen};
 
-use crate::departure::host_eid;
+use crate::hosts::host_eid;
 use crate::{Heard, Table};
 use ip_headers::Addr;
 use lisp_settings::{Settings, nonce_at};
@@ -21,7 +21,7 @@ use octets::{Items, NoMemory};
 use router_log::{Done, Emit, Entry, Verdict};
 
 impl Table {
-    /// Takes a solicitation: what its Source EID and its EIDs go by is asked for again.
+    /// Takes an SMR: what its Source EID and its EIDs go by is asked for again.
     pub(crate) fn renew(
         &mut self,
         settings: &Settings,

@@ -39,10 +39,10 @@ pub struct Table {
 impl Model for Table {
     ghost use Rattle.std.specs.Prelude.{◌≤◌, ◌+◌, length};
     ghost use Rattle.router_core.specs.Resting.{IsAtRest};
-    ghost use Rattle.router_core.specs.Table.{Memory};
+    ghost use Rattle.router_core.specs.Table.{TableSeen};
     ghost use Rattle.router_core.specs.Bounded.{AreBounded, AreShort, AreVersioned};
 
-    ghost Value = { Memory };
+    ghost Value = { TableSeen };
 
     ghost view = { λ table. record {
       parts = record {
@@ -166,7 +166,7 @@ impl Table {
         self.locators.reserve(n, 0)
     }
 
-    /// Makes room for one echo more that is asked for, one that is wanted, and one solicitation.
+    /// Makes room for one echo more that is asked for, one that is wanted, and one SMR.
     pub(crate) fn reserve_others(&mut self) -> Result<(), NoMemory>
         ensures parts { self.new.parts ≡ self.old.parts }
         ensures start_room { OnOk result (0 < self.new.start_room) }
@@ -333,7 +333,7 @@ impl Table {
         self.count += 1;
     }
 
-    /// Takes the entry of a locator that was solicited, for which there is room.
+    /// Takes the entry of an SMR that was sent to a locator, for which there is room.
     pub(crate) fn solicit(&mut self, m: u64, rloc: Addr, eid: Eid, nonce: u64)
         requires may { MayEnter 1 m self.old.parts }
         requires room { 0 < self.old.solicit_room }

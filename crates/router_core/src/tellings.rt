@@ -6,7 +6,7 @@ ghost use Rattle.router_model.specs.Cache.{held_of};
 ghost use Rattle.router_model.specs.Decide.{bits_notice, bits_width, delivery_notices, given, nonce_notices, refresh_notice, solicit_notice};
 ghost use Rattle.router_model.specs.Lifting.{AreSound};
 
-use crate::versions::{is_newer, is_version};
+use crate::versions::{dest_version, is_newer, is_version, source_version};
 use ip_headers::Addr;
 use lisp_header::{LispHeader, newer};
 use lisp_settings::Database;
@@ -116,7 +116,7 @@ fn push_solicit(
 ) -> Result<(), NoMemory>
     ensures { OnOk result (notices.new ≡ notices.old ++ solicit_notice rloc header.now home.now) }
 {
-    let (_, dest) = header.versions.unwrap_or((0, 0));
+    let dest = dest_version(header);
     let is_old = is_version(dest) && newer(home.version, dest);
     push_given(
         is_old,
@@ -128,7 +128,7 @@ fn push_solicit(
     )
 }
 
-// The sender has a newer version of its own mapping than was learnt.
+// The sender has a newer version of its own mapping than was learned.
 fn push_refresh(
     header: &LispHeader,
     mapping: Option<&Mapping>,
@@ -137,7 +137,7 @@ fn push_refresh(
     ensures { OnOk result (notices.new ≡ notices.old ++ refresh_notice header.now
         (option_map held_of (option_copied mapping.entry))) }
 {
-    let (source, _) = header.versions.unwrap_or((0, 0));
+    let source = source_version(header);
     match mapping {
         None => Ok(()),
         Some(mapping) => {

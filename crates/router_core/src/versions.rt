@@ -1,9 +1,9 @@
 // Map-Versions in the headers of tunnel packets (RFC 9302, section 7).
-ghost use Rattle.std.specs.Prelude.{◌≡◌, None, IfSome, option_map};
+ghost use Rattle.std.specs.Prelude.{◌≡◌, None, IfSome, option_map, unwrap_or};
 ghost use Rattle.std.specs.Option.{option_copied};
 ghost use Rattle.octets.specs.Rules.{first_failing};
 ghost use Rattle.router_model.specs.Cache.{held_of};
-ghost use Rattle.router_model.specs.Decide.{cached_version, is_newer, is_version, version_cases};
+ghost use Rattle.router_model.specs.Decide.{cached_version, dest_version, is_newer, is_version, source_version, version_cases};
 ghost use Rattle.router_model.specs.Plain.{packet_of};
 
 use lisp_header::{LispHeader, newer};
@@ -25,6 +25,29 @@ pub(crate) fn is_newer(a: u16, b: u16) -> bool
     is_version(a) && is_version(b) && newer(a, b)
 }
 
+/// The version that a header names of its sender's mapping, 0 without one.
+pub(crate) fn source_version(header: &LispHeader) -> u16
+    ensures { result ≡ source_version header.now }
+{
+    let (source, _) = named_versions(header);
+    source
+}
+
+/// The version that a header names of the receiver's mapping, 0 without one.
+pub(crate) fn dest_version(header: &LispHeader) -> u16
+    ensures { result ≡ dest_version header.now }
+{
+    let (_, dest) = named_versions(header);
+    dest
+}
+
+// The versions that a header names, 0 without them.
+fn named_versions(header: &LispHeader) -> (u16, u16)
+    ensures { result ≡ unwrap_or header.now.versions (0, 0) }
+{
+    header.versions.unwrap_or((0, 0))
+}
+
 // The version of the mapping in force, 0 without one.
 fn cached_version(mapping: Option<&Mapping>) -> u16
     ensures { result ≡ cached_version (option_map held_of (option_copied mapping.entry)) }
@@ -36,7 +59,7 @@ fn cached_version(mapping: Option<&Mapping>) -> u16
 }
 
 /// The verdict on a packet for the site that its versions drop: the other side takes the site's
-/// mapping for a newer one than it is, or its own one for an older one than was learnt.
+/// mapping for a newer one than it is, or its own one for an older one than was learned.
 pub(crate) fn wrong_version(
     header: &LispHeader,
     home: &Database,
@@ -46,11 +69,10 @@ pub(crate) fn wrong_version(
         (option_map held_of (option_copied mapping.entry))) }
     ensures none { IfSome result (λ verdict. packet_of verdict ≡ None) }
 {
-    let (source, dest) = header.versions.unwrap_or((0, 0));
-    if is_newer(dest, home.version) {
+    if is_newer(dest_version(header), home.version) {
         return Some(Verdict::Drop(Reason::DestVersionNewer));
     }
-    if is_newer(cached_version(mapping), source) {
+    if is_newer(cached_version(mapping), source_version(header)) {
         return Some(Verdict::Drop(Reason::SourceVersionOlder));
     }
     None

@@ -147,9 +147,9 @@ two_asked = Asked (seconds 1) wide None true 2 ∷ Asked (seconds 0) host (Some 
 abbrev pub probes_of : List OwnLocator → List Locator → List Addr
 probes_of own locators = probed_at (site_probing own locators) (statics (site_probing own locators)) 0
 
--- a mapping that was learnt for a minute
-abbrev pub learnt_for_a_minute : Journal
-learnt_for_a_minute = Learned (seconds 0) (mapping 1 wide_of_0 (locator far ∷ [])) false ∷ []
+-- a mapping that was learned for a minute
+abbrev pub learned_for_a_minute : Journal
+learned_for_a_minute = Learned (seconds 0) (mapping 1 wide_of_0 (locator far ∷ [])) false ∷ []
 
 -- three mappings with the same locators, one of which the least EID names with priority 255
 abbrev pub shared_locators : Journal
@@ -198,11 +198,11 @@ after_asking moment octets = kept echoing_site (raw 1 (seconds 0) packet ∷ raw
 abbrev pub echo_wanted : Journal
 echo_wanted = EchoWanted (seconds 0) far 0x2a ∷ []
 
--- a journal with a solicitation
+-- a journal with an SMR that was sent
 abbrev pub solicited_once : Journal
 solicited_once = Solicited (seconds 0) far home_of_0 1 ∷ []
 
--- so many echoes that are asked for, that are wanted, and so many solicitations
+-- so many echoes that are asked for, that are wanted, and so many SMRs that were sent
 abbrev pub starts_of : ℕ → List EchoStart
 starts_of n =
     replicate n (record { moment = seconds 0; rloc = far; nonce = 0xaa; heard = false; came = false })
@@ -306,7 +306,7 @@ to_version_4 =
     raw 1 (seconds 0) (with_versions 0 4) ∷ raw 2 (just_before (seconds 10)) (with_versions 0 4)
     ∷ raw 3 (seconds 10) (with_versions 0 4) ∷ []
 
--- a mapping of version 7 is learnt, then packets of instance 100 come from its versions 8 and 6
+-- a mapping of version 7 is learned, then packets of instance 100 come from its versions 8 and 6
 abbrev pub from_versions : List (List ℕ)
 from_versions =
     packet ∷ reply_of_version_7 ∷ inward (codes "1800800000006400") ∷ inward (codes "1800600000006400") ∷ []

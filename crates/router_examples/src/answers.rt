@@ -1,4 +1,4 @@
-// Map-Requests to the site, and solicitations.
+// Map-Requests to the site, and SMRs.
 #![tactic(auto, unfolding(crate::proofs::OnLiterals::router_on_literals))]
 
 ghost use Rattle.std.specs.Prelude.{◌≡◌, [], ◌∷◌, ◌++◌, codes, drop, None, true};
@@ -52,13 +52,13 @@ pub fn what_is_encapsulated_is_no_probe()
         ≡ packet_at (tenths 0) message.answer_to_carried ∷ [] }
 {}
 
-/// A solicitation for a mapping that was learnt makes the router ask for it again.
-pub fn a_solicitation_asks_again()
-    ensures line { said asking_site (frames (exchange ++ message.solicitation ∷ []))
+/// An SMR for a mapping that was learned makes the router ask for it again.
+pub fn an_smr_asks_again()
+    ensures line { said asking_site (frames (exchange ++ message.smr ∷ []))
         ≡ said asking_site (frames exchange)
         ++ codes "4 1700000000.300000000 n=3 control solicit asked=1\n" }
-    ensures packet { drop 2 (sent asking_site (frames (exchange ++ message.solicitation ∷ [])))
+    ensures packet { drop 2 (sent asking_site (frames (exchange ++ message.smr ∷ [])))
         ≡ packet_at (tenths 3) message.asked_again ∷ [] }
-    ensures journal { kept asking_site (frames (exchange ++ message.solicitation ∷ []))
+    ensures journal { kept asking_site (frames (exchange ++ message.smr ∷ []))
         ≡ Asked (tenths 3) wide None true 0x1112131415161718 ∷ kept asking_site (frames exchange) }
 {}

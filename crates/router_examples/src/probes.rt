@@ -9,7 +9,7 @@ ghost use Rattle.router_log.specs.declared.entry.Entry.TheVariants.{Probed, Prob
 ghost use Rattle.router_model.specs.Journal.{statics};
 ghost use Rattle.router_examples.specs.Frames.{encapsulated, just_before, seconds, tenths};
 ghost use Rattle.router_examples.specs.Messages as message;
-ghost use Rattle.router_examples.specs.Replays.{answer_at, answered_once, around_answer, around_probes, kept, learnt_for_a_minute, packet_at, probed_again, probed_at, probed_before, probed_once, probed_twice, probes_of, report, said, second, sent, shared_locators, up_at};
+ghost use Rattle.router_examples.specs.Replays.{answer_at, answered_once, around_answer, around_probes, kept, learned_for_a_minute, packet_at, probed_again, probed_at, probed_before, probed_once, probed_twice, probes_of, report, said, second, sent, shared_locators, up_at};
 ghost use Rattle.router_examples.specs.Sites.{far, far_in_ipv6, far_off, locator, narrow_of_0, near, near_in_ipv6, own, probing_site, seventeen_locators, site_of_both, static_site, wide_of_0};
 
 /// A locator is probed in the next second. Three seconds after a probe without an answer it can't be
@@ -120,8 +120,8 @@ pub fn some_locators_are_not_probed()
     ensures family_down { probes_of (own near ∷ record (own near_in_ipv6) { up = false } ∷ [])
         (locator far_in_ipv6 ∷ locator far ∷ []) ≡ far ∷ [] }
     ensures down { probes_of (own near ∷ []) (record (locator far) { reachable = false } ∷ []) ≡ far ∷ [] }
-    ensures live { probed_at probing_site learnt_for_a_minute 59 ≡ far ∷ [] }
-    ensures ended { probed_at probing_site learnt_for_a_minute 60 ≡ [] }
+    ensures live { probed_at probing_site learned_for_a_minute 59 ≡ far ∷ [] }
+    ensures ended { probed_at probing_site learned_for_a_minute 60 ≡ [] }
     ensures unset { probed_at static_site (statics static_site) 1 ≡ [] }
 {}
 

@@ -9,7 +9,7 @@ ghost use Rattle.router_examples.specs.Messages as message;
 ghost use Rattle.router_examples.specs.Replays.{at_the_end_of, busy_exchange, exchange, frames, kept, packet_at, reply_at, report, said, sent};
 ghost use Rattle.router_examples.specs.Sites.{asking_site, far, host, locator, mapping, wide};
 
-/// A mapping that is missing is asked for, learnt, and used.
+/// A mapping that is missing is asked for, learned, and used.
 pub fn a_missing_mapping_is_asked_for()
     ensures lines { said asking_site (frames exchange) ≡ report (
         codes "1 1700000000.000000000 n=0 drop 13 miss"

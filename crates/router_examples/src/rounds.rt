@@ -32,7 +32,7 @@ pub fn a_round_may_be_decided_by_its_begin()
         ∷ [] }
 {}
 
-/// Or by its end, whose mapping was learnt from the reply: also the packet that came before it.
+/// Or by its end, whose mapping was learned from the reply: also the packet that came before it.
 pub fn a_round_may_be_decided_by_its_end()
     ensures lines { said_in_rounds asking_site (frames busy_exchange) 4 all_late ≡ report (
         codes "1 1700000000.000000000 n=0 drop 13 miss"

@@ -1,4 +1,4 @@
--- What is kept of echoes and solicitations is what the journal says of them.
+-- What is kept of echoes and SMRs is what the journal says of them.
 use Rattle.std.proofs.Common.{◌≡◌, ℕ, ◌||◌, Bool, true, false, cond, List, [], ◌∷◌, ◌++◌, Option, Some, None, option_and_then, option_to_list, filter, refl, sym, ap, ap₂, subst, ◌∙◌}
 use Rattle.std.specs.List.{list_any}
 use Rattle.std.proofs.lemmas.List.{append-nil}
@@ -130,7 +130,7 @@ pub wishes-rise : (journal : Journal) → IsRising journal → Rises wished_at (
 wishes-rise journal rising =
     subst (Rises wished_at) (wishes-scanned [] journal) (scanned-rises begun_wish (λ entry w. Some w) wished_at 2 (same-still wished_at) wished journal rising)
 
--- ### solicitations
+-- ### SMRs
 
 abbrev solicited_at : Solicitation → ℕ
 solicited_at solicit = solicit.moment

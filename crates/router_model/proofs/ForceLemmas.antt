@@ -53,7 +53,7 @@ any-others n k (e ∷ ks) apart = by (same_eid e k) refl (any-others n k ks apar
     by true is h = rw (same_eid-is e k is, apart) h
     by false is h = ap (λ b. same_eid e n || b) h
 
--- an EID for which something was learnt is among them
+-- an EID for which something was learned is among them
 learned-listed : (n : Eid) (journal : Journal) (l : Learning) → last_learned n journal ≡ Some l → list_any (λ k. same_eid k n) (eids journal) ≡ true
 learned-listed n [] l is = cc
 learned-listed n (entry ∷ older) l is = by entry is (learned-listed n older l)

@@ -26,7 +26,7 @@ use Rattle.router_model.specs.Changes.{Change, Ledger, asked, each, entered, has
 use Rattle.router_model.specs.Course.{Course, Settled, Data, Control, Leaving, Datagram, course_of}
 use Rattle.router_model.specs.Hear.{Asker, Heard, Path, Range, Route, answered, answering, asked_again, carried, counted, course_heard, datagram_heard, drops, hear_by, is_asked_for, is_fit, is_static, message_heard, payload_heard, probe_replied, ranges_of, read_heard, renewable, renewed, replied, replied_to, reply_heard, reply_of, reply_path, requested, shortened, tallied, taught, unless_refused}
 use Rattle.router_model.specs.Mappings.{exact, force}
-use Rattle.router_model.specs.Note.{is_echo, is_learnt, is_missing, is_news, noted}
+use Rattle.router_model.specs.Note.{is_echo, is_learned, is_missing, is_news, noted}
 use Rattle.router_model.specs.Received.{message_in}
 use Rattle.router_model.specs.Sides.{with_entries}
 use Rattle.router_model.specs.Site.{ours}
@@ -67,7 +67,7 @@ module _ {S : Type 0} (ledger : Ledger S) (settings : Settings) (m : ℕ) (befor
   grown-noted (notice.Ask eid source) change grown =
       grown-if (is_missing settings (seen ledger settings m change) eid) _ change (grown-asked eid source false change grown) grown
   grown-noted (notice.Refresh eid) change grown =
-      grown-if (is_learnt (exact (seen ledger settings m change).mappings eid) && may_ask settings (seen ledger settings m change) eid) _ change
+      grown-if (is_learned (exact (seen ledger settings m change).mappings eid) && may_ask settings (seen ledger settings m change) eid) _ change
       (grown-asked eid None false change grown) grown
   grown-noted (notice.Bits eid rloc bits width) change grown =
       grown-if (is_news rloc bits width (exact (seen ledger settings m change).mappings eid)) _ change

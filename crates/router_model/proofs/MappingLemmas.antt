@@ -76,7 +76,7 @@ live-lasts t l = by l.fixed (l.mapping.ttl == 0) refl
     by false true e = refl
     by false false e = before_end t l.moment (lifetime l.mapping.ttl) (lifetime-some l.mapping.ttl e)
 
--- what was learnt for an EID has it
+-- what was learned for an EID has it
 last_learned-has : (n : Eid) (journal : Journal) (l : Learning) → last_learned n journal ≡ Some l → l.mapping.eid ≡ n
 last_learned-has n [] l is = cc
 last_learned-has n (entry ∷ older) l is = by entry is (last_learned-has n older l)

@@ -10,7 +10,7 @@ use Rattle.router_log.specs.declared.notice.Notice.TheVariants as notice
 use Rattle.router_model.specs.Changes.{entered, journal as of_journal, may_ask, next_nonce}
 use Rattle.router_model.specs.Lifting.{Goes, NotesLift, tabled}
 use Rattle.router_model.specs.Mappings.{Held, exact}
-use Rattle.router_model.specs.Note.{is_echo, is_learnt, is_missing, is_news, noted, solicited}
+use Rattle.router_model.specs.Note.{is_echo, is_learned, is_missing, is_news, noted, solicited}
 use Rattle.router_model.specs.Parts.{table}
 use Rattle.router_model.specs.Site.{ours}
 use Rattle.router_model.specs.View.{view}
@@ -37,7 +37,7 @@ notes-lift settings m more (notice.Ask eid source) before sound ready =
     goes-if settings m more before (λ v. is_missing settings v eid) _ _ ready
     (λ is. goes-asked settings m more before eid source false ready (may_ask-room settings m (view before.after m) eid (and_both _ _ is).1))
 notes-lift settings m more (notice.Refresh eid) before sound ready =
-    goes-if settings m more before (λ v. is_learnt (exact v.mappings eid) && may_ask settings v eid) _ _ ready
+    goes-if settings m more before (λ v. is_learned (exact v.mappings eid) && may_ask settings v eid) _ _ ready
     (λ is. goes-asked settings m more before eid None false ready (may_ask-room settings m (view before.after m) eid (and_both _ _ is).1))
 notes-lift settings m more (notice.Bits eid rloc bits width) before sound ready =
     goes-if settings m more before (λ v. is_news rloc bits width (exact v.mappings eid)) _ _ ready

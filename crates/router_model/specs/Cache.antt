@@ -12,7 +12,7 @@ use Rattle.router_model.specs.Kept.{Kind}
 use Rattle.router_model.specs.Mappings.{Held, Learning, bit, live_learnings, status_of}
 use Rattle.map_cache.specs.Cache.{end_of, fresh, lowest_from, with_bits}
 
--- a number whose lowest bits each entry Bits replaces that came since the mapping of an EID was learnt; `new` has them
+-- a number whose lowest bits each entry Bits replaces that came since the mapping of an EID was learned; `new` has them
 abbrev pub bits_since : (ℕ → ℕ → ℕ) → Eid → Journal → ℕ
 bits_since new eid [] = 0
 bits_since new eid (Learned moment mapping fixed ∷ before) = if same_eid mapping.eid eid then 0 else bits_since new eid before
@@ -28,7 +28,7 @@ known_since eid journal = bits_since (λ bits width. 2 ^ width - 1) eid journal
 abbrev pub told_since : Eid → Journal → ℕ
 told_since eid journal = bits_since (λ bits width. bits) eid journal
 
--- a mapping that was learnt, with status bits
+-- a mapping that was learned, with status bits
 abbrev pub made_of : ℕ → ℕ → Learning → Mapping
 made_of known bits learning = record {
   eid = learning.mapping.eid;
@@ -69,7 +69,7 @@ begun_mapping (Learned moment mapping fixed) =
     if fixed || not (mapping.ttl == 0) then Some (fresh moment mapping fixed) else None
 begun_mapping _ = None
 
--- what becomes of a mapping when an entry comes: its EID is learnt anew, or bits are told
+-- what becomes of a mapping when an entry comes: its EID is learned anew, or bits are told
 abbrev pub mapping_step : Entry → Mapping → Option Mapping
 mapping_step (Learned moment mapping fixed) old = if same_eid old.eid mapping.eid then None else Some old
 mapping_step (Bits moment eid bits width) old = Some (if same_eid old.eid eid then with_bits bits width old else old)

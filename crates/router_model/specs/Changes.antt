@@ -47,7 +47,7 @@ emitted packet change = record change { emits = change.emits ++ packet ∷ [] }
 abbrev pub may_ask : Settings → View → Eid → Bool
 may_ask settings v eid = is_some settings.resolver && (not (covered v.requests eid) && nat_lt (length v.requests) most_requests)
 
--- a mapping may be learnt: it takes one away, or replaces one, or there is room
+-- a mapping may be learned: it takes one away, or replaces one, or there is room
 abbrev pub has_room : View → Record → Bool
 has_room v mapping =
     (mapping.ttl == 0) || (is_some (exact v.mappings mapping.eid) || nat_lt (length v.mappings) most_mappings)

@@ -127,7 +127,7 @@ abbrev pub solicit_notice : Addr → LispHeader → Database → List Notice
 solicit_notice rloc lisp home =
     given (is_version (dest_version lisp) && newer home.version (dest_version lisp)) (notice.Solicit rloc home.eid)
 
--- the other side has a newer version of its own mapping than was learnt (RFC 9302, section 7.2)
+-- the other side has a newer version of its own mapping than was learned (RFC 9302, section 7.2)
 abbrev pub refresh_notice : LispHeader → Option Held → List Notice
 refresh_notice lisp None = []
 refresh_notice lisp (Some held) =

@@ -152,7 +152,7 @@ answered settings asker request change =
     if length databases == 0 then drops NotOurs change
     else replied asker (reply_of settings asker request databases) (reply_path settings asker request) change
 
--- ### what a solicitation makes the router ask for
+-- ### what an SMR makes the router ask for
 
 -- a prefix of an instance
 pub record Range : Type 0 where
@@ -166,7 +166,7 @@ ranges_of request =
     map (λ source. record { iid = source.0; addr = source.1; len = width source.1 }) (option_to_list request.source)
     ++ map (λ eid. record { iid = eid.iid; addr = eid.prefix.addr; len = eid.prefix.len }) request.eids
 
--- the EID of a mapping that was learnt and may be asked for again
+-- the EID of a mapping that was learned and may be asked for again
 abbrev pub renewable : Settings → View → Option Held → Option Eid
 renewable settings v None = None
 renewable settings v (Some held) =
@@ -208,19 +208,19 @@ module _ {S : Type 0} (ledger : Ledger S) (settings : Settings) (m : ℕ) where
   abbrev pub counted : Change S → Heard S
   counted change = takes (Solicited (length change.entries)) change
 
-  -- a Map-Request: a solicitation, or a question for mappings of the site
+  -- a Map-Request: an SMR, or a question for mappings of the site
   unfoldable pub requested : Asker → MapRequest → Change S → Heard S
   requested asker request change =
       if request.smr && not asker.probe then counted (each renewed (ranges_of request) change)
       else answered settings asker request change
 
-  -- a record is learnt, or passed over
+  -- a record is learned, or passed over
   abbrev pub taught : Eid → List Record → Record → Change S → Change S
   taught asked mappings mapping change =
       if is_asked_for asked mappings mapping && (not (is_static settings mapping) && has_room (seen ledger settings m change) mapping)
       then entered ledger settings m (entry.Learned m (shortened mapping) false) change else change
 
-  -- how many records were learnt, beside the entry Answered, and how many weren't
+  -- how many records were learned, beside the entry Answered, and how many weren't
   abbrev pub tallied : MapReply → Change S → Heard S
   tallied reply change =
       takes (Learned (length change.entries - 1) (length reply.mappings + 1 - length change.entries)) change

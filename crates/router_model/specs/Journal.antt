@@ -1,4 +1,4 @@
--- The journal: all that the router learnt, sent and saw, each at its moment. Its newest entry stands first.
+-- The journal: all that the router learned, sent and saw, each at its moment. Its newest entry stands first.
 use Rattle.std.specs.Prelude.{ℕ, ◌-◌, ◌≤◌, max, Bool, true, false, List, [], ◌∷◌, count_by, drop, length, map}
 use Rattle.lisp_settings.specs.declared.settings.Settings.{Settings}
 use Rattle.router_log.specs.declared.entry.Entry.{Entry}

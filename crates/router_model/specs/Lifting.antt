@@ -121,7 +121,7 @@ pub record Hears (settings : Settings) (m more : ℕ) (by_table : Heard Parts) (
 abbrev pub is_bounded : Record → Bool
 is_bounded mapping = nat_le mapping.action 7 && nat_le mapping.version 4095
 
--- the records of a message that may be learnt have theirs
+-- the records of a message that may be learned have theirs
 abbrev pub is_sound_message : Message → Bool
 is_sound_message (message.Reply reply) = list_all is_bounded reply.mappings
 is_sound_message _ = true
@@ -240,6 +240,6 @@ RunReplays = (settings : Settings) (format : Format) (octets : List ℕ) → IsL
 
 -- ### what the mappings of a view are
 
--- that of an EID is the one that was learnt last for it, if it is live
+-- that of an EID is the one that was learned last for it, if it is live
 abbrev pub LiveIsExact : Type 0
 LiveIsExact = (t : ℕ) (journal : Journal) (eid : Eid) → exact (live_mappings t journal) eid ≡ option_map (held journal) (live t eid journal)

@@ -11,13 +11,13 @@ use Rattle.router_model.specs.Journal.{Journal}
 use Rattle.map_cache.specs.Cache.{lifetime}
 use Rattle.locator_state.specs.Lists.{only_if}
 
--- what was learnt, and when; `fixed` for a static mapping
+-- what was learned, and when; `fixed` for a static mapping
 pub record Learning : Type 0 where
   pub moment : ℕ
   pub mapping : Record
   pub fixed : Bool
 
--- the last mapping learnt for exactly that EID
+-- the last mapping learned for exactly that EID
 abbrev pub last_learned : Eid → Journal → Option Learning
 last_learned eid [] = None
 last_learned eid (Learned moment mapping fixed ∷ before) =
@@ -34,14 +34,14 @@ is_live now learning =
 abbrev pub live : ℕ → Eid → Journal → Option Learning
 live now eid journal = only_if (is_live now) (last_learned eid journal)
 
--- the EIDs for which a mapping was ever learnt, in ascending order
+-- the EIDs for which a mapping was ever learned, in ascending order
 abbrev pub eids : Journal → List Eid
 eids [] = []
 eids (Learned moment mapping fixed ∷ before) =
     put_in_order (λ eid. eid) eid_order mapping.eid (filter (λ other. not (same_eid other mapping.eid)) (eids before))
 eids (_ ∷ before) = eids before
 
--- what was learnt and is live, in ascending order of EID
+-- what was learned and is live, in ascending order of EID
 abbrev pub live_learnings : ℕ → Journal → List Learning
 live_learnings now journal = filter_map (λ eid. live now eid journal) (eids journal)
 
@@ -49,7 +49,7 @@ live_learnings now journal = filter_map (λ eid. live now eid journal) (eids jou
 abbrev pub bit : ℕ → ℕ → Bool
 bit i bits = bits / 2 ^ i % 2 == 1
 
--- what was last told of locator i since the mapping of that EID was learnt, by more than i bits
+-- what was last told of locator i since the mapping of that EID was learned, by more than i bits
 abbrev pub bit_told : Eid → ℕ → Journal → Option Bool
 bit_told eid i [] = None
 bit_told eid i (Learned moment mapping fixed ∷ before) = if same_eid mapping.eid eid then None else bit_told eid i before

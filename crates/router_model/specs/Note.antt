@@ -25,10 +25,10 @@ abbrev pub is_missing : Settings → View → Eid → Bool
 is_missing settings v eid =
     is_wanting (force v.mappings eid.iid eid.prefix.addr eid.prefix.len) && may_ask settings v eid
 
--- a live mapping was learnt
-abbrev pub is_learnt : Option Held → Bool
-is_learnt None = false
-is_learnt (Some held) = not held.fixed
+-- a live mapping was learned
+abbrev pub is_learned : Option Held → Bool
+is_learned None = false
+is_learned (Some held) = not held.fixed
 
 -- of the locators from number i on, one below the width has another status than its bit
 abbrev pub differs : ℕ → ℕ → ℕ → List Bool → Bool
@@ -48,7 +48,7 @@ is_echo nonce None = false
 is_echo nonce (Some asked) = asked == nonce
 
 module _ {S : Type 0} (ledger : Ledger S) (settings : Settings) (m : ℕ) where
-  -- a solicitation goes out, with that nonce (RFC 9302, section 7.1)
+  -- an SMR goes out, with that nonce (RFC 9302, section 7.1)
   abbrev pub solicited : ℕ → Addr → Eid → Change S → Change S
   solicited nonce rloc eid change =
       emitted (emit.Solicit rloc eid nonce) (entered ledger settings m (entry.Solicited m rloc eid nonce) change)
@@ -58,7 +58,7 @@ module _ {S : Type 0} (ledger : Ledger S) (settings : Settings) (m : ℕ) where
   noted (notice.Ask eid source) change =
       if is_missing settings (seen ledger settings m change) eid then asked ledger settings m eid source false change else change
   noted (notice.Refresh eid) change =
-      if is_learnt (exact (seen ledger settings m change).mappings eid) && may_ask settings (seen ledger settings m change) eid
+      if is_learned (exact (seen ledger settings m change).mappings eid) && may_ask settings (seen ledger settings m change) eid
       then asked ledger settings m eid None false change else change
   noted (notice.Bits eid rloc bits width) change =
       if is_news rloc bits width (exact (seen ledger settings m change).mappings eid)

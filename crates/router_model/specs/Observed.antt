@@ -1,4 +1,4 @@
--- What the journal says of locators: probes (RFC 9301, section 7.1), echoed nonces (RFC 9300, section 10.1), solicitations.
+-- What the journal says of locators: probes (RFC 9301, section 7.1), echoed nonces (RFC 9300, section 10.1), SMRs that were sent (RFC 9301, section 6.1).
 use Rattle.std.specs.Prelude.{ℕ, ◌==◌, Bool, false, List, [], ◌∷◌, ◌++◌, Option, Some, None, if◌then◌else◌}
 use Rattle.std.specs.List.{list_any}
 use Rattle.ip_headers.specs.declared.addr.Addr.{Addr}
@@ -57,7 +57,7 @@ wishes [] = []
 wishes (EchoWanted moment rloc nonce ∷ before) = wishes before ++ record { moment = moment; rloc = rloc; nonce = nonce } ∷ []
 wishes (_ ∷ before) = wishes before
 
--- the solicitations
+-- the SMRs that were sent
 abbrev pub solicits : Journal → List Solicitation
 solicits [] = []
 solicits (Solicited moment rloc eid nonce ∷ before) = solicits before ++ record { moment = moment; rloc = rloc; eid = eid } ∷ []
@@ -112,7 +112,7 @@ begun_wish _ = None
 abbrev pub wish_kind : Kind Entry EchoWish
 wish_kind = record { begins = begun_wish; step = λ entry wish. Some wish; put = last_put }
 
--- the solicitation of an entry
+-- the SMR of an entry
 abbrev pub begun_solicit : Entry → Option Solicitation
 begun_solicit (Solicited moment rloc eid nonce) = Some (record { moment = moment; rloc = rloc; eid = eid })
 begun_solicit _ = None

@@ -122,8 +122,8 @@ pub fn captures_replay_plainly()
     ensures replays { RunReplays }
 {}
 
-/// Of the live mappings of a journal that of an EID is the one last learnt for it, if that is live.
-pub fn the_live_mapping_was_learnt_last()
+/// Of the live mappings of a journal that of an EID is the one last learned for it, if that is live.
+pub fn the_live_mapping_was_learned_last()
     ensures { LiveIsExact }
 {}
 

@@ -11,7 +11,7 @@ pub use laws::{
     decisions_are_isolated, decisions_ask_of_one_instance, decisions_give_sound_notices,
     dropped_messages_change_nothing, entries_are_absorbed, messages_are_read, parts_answer,
     proper_journals_rise, tables_are_isolated, tables_go_as_journals, tables_replay_plainly,
-    the_journal_has_the_static_mappings, the_live_mapping_was_learnt_last,
+    the_journal_has_the_static_mappings, the_live_mapping_was_learned_last,
     views_that_agree_decide_alike, what_stands_goes_on,
 };
 pub use rounds::{

@@ -6,7 +6,7 @@ use Rattle.request_queue.specs.declared.request.Request.{Request}
 use Rattle.router_log.specs.declared.entry.Entry.TheVariants.{Answered}
 use Rattle.locator_state.specs.Observed.{Observed, longest}
 use Rattle.router_model.specs.Parts.{with_entry}
-use Rattle.router_core.specs.Table.{Memory}
+use Rattle.router_core.specs.Table.{TableSeen}
 use Rattle.router_core.specs.Bounded.{AreShort, AreVersioned}
 use Rattle.router_core.proofs.BoundLemmas.{lasting-versioned, recent-short}
 use Rattle.router_core.proofs.EntryLemmas.{answered-parts, parts_with}
@@ -20,7 +20,7 @@ returns-clause-parts c =
     ap₂ (λ (now : ℕ) (l : List Mapping). parts_with (inside.count + 1) inside.drawn now l c.answer.new.self.requests c.purge-3.new.self.observed) c.purge.ensures.now c.purge.ensures.mappings
     ∙ ap₂ (λ (l : List Request) (p : Observed). parts_with (inside.count + 1) inside.drawn m (lasting m inside.cache.mappings) l p) (c.answer.ensures.requests ∙ ap (without_nonce c.args.nonce) c.purge-2.ensures.requests) c.purge-3.ensures.observed
     ∙ answered-parts inside.count inside.drawn inside.cache.now inside.cache.mappings inside.queue.requests inside.locators.observed m c.args.nonce
-    ∙ ap (λ (t : Memory). with_entry (Answered m c.args.nonce) t.parts) c.self.view_is
+    ∙ ap (λ (t : TableSeen). with_entry (Answered m c.args.nonce) t.parts) c.self.view_is
 
 pub invariant_of-self : goal.invariant_of-self
 invariant_of-self c =

@@ -6,7 +6,7 @@ use Rattle.router_log.specs.declared.entry.Entry.TheVariants.{ProbeAnswered}
 use Rattle.locator_state.specs.Observed.{Observed, longest}
 use Rattle.locator_state.specs.Probes.{probe_answered}
 use Rattle.router_model.specs.Parts.{with_entry}
-use Rattle.router_core.specs.Table.{Memory}
+use Rattle.router_core.specs.Table.{TableSeen}
 use Rattle.router_core.specs.Bounded.{AreShort, AreVersioned}
 use Rattle.router_core.proofs.BoundLemmas.{lasting-versioned, probes-short}
 use Rattle.router_core.proofs.EntryLemmas.{parts_with, probe_answered-parts}
@@ -22,7 +22,7 @@ returns c =
           ap₂ (λ (now : ℕ) (l : List Mapping). parts_with (inside.count + 1) inside.drawn now l c.purge-2.new.self.requests c.probe_answered.new.self.observed) c.purge.ensures.now c.purge.ensures.mappings
           ∙ ap₂ (λ (l : List Request) (p : Observed). parts_with (inside.count + 1) inside.drawn m (lasting m inside.cache.mappings) l p) c.purge-2.ensures.requests c.probe_answered.ensures.observed
           ∙ probe_answered-parts inside.count inside.drawn inside.cache.now inside.cache.mappings inside.queue.requests inside.locators.observed m c.args.nonce
-          ∙ ap (λ (t : Memory). with_entry (ProbeAnswered m c.args.nonce) t.parts) c.self.view_is;
+          ∙ ap (λ (t : TableSeen). with_entry (ProbeAnswered m c.args.nonce) t.parts) c.self.view_is;
     }
 
 pub invariant_of-self : goal.invariant_of-self

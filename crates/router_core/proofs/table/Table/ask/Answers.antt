@@ -6,7 +6,7 @@ use Rattle.request_queue.specs.declared.request.Request.{Request}
 use Rattle.router_log.specs.declared.entry.Entry.TheVariants.{Asked}
 use Rattle.locator_state.specs.Observed.{Observed, longest}
 use Rattle.router_model.specs.Parts.{with_entry}
-use Rattle.router_core.specs.Table.{Memory}
+use Rattle.router_core.specs.Table.{TableSeen}
 use Rattle.router_core.specs.Bounded.{AreShort, AreVersioned}
 use Rattle.router_core.proofs.BoundLemmas.{lasting-versioned, recent-short}
 use Rattle.router_core.proofs.EntryLemmas.{asked-parts, parts_with, was_asked}
@@ -18,14 +18,14 @@ returns-clause-parts c =
     let m = c.args.m in
     let inside = c.self.inside in
     let after : List Request = asked m c.args.eid c.args.source c.args.invoked c.args.nonce inside.queue.requests in
-    let place = subst (λ (t : Memory). length (waiting m t.parts.requests) < 1024) (sym c.self.view_is) c.requires.place in
-    let room = subst (λ (t : Memory). 0 < t.request_room) (sym c.self.view_is) c.requires.room in
+    let place = subst (λ (t : TableSeen). length (waiting m t.parts.requests) < 1024) (sym c.self.view_is) c.requires.place in
+    let room = subst (λ (t : TableSeen). 0 < t.request_room) (sym c.self.view_is) c.requires.room in
     let rs : c.ask.new.self.requests ≡ after =
     was_asked c.ask.result inside.queue.spare (length (waiting m inside.queue.requests)) c.ask.ensures.ok c.ask.ensures.memory room c.ask.ensures.full place in
     ap₂ (λ (now : ℕ) (l : List Mapping). parts_with (inside.count + 1) (inside.drawn + 1) now l c.ask.new.self.requests c.purge-2.new.self.observed) c.purge.ensures.now c.purge.ensures.mappings
     ∙ ap₂ (λ (l : List Request) (p : Observed). parts_with (inside.count + 1) (inside.drawn + 1) m (lasting m inside.cache.mappings) l p) rs c.purge-2.ensures.observed
     ∙ asked-parts inside.count inside.drawn inside.cache.now inside.cache.mappings inside.queue.requests inside.locators.observed m c.args.eid c.args.source c.args.invoked c.args.nonce
-    ∙ ap (λ (t : Memory). with_entry (Asked m c.args.eid c.args.source c.args.invoked c.args.nonce) t.parts) c.self.view_is
+    ∙ ap (λ (t : TableSeen). with_entry (Asked m c.args.eid c.args.source c.args.invoked c.args.nonce) t.parts) c.self.view_is
 
 pub invariant_of-self : goal.invariant_of-self
 invariant_of-self c =

@@ -5,7 +5,7 @@ use Rattle.std.proofs.lemmas.List.Elements.{All-same}
 use Rattle.locator_state.specs.declared.target.Target.{Target}
 use Rattle.router_model.specs.Parts.{view_in}
 use Rattle.router_model.specs.Tick.{next_targets}
-use Rattle.router_core.specs.Table.{Memory}
+use Rattle.router_core.specs.Table.{TableSeen}
 use Rattle.router_core.specs.Ticking.{HasSender, offered}
 use Rattle.router_core.proofs.OfferLemmas.{chosen, next-senders, next-split, offered-ended, offered-lasting, offered-none, to_come, to_come-all}
 use Rattle.router_core.proofs.table.Table.find_targets.Goals.{then-lasts, else-lasts}
@@ -28,7 +28,7 @@ loop-index-preserved c =
     let others = drop (i + 1) items in
     let mapping = c.mapping-mapping.result.now in
     let so_far = c.loop-index.first.items in
-    let here : slice_get items i ≡ Some mapping = ap (λ (t : Memory). slice_get t.parts.mappings i) (sym c.self.view_is) ∙ c.mapping-mapping.ensures in
+    let here : slice_get items i ≡ Some mapping = ap (λ (t : TableSeen). slice_get t.parts.mappings i) (sym c.self.view_is) ∙ c.mapping-mapping.ensures in
     let split : mapping ∷ others ≡ drop i items = next-split items i mapping (slice_get_within items i mapping here) (sym (get_or_from_slice_get items i mapping mapping here)) in
     let next : offered (to_come c.args.settings.now c.args.m v (mapping ∷ others)) so_far ≡ next_targets c.args.settings.now v =
     ap (λ l. offered (to_come c.args.settings.now c.args.m v l) so_far) split ∙ c.loop-index.invariant.0 in
@@ -48,7 +48,7 @@ loop-index-preserved c =
 
 pub returns-clause-items : goal.returns-clause-items
 returns-clause-items c =
-    let all : length c.self.inside.cache.mappings ≡ length c.args.self.now.parts.mappings = ap (λ (t : Memory). length t.parts.mappings) c.self.view_is in
+    let all : length c.self.inside.cache.mappings ≡ length c.args.self.now.parts.mappings = ap (λ (t : TableSeen). length t.parts.mappings) c.self.view_is in
     let ended : length c.args.self.now.parts.mappings ≤ c.loop-index.index = omega (arith, c.loop-index-test.false, c.len-index-end.ensures.len, all) in
     let few : length c.loop-index.first.items ≤ 16 = omega (arith, c.loop-index.invariant.1.0, c.loop-index.first.ok.0) in
     offered-none c.args.settings.now c.args.m (view_in c.args.self.now.parts c.args.m) (drop c.loop-index.index c.args.self.now.parts.mappings) c.loop-index.first.items _ (drop_all c.loop-index.index c.args.self.now.parts.mappings ended) few c.loop-index.invariant.0

@@ -5,7 +5,7 @@ use Rattle.request_queue.specs.declared.request.Request.{Request}
 use Rattle.router_log.specs.declared.entry.Entry.TheVariants.{Learned}
 use Rattle.locator_state.specs.Observed.{Observed, longest}
 use Rattle.router_model.specs.Parts.{with_entry}
-use Rattle.router_core.specs.Table.{Memory}
+use Rattle.router_core.specs.Table.{TableSeen}
 use Rattle.router_core.specs.Bounded.{AreShort, AreVersioned}
 use Rattle.router_core.proofs.BoundLemmas.{learned-versioned, recent-short}
 use Rattle.router_core.proofs.EntryLemmas.{learned-parts, parts_with, was_learned}
@@ -17,15 +17,15 @@ returns-clause-parts c =
     let m = c.args.m in
     let mapping = c.args.mapping in
     let inside = c.self.inside in
-    let place = subst (λ (t : Memory). IsTrue (has_room mapping (lasting m t.parts.mappings))) (sym c.self.view_is) c.requires.place in
-    let room = subst (λ (t : Memory). 0 < t.mapping_room) (sym c.self.view_is) c.requires.room in
-    let locator_room = subst (λ (t : Memory). length mapping.locators ≤ t.locator_room) (sym c.self.view_is) c.requires.locator_room in
+    let place = subst (λ (t : TableSeen). IsTrue (has_room mapping (lasting m t.parts.mappings))) (sym c.self.view_is) c.requires.place in
+    let room = subst (λ (t : TableSeen). 0 < t.mapping_room) (sym c.self.view_is) c.requires.room in
+    let locator_room = subst (λ (t : TableSeen). length mapping.locators ≤ t.locator_room) (sym c.self.view_is) c.requires.locator_room in
     let ms : c.learn.new.self.mappings ≡ learned m mapping c.args.fixed inside.cache.mappings =
     was_learned c.learn.result (has_room mapping (lasting m inside.cache.mappings)) c.learn.ensures.ok (c.learn.ensures.memory room locator_room) c.learn.ensures.full place in
     ap₂ (λ (now : ℕ) (l : List Mapping). parts_with (inside.count + 1) inside.drawn now l c.purge.new.self.requests c.purge-2.new.self.observed) c.learn.ensures.now ms
     ∙ ap₂ (λ (r : List Request) (p : Observed). parts_with (inside.count + 1) inside.drawn m (learned m mapping c.args.fixed inside.cache.mappings) r p) c.purge.ensures.requests c.purge-2.ensures.observed
     ∙ learned-parts inside.count inside.drawn inside.cache.now inside.cache.mappings inside.queue.requests inside.locators.observed m mapping c.args.fixed
-    ∙ ap (λ (t : Memory). with_entry (Learned m mapping c.args.fixed) t.parts) c.self.view_is
+    ∙ ap (λ (t : TableSeen). with_entry (Learned m mapping c.args.fixed) t.parts) c.self.view_is
 
 pub invariant_of-self : goal.invariant_of-self
 invariant_of-self c =
@@ -36,9 +36,9 @@ invariant_of-self c =
       omega (arith, few),
       refl,
       (
-          let place = subst (λ (t : Memory). IsTrue (has_room c.args.mapping (lasting m t.parts.mappings))) (sym c.self.view_is) c.requires.place in
-          let room = subst (λ (t : Memory). 0 < t.mapping_room) (sym c.self.view_is) c.requires.room in
-          let locator_room = subst (λ (t : Memory). length c.args.mapping.locators ≤ t.locator_room) (sym c.self.view_is) c.requires.locator_room in
+          let place = subst (λ (t : TableSeen). IsTrue (has_room c.args.mapping (lasting m t.parts.mappings))) (sym c.self.view_is) c.requires.place in
+          let room = subst (λ (t : TableSeen). 0 < t.mapping_room) (sym c.self.view_is) c.requires.room in
+          let locator_room = subst (λ (t : TableSeen). length c.args.mapping.locators ≤ t.locator_room) (sym c.self.view_is) c.requires.locator_room in
           let ms : c.learn.new.self.mappings ≡ learned m c.args.mapping c.args.fixed inside.cache.mappings =
           was_learned c.learn.result (has_room c.args.mapping (lasting m inside.cache.mappings)) c.learn.ensures.ok (c.learn.ensures.memory room locator_room) c.learn.ensures.full place in
           subst AreVersioned (sym ms) (learned-versioned m c.args.mapping c.args.fixed inside.cache.mappings c.requires.version c.self.invariant.2)),

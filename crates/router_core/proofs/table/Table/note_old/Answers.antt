@@ -1,7 +1,7 @@
 use Rattle.std.proofs.Common.{◌∙◌, not, is_some, sym}
 use Rattle.request_queue.specs.Queue.{covered}
 use Rattle.router_model.specs.Mappings.{exact}
-use Rattle.router_model.specs.Note.{is_learnt}
+use Rattle.router_model.specs.Note.{is_learned}
 use Rattle.router_model.specs.Parts.{view_in}
 use Rattle.router_core.proofs.ChangeLemmas.{both, may_ask-place}
 use Rattle.router_core.proofs.table.Table.note_old.Goals as goal
@@ -12,5 +12,5 @@ make_request-requires-clause-place c =
     let p = c.args.self.now.parts in
     let v = view_in p c.args.m in
     let old = sym c.may_renew.ensures ∙ c.if-not-may_renew.false in
-    let may = (both (is_learnt (exact v.mappings eid)) _ old).1 in
+    let may = (both (is_learned (exact v.mappings eid)) _ old).1 in
     may_ask-place p c.args.m c.requires.may.later (both (not (covered v.requests eid)) _ (both (is_some c.args.settings.now.resolver) _ may).1).1

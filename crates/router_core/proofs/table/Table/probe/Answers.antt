@@ -6,7 +6,7 @@ use Rattle.request_queue.specs.declared.request.Request.{Request}
 use Rattle.router_log.specs.declared.entry.Entry.TheVariants.{Probed}
 use Rattle.locator_state.specs.Observed.{Observed, longest, with_probes}
 use Rattle.router_model.specs.Parts.{with_entry}
-use Rattle.router_core.specs.Table.{Memory}
+use Rattle.router_core.specs.Table.{TableSeen}
 use Rattle.router_core.specs.Bounded.{AreShort, AreVersioned}
 use Rattle.router_core.proofs.BoundLemmas.{lasting-versioned, probes-short}
 use Rattle.router_core.proofs.EntryLemmas.{parts_with, probed-parts, was_kept}
@@ -17,13 +17,13 @@ pub returns-clause-parts : goal.returns-clause-parts
 returns-clause-parts c =
     let m = c.args.m in
     let inside = c.self.inside in
-    let room = subst (λ (t : Memory). 0 < t.probe_room) (sym c.self.view_is) c.requires.room in
+    let room = subst (λ (t : TableSeen). 0 < t.probe_room) (sym c.self.view_is) c.requires.room in
     let os : c.probed.new.self.observed ≡ with_probes m (probed m c.args.rloc c.args.nonce inside.locators.observed.probes) inside.locators.observed =
     was_kept c.probed.result inside.locators.probe_room c.probed.ensures.ok c.probed.ensures.memory room in
     ap₂ (λ (now : ℕ) (l : List Mapping). parts_with (inside.count + 1) (inside.drawn + 1) now l c.purge-2.new.self.requests c.probed.new.self.observed) c.purge.ensures.now c.purge.ensures.mappings
     ∙ ap₂ (λ (l : List Request) (p : Observed). parts_with (inside.count + 1) (inside.drawn + 1) m (lasting m inside.cache.mappings) l p) c.purge-2.ensures.requests os
     ∙ probed-parts inside.count inside.drawn inside.cache.now inside.cache.mappings inside.queue.requests inside.locators.observed m c.args.rloc c.args.nonce
-    ∙ ap (λ (t : Memory). with_entry (Probed m c.args.rloc c.args.nonce) t.parts) c.self.view_is
+    ∙ ap (λ (t : TableSeen). with_entry (Probed m c.args.rloc c.args.nonce) t.parts) c.self.view_is
 
 pub invariant_of-self : goal.invariant_of-self
 invariant_of-self c =
@@ -31,10 +31,10 @@ invariant_of-self c =
     let inside = c.self.inside in
     let few = c.self.invariant.0 in
     let are = c.self.invariant.4 in
-    let room = subst (λ (t : Memory). 0 < t.probe_room) (sym c.self.view_is) c.requires.room in
+    let room = subst (λ (t : TableSeen). 0 < t.probe_room) (sym c.self.view_is) c.requires.room in
     let os : c.probed.new.self.observed ≡ with_probes m (probed m c.args.rloc c.args.nonce inside.locators.observed.probes) inside.locators.observed =
     was_kept c.probed.result inside.locators.probe_room c.probed.ensures.ok c.probed.ensures.memory room in
-    let place = subst (λ (t : Memory). probe_count m t.parts.observed.probes < 9600) (sym c.self.view_is) (few-probes c.args.self.now.parts m c.requires.may.later c.requires.place) in (
+    let place = subst (λ (t : TableSeen). probe_count m t.parts.observed.probes < 9600) (sym c.self.view_is) (few-probes c.args.self.now.parts m c.requires.may.later c.requires.place) in (
       omega (arith, few),
       refl,
       subst AreVersioned (sym c.purge.ensures.mappings) (lasting-versioned m inside.cache.mappings c.self.invariant.2),

@@ -6,7 +6,7 @@ use Rattle.router_log.specs.declared.entry.Entry.{Entry}
 use Rattle.router_log.specs.declared.entry.Entry.TheVariants.{Asked}
 use Rattle.router_model.specs.Parts.{Parts, with_entry}
 use Rattle.router_core.specs.Renewing.{range_of}
-use Rattle.router_core.specs.Table.{Memory, change_of}
+use Rattle.router_core.specs.Table.{TableSeen, change_of}
 use Rattle.router_core.proofs.RenewingLemmas.{renewable-place, renewed-so}
 use Rattle.router_core.proofs.table.Table.renew_one.Goals as goal
 
@@ -26,7 +26,7 @@ returns-clause-change c =
     let emit : ℕ → Emit = λ n. Request eid None true n in
     let n = c.nonce_at-nonce.result in
     let drawn : n ≡ nonce_of settings.seed settings.nonces p.drawn =
-    c.nonce_at-nonce.ensures ∙ ap (λ (t : Memory). nonce_of settings.seed settings.nonces t.parts.drawn) c.self.view_is in
+    c.nonce_at-nonce.ensures ∙ ap (λ (t : TableSeen). nonce_of settings.seed settings.nonces t.parts.drawn) c.self.view_is in
     ap (λ (q : Parts). change_of q c.push_reserved.new.self.items c.push_reserved-2.new.self.items) c.ask.ensures.parts
     ∙ ap₂ (λ (e : List Entry) (f : List Emit). change_of (with_entry (entry n) p) e f) c.push_reserved.ensures.items c.push_reserved-2.ensures.items
     ∙ ap (λ (n : ℕ). change_of (with_entry (entry n) p) (entries ++ entry n ∷ []) (emits ++ emit n ∷ [])) drawn

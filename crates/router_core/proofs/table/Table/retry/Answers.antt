@@ -6,7 +6,7 @@ use Rattle.request_queue.specs.declared.request.Request.{Request}
 use Rattle.router_log.specs.declared.entry.Entry.TheVariants.{Retried}
 use Rattle.locator_state.specs.Observed.{Observed, longest}
 use Rattle.router_model.specs.Parts.{with_entry}
-use Rattle.router_core.specs.Table.{Memory}
+use Rattle.router_core.specs.Table.{TableSeen}
 use Rattle.router_core.specs.Bounded.{AreShort, AreVersioned}
 use Rattle.router_core.proofs.BoundLemmas.{lasting-versioned, recent-short}
 use Rattle.router_core.proofs.EntryLemmas.{parts_with, retried-parts}
@@ -16,7 +16,7 @@ use Rattle.router_core.proofs.table.Table.retry.Goals as goal
 pub retry-requires : goal.retry-requires
 retry-requires c =
     subst (λ (l : List Request). IsTrue (may_send_again c.args.nonce l)) (sym c.purge-2.ensures.requests)
-    (subst (λ (t : Memory). IsTrue (may_send_again c.args.nonce (waiting c.args.m t.parts.requests))) (sym c.self.view_is) c.requires.again)
+    (subst (λ (t : TableSeen). IsTrue (may_send_again c.args.nonce (waiting c.args.m t.parts.requests))) (sym c.self.view_is) c.requires.again)
 
 pub returns-clause-parts : goal.returns-clause-parts
 returns-clause-parts c =
@@ -25,7 +25,7 @@ returns-clause-parts c =
     ap₂ (λ (now : ℕ) (l : List Mapping). parts_with (inside.count + 1) inside.drawn now l c.retry.new.self.requests c.purge-3.new.self.observed) c.purge.ensures.now c.purge.ensures.mappings
     ∙ ap₂ (λ (l : List Request) (p : Observed). parts_with (inside.count + 1) inside.drawn m (lasting m inside.cache.mappings) l p) (c.retry.ensures.requests ∙ ap (sent_again c.args.nonce) c.purge-2.ensures.requests) c.purge-3.ensures.observed
     ∙ retried-parts inside.count inside.drawn inside.cache.now inside.cache.mappings inside.queue.requests inside.locators.observed m c.args.nonce
-    ∙ ap (λ (t : Memory). with_entry (Retried m c.args.nonce) t.parts) c.self.view_is
+    ∙ ap (λ (t : TableSeen). with_entry (Retried m c.args.nonce) t.parts) c.self.view_is
 
 pub invariant_of-self : goal.invariant_of-self
 invariant_of-self c =

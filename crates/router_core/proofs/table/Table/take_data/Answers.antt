@@ -5,7 +5,7 @@ use Rattle.map_cache.specs.declared.mapping.Mapping.{Mapping}
 use Rattle.request_queue.specs.declared.request.Request.{Request}
 use Rattle.router_log.specs.declared.entry.Entry.TheVariants.{DataFrom}
 use Rattle.router_model.specs.Parts.{with_entry}
-use Rattle.router_core.specs.Table.{Memory}
+use Rattle.router_core.specs.Table.{TableSeen}
 use Rattle.router_core.specs.Bounded.{AreShort, AreVersioned}
 use Rattle.router_core.proofs.BoundLemmas.{data-short, lasting-versioned}
 use Rattle.router_core.proofs.EntryLemmas.{data-parts, parts_with}
@@ -21,7 +21,7 @@ returns c =
           ap₂ (λ (now : ℕ) (l : List Mapping). parts_with (inside.count + 1) inside.drawn now l c.purge-2.new.self.requests c.data_from.new.self.observed) c.purge.ensures.now c.purge.ensures.mappings
           ∙ ap₂ (λ (l : List Request) (p : Observed). parts_with (inside.count + 1) inside.drawn m (lasting m inside.cache.mappings) l p) c.purge-2.ensures.requests c.data_from.ensures.observed
           ∙ data-parts inside.count inside.drawn inside.cache.now inside.cache.mappings inside.queue.requests inside.locators.observed m c.args.rloc.now
-          ∙ ap (λ (t : Memory). with_entry (DataFrom m c.args.rloc.now) t.parts) c.self.view_is;
+          ∙ ap (λ (t : TableSeen). with_entry (DataFrom m c.args.rloc.now) t.parts) c.self.view_is;
     }
 
 pub invariant_of-self : goal.invariant_of-self

@@ -5,7 +5,7 @@ use Rattle.request_queue.specs.declared.request.Request.{Request}
 use Rattle.router_log.specs.declared.entry.Entry.TheVariants.{Bits}
 use Rattle.locator_state.specs.Observed.{Observed, longest}
 use Rattle.router_model.specs.Parts.{with_entry}
-use Rattle.router_core.specs.Table.{Memory}
+use Rattle.router_core.specs.Table.{TableSeen}
 use Rattle.router_core.specs.Bounded.{AreShort, AreVersioned}
 use Rattle.router_core.proofs.BoundLemmas.{lasting-versioned, recent-short, told-versioned}
 use Rattle.router_core.proofs.EntryLemmas.{parts_with, told-parts}
@@ -23,7 +23,7 @@ returns c =
           ap₂ (λ (now : ℕ) (l : List Mapping). parts_with (inside.count + 1) inside.drawn now l c.purge-2.new.self.requests c.purge-3.new.self.observed) (c.set_bits.ensures.now ∙ c.purge.ensures.now) (c.set_bits.ensures.mappings ∙ ap told c.purge.ensures.mappings)
           ∙ ap₂ (λ (l : List Request) (p : Observed). parts_with (inside.count + 1) inside.drawn m (told (lasting m inside.cache.mappings)) l p) c.purge-2.ensures.requests c.purge-3.ensures.observed
           ∙ told-parts inside.count inside.drawn inside.cache.now inside.cache.mappings inside.queue.requests inside.locators.observed m eid c.args.bits c.args.width
-          ∙ ap (λ (t : Memory). with_entry (Bits m eid c.args.bits c.args.width) t.parts) c.self.view_is;
+          ∙ ap (λ (t : TableSeen). with_entry (Bits m eid c.args.bits c.args.width) t.parts) c.self.view_is;
     }
 
 pub invariant_of-self : goal.invariant_of-self

@@ -6,7 +6,7 @@ use Rattle.map_cache.specs.declared.mapping.Mapping.{Mapping}
 use Rattle.request_queue.specs.declared.request.Request.{Request}
 use Rattle.router_log.specs.declared.entry.Entry.TheVariants.{EchoWanted}
 use Rattle.router_model.specs.Parts.{with_entry}
-use Rattle.router_core.specs.Table.{Memory}
+use Rattle.router_core.specs.Table.{TableSeen}
 use Rattle.router_core.specs.Bounded.{AreShort, AreVersioned}
 use Rattle.router_core.proofs.BoundLemmas.{lasting-versioned, wanted-short}
 use Rattle.router_core.proofs.EntryLemmas.{parts_with, wanted-parts, was_kept}
@@ -17,7 +17,7 @@ pub returns : goal.returns
 returns c =
     let m = c.args.m in
     let inside = c.self.inside in
-    let room = subst (λ (t : Memory). 0 < t.wish_room) (sym c.self.view_is) c.requires.room in
+    let room = subst (λ (t : TableSeen). 0 < t.wish_room) (sym c.self.view_is) c.requires.room in
     let os : c.echo_wanted.new.self.observed ≡ with_wishes m (wanted m c.args.rloc c.args.nonce inside.locators.observed.wishes) inside.locators.observed =
     was_kept c.echo_wanted.result inside.locators.wish_room c.echo_wanted.ensures.ok c.echo_wanted.ensures.memory room in
     record {
@@ -25,7 +25,7 @@ returns c =
           ap₂ (λ (now : ℕ) (l : List Mapping). parts_with (inside.count + 1) inside.drawn now l c.purge-2.new.self.requests c.echo_wanted.new.self.observed) c.purge.ensures.now c.purge.ensures.mappings
           ∙ ap₂ (λ (l : List Request) (p : Observed). parts_with (inside.count + 1) inside.drawn m (lasting m inside.cache.mappings) l p) c.purge-2.ensures.requests os
           ∙ wanted-parts inside.count inside.drawn inside.cache.now inside.cache.mappings inside.queue.requests inside.locators.observed m c.args.rloc c.args.nonce
-          ∙ ap (λ (t : Memory). with_entry (EchoWanted m c.args.rloc c.args.nonce) t.parts) c.self.view_is;
+          ∙ ap (λ (t : TableSeen). with_entry (EchoWanted m c.args.rloc c.args.nonce) t.parts) c.self.view_is;
     }
 
 pub invariant_of-self : goal.invariant_of-self
@@ -34,10 +34,10 @@ invariant_of-self c =
     let inside = c.self.inside in
     let few = c.self.invariant.0 in
     let are = c.self.invariant.4 in
-    let room = subst (λ (t : Memory). 0 < t.wish_room) (sym c.self.view_is) c.requires.room in
+    let room = subst (λ (t : TableSeen). 0 < t.wish_room) (sym c.self.view_is) c.requires.room in
     let os : c.echo_wanted.new.self.observed ≡ with_wishes m (wanted m c.args.rloc c.args.nonce inside.locators.observed.wishes) inside.locators.observed =
     was_kept c.echo_wanted.result inside.locators.wish_room c.echo_wanted.ensures.ok c.echo_wanted.ensures.memory room in
-    let place = subst (λ (t : Memory). count_by (wish_counts m) t.parts.observed.wishes < 4096) (sym c.self.view_is) (few-wishes c.args.self.now.parts m c.requires.may.later c.args.rloc c.args.nonce c.requires.place) in (
+    let place = subst (λ (t : TableSeen). count_by (wish_counts m) t.parts.observed.wishes < 4096) (sym c.self.view_is) (few-wishes c.args.self.now.parts m c.requires.may.later c.args.rloc c.args.nonce c.requires.place) in (
       omega (arith, few),
       refl,
       subst AreVersioned (sym c.purge.ensures.mappings) (lasting-versioned m inside.cache.mappings c.self.invariant.2),

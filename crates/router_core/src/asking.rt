@@ -1,0 +1,73 @@
+// Requests for mappings: when one may be made, and how.
+ghost use Rattle.std.specs.Prelude.{◌≡◌, ◌<◌, length, is_some, IsTrue, IfOk};
+ghost use Rattle.request_queue.specs.Queue.{waiting};
+ghost use Rattle.router_model.specs.Changes.{asked, may_ask, unchanged};
+ghost use Rattle.router_model.specs.Limits.{most_requests};
+ghost use Rattle.router_model.specs.Parts.{table, view_in};
+ghost use Rattle.router_core.specs.Steps.{AreSent, IsStep, MayStep};
+ghost use Rattle.router_core.specs.Table.{changed_seen};
+
+use crate::changed::only;
+use crate::{Changed, Table};
+use ip_headers::Addr;
+use lisp_settings::{Settings, nonce_at};
+use mapping_records::Eid;
+use node_store::Reads;
+use octets::NoMemory;
+use request_queue::MOST_REQUESTS;
+use router_log::{Emit, Entry};
+
+impl Table {
+    /// There is a resolver, no open request covers the EID, and there is room for one more.
+    #[tactic(auto, unfolding(router_model::specs::Parts::view_in))]
+    pub(crate) fn may_ask(&self, settings: &Settings, m: u64, eid: &Eid) -> bool
+        ensures { result ≡ may_ask settings.now (view_in self.now.parts m) eid.now }
+    {
+        let now = self.moment_at(m);
+        settings.resolver.is_some()
+            && !self.queue.open_for(now, eid, &mut Reads::new())
+            && (self.queue.open_count(now) as usize) < MOST_REQUESTS
+    }
+
+    /// Makes a request with the next nonce.
+    pub(crate) fn make_request(
+        &mut self,
+        settings: &Settings,
+        m: u64,
+        eid: Eid,
+        source: Option<Addr>,
+        invoked: bool,
+    ) -> Result<Changed, NoMemory>
+        requires may { MayStep m self.old.parts }
+        requires place { length (waiting m self.old.parts.requests) < most_requests }
+        requires resolver { IsTrue (is_some settings.now.resolver) }
+        ensures parts { IfOk result (λ changed. changed_seen self.new.parts changed
+            ≡ asked table settings.now m eid source invoked (unchanged self.old.parts)) }
+        ensures sent { IfOk result (λ changed. AreSent settings.now 1 changed.emits) }
+        ensures step { IsStep 1 m self.old.parts self.new.parts result }
+    {
+        let nonce = nonce_at(settings, self.drawn);
+        let entries = only(
+            self.alloc,
+            Entry::Asked {
+                moment: m,
+                eid,
+                source,
+                invoked,
+                nonce,
+            },
+        )?;
+        let emits = only(
+            self.alloc,
+            Emit::Request {
+                eid,
+                source,
+                invoked,
+                nonce,
+            },
+        )?;
+        self.reserve_requests(1)?;
+        self.ask(m, eid, source, invoked, nonce);
+        Ok(Changed { entries, emits })
+    }
+}
