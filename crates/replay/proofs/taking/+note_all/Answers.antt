@@ -1,12 +1,15 @@
-use Rattle.std.proofs.Common.{◌≡◌, ◌∙◌, ◌-◌, ◌≤◌, ℕ, List, drop, length, take, ap, arith, sym, subst}
-use Rattle.std.proofs.lemmas.List.{length-append}
+use Rattle.std.proofs.Common.{◌≡◌, ◌∙◌, ◌-◌, ◌≤◌, ℕ, List, drop, length, take, ap, arith, rules, sym, subst, true, ◌∷◌}
+use Rattle.std.proofs.lemmas.List.{length-append, length-map}
 use Rattle.std.proofs.lemmas.Result.{on_ok_weaker}
+use Rattle.std.specs.List.{list_all}
 use Rattle.router_log.specs.declared.emit.Emit.{Emit}
 use Rattle.router_log.specs.declared.notice.Notice.{Notice}
 use Rattle.router_model.specs.Changes.{Change, each, unchanged}
+use Rattle.router_model.specs.Lifting.{is_sound}
 use Rattle.router_model.specs.Note.{noted}
 use Rattle.router_model.specs.Parts.{Parts, table}
 use Rattle.router_model.specs.Plain.{emit_packets}
+use Rattle.router_core.proofs.ChangeLemmas.{both}
 use Rattle.replay.specs.Taking.{Sends}
 use Rattle.replay.proofs.NotingLemmas.{all-from, behind}
 use Rattle.replay.proofs.ReplayLemmas.{emits-more, first-left}
@@ -25,6 +28,38 @@ noted-first t c =
 
 pub note-requires-clause-may : goal.note-requires-clause-may
 note-requires-clause-may t c = record { later = c.requires.later; count = omega (arith, c.requires.count, c.in-len1-up.len_at_least) }
+
+pub note_all-requires : goal.note_all-requires
+note_all-requires t c =
+    let settings = c.args.settings.now in
+    let moment = c.args.moment in
+    let notices = c.args.notices.now in
+    let notice = c.notice-item.result in
+    let emits = c.in_ok-changed.changed.emits in
+    let some = c.in-len1-up.len_at_least in
+    let left : List Notice = take (length notices - 1) (drop 1 notices) in
+    let whole : notices ≡ notice ∷ left = first-left notices notice some c.notice-item.is in
+    let split = ap (λ (l : List Notice). length l) whole in
+    let first = c.in_ok-changed.ensures.step.entered in
+    let one = c.in_ok-changed.ensures.sent.few in
+    let sends : Sends (emit_packets settings moment emits) c.args.output.now c.push_emits.new.output =
+    subst (λ (l : List Emit). Sends (emit_packets settings moment l) c.args.output.now c.push_emits.new.output) c.as_slice.ensures c.in_ok-push_emits.ensures in
+    let packets : length (emit_packets settings moment emits) ≡ length emits = length-map emits _ in (
+      search rules,
+      (
+        c.requires.lawful,
+        (
+          (both (is_sound notice) (list_all is_sound left) (subst (λ (l : List Notice). list_all is_sound l ≡ true) whole c.requires.sound)).1,
+          (
+            first.now,
+            (
+              omega (arith, c.requires.count, first.count, split),
+              (c.requires.moment, omega (arith, c.requires.room, sends.written, packets, one, split)),
+            ),
+          ),
+        ),
+      ),
+    )
 
 pub returns-clause-entered : goal.returns-clause-entered
 returns-clause-entered t c =
