@@ -164,14 +164,15 @@ impl Table {
         mapping.ttl == 0 || self.has_place(m, &mapping.eid)
     }
 
-    // A mapping of the EID is live, or there are fewer than the limit.
+    // A mapping of the EID is live, or there are fewer than the limit. They are counted first: where
+    // there are fewer, no mapping has to be looked up, which learning does again.
     fn has_place(&self, m: u64, eid: &Eid) -> bool
         ensures { let mappings = lasting (max m self.now.parts.now) self.now.parts.mappings in
             result ≡ (is_some (exact mappings eid.now) || nat_lt (length mappings) most_mappings) }
     {
         let now = self.moment_at(m);
-        self.cache.exact(now, eid, &mut Reads::new()).is_some()
-            || (self.cache.live_count(now) as usize) < MOST_MAPPINGS
+        (self.cache.live_count(now) as usize) < MOST_MAPPINGS
+            || self.cache.exact(now, eid, &mut Reads::new()).is_some()
     }
 }
 

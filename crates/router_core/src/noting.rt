@@ -127,11 +127,12 @@ impl Table {
         self.make_request(settings, m, *eid, source, false)
     }
 
-    // The EID has no mapping by which packets go, and may be asked for.
+    // The EID may be asked for, and has no mapping by which packets go. While a request for it waits,
+    // which is so for each packet behind the first, its mapping isn't looked up a second time.
     fn is_missing(&self, settings: &Settings, m: u64, eid: &Eid) -> bool
         ensures { result ≡ is_missing settings.now (view_in self.now.parts m) eid.now }
     {
-        self.is_wanting(m, eid) && self.may_ask(settings, m, eid)
+        self.may_ask(settings, m, eid) && self.is_wanting(m, eid)
     }
 
     // No mapping is in force for the EID, or one that says to ask.

@@ -35,7 +35,7 @@ pub notes-lift : NotesLift
 unfolding noted
 notes-lift settings m more (notice.Ask eid source) before sound ready =
     goes-if settings m more before (λ v. is_missing settings v eid) _ _ ready
-    (λ is. goes-asked settings m more before eid source false ready (may_ask-room settings m (view before.after m) eid (and_both _ _ is).1))
+    (λ is. goes-asked settings m more before eid source false ready (may_ask-room settings m (view before.after m) eid (and_both _ _ is).0))
 notes-lift settings m more (notice.Refresh eid) before sound ready =
     goes-if settings m more before (λ v. is_learned (exact v.mappings eid) && may_ask settings v eid) _ _ ready
     (λ is. goes-asked settings m more before eid None false ready (may_ask-room settings m (view before.after m) eid (and_both _ _ is).1))

@@ -23,7 +23,7 @@ is_wanting (Some held) = (length held.mapping.locators == 0) && (held.mapping.ac
 -- an EID is to be asked for
 abbrev pub is_missing : Settings → View → Eid → Bool
 is_missing settings v eid =
-    is_wanting (force v.mappings eid.iid eid.prefix.addr eid.prefix.len) && may_ask settings v eid
+    may_ask settings v eid && is_wanting (force v.mappings eid.iid eid.prefix.addr eid.prefix.len)
 
 -- a live mapping was learned
 abbrev pub is_learned : Option Held → Bool
