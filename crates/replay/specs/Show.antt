@@ -13,6 +13,7 @@ use Rattle.playback.specs.Events.{Event, Outcome, Tick, Arrival, idle}
 use Rattle.router_log.specs.Numbers.{fixed_hex, named}
 use Rattle.router_log.specs.Refusals.{refused_text}
 use Rattle.router_model.specs.Course.{FramePacket, datagram_read, frame_packet, frame_refusal}
+use Rattle.router_model.specs.Limits.{control_port, data_port}
 use Rattle.replay.specs.Messages.{message_at}
 
 -- a frame that a rule refuses
@@ -53,8 +54,8 @@ control_text packet udp =
 -- a datagram, by its ports
 unfoldable pub by_port : FramePacket → UdpHeader → List ℕ
 by_port packet udp =
-    if udp.dest == 4341 then data_text packet udp
-    else if udp.dest == 4342 || udp.source == 4342 then control_text packet udp
+    if udp.dest == data_port then data_text packet udp
+    else if udp.dest == control_port || udp.source == control_port then control_text packet udp
     else other_line
 
 -- a packet of UDP, by its header where the rules of UDP hold

@@ -1,12 +1,12 @@
 -- What a table keeps fits the headers that are made of it, and keeps to a size.
 use Rattle.std.specs.Prelude.{◌≤◌, ◌<◌, ◌+◌, ◌*◌, ◌^◌, ℕ, List, All}
 use Rattle.locator_state.specs.Observed.{Located, Observed, longest}
-use Rattle.locator_state.specs.Limits.{most_probes}
+use Rattle.locator_state.specs.Limits.{most_probes, most_reserved as most_reserved_probes}
 use Rattle.map_cache.specs.Cache.{Cache}
 use Rattle.map_cache.specs.Limits.{most_locators, most_mappings}
 use Rattle.map_cache.specs.declared.mapping.Mapping.{Mapping}
 use Rattle.request_queue.specs.Queue.{Queue}
-use Rattle.request_queue.specs.Limits.{most_requests}
+use Rattle.request_queue.specs.Limits.{most_requests, most_reserved as most_reserved_requests}
 use Rattle.router_model.specs.Limits.{most_message_records}
 use Rattle.router_log.specs.declared.kept.EchoOut.{EchoOut}
 use Rattle.router_log.specs.declared.kept.EchoOut.TheVariants.{Plain, Answer, Ask}
@@ -40,12 +40,16 @@ IsShortOut (Ask nonce) = nonce < 2 ^ 24
 
 -- ### size
 
+-- items of all lists of a table, at most, which is no sharp bound
+abbrev pub most_kept : ℕ
+most_kept = 12000000
+
 -- the lists of locators are as short as the limits make them, and all have place for no more than is kept at most
--- and what is reserved at once: all mappings of a reply, 16,384 requests, 65,536 probes
+-- and what is reserved at once: all mappings of a reply, requests, probes
 pub record AreBounded (cache : Cache) (queue : Queue) (located : Located) (own_count : ℕ) : Type 0 where
   pub mappings : cache.mapping_places ≤ most_mappings + most_message_records
   pub locators : cache.locator_places ≤ most_locators * (most_mappings + most_message_records)
-  pub requests : queue.places ≤ 2 * (most_requests + 16384)
-  pub probes : located.places ≤ 2 * (most_probes + 65536)
+  pub requests : queue.places ≤ 2 * (most_requests + most_reserved_requests)
+  pub probes : located.places ≤ 2 * (most_probes + most_reserved_probes)
   pub longest : longest located.observed ≤ most_probes
   pub own : own_count ≤ most_locators

@@ -4,7 +4,7 @@ use Rattle.mapping_records.specs.declared.record.Record.{Record}
 use Rattle.router_model.specs.Hear.{shortened}
 use Rattle.router_core.specs.declared.copies.Copies.{Copies}
 
--- the record, with its first 32 locators
+-- the record, with as many locators as a mapping may have
 abbrev pub copies_of : Record → Copies
 copies_of mapping = record { kept = shortened mapping; told = shortened mapping }
 

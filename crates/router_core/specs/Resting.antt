@@ -5,6 +5,7 @@ use Rattle.ip_headers.specs.declared.addr.Addr.{Addr}
 use Rattle.mapping_records.specs.Eids.{same_address}
 use Rattle.mapping_records.specs.declared.record.Locator.{Locator}
 use Rattle.lisp_settings.specs.declared.settings.OwnLocator.{OwnLocator}
+use Rattle.locator_state.specs.Limits.{rest_seconds}
 use Rattle.locator_state.specs.Lists.{last_where}
 use Rattle.map_cache.specs.declared.mapping.Mapping.{Mapping}
 use Rattle.router_log.specs.Moments.{seconds}
@@ -12,10 +13,10 @@ use Rattle.router_log.specs.declared.kept.Probe.{Probe}
 use Rattle.router_model.specs.Site.{is_own, ours}
 use Rattle.router_model.specs.Tick.{may_take}
 
--- the last probe is less than 60 seconds old until that moment; without one there is no such moment but 0
+-- until that moment a locator rests after its last probe; without one there is no such moment but 0
 abbrev pub is_recent : ℕ → Option Probe → Bool
 is_recent until None = until == 0
-is_recent until (Some probe) = nat_le until (probe.moment + seconds 60)
+is_recent until (Some probe) = nat_le until (probe.moment + seconds rest_seconds)
 
 -- the last probe of a locator
 abbrev pub last_of : List Probe → Addr → Option Probe

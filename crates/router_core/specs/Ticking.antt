@@ -2,16 +2,18 @@
 use Rattle.std.specs.Prelude.{◌≡◌, ℕ, ◌==◌, nat_lt, not, Bool, true, IsTrue, List, [], ◌∷◌, fold, take, Some, is_some}
 use Rattle.std.specs.List.{list_all}
 use Rattle.lisp_settings.specs.declared.settings.Settings.{Settings}
+use Rattle.locator_state.specs.Limits.{most_targets}
 use Rattle.locator_state.specs.Turns.{with_target}
 use Rattle.locator_state.specs.declared.target.Target.{Target}
+use Rattle.request_queue.specs.Limits.{most_retries}
 use Rattle.request_queue.specs.Queue.{with_nonce}
 use Rattle.request_queue.specs.declared.request.Request.{Request}
 use Rattle.router_model.specs.Site.{ours}
 
--- a request may be sent again: it is the one with its nonce among those that wait, and was sent again less than twice
+-- a request may be sent again: it is the one with its nonce among those that wait, and may be sent again once more
 pub record IsOwed (waits : List Request) (request : Request) : Type 0 where
   pub found : with_nonce waits request.nonce ≡ Some request
-  pub again : nat_lt request.sent_again 2 ≡ true
+  pub again : nat_lt request.sent_again most_retries ≡ true
 
 -- these have other nonces
 abbrev pub are_apart : ℕ → List Request → Bool
@@ -27,6 +29,6 @@ AreOwed waits (request ∷ others) =
 abbrev pub HasSender : Settings → Target → Type 0
 HasSender settings target = IsTrue (is_some (ours settings.locators target.rloc))
 
--- the first 16 in order, once these were offered too
+-- the first in order, as many as are probed at a second, once these were offered too
 abbrev pub offered : List Target → List Target → List Target
-offered targets first = take 16 (fold (λ so_far target. with_target target so_far) first targets)
+offered targets first = take most_targets (fold (λ so_far target. with_target target so_far) first targets)

@@ -16,7 +16,7 @@ pub(crate) fn copied(alloc: Global, mapping: &Record) -> Result<Record, NoMemory
     Ok(with_locators(mapping, locators))
 }
 
-/// A copy of a record with its first 32 locators.
+/// A copy of a record with its first locators, as many as a mapping may have.
 pub(crate) fn shortened(alloc: Global, mapping: &Record) -> Result<Record, NoMemory>
     ensures { IfOk result (λ copy. copy ≡ shortened mapping.now) }
 {
@@ -55,7 +55,7 @@ pub(crate) struct Copies {
     pub told: Record,
 }
 
-/// Copies of records, each with its first 32 locators.
+/// Copies of records, each with its first locators, as many as a mapping may have.
 pub(crate) fn all_copies(alloc: Global, mappings: &[Record]) -> Result<Vec<Copies>, NoMemory>
     ensures { IfOk result (λ copies. copies.items ≡ all_copies mappings.now) }
 {

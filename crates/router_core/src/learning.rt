@@ -11,7 +11,7 @@ ghost use Rattle.router_model.specs.Changes.{each, has_room, unchanged};
 ghost use Rattle.router_model.specs.Hear.{is_asked_for, is_fit, is_static, replied_to, taught};
 ghost use Rattle.mapping_records.specs.Eids.{same_eid};
 ghost use Rattle.mapping_records.specs.Orders.{eid_order};
-ghost use Rattle.router_model.specs.Limits.{most_heard, most_mappings};
+ghost use Rattle.router_model.specs.Limits.{most_heard, most_locators, most_mappings};
 ghost use Rattle.router_model.specs.Parts.{table, view_in};
 ghost use Rattle.router_core.specs.Copies.{all_copies, copies_of};
 ghost use Rattle.router_core.specs.Steps.{AreAdded, HasEntered, IsStep, MayEnter, MayStep};
@@ -93,7 +93,7 @@ impl Table {
         requires range { All InRange records.now }
         requires copies { copies.old.items ≡ all_copies records.now }
         requires mapping_room { length records.now ≤ self.old.mapping_room }
-        requires locator_room { 32 * length records.now ≤ self.old.locator_room }
+        requires locator_room { most_locators * length records.now ≤ self.old.locator_room }
         requires room { vec_len entries.old + length records.now ≤ vec_capacity entries.old }
         ensures change { change_of self.new.parts entries.new.items []
             ≡ each (taught table grounds.now.settings.now grounds.now.m grounds.now.asked.now
@@ -123,7 +123,7 @@ impl Table {
         requires range { InRange mapping.now }
         requires copies { copies ≡ copies_of mapping.now }
         requires mapping_room { 0 < self.old.mapping_room }
-        requires locator_room { 32 ≤ self.old.locator_room }
+        requires locator_room { most_locators ≤ self.old.locator_room }
         requires room { vec_len entries.old < vec_capacity entries.old }
         ensures change { change_of self.new.parts entries.new.items []
             ≡ taught table grounds.now.settings.now grounds.now.m grounds.now.asked.now
@@ -131,7 +131,7 @@ impl Table {
             (change_of self.old.parts entries.old.items []) }
         ensures entered { HasEntered 1 grounds.now.m self.old.parts self.new.parts }
         ensures mapping_room { self.old.mapping_room ≤ self.new.mapping_room + 1 }
-        ensures locator_room { self.old.locator_room ≤ self.new.locator_room + 32 }
+        ensures locator_room { self.old.locator_room ≤ self.new.locator_room + most_locators }
         ensures entries { AreAdded 1 entries.old entries.new }
     {
         if !self.is_taken(grounds, mapping) {

@@ -5,7 +5,7 @@ ghost use Rattle.router_core.specs.Resting.{all_rest, rests};
 
 use crate::site::{is_own, ours};
 use lisp_settings::{Locator, OwnLocator, OwnLocators};
-use locator_state::LocatorState;
+use locator_state::{LocatorState, PROBE_REST};
 use map_cache::MapCache;
 use octets::{Items, NoMemory};
 use std::alloc::Global;
@@ -61,7 +61,7 @@ fn rest_of(own: &[OwnLocator], m: u64, state: &LocatorState, locator: &Locator) 
     }
     match state.last_probe(m, &locator.addr) {
         None => 0,
-        Some(moment) => moment.saturating_add(60_000_000_000),
+        Some(moment) => moment.saturating_add(PROBE_REST),
     }
 }
 

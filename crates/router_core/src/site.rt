@@ -4,6 +4,7 @@ ghost use Rattle.std.specs.List.Sorted.{IsStrictlySortedBy};
 ghost use Rattle.std.specs.Ordering.{nat_cmp};
 ghost use Rattle.ip_headers.specs.Addr.{width};
 ghost use Rattle.mapping_records.specs.Eids.{same_address};
+ghost use Rattle.router_model.specs.Limits.{most_locators};
 ghost use Rattle.router_model.specs.Site.{instance_of, is_own, ours, own_bits};
 
 use ip_headers::Addr;
@@ -44,9 +45,9 @@ pub(crate) fn ours(locators: &[OwnLocator], to: Addr) -> Option<Addr>
     ours(others, to)
 }
 
-/// The status bits of at most 32 own locators, the first one's lowest.
+/// The status bits of own locators, at most one for each bit, the first one's lowest.
 pub(crate) fn own_bits(locators: &[OwnLocator]) -> u64
-    requires { length locators.now ≤ 32 }
+    requires { length locators.now ≤ most_locators }
     ensures bits { result ≡ own_bits locators.now }
     ensures few { result < 2 ^ length locators.now }
 {

@@ -1,12 +1,15 @@
 // A table: what a router remembers of its journal.
-ghost use Rattle.std.specs.Prelude.{◌≡◌, ◌<◌, ◌≤◌, ◌+◌, ◌^◌, ◌≢◌, IsTrue, All, [], length, sum_by, IfOk, OnOk};
+ghost use Rattle.std.specs.Prelude.{◌≡◌, ◌<◌, ◌≤◌, ◌+◌, ◌*◌, ◌^◌, ◌≢◌, IsTrue, All, [], length, sum_by, IfOk, OnOk};
 ghost use Rattle.map_cache.specs.Cache.{has_room, lasting};
+ghost use Rattle.locator_state.specs.Limits.{most_reserved as most_reserved_probes};
+ghost use Rattle.request_queue.specs.Limits.{most_reserved as most_reserved_requests};
 ghost use Rattle.request_queue.specs.Queue.{may_send_again, waiting};
 ghost use Rattle.lisp_settings.specs.Lawful.{IsLawful, IsLawfulMapping};
 ghost use Rattle.router_log.specs.declared.entry.Entry.TheVariants.{Answered, Asked, Bits, DataFrom, EchoHeard, EchoStarted, EchoWanted, Learned, ProbeAnswered, Probed, Retried, Solicited};
 ghost use Rattle.router_model.specs.Journal.{statics};
 ghost use Rattle.router_model.specs.Limits.{all_locators, most_locators, most_mappings, most_message_records, most_probes, most_requests};
 ghost use Rattle.router_model.specs.Parts.{Stands, parts_in, view_in, with_entry};
+ghost use Rattle.router_core.specs.Bounded.{most_kept};
 ghost use Rattle.router_core.specs.Steps.{MayEnter};
 
 use crate::copies::copied;
@@ -92,7 +95,7 @@ impl Table {
 
     fn empty(alloc: Global, rest: Rest) -> Table
         requires until { rest.until ≡ 0 }
-        requires own { length rest.own ≤ 32 }
+        requires own { length rest.own ≤ most_locators }
         ensures { result.parts ≡ parts_in [] }
     {
         Table {
@@ -125,9 +128,10 @@ impl Table {
         self.count
     }
 
-    /// Law: however long the capture is, all lists of a table have at most 12,000,000 items.
+    /// Law: however long the capture is, all lists of a table have at most
+    /// `most_kept` items in all.
     pub fn keeps_to_its_size(&self)
-        ensures { self.now.kept ≤ 12000000 }
+        ensures { self.now.kept ≤ most_kept }
     {
         // The lengths say how much is kept.
         let _ = (self.cache.len(), self.queue.len(), self.locators.len());
@@ -136,30 +140,30 @@ impl Table {
     /// Makes room for so many further mappings, at most those of a reply, with so many locators in all.
     pub(crate) fn reserve_mappings(&mut self, n: u32, locators: u32) -> Result<(), NoMemory>
         requires n { n ≤ most_message_records }
-        requires locators { locators ≤ 8160 }
+        requires locators { locators ≤ most_locators * most_message_records }
         ensures parts { self.new.parts ≡ self.old.parts }
         ensures room { OnOk result (n ≤ self.new.mapping_room) }
         ensures locator_room { OnOk result (locators ≤ self.new.locator_room) }
     {
-        // The length says that there are at most 65,536.
+        // The length says that there are at most as many as may live.
         let _ = self.cache.len();
         self.cache.reserve(n, locators)
     }
 
     /// Makes room for so many further requests.
     pub(crate) fn reserve_requests(&mut self, n: u32) -> Result<(), NoMemory>
-        requires { n ≤ 16384 }
+        requires { n ≤ most_reserved_requests }
         ensures parts { self.new.parts ≡ self.old.parts }
         ensures room { OnOk result (n ≤ self.new.request_room) }
     {
-        // The length says that there are at most 1,024.
+        // The length says that there are at most as many as may wait.
         let _ = self.queue.len();
         self.queue.reserve(n)
     }
 
     /// Makes room for so many further probes.
     pub(crate) fn reserve_probes(&mut self, n: u32) -> Result<(), NoMemory>
-        requires { n ≤ 65536 }
+        requires { n ≤ most_reserved_probes }
         ensures parts { self.new.parts ≡ self.old.parts }
         ensures room { OnOk result (n ≤ self.new.probe_room) }
     {
@@ -192,7 +196,7 @@ impl Table {
         ensures request_room { self.old.request_room ≤ self.new.request_room }
     {
         self.rest.until = 0;
-        // The length says that there are at most 65,536.
+        // The length says that there are at most as many as may live.
         let _ = self.cache.len();
         let _ = self.cache.learn(m, mapping, fixed);
         self.queue.purge(m);
@@ -211,7 +215,7 @@ impl Table {
     {
         self.rest.until = 0;
         self.cache.purge(m);
-        // The length says that there are at most 1,024.
+        // The length says that there are at most as many as may wait.
         let _ = self.queue.len();
         let _ = self.queue.ask(m, eid, source, invoked, nonce);
         self.locators.purge(m);

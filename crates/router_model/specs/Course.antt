@@ -13,6 +13,7 @@ use Rattle.lisp_settings.specs.declared.settings.Settings.{Settings}
 use Rattle.router_log.specs.declared.verdict.Reason.TheVariants.{Refused as IsRefused, Fragment, NotTunnel, NoAttachment}
 use Rattle.router_log.specs.declared.verdict.Verdict.{Verdict}
 use Rattle.router_log.specs.declared.verdict.Verdict.TheVariants.{Own, Drop}
+use Rattle.router_model.specs.Limits.{control_port, data_port}
 use Rattle.router_model.specs.Site.{instance_of, is_own}
 
 -- a packet, and where it stands in its frame
@@ -39,11 +40,11 @@ abbrev pub unless_settled : Option Verdict → Course → Course
 unless_settled None course = course
 unless_settled (Some verdict) course = Settled verdict
 
--- port 4341 has packets in tunnels, 4342 on either side control messages
+-- a port for packets in tunnels, and one that control messages have on either side
 abbrev pub by_port : FramePacket → UdpHeader → Course
 by_port packet udp =
-    if udp.dest == 4341 then Data (record { packet = packet; udp = udp })
-    else if udp.dest == 4342 || udp.source == 4342
+    if udp.dest == data_port then Data (record { packet = packet; udp = udp })
+    else if udp.dest == control_port || udp.source == control_port
     then Control (record { packet = packet; udp = udp })
     else Settled (Drop NotTunnel)
 

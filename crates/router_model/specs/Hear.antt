@@ -35,6 +35,7 @@ use Rattle.request_queue.specs.declared.request.Request.{Request}
 use Rattle.router_model.specs.Changes.{Change, Ledger, asked, each, emitted, entered, has_room, journal, may_ask, seen, unchanged}
 use Rattle.router_model.specs.Course.{Course, Control, Datagram, course_of}
 use Rattle.router_model.specs.Journal.{Journal}
+use Rattle.router_model.specs.Limits.{most_locators}
 use Rattle.router_model.specs.Mappings.{Held, force}
 use Rattle.router_model.specs.Received.{message_in}
 use Rattle.router_model.specs.Site.{database_of, ours}
@@ -187,9 +188,9 @@ is_asked_for asked mappings mapping =
 abbrev pub is_static : Settings → Record → Bool
 is_static settings mapping = list_any (λ fixed. same_eid fixed.eid mapping.eid) settings.mappings
 
--- the record with its first 32 locators (this router's choice)
+-- the record with its first locators, as many as a mapping may have (this router's choice)
 abbrev pub shortened : Record → Record
-shortened mapping = record mapping { locators = take 32 mapping.locators }
+shortened mapping = record mapping { locators = take most_locators mapping.locators }
 
 module _ {S : Type 0} (ledger : Ledger S) (settings : Settings) (m : ℕ) where
   -- an EID is asked for again, if there is one

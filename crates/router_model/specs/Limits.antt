@@ -1,8 +1,16 @@
--- The limits of a router, and what follows from them.
+-- The limits of a router, what follows from them, and the ports of LISP.
 use Rattle.std.specs.Prelude.{ℕ, ◌+◌, ◌*◌}
 pub use Rattle.map_cache.specs.Limits.{all_locators, most_locators, most_mappings}
 pub use Rattle.request_queue.specs.Limits.{most_requests, most_retries}
 pub use Rattle.locator_state.specs.Limits.{most_probes, most_solicits, most_starts, most_targets, most_wishes}
+
+-- the UDP port of packets in tunnels (RFC 9300, section 4.1)
+abbrev pub data_port : ℕ
+data_port = 4341
+
+-- the UDP port of control messages (RFC 9301, section 5)
+abbrev pub control_port : ℕ
+control_port = 4342
 
 -- records of a Map-Reply or of a Map-Request, at most (RFC 9301, sections 5.2 and 5.4: a count of 8 bits)
 abbrev pub most_message_records : ℕ

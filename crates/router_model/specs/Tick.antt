@@ -44,7 +44,7 @@ abbrev pub candidates : Settings → View → List Target
 candidates settings v =
     fold (λ so_far target. with_target target so_far) [] (filter (is_probed settings v.now) (targets v))
 
--- those to be probed now, at most 16 a second (this router's choice)
+-- those to be probed now, the first ones (this router's choice)
 abbrev pub next_targets : Settings → View → List Target
 next_targets settings v = take most_targets (candidates settings v)
 
@@ -60,7 +60,7 @@ module _ {S : Type 0} (ledger : Ledger S) (settings : Settings) (m : ℕ) where
   probed_with nonce target change =
       emitted (emit.Probe target.rloc target.eid nonce) (entered ledger settings m (entry.Probed m target.rloc nonce) change)
 
-  -- where fewer than 9,600 are younger than 600 seconds
+  -- where fewer count than may
   abbrev pub probed : Target → Change S → Change S
   probed target change =
       if nat_lt (seen ledger settings m change).probe_count most_probes

@@ -23,9 +23,9 @@ pub record View : Type 0 where
   pub requests : List Request
   -- the locator of the open probe with a nonce
   pub probe_open : ℕ → Option Addr
-  -- the moment of a locator's last probe within 600 seconds
+  -- the moment of a locator's last probe, if it counts
   pub last_probe : Addr → Option ℕ
-  -- the number of probes within 600 seconds
+  -- the number of probes that count
   pub probe_count : ℕ
   -- neither probes nor echoes speak against a locator
   pub up : Addr → Bool
