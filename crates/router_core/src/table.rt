@@ -1,12 +1,12 @@
 // A table: what a router remembers of its journal.
-ghost use Rattle.std.specs.Prelude.{◌≡◌, ◌<◌, ◌≤◌, ◌+◌, ◌*◌, ◌^◌, ◌≢◌, IsTrue, All, [], length, sum_by, IfOk, OnOk};
+ghost use Rattle.std.specs.Prelude.{◌≡◌, ◌<◌, ◌≤◌, ◌+◌, ◌*◌, ◌^◌, ◌≢◌, true, IsTrue, All, [], length, map, sum_by, IfOk, OnOk};
 ghost use Rattle.map_cache.specs.Cache.{has_room, lasting};
 ghost use Rattle.locator_state.specs.Limits.{most_reserved as most_reserved_probes};
 ghost use Rattle.request_queue.specs.Limits.{most_reserved as most_reserved_requests};
 ghost use Rattle.request_queue.specs.Queue.{may_send_again, waiting};
 ghost use Rattle.lisp_settings.specs.Lawful.{IsLawful, IsLawfulMapping};
 ghost use Rattle.router_log.specs.declared.entry.Entry.TheVariants.{Answered, Asked, Bits, DataFrom, EchoHeard, EchoStarted, EchoWanted, Learned, ProbeAnswered, Probed, Retried, Solicited};
-ghost use Rattle.router_model.specs.Journal.{statics};
+ghost use Rattle.router_model.specs.Journal.{extended, statics};
 ghost use Rattle.router_model.specs.Limits.{all_locators, most_locators, most_mappings, most_message_records, most_probes, most_requests};
 ghost use Rattle.router_model.specs.Parts.{Stands, parts_in, view_in, with_entry};
 ghost use Rattle.router_core.specs.Bounded.{most_kept};
@@ -83,13 +83,16 @@ impl Table {
         ensures stands { IfOk result (λ table.
             Stands settings.now table.parts (statics settings.now)) }
     {
-        let mappings = settings.mappings.as_slice();
+        Table::begun(alloc, settings)
+    }
+
+    // That table, which has learned the static mappings.
+    fn begun(alloc: Global, settings: &Settings) -> Result<Table, NoMemory>
+        requires { IsLawful settings.now }
+        ensures { IfOk result (λ table. table.parts ≡ parts_in (statics settings.now)) }
+    {
         let mut table = Table::empty(alloc, Rest::new(alloc, settings.locators.as_slice())?);
-        table.reserve_statics(mappings.len() as u32, locator_count(mappings))?;
-        for mapping in mappings {
-            let mapping = copied(alloc, mapping)?;
-            table.learn(0, mapping, true);
-        }
+        table.begin(settings)?;
         Ok(table)
     }
 
@@ -119,6 +122,35 @@ impl Table {
         ensures locator_room { OnOk result (locators ≤ self.new.locator_room) }
     {
         self.cache.reserve(n, locators)
+    }
+
+    // Learns the static mappings, where there was no entry yet.
+    fn begin(&mut self, settings: &Settings) -> Result<(), NoMemory>
+        requires lawful { IsLawful settings.now }
+        requires begins { self.old.parts ≡ parts_in [] }
+        ensures { OnOk result (self.new.parts ≡ parts_in (statics settings.now)) }
+    {
+        let mappings = settings.mappings.as_slice();
+        self.reserve_statics(mappings.len() as u32, locator_count(mappings))?;
+        self.learn_statics(mappings)
+    }
+
+    // Learns static mappings, for which there is room, where there was no entry yet.
+    fn learn_statics(&mut self, mappings: &[Record]) -> Result<(), NoMemory>
+        requires begins { self.old.parts ≡ parts_in [] }
+        requires few { length mappings.now ≤ most_mappings }
+        requires lawful { All IsLawfulMapping mappings.now }
+        requires room { length mappings.now ≤ self.old.mapping_room }
+        requires locator_room { sum_by (λ mapping. length mapping.locators) mappings.now
+            ≤ self.old.locator_room }
+        ensures { OnOk result (self.new.parts
+            ≡ parts_in (extended [] (map (λ mapping. Learned 0 mapping true) mappings.now))) }
+    {
+        for mapping in mappings {
+            let mapping = copied(self.alloc, mapping)?;
+            self.learn(0, mapping, true);
+        }
+        Ok(())
     }
 
     /// The length of the journal.

@@ -1,0 +1,87 @@
+use Rattle.std.proofs.Common.{◌≡◌, true, ◌∙◌, ◌≤◌, ◌+◌, List, ◌∷◌, ◌++◌, [], length, take, sym, ap, subst, arith}
+use Rattle.std.proofs.lemmas.List.{take_all, take_more}
+use Rattle.mapping_records.specs.declared.record.Record.{Record}
+use Rattle.router_log.specs.declared.entry.Entry.TheVariants.{Learned}
+use Rattle.router_model.specs.Parts.{Parts, parts_in, with_entry}
+use Rattle.router_core.proofs.StaticLemmas.{journal_of, static-few, static-parts, static-place, to_come-next}
+use Rattle.router_core.proofs.table.Table.learn_statics.Goals as goal
+
+pub learn-requires-clause-place : goal.learn-requires-clause-place
+learn-requires-clause-place c =
+    let kept = c.loop-mapping.invariant.1.1.1.0 in
+    let below = c.loop-mapping-test.true in
+    let few = c.requires.few in
+    static-place c.in_ok-mapping.mapping c.loop-mapping.self.parts.mappings (omega (arith, kept, below, few))
+
+pub learn-requires-clause-may : goal.learn-requires-clause-may
+learn-requires-clause-may c =
+    let known = c.loop-mapping.invariant.1 in
+    let below = c.loop-mapping-test.true in
+    record { later = known.0; count = omega (arith, known.1.0, below, c.requires.few) }
+
+pub returns : goal.returns
+returns c =
+    c.loop-mapping.invariant.0
+    ∙ ap (λ (l : List Record). parts_in (journal_of l)) (take_all c.loop-mapping.mapping-index c.args.mappings.now c.loop-mapping-test.false)
+
+pub loop-mapping-init : goal.loop-mapping-init
+loop-mapping-init c =
+    let begins = c.requires.begins in (
+      begins,
+      (
+        subst (λ (q : Parts). q.now ≤ 0) (sym begins) (omega arith),
+        (
+          subst (λ (q : Parts). q.count ≤ 0) (sym begins) (omega arith),
+          (
+            subst (λ (q : Parts). length q.mappings ≤ 0) (sym begins) (omega arith),
+            (omega (arith, c.requires.room), c.requires.locator_room),
+          ),
+        ),
+      ),
+    )
+
+pub learn-requires-clause-room : goal.learn-requires-clause-room
+learn-requires-clause-room c = omega (arith, c.loop-mapping.invariant.1.1.1.1.0, c.loop-mapping-test.true)
+
+pub loop-mapping-preserved : goal.loop-mapping-preserved
+loop-mapping-preserved c =
+    let mappings = c.args.mappings.now in
+    let i = c.loop-mapping.mapping-index in
+    let item = c.mapping-item.result in
+    let before = c.loop-mapping.self.parts in
+    let below = c.loop-mapping-test.true in
+    let known = c.loop-mapping.invariant.1 in
+    let taken = ap (λ (r : Record). with_entry (Learned 0 r true) before) c.in_ok-mapping.ensures in
+    let same = c.learn.ensures.parts ∙ taken in
+    let first = known.1.0 in
+    let few = known.1.1.0 in
+    let count = known.1.0 in
+    let more = static-few item before in
+    let room = known.1.1.1.0 in
+    let left = c.learn.ensures.mapping_room in
+    let to_come = to_come-next mappings i item below c.mapping-item.is in
+    let places = known.1.1.1.1 in
+    let taken_places = c.learn.ensures.locator_room in
+    let own : length c.in_ok-mapping.mapping.locators ≡ length item.locators = ap (λ (r : Record). length r.locators) c.in_ok-mapping.ensures in (
+      same ∙ static-parts (take i mappings) item before c.loop-mapping.invariant.0
+          ∙ ap (λ (l : List Record). parts_in (journal_of l)) (ap (λ (r : Record). take i mappings ++ r ∷ []) c.mapping-item.is ∙ sym (take_more mappings i item below)),
+      (
+        subst (λ (q : Parts). q.now ≤ 0) (sym same) (omega arith),
+        (
+          subst (λ (q : Parts). q.count ≤ i + 1) (sym same) (omega (arith, count)),
+          (
+            subst (λ (q : Parts). length q.mappings ≤ i + 1) (sym same) (omega (arith, few, more)),
+            (omega (arith, room, left), omega (arith, to_come, places, taken_places, own)),
+          ),
+        ),
+      ),
+    )
+
+pub learn-requires-clause-locator_room : goal.learn-requires-clause-locator_room
+learn-requires-clause-locator_room c =
+    let mappings = c.args.mappings.now in
+    let item = c.mapping-item.result in
+    let to_come = to_come-next mappings c.loop-mapping.mapping-index item c.loop-mapping-test.true c.mapping-item.is in
+    let places = c.loop-mapping.invariant.1.1.1.1.1 in
+    let own : length c.in_ok-mapping.mapping.locators ≡ length item.locators = ap (λ (r : Record). length r.locators) c.in_ok-mapping.ensures in
+    omega (arith, to_come, places, own)
