@@ -1,4 +1,4 @@
-// Copies of mappings.
+// Copies of mappings, and of their records.
 ghost use Rattle.std.specs.Prelude.{◌≡◌, IfOk};
 
 use crate::{Mapping, NoMemory};
@@ -12,7 +12,8 @@ fn copied_locators(alloc: Global, locators: &[Locator]) -> Result<Locators, NoMe
     Ok(Items::from_vec(Vec::from_slice(alloc, locators)?))
 }
 
-fn copied_record(alloc: Global, mapping: &Record) -> Result<Record, NoMemory>
+/// A record of its own that is the same.
+pub fn copied_record(alloc: Global, mapping: &Record) -> Result<Record, NoMemory>
     ensures { IfOk result (λ copy. copy ≡ mapping.now) }
 {
     let locators = copied_locators(alloc, mapping.locators.as_slice())?;

@@ -17,6 +17,7 @@ mod searching;
 mod stay;
 
 pub use cache::MapCache;
+pub use copies::copied_record;
 pub use fault::LearnFault;
 pub use ip_headers::Addr;
 pub use laws::{no_lesser_address_is_named, no_lesser_eid_names_it};

@@ -112,13 +112,13 @@ abbrev table_of : Settings → Parts → Run → Outcome (Router Parts)
 table_of settings parts run = outcome_of (after_event table) (router_of settings parts) run
 
 -- of frames that were read the table of the static mappings says and writes what the plain router does
-as_plain : (settings : Settings) (format : Format) (octets : List ℕ) (parts : Parts) → IsLawful settings → parts ≡ parts_in (statics settings) → WereRead format octets
+as_plain : (settings : Settings) (format : Format) (octets : List ℕ) (parts : Parts) → IsLawful settings → parts ≡ parts_in settings (statics settings) → WereRead format octets
     → table_of settings parts (read_on format begin octets) ≡ outcome_tabled (replay_of settings (read_on format begin octets))
 as_plain settings format octets parts lawful begins read = rw begins (run-replays settings format octets lawful read).0
 
 -- what a table leaves is what the plain router does
 pub table_replayed : (settings : Settings) (id reader : ℕ) (format : Format) (name : List ℕ) (old made new : Option World) (ending : Ending) (entries : ℕ) (parts after : Parts) (kept : Settings)
-    → IsLawful settings → parts ≡ parts_in (statics settings)
+    → IsLawful settings → parts ≡ parts_in settings (statics settings)
     → IfSome old (λ w. found_at id w.writers ≡ None) → made ≡ option_map (λ w. after_write id out_header (after_make id name w)) old
     → IfSome made (λ w. All IsRead (read_on format begin (left_of reader w)).frames)
     → IfSome made (λ w. Ends (table_of settings parts (read_on format begin (left_of reader w))) (read_on format begin (left_of reader w)) ending)

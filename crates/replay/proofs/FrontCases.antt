@@ -152,7 +152,7 @@ later-front m [] more later = tt
 later-front m (frame ∷ frames) more later = (later.0, later-front frame.moment frames more later.1)
 
 -- for the first events of frames that were read, a table says and writes what the plain router does
-tabled : (settings : Settings) (format : Format) (octets : List ℕ) (parts : Parts) (frames : List Frame) (first : List Event) → IsLawful settings → parts ≡ parts_in (statics settings)
+tabled : (settings : Settings) (format : Format) (octets : List ℕ) (parts : Parts) (frames : List Frame) (first : List Event) → IsLawful settings → parts ≡ parts_in settings (statics settings)
     → IsFront frames (read_on format begin octets).frames → All IsRead frames → IsFront first (events frames)
     → played (after_event table) (router_of settings parts) first ≡ outcome_tabled (played plain (started settings) first)
 tabled settings format octets parts frames first lawful begins within read front =
@@ -213,7 +213,7 @@ replay_front settings name run id w new first lines octets fresh is within said 
     })
 
 -- a play by the table that was cut short
-play_front : (settings : Settings) (name : List ℕ) (format : Format) (octets : List ℕ) (id : ℕ) (w : World) (new : Option World) (parts : Parts) → IsLawful settings → parts ≡ parts_in (statics settings)
+play_front : (settings : Settings) (name : List ℕ) (format : Format) (octets : List ℕ) (id : ℕ) (w : World) (new : Option World) (parts : Parts) → IsLawful settings → parts ≡ parts_in settings (statics settings)
     → found_at id w.writers ≡ None
     → CutRun (after_event table) (router_of settings parts) (Some id) (shown_of (after_write id out_header (after_make id name w))) (read_on format begin octets) new
     → EndsFront (replayed settings name (read_on format begin octets)) (replayed_part settings name (read_on format begin octets)) (shown_of w) new
@@ -233,7 +233,7 @@ play_front settings name format octets id w new parts lawful begins fresh cut_ru
     (front-front cut.lines (played plain (started settings) some).lines (replay_of settings run).lines said (front-lines plain (started settings) some all within)) reported written
 
 -- the same, over what the desk tells
-pub table_front : (settings : Settings) (id reader : ℕ) (format : Format) (name : List ℕ) (old made new : Option World) (parts : Parts) → IsLawful settings → parts ≡ parts_in (statics settings)
+pub table_front : (settings : Settings) (id reader : ℕ) (format : Format) (name : List ℕ) (old made new : Option World) (parts : Parts) → IsLawful settings → parts ≡ parts_in settings (statics settings)
     → IfSome old (λ w. found_at id w.writers ≡ None) → made ≡ option_map (λ w. after_write id out_header (after_make id name w)) old
     → IfSome made (λ w. CutRun (after_event table) (router_of settings parts) (Some id) (shown_of w) (read_on format begin (left_of reader w)) new)
     → IfSome old (λ w. EndsFront (replayed settings name (read_on format begin (left_of reader w))) (replayed_part settings name (read_on format begin (left_of reader w))) (shown_of w) new)

@@ -7,7 +7,7 @@ use Rattle.capture_io.specs.Frame.{Frame}
 use Rattle.capture_io.specs.Output.{packet_record}
 use Rattle.lisp_settings.specs.Lawful.{IsLawful}
 use Rattle.lisp_settings.specs.declared.settings.Settings.{Settings}
-use Rattle.playback.specs.Events.{Arrival, Packet, records_of, second_of}
+use Rattle.playback.specs.Events.{Arrival, Event, Packet, records_of, second_of}
 use Rattle.playback.specs.Playing.{Gathers}
 use Rattle.playback.specs.declared.output.Output.{Output}
 use Rattle.router_log.specs.Lines.{frame_line}
@@ -18,6 +18,7 @@ use Rattle.router_model.specs.Emits.{emit_packet}
 use Rattle.router_model.specs.Hear.{Heard}
 use Rattle.router_model.specs.Journal.{statics}
 use Rattle.router_model.specs.Parts.{Parts, parts_in, table, view_in}
+use Rattle.router_model.proofs.OwnLemmas.{own-after}
 use Rattle.router_model.proofs.ReplayLemmas.{statics-first}
 use Rattle.router_model.proofs.StaticsLemmas.{length-statics}
 use Rattle.router_model.specs.Course.{Course, control, course_of}
@@ -29,6 +30,11 @@ use Rattle.replay.specs.Taking.{router_of, Sends}
 pub packets_few : (moment : ℕ) (packet : Option (List ℕ)) → length (packets_of moment packet) ≤ 1
 packets_few moment None = omega arith
 packets_few moment (Some packet) = omega arith
+
+-- two facts make a third, where there is a value
+pub on_ok_two : {T E A B C : Type 0} (r : Result T E) → OnOk r A → OnOk r B → (A → B → C) → OnOk r C
+on_ok_two (Ok x) a b both = both a b
+on_ok_two (Err e) a b both = tt
 
 -- three facts make a fourth, where there is a value
 pub on_ok_three : {T E A B C D : Type 0} (r : Result T E) → OnOk r A → OnOk r B → OnOk r C → (A → B → C → D) → OnOk r D
@@ -159,13 +165,17 @@ room-left frames count moment most early few =
     omega (arith, past, most, few)
 
 -- a router begins ready, with an entry for each static mapping
-pub ready-first : (settings : Settings) (parts : Parts) → IsLawful settings → parts ≡ parts_in (statics settings)
-    → IsLawful settings × ((parts.now ≤ 0) × (parts.count ≤ 65536 + 256 * 0 + 1040 * second_of 0))
+pub ready-first : (settings : Settings) (parts : Parts) → IsLawful settings → parts ≡ parts_in settings (statics settings)
+    → IsLawful settings × ((settings.locators ≡ parts.own) × ((parts.now ≤ 0) × (parts.count ≤ 65536 + 256 * 0 + 1040 * second_of 0)))
 ready-first settings parts lawful is =
     let count = length-statics settings in
     let few = lawful.few_mappings in
     let first = statics-first settings in
-    (lawful, (rw is first, rw is (let few_entries : length (statics settings) ≤ 65536 + 256 * 0 + 1040 * second_of 0 = omega (arith, count, few) in few_entries)))
+    (lawful, (sym (ap (λ (p : Parts). p.own) is), (rw is first, rw is (let few_entries : length (statics settings) ≤ 65536 + 256 * 0 + 1040 * second_of 0 = omega (arith, count, few) in few_entries))))
+
+-- behind an event a table is for the settings that it was for
+pub own-kept : (settings : Settings) (old new : Parts) (event : Event) → settings.locators ≡ old.own → router_of settings new ≡ (after_event table (router_of settings old) event).after → settings.locators ≡ new.own
+own-kept settings old new event own is = own ∙ sym (ap (λ (r : Router Parts). r.memory.own) is ∙ own-after (router_of settings old) event)
 
 -- a list is its first item and those left
 pub first-left : {A : Type 0} (items : List A) (item : A) → 1 ≤ length items → item ≡ get_or items 0 item → items ≡ item ∷ take (length items - 1) (drop 1 items)

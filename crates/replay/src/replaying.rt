@@ -55,11 +55,12 @@ impl<'a> Machine for Replay<'a> {
 
     ghost step = { after_event table };
 
-    // What frames and seconds add at most to the static mappings.
+    // The table is for the settings. What frames and seconds add at most to the static mappings.
     ghost IsReady = { λ progress replay. IsLawful replay.settings.now
+        × ((replay.settings.now.locators ≡ replay.table.parts.own)
         × ((replay.table.parts.now ≤ unwrap_or progress.moment 0)
         × (replay.table.parts.count
-        ≤ most_mappings + most_heard * progress.frames + most_ticked * second_of (unwrap_or progress.moment 0))) };
+        ≤ most_mappings + most_heard * progress.frames + most_ticked * second_of (unwrap_or progress.moment 0)))) };
 
     fn tick(
         &mut self,

@@ -35,6 +35,7 @@ pub(crate) fn take_second(
     output: &mut Output,
 ) -> Result<(), NoMemory>
     requires lawful { IsLawful settings.now }
+    requires own { settings.now.locators ≡ memory.old.parts.own }
     requires may { MayStep (seconds second) memory.old.parts }
     requires room { output.old.written < 2 ^ 48 }
     ensures gathers { OnOk result (Gathers

@@ -4,6 +4,7 @@ use Rattle.std.specs.List.{sum_by}
 use Rattle.std.proofs.lemmas.Bool.Decides.{nat_tests}
 use Rattle.std.proofs.lemmas.List.{map-append}
 use Rattle.std.proofs.lemmas.List.Sums.{count_by-le-length, length-filter, sum_by-drop_more}
+use Rattle.lisp_settings.specs.declared.settings.Settings.{Settings}
 use Rattle.mapping_records.specs.Eids.{same_eid}
 use Rattle.mapping_records.specs.Orders.{eid_order, put_in_order}
 use Rattle.mapping_records.specs.declared.record.Record.{Record}
@@ -36,11 +37,11 @@ first-moment journal [] first = first
 first-moment journal (mapping ∷ mappings) first = first-moment (static mapping ∷ journal) mappings (omega arith)
 
 -- one more
-pub static-parts : (mappings : List Record) (mapping : Record) (p : Parts) → p ≡ parts_in (journal_of mappings) → with_entry (Learned 0 mapping true) p ≡ parts_in (journal_of (mappings ++ mapping ∷ []))
-static-parts mappings mapping p is =
+pub static-parts : (settings : Settings) (mappings : List Record) (mapping : Record) (p : Parts) → p ≡ parts_in settings (journal_of mappings) → with_entry (Learned 0 mapping true) p ≡ parts_in settings (journal_of (mappings ++ mapping ∷ []))
+static-parts settings mappings mapping p is =
     ap (with_entry (static mapping)) is
-    ∙ with-entry (journal_of mappings) (static mapping) (first-moment [] mappings (omega arith))
-    ∙ ap parts_in (sym (journal-more mappings mapping))
+    ∙ with-entry settings (journal_of mappings) (static mapping) (first-moment [] mappings (omega arith))
+    ∙ ap (parts_in settings) (sym (journal-more mappings mapping))
 
 put-length : (mapping : Mapping) (ms : List Mapping) → length (put_in_order (λ (item : Mapping). item.eid) eid_order mapping ms) ≤ suc (length ms)
 put-length mapping [] = omega arith

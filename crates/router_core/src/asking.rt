@@ -1,5 +1,5 @@
 // Requests for mappings: when one may be made, and how.
-ghost use Rattle.std.specs.Prelude.{◌≡◌, ◌<◌, length, is_some, IsTrue, IfOk};
+ghost use Rattle.std.specs.Prelude.{◌≡◌, ◌<◌, nat_lt, length, is_some, IsTrue, IfOk};
 ghost use Rattle.request_queue.specs.Queue.{waiting};
 ghost use Rattle.router_model.specs.Changes.{asked, may_ask, unchanged};
 ghost use Rattle.router_model.specs.Limits.{most_requests};
@@ -23,10 +23,19 @@ impl Table {
     pub(crate) fn may_ask(&self, settings: &Settings, m: u64, eid: &Eid) -> bool
         ensures { result ≡ may_ask settings.now (view_in self.now.parts m) eid.now }
     {
-        let now = self.moment_at(m);
         settings.resolver.is_some()
-            && !self.queue.open_for(now, eid, &mut Reads::new())
-            && (self.queue.open_count(now) as usize) < MOST_REQUESTS
+            && !self
+                .queue
+                .open_for(self.moment_at(m), eid, &mut Reads::new())
+            && self.few_requests(m)
+    }
+
+    /// There is room for one more request.
+    #[tactic(auto, unfolding(router_model::specs::Parts::view_in))]
+    pub(crate) fn few_requests(&self, m: u64) -> bool
+        ensures { result ≡ nat_lt (length (view_in self.now.parts m).requests) most_requests }
+    {
+        (self.queue.open_count(self.moment_at(m)) as usize) < MOST_REQUESTS
     }
 
     /// Makes a request with the next nonce.

@@ -1,19 +1,19 @@
-// Copies of mapping records.
+// Copies of mapping records and of own locators.
 ghost use Rattle.std.specs.Prelude.{◌≡◌, IfOk};
 ghost use Rattle.router_model.specs.Hear.{shortened};
 ghost use Rattle.router_core.specs.Copies.{all_copies};
 
-use map_cache::MOST_LOCATORS;
+use lisp_settings::{OwnLocator, OwnLocators};
+use map_cache::{MOST_LOCATORS, copied_record};
 use mapping_records::{Locator, Locators, Record};
 use octets::{Items, NoMemory};
 use std::alloc::Global;
 
-/// A copy of a record.
-pub(crate) fn copied(alloc: Global, mapping: &Record) -> Result<Record, NoMemory>
+/// A copy of a record, which shares nothing with it.
+pub fn copied(alloc: Global, mapping: &Record) -> Result<Record, NoMemory>
     ensures { IfOk result (λ copy. copy ≡ mapping.now) }
 {
-    let locators = copied_locators(alloc, mapping.locators.as_slice())?;
-    Ok(with_locators(mapping, locators))
+    copied_record(alloc, mapping)
 }
 
 /// A copy of a record with its first locators, as many as a mapping may have.
@@ -33,6 +33,13 @@ fn copied_locators(alloc: Global, locators: &[Locator]) -> Result<Locators, NoMe
     ensures { IfOk result (λ copy. copy ≡ locators.now) }
 {
     Ok(Items::from_vec(Vec::from_slice(alloc, locators)?))
+}
+
+/// A copy of own locators.
+pub(crate) fn copied_own(alloc: Global, own: &[OwnLocator]) -> Result<OwnLocators, NoMemory>
+    ensures { IfOk result (λ copy. copy ≡ own.now) }
+{
+    Ok(Items::from_vec(Vec::from_slice(alloc, own)?))
 }
 
 fn with_locators(mapping: &Record, locators: Locators) -> Record

@@ -157,8 +157,8 @@ impl Table {
             && self.has_room(grounds.m, mapping)
     }
 
-    // The mapping may be learned: it takes one away, replaces one, or is within the limit.
-    fn has_room(&self, m: u64, mapping: &Record) -> bool
+    /// The mapping may be learned: it takes one away, replaces one, or is within the limit.
+    pub(crate) fn has_room(&self, m: u64, mapping: &Record) -> bool
         ensures { result ≡ has_room (view_in self.now.parts m) mapping.now }
     {
         mapping.ttl == 0 || self.has_place(m, &mapping.eid)

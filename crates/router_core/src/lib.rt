@@ -2,6 +2,7 @@
 //! that table makes of a message or a notice.
 #![tactic(auto)]
 
+mod admitting;
 mod answering;
 mod applying;
 mod arrival;
@@ -10,6 +11,7 @@ mod changed;
 mod choice;
 mod control_writing;
 mod copies;
+mod copying;
 mod courses;
 mod datagram;
 mod deciding;
@@ -35,6 +37,7 @@ mod tunnel_headers;
 mod versions;
 
 pub use changed::{Changed, Heard};
+pub use copies::copied;
 pub use courses::{Course, course_of, frame_packet, is_control};
 pub use datagram::Datagram;
 pub use emitting::emit_octets;

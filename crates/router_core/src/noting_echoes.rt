@@ -49,9 +49,9 @@ impl Table {
         Ok(self.quiet(entries))
     }
 
-    // That may be noted.
+    /// That a locator wants an echo of this nonce may be noted.
     #[tactic(auto, unfolding(router_model::specs::Parts::view_in))]
-    fn may_want(&self, m: u64, rloc: &Addr, nonce: u32) -> bool
+    pub(crate) fn may_want(&self, m: u64, rloc: &Addr, nonce: u32) -> bool
         ensures { result ≡ (view_in self.now.parts m).may_want rloc.now nonce }
     {
         self.locators.may_want(self.moment_at(m), rloc, nonce)
@@ -121,9 +121,9 @@ impl Table {
         Ok(self.quiet(entries))
     }
 
-    // An echo is asked of the locator, and no packet came since.
+    /// An echo is asked of the locator, and no packet came since.
     #[tactic(auto, unfolding(router_model::specs::Parts::view_in))]
-    fn is_data_due(&self, m: u64, rloc: &Addr) -> bool
+    pub(crate) fn is_data_due(&self, m: u64, rloc: &Addr) -> bool
         ensures { result ≡ (view_in self.now.parts m).data_due rloc.now }
     {
         self.locators.data_due(self.moment_at(m), rloc)

@@ -1,55 +1,12 @@
 // When the next locator can be probed.
-ghost use Rattle.std.specs.Prelude.{◌≡◌, ◌≤◌, true, IfOk, IsTrue};
+ghost use Rattle.std.specs.Prelude.{◌≡◌, ◌≤◌, true};
 ghost use Rattle.std.specs.List.{list_all};
 ghost use Rattle.router_core.specs.Resting.{all_rest, rests};
 
 use crate::site::{is_own, ours};
-use lisp_settings::{Locator, OwnLocator, OwnLocators};
+use lisp_settings::{Locator, OwnLocator};
 use locator_state::{LocatorState, PROBE_REST};
 use map_cache::MapCache;
-use octets::{Items, NoMemory};
-use std::alloc::Global;
-
-/// Until a moment no locator that a mapping names is to be probed, where these are the own locators.
-#[derive(Drop)]
-pub(crate) struct Rest {
-    pub own: OwnLocators,
-    pub until: u64,
-}
-
-impl Rest {
-    /// With these own locators; of no moment.
-    pub(crate) fn new(alloc: Global, own: &[OwnLocator]) -> Result<Rest, NoMemory>
-        ensures until { IfOk result (λ rest. rest.until ≡ 0) }
-        ensures own { IfOk result (λ rest. rest.own ≡ own.now) }
-    {
-        let mut copies = Vec::new(alloc);
-        copies.extend_from_slice(own)?;
-        Ok(Rest {
-            own: Items::from_vec(copies),
-            until: 0,
-        })
-    }
-}
-
-/// The own locators are the same.
-pub(crate) fn are_same(a: &[OwnLocator], b: &[OwnLocator]) -> bool
-    ensures { IsTrue result → a.now ≡ b.now }
-{
-    let [first, others @ ..] = a else {
-        return b.is_empty();
-    };
-    let [second, rest @ ..] = b else {
-        return false;
-    };
-    is_same(first, second) && are_same(others, rest)
-}
-
-fn is_same(a: &OwnLocator, b: &OwnLocator) -> bool
-    ensures { IsTrue result → a.now ≡ b.now }
-{
-    a == b
-}
 
 // Until when a locator isn't to be probed.
 fn rest_of(own: &[OwnLocator], m: u64, state: &LocatorState, locator: &Locator) -> u64

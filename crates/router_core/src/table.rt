@@ -5,6 +5,7 @@ ghost use Rattle.locator_state.specs.Limits.{most_reserved as most_reserved_prob
 ghost use Rattle.request_queue.specs.Limits.{most_reserved as most_reserved_requests};
 ghost use Rattle.request_queue.specs.Queue.{may_send_again, waiting};
 ghost use Rattle.lisp_settings.specs.Lawful.{IsLawful, IsLawfulMapping};
+ghost use Rattle.lisp_settings.specs.declared.settings.Settings.{Settings as SettingsValue};
 ghost use Rattle.router_log.specs.declared.entry.Entry.TheVariants.{Answered, Asked, Bits, DataFrom, EchoHeard, EchoStarted, EchoWanted, Learned, ProbeAnswered, Probed, Retried, Solicited};
 ghost use Rattle.router_model.specs.Journal.{extended, statics};
 ghost use Rattle.router_model.specs.Limits.{all_locators, most_locators, most_mappings, most_message_records, most_probes, most_requests};
@@ -12,10 +13,9 @@ ghost use Rattle.router_model.specs.Parts.{Stands, parts_in, view_in, with_entry
 ghost use Rattle.router_core.specs.Bounded.{most_kept};
 ghost use Rattle.router_core.specs.Steps.{MayEnter};
 
-use crate::copies::copied;
-use crate::resting::Rest;
+use crate::copies::{copied, copied_own};
 use ip_headers::Addr;
-use lisp_settings::Settings;
+use lisp_settings::{OwnLocators, Settings};
 use locator_state::LocatorState;
 use map_cache::MapCache;
 use mapping_records::{Eid, Record};
@@ -29,14 +29,16 @@ use std::marker::Model;
 #[derive(Drop)]
 pub struct Table {
     pub(crate) alloc: Global,
+    // Those of the settings that it is for.
+    pub(crate) own: OwnLocators,
     // The entries of the journal, and those of them that used a nonce.
     pub(crate) count: u64,
     pub(crate) drawn: u64,
     pub(crate) cache: MapCache,
     pub(crate) queue: RequestQueue,
     pub(crate) locators: LocatorState,
-    // Set anew with each entry.
-    pub(crate) rest: Rest,
+    // Until this moment no locator is to be probed, as far as is known; 0 behind each entry.
+    pub(crate) rest: u64,
 }
 
 impl Model for Table {
@@ -52,6 +54,7 @@ impl Model for Table {
         count = table.count;
         drawn = table.drawn;
         now = table.cache.now;
+        own = table.own;
         mappings = table.cache.mappings;
         requests = table.queue.requests;
         observed = table.locators.observed;
@@ -64,22 +67,23 @@ impl Model for Table {
       wish_room = table.locators.wish_room;
       solicit_room = table.locators.solicit_room;
       kept = table.cache.kept
-          + (table.queue.kept + (table.locators.kept + length table.rest.own));
+          + (table.queue.kept + (table.locators.kept + length table.own));
     } };
 
     ghost invariant = { λ table. (table.drawn ≤ table.count)
-        × IsAtRest table.rest.own table.rest.until table.locators.observed.probes
+        × IsAtRest table.own table.rest table.locators.observed.probes
         table.cache.mappings
         × AreVersioned table.cache.mappings
         × AreShort table.locators.observed
-        × AreBounded table.cache table.queue table.locators (length table.rest.own) };
+        × AreBounded table.cache table.queue table.locators (length table.own) };
 }
 
 impl Table {
     /// The table of a router that begins: it stands for the journal of the static mappings.
     pub fn new(alloc: Global, settings: &Settings) -> Result<Table, NoMemory>
         requires { IsLawful settings.now }
-        ensures parts { IfOk result (λ table. table.parts ≡ parts_in (statics settings.now)) }
+        ensures parts { IfOk result (λ table. table.parts
+            ≡ parts_in settings.now (statics settings.now)) }
         ensures stands { IfOk result (λ table.
             Stands settings.now table.parts (statics settings.now)) }
     {
@@ -89,27 +93,29 @@ impl Table {
     // That table, which has learned the static mappings.
     fn begun(alloc: Global, settings: &Settings) -> Result<Table, NoMemory>
         requires { IsLawful settings.now }
-        ensures { IfOk result (λ table. table.parts ≡ parts_in (statics settings.now)) }
+        ensures { IfOk result (λ table. table.parts
+            ≡ parts_in settings.now (statics settings.now)) }
     {
-        let mut table = Table::empty(alloc, Rest::new(alloc, settings.locators.as_slice())?);
+        let mut table = Table::empty(alloc, settings)?;
         table.begin(settings)?;
         Ok(table)
     }
 
-    fn empty(alloc: Global, rest: Rest) -> Table
-        requires until { rest.until ≡ 0 }
-        requires own { length rest.own ≤ most_locators }
-        ensures { result.parts ≡ parts_in [] }
+    // For a journal without entries.
+    fn empty(alloc: Global, settings: &Settings) -> Result<Table, NoMemory>
+        requires { IsLawful settings.now }
+        ensures { IfOk result (λ table. table.parts ≡ parts_in settings.now []) }
     {
-        Table {
+        Ok(Table {
             alloc,
+            own: copied_own(alloc, settings.locators.as_slice())?,
             count: 0,
             drawn: 0,
             cache: MapCache::new(alloc),
             queue: RequestQueue::new(alloc),
             locators: LocatorState::new(alloc),
-            rest,
-        }
+            rest: 0,
+        })
     }
 
     // Makes room for so many static mappings, with so many locators in all, where there is none yet.
@@ -127,8 +133,8 @@ impl Table {
     // Learns the static mappings, where there was no entry yet.
     fn begin(&mut self, settings: &Settings) -> Result<(), NoMemory>
         requires lawful { IsLawful settings.now }
-        requires begins { self.old.parts ≡ parts_in [] }
-        ensures { OnOk result (self.new.parts ≡ parts_in (statics settings.now)) }
+        requires begins { self.old.parts ≡ parts_in settings.now [] }
+        ensures { OnOk result (self.new.parts ≡ parts_in settings.now (statics settings.now)) }
     {
         let mappings = settings.mappings.as_slice();
         self.reserve_statics(mappings.len() as u32, locator_count(mappings))?;
@@ -137,14 +143,17 @@ impl Table {
 
     // Learns static mappings, for which there is room, where there was no entry yet.
     fn learn_statics(&mut self, mappings: &[Record]) -> Result<(), NoMemory>
-        requires begins { self.old.parts ≡ parts_in [] }
+        requires now { self.old.parts.now ≡ 0 }
+        requires count { self.old.parts.count ≡ 0 }
+        requires none { self.old.parts.mappings ≡ [] }
         requires few { length mappings.now ≤ most_mappings }
         requires lawful { All IsLawfulMapping mappings.now }
         requires room { length mappings.now ≤ self.old.mapping_room }
         requires locator_room { sum_by (λ mapping. length mapping.locators) mappings.now
             ≤ self.old.locator_room }
-        ensures { OnOk result (self.new.parts
-            ≡ parts_in (extended [] (map (λ mapping. Learned 0 mapping true) mappings.now))) }
+        ensures { OnOk result ((settings : SettingsValue) → self.old.parts ≡ parts_in settings []
+            → self.new.parts ≡ parts_in settings
+            (extended [] (map (λ mapping. Learned 0 mapping true) mappings.now))) }
     {
         for mapping in mappings {
             let mapping = copied(self.alloc, mapping)?;
@@ -227,7 +236,7 @@ impl Table {
             ≤ self.new.locator_room + length mapping.locators }
         ensures request_room { self.old.request_room ≤ self.new.request_room }
     {
-        self.rest.until = 0;
+        self.rest = 0;
         // The length says that there are at most as many as may live.
         let _ = self.cache.len();
         let _ = self.cache.learn(m, mapping, fixed);
@@ -245,7 +254,7 @@ impl Table {
             ≡ with_entry (Asked m eid source invoked nonce) self.old.parts }
         ensures request_room { self.old.request_room ≤ self.new.request_room + 1 }
     {
-        self.rest.until = 0;
+        self.rest = 0;
         self.cache.purge(m);
         // The length says that there are at most as many as may wait.
         let _ = self.queue.len();
@@ -263,7 +272,7 @@ impl Table {
         ensures locator_room { self.old.locator_room ≤ self.new.locator_room }
         ensures request_room { self.old.request_room ≤ self.new.request_room }
     {
-        self.rest.until = 0;
+        self.rest = 0;
         self.cache.purge(m);
         self.queue.purge(m);
         self.locators.purge(m);
@@ -278,7 +287,7 @@ impl Table {
         ensures parts { self.new.parts ≡ with_entry (Retried m nonce) self.old.parts }
         ensures probe_room { self.old.probe_room ≤ self.new.probe_room }
     {
-        self.rest.until = 0;
+        self.rest = 0;
         self.cache.purge(m);
         self.queue.purge(m);
         self.locators.purge(m);
@@ -294,7 +303,7 @@ impl Table {
         ensures parts { self.new.parts ≡ with_entry (Probed m rloc nonce) self.old.parts }
         ensures probe_room { self.old.probe_room ≤ self.new.probe_room + 1 }
     {
-        self.rest.until = 0;
+        self.rest = 0;
         self.cache.purge(m);
         self.queue.purge(m);
         let _ = self.locators.probed(m, rloc, nonce);
@@ -307,7 +316,7 @@ impl Table {
         requires may { MayEnter 1 m self.old.parts }
         ensures parts { self.new.parts ≡ with_entry (ProbeAnswered m nonce) self.old.parts }
     {
-        self.rest.until = 0;
+        self.rest = 0;
         self.cache.purge(m);
         self.queue.purge(m);
         self.locators.probe_answered(m, nonce);
@@ -322,7 +331,7 @@ impl Table {
         requires short { nonce < 2 ^ 24 }
         ensures parts { self.new.parts ≡ with_entry (EchoStarted m rloc nonce) self.old.parts }
     {
-        self.rest.until = 0;
+        self.rest = 0;
         self.cache.purge(m);
         self.queue.purge(m);
         let _ = self.locators.echo_started(m, rloc, nonce);
@@ -335,7 +344,7 @@ impl Table {
         requires may { MayEnter 1 m self.old.parts }
         ensures parts { self.new.parts ≡ with_entry (EchoHeard m rloc.now) self.old.parts }
     {
-        self.rest.until = 0;
+        self.rest = 0;
         self.cache.purge(m);
         self.queue.purge(m);
         self.locators.echo_heard(m, rloc);
@@ -347,7 +356,7 @@ impl Table {
         requires may { MayEnter 1 m self.old.parts }
         ensures parts { self.new.parts ≡ with_entry (DataFrom m rloc.now) self.old.parts }
     {
-        self.rest.until = 0;
+        self.rest = 0;
         self.cache.purge(m);
         self.queue.purge(m);
         self.locators.data_from(m, rloc);
@@ -362,7 +371,7 @@ impl Table {
         requires short { nonce < 2 ^ 24 }
         ensures parts { self.new.parts ≡ with_entry (EchoWanted m rloc nonce) self.old.parts }
     {
-        self.rest.until = 0;
+        self.rest = 0;
         self.cache.purge(m);
         self.queue.purge(m);
         let _ = self.locators.echo_wanted(m, rloc, nonce);
@@ -376,7 +385,7 @@ impl Table {
         requires place { IsTrue ((view_in self.old.parts m).may_solicit rloc eid) }
         ensures parts { self.new.parts ≡ with_entry (Solicited m rloc eid nonce) self.old.parts }
     {
-        self.rest.until = 0;
+        self.rest = 0;
         self.cache.purge(m);
         self.queue.purge(m);
         let _ = self.locators.solicited(m, rloc, eid);
@@ -390,7 +399,7 @@ impl Table {
         requires width { width ≤ 32 }
         ensures parts { self.new.parts ≡ with_entry (Bits m eid.now bits width) self.old.parts }
     {
-        self.rest.until = 0;
+        self.rest = 0;
         self.cache.purge(m);
         self.queue.purge(m);
         self.locators.purge(m);

@@ -15,7 +15,7 @@ ghost use Rattle.router_core.specs.Steps.{AreAdded, AreSent, HasEntered, HaveRoo
 ghost use Rattle.router_core.specs.Table.{change_of, changed_seen};
 ghost use Rattle.router_core.specs.Ticking.{offered, AreOwed, HasSender, IsOwed};
 
-use crate::resting::{are_same, rest_until};
+use crate::resting::rest_until;
 use crate::site::{is_own, ours};
 use crate::{Changed, Table};
 use lisp_settings::{Locator, Settings, nonce_at};
@@ -29,8 +29,10 @@ use router_log::{Emit, Entry};
 impl Table {
     /// Lets a second begin: the requests that are due are sent again, and locators are probed, where
     /// the settings say so (RFC 9301, section 7.1). It takes the entries that come of it. Where memory
-    /// is refused, the table is as it was. A second in which nothing is to be done takes none.
+    /// is refused, the table is as it was. A second in which nothing is to be done takes none. The
+    /// settings have the own locators that the table is for.
     pub fn tick(&mut self, settings: &Settings, second: u32) -> Result<Changed, NoMemory>
+        requires own { settings.now.locators ≡ self.old.parts.own }
         requires may { MayStep (seconds second) self.old.parts }
         ensures parts { IfOk result (λ changed. changed_seen self.new.parts changed
             ≡ ticked table settings.now (seconds second) (unchanged self.old.parts)) }
@@ -52,19 +54,22 @@ impl Table {
 
     // Nothing is to be done at a moment, as far as is known without a look at all that is kept.
     fn is_idle(&self, settings: &Settings, m: u64) -> bool
-        requires { self.now.parts.now ≤ m }
+        requires now { self.now.parts.now ≤ m }
+        requires own { settings.now.locators ≡ self.now.parts.own }
         ensures { IsTrue result → ticked table settings.now m (unchanged self.now.parts)
             ≡ unchanged self.now.parts }
     {
-        self.queue.next_due(m, None).is_none() && (!settings.probe || self.is_at_rest(settings, m))
+        self.queue.next_due(m, None).is_none() && (!settings.probe || self.is_at_rest(m))
     }
 
     // No locator is to be probed at a moment.
-    fn is_at_rest(&self, settings: &Settings, m: u64) -> bool
+    fn is_at_rest(&self, m: u64) -> bool
         requires { self.now.parts.now ≤ m }
-        ensures { IsTrue result → next_targets settings.now (view_in self.now.parts m) ≡ [] }
+        ensures { IsTrue result → (settings : SettingsValue)
+            → settings.locators ≡ self.now.parts.own
+            → next_targets settings (view_in self.now.parts m) ≡ [] }
     {
-        m < self.rest.until && are_same(self.rest.own.as_slice(), settings.locators.as_slice())
+        m < self.rest
     }
 
     // Where nothing was done at a moment, finds out until when nothing will have to be.
@@ -76,7 +81,7 @@ impl Table {
         }
         self.queue.look_ahead();
         if settings.probe {
-            self.rest.until = rest_until(self.rest.own.as_slice(), m, &self.locators, &self.cache);
+            self.rest = rest_until(self.own.as_slice(), m, &self.locators, &self.cache);
         }
     }
 

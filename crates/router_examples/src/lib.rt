@@ -14,8 +14,7 @@ mod versions;
 
 pub use answers::{
     a_probe_is_answered, a_reply_has_a_path, a_request_for_another_site_is_dropped,
-    a_request_is_answered_with_all_within, an_smr_asks_again,
-    what_is_encapsulated_is_no_probe,
+    a_request_is_answered_with_all_within, an_smr_asks_again, what_is_encapsulated_is_no_probe,
 };
 pub use cases::{an_action_settles_a_packet, own_packets_are_passed_over};
 pub use echoes::{

@@ -272,12 +272,12 @@ table-isolated settings parts journal i m frame stands is =
     let rising = proper-rises settings journal stands.proper in
     ap (λ v. decide_by settings v frame) (standing-sees settings parts journal m stands)
     ∙ rising-isolated settings journal i m frame rising is
-    ∙ ap (λ v. decide_by settings v frame) (sym (answers (of_instance journal i) (at journal m) (mine-rises i journal rising)))
-    ∙ ap (λ p. decide_by settings (view_in (parts_in (of_instance journal i)) (max m p.now)) frame) (sym stands.whole)
+    ∙ ap (λ v. decide_by settings v frame) (sym (answers settings (of_instance journal i) (at journal m) (mine-rises i journal rising)))
+    ∙ ap (λ p. decide_by settings (view_in (parts_in settings (of_instance journal i)) (max m p.now)) frame) (sym stands.whole)
 
 pub tables-alike : TablesAlike
 tables-alike settings one other mine theirs i m n frame stands stands' same moment is =
     table-isolated settings one mine i m frame stands is
-    ∙ ap (λ now. decide_by settings (view_in (parts_in (of_instance mine i)) now) frame) moment
-    ∙ ap (λ j. decide_by settings (view_in (parts_in j) (max n other.now)) frame) same
+    ∙ ap (λ now. decide_by settings (view_in (parts_in settings (of_instance mine i)) now) frame) moment
+    ∙ ap (λ j. decide_by settings (view_in (parts_in settings j) (max n other.now)) frame) same
     ∙ sym (table-isolated settings other theirs i n frame stands' is)

@@ -17,6 +17,7 @@ pub mod LiftLemmas
 pub mod MappingLemmas
 pub mod NoteLemmas
 pub mod NoticeLemmas
+pub mod OwnLemmas
 pub mod PartsLemmas
 pub mod ProbeLemmas
 pub mod ReceivedLemmas

@@ -53,12 +53,12 @@ notes-lift settings m more (notice.DataFrom rloc) before sound ready =
     (λ is. goes-entered settings m more before (entry.DataFrom m rloc) ready refl is refl)
 notes-lift settings m more (notice.Solicit rloc eid) before sound ready =
     goes-if settings m more before (λ v. is_some (ours settings.locators rloc) && v.may_solicit rloc eid) _ _ ready
-    (λ is. subst (λ n. Goes settings m more (solicited table settings m n rloc eid (tabled before)) (solicited of_journal settings m (next_nonce of_journal settings m before) rloc eid before))
+    (λ is. subst (λ n. Goes settings m more (solicited table settings m n rloc eid (tabled settings before)) (solicited of_journal settings m (next_nonce of_journal settings m before) rloc eid before))
     (sym (nonce-same settings m (suc more) before ready))
     (goes-emitted settings m more (emit.Solicit rloc eid (next_nonce of_journal settings m before)) _ _
     (goes-entered settings m more before (entry.Solicited m rloc eid (next_nonce of_journal settings m before)) ready refl (and_both _ _ is).1 (eq-eqb _ _ (nonce-next settings m before)))))
 notes-lift settings m more (notice.EchoDue rloc) before sound ready =
     goes-if settings m more before (λ v. settings.echo && v.may_start rloc) _ _ ready
-    (λ is. subst (λ n. Goes settings m more (entered table settings m (entry.EchoStarted m rloc (n % 2 ^ 24)) (tabled before)) (entered of_journal settings m (entry.EchoStarted m rloc (next_nonce of_journal settings m before % 2 ^ 24)) before))
+    (λ is. subst (λ n. Goes settings m more (entered table settings m (entry.EchoStarted m rloc (n % 2 ^ 24)) (tabled settings before)) (entered of_journal settings m (entry.EchoStarted m rloc (next_nonce of_journal settings m before % 2 ^ 24)) before))
     (sym (nonce-same settings m (suc more) before ready))
     (goes-entered settings m more before (entry.EchoStarted m rloc (next_nonce of_journal settings m before % 2 ^ 24)) ready refl (both _ _ (and_both _ _ is).1 (short (next_nonce of_journal settings m before))) (eq-eqb _ _ (ap (λ n. n % 2 ^ 24) (nonce-next settings m before)))))

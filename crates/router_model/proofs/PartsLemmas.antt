@@ -138,8 +138,8 @@ module _ (journal : Journal) (rising : IsRising journal) (t : ℕ) (later : last
       not (any-within (solicit_counts s) (λ old. is_of rloc eid old && solicit_counts t old) (λ old is. solicits-keep.ages s t later old (and_both (is_of rloc eid old) _ is).1) all.solicits i)
       && nat_lt (count-within (solicit_counts s) (solicit_counts t) (λ old. solicits-keep.ages s t later old) all.solicits i) 4096
 
-  agrees : Agrees (view_at (parts_in journal) t) (view_of t (live_mappings t journal) (open_requests t journal) all (drawn journal))
-  agrees = record {
+  agrees : (settings : Settings) → Agrees (view_at (parts_in settings journal) t) (view_of t (live_mappings t journal) (open_requests t journal) all (drawn journal))
+  agrees settings = record {
     now = refl;
     mappings = mappings-now;
     requests = requests-now;
@@ -157,13 +157,13 @@ module _ (journal : Journal) (rising : IsRising journal) (t : ℕ) (later : last
   }
 
 -- the parts of a journal are seen as the journal, at each moment
-pub answers : (journal : Journal) (m : ℕ) → IsRising journal → view_in (parts_in journal) m ≡ view journal m
+pub answers : (settings : Settings) (journal : Journal) (m : ℕ) → IsRising journal → view_in (parts_in settings journal) m ≡ view journal m
 unfolding view view_in
-answers journal m rising = agrees-equal (agrees journal rising (at journal m) (omega arith))
+answers settings journal m rising = agrees-equal (agrees journal rising (at journal m) (omega arith) settings)
 
 -- ### one entry more
 
-module _ (journal : Journal) (entry : Entry) (later : last_moment journal ≤ moment_of entry) where
+module _ (settings : Settings) (journal : Journal) (entry : Entry) (later : last_moment journal ≤ moment_of entry) where
   abbrev m : ℕ
   m = moment_of entry
 
@@ -179,11 +179,12 @@ module _ (journal : Journal) (entry : Entry) (later : last_moment journal ≤ mo
   }
 
   -- its effect, kind by kind
-  pub with-entry : with_entry entry (parts_in journal) ≡ parts_in (entry ∷ journal)
+  pub with-entry : with_entry entry (parts_in settings journal) ≡ parts_in settings (entry ∷ journal)
   with-entry = λ i. record {
     count = suc (length journal);
     drawn = count-more uses_nonce entry journal i;
     now = m;
+    own = settings.locators;
     mappings = (ap (absorb mapping_kind (lasts m) entry) (sym (mappings-live before journal)) ∙ absorb-counting mapping_kind (lasts before) (lasts m) (purges mappings-keep before m later) entry journal ∙ mappings-live m (entry ∷ journal)) i;
     requests = (ap (absorb request_kind (is_waiting m) entry) (sym (requests-open before journal)) ∙ absorb-counting request_kind (is_waiting before) (is_waiting m) (purges requests-keep before m later) entry journal ∙ requests-open m (entry ∷ journal)) i;
     observed = observed-with i;
@@ -208,11 +209,11 @@ module _ (settings : Settings) (journal : Journal) (entry : Entry) (fit : fits s
   fits-suits = (and_both (nat_lt (length journal) (2 ^ 62) && nat_le (last_moment journal) (moment_of entry)) _ admitted).1
 
   -- the parts admit it
-  pub is-admitted : IsRising journal → admits (parts_in journal) entry ≡ true
+  pub is-admitted : IsRising journal → admits (parts_in settings journal) entry ≡ true
   unfolding admits
-  is-admitted rising = ap (λ v. is_admitted (length journal) (last_moment journal) v entry) (answers journal (moment_of entry) rising) ∙ admitted
+  is-admitted rising = ap (λ v. is_admitted (length journal) (last_moment journal) v entry) (answers settings journal (moment_of entry) rising) ∙ admitted
 
   -- and so makes of the parts those of the journal with it
-  pub is-absorbed : IsRising journal → absorbed (parts_in journal) entry ≡ parts_in (entry ∷ journal)
+  pub is-absorbed : IsRising journal → absorbed (parts_in settings journal) entry ≡ parts_in settings (entry ∷ journal)
   unfolding absorbed
-  is-absorbed rising = ap (λ b. cond b (with_entry entry (parts_in journal)) (parts_in journal)) (is-admitted rising) ∙ with-entry journal entry not-before
+  is-absorbed rising = ap (λ b. cond b (with_entry entry (parts_in settings journal)) (parts_in settings journal)) (is-admitted rising) ∙ with-entry settings journal entry not-before

@@ -45,27 +45,27 @@ module _ (settings : Settings) (more : ℕ) (journal : Journal) where
       let goes = ticks-lift settings (seconds s) more (unchanged journal) (fewer-ready settings (seconds s) (more + 2048) _ journal (omega (arith, few)) ready) in
       record { same = ap (after_tick table (router_tabled (router_of settings journal)) (seconds s)) goes.same; settings_stay = refl; ready = goes.ready }
 
-  message-replays : (frame : Frame) → AreOctets frame.octets → Ready settings frame.moment (more + 2048) journal → Replays settings frame.moment more (after_message table (router_tabled (router_of settings journal)) frame (hear_by table settings frame.moment frame (unchanged (parts_in journal)))) (after_message of_journal (router_of settings journal) frame (hear_by of_journal settings frame.moment frame (unchanged journal)))
+  message-replays : (frame : Frame) → AreOctets frame.octets → Ready settings frame.moment (more + 2048) journal → Replays settings frame.moment more (after_message table (router_tabled (router_of settings journal)) frame (hear_by table settings frame.moment frame (unchanged (parts_in settings journal)))) (after_message of_journal (router_of settings journal) frame (hear_by of_journal settings frame.moment frame (unchanged journal)))
   message-replays frame are ready =
       let hears = frames-lift settings frame.moment more 256 frame (unchanged journal) (frame-sound settings frame are) (fewer-ready settings frame.moment (more + 2048) (more + 256) journal (omega arith) ready) in
       record { same = ap (after_message table (router_tabled (router_of settings journal)) frame) hears.same; settings_stay = refl; ready = hears.ready }
 
-  decision-replays : (frame : Frame) → AreOctets frame.octets → Ready settings frame.moment (more + 2048) journal → Replays settings frame.moment more (after_decision table (router_tabled (router_of settings journal)) frame (decide_by settings (table.see (parts_in journal) frame.moment) frame)) (after_decision of_journal (router_of settings journal) frame (decide_by settings (view journal frame.moment) frame))
+  decision-replays : (frame : Frame) → AreOctets frame.octets → Ready settings frame.moment (more + 2048) journal → Replays settings frame.moment more (after_decision table (router_tabled (router_of settings journal)) frame (decide_by settings (table.see (parts_in settings journal) frame.moment) frame)) (after_decision of_journal (router_of settings journal) frame (decide_by settings (view journal frame.moment) frame))
   decision-replays frame are ready =
       let decision : Decision = decide_by settings (view journal frame.moment) frame in
       let sound = notices-sound settings (view journal frame.moment) frame are in
       let few = sound.1 in
       let goes =
-      goes-each settings frame.moment (noted table settings frame.moment) (noted of_journal settings frame.moment) is_sound (λ more n change pass ready. notes-lift settings frame.moment more n change pass ready) decision.notices sound.0 more (unchanged (parts_in journal)) (unchanged journal)
+      goes-each settings frame.moment (noted table settings frame.moment) (noted of_journal settings frame.moment) is_sound (λ more n change pass ready. notes-lift settings frame.moment more n change pass ready) decision.notices sound.0 more (unchanged (parts_in settings journal)) (unchanged journal)
       (record { same = refl; ready = fewer-ready settings frame.moment (more + 2048) (more + length decision.notices) journal (omega (arith, few)) ready }) in
       subst (λ v. Replays settings frame.moment more (after_decision table (router_tabled (router_of settings journal)) frame (decide_by settings v frame)) (after_decision of_journal (router_of settings journal) frame decision))
-      (sym (answers journal frame.moment (proper-rises settings journal ready.proper)))
+      (sym (answers settings journal frame.moment (proper-rises settings journal ready.proper)))
       (record { same = ap (after_data table (router_tabled (router_of settings journal)) frame decision.verdict) goes.same; settings_stay = refl; ready = goes.ready })
 
   frame-replays : (frame : Frame) → AreOctets frame.octets → Ready settings frame.moment (more + 2048) journal → Replays settings frame.moment more (after_event table (router_tabled (router_of settings journal)) (Arrival frame)) (plain (router_of settings journal) (Arrival frame))
   frame-replays frame are ready = by (control settings frame)
     where
-      by : (b : Bool) → Replays settings frame.moment more (cond b (after_message table (router_tabled (router_of settings journal)) frame (hear_by table settings frame.moment frame (unchanged (parts_in journal)))) (after_decision table (router_tabled (router_of settings journal)) frame (decide_by settings (table.see (parts_in journal) frame.moment) frame))) (cond b (after_message of_journal (router_of settings journal) frame (hear_by of_journal settings frame.moment frame (unchanged journal))) (after_decision of_journal (router_of settings journal) frame (decide_by settings (view journal frame.moment) frame)))
+      by : (b : Bool) → Replays settings frame.moment more (cond b (after_message table (router_tabled (router_of settings journal)) frame (hear_by table settings frame.moment frame (unchanged (parts_in settings journal)))) (after_decision table (router_tabled (router_of settings journal)) frame (decide_by settings (table.see (parts_in settings journal) frame.moment) frame))) (cond b (after_message of_journal (router_of settings journal) frame (hear_by of_journal settings frame.moment frame (unchanged journal))) (after_decision of_journal (router_of settings journal) frame (decide_by settings (view journal frame.moment) frame)))
       by true = message-replays frame are ready
       by false = decision-replays frame are ready
 

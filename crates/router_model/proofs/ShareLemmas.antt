@@ -72,27 +72,27 @@ octets-append (frame ∷ one) next first others = (first.0, octets-append one ne
 
 -- a table wrote as the journal; there is room for the notices of what was left for later
 record Writes (settings : Settings) (m more : ℕ) (t : Writing Parts) (j : Writing Journal) : Type 0 where
-  same : t ≡ writing_tabled j
+  same : t ≡ writing_tabled settings j
   ready : Ready settings m (more + 5 * length (data_in j.items)) j.after
   octets : AllOctets (data_in j.items)
 
 module _ (settings : Settings) (more : ℕ) (journal : Journal) where
-  second-writes : (s : ℕ) → Ready settings (seconds s) (more + 2048) journal → Writes settings (seconds s) more (event_written table settings (parts_in journal) (Tick s)) (event_written of_journal settings journal (Tick s))
+  second-writes : (s : ℕ) → Ready settings (seconds s) (more + 2048) journal → Writes settings (seconds s) more (event_written table settings (parts_in settings journal) (Tick s)) (event_written of_journal settings journal (Tick s))
   second-writes s ready =
       let few = requests-few settings journal (seconds s) ready.proper ready.last in
       let goes = ticks-lift settings (seconds s) more (unchanged journal) (fewer-ready settings (seconds s) (more + 2048) _ journal (omega (arith, few)) ready) in
       record { same = ap (second_written table settings s) goes.same; ready = fewer-ready settings (seconds s) more (more + 5 * 0) _ (omega arith) goes.ready; octets = tt }
 
-  frame-writes : (frame : Frame) → AreOctets frame.octets → Ready settings frame.moment (more + 2048) journal → Writes settings frame.moment more (event_written table settings (parts_in journal) (Arrival frame)) (event_written of_journal settings journal (Arrival frame))
+  frame-writes : (frame : Frame) → AreOctets frame.octets → Ready settings frame.moment (more + 2048) journal → Writes settings frame.moment more (event_written table settings (parts_in settings journal) (Arrival frame)) (event_written of_journal settings journal (Arrival frame))
   frame-writes frame are ready = by (control settings frame)
     where
-      by : (b : Bool) → Writes settings frame.moment more (cond b (message_written table settings (length journal) frame (hear_by table settings frame.moment frame (unchanged (parts_in journal)))) (left_for_later (parts_in journal) frame)) (cond b (message_written of_journal settings (length journal) frame (hear_by of_journal settings frame.moment frame (unchanged journal))) (left_for_later journal frame))
+      by : (b : Bool) → Writes settings frame.moment more (cond b (message_written table settings (length journal) frame (hear_by table settings frame.moment frame (unchanged (parts_in settings journal)))) (left_for_later (parts_in settings journal) frame)) (cond b (message_written of_journal settings (length journal) frame (hear_by of_journal settings frame.moment frame (unchanged journal))) (left_for_later journal frame))
       by true =
           let hears = frames-lift settings frame.moment more 256 frame (unchanged journal) (frame-sound settings frame are) (fewer-ready settings frame.moment (more + 2048) (more + 256) journal (omega arith) ready) in
           record { same = ap (message_written table settings (length journal) frame) hears.same; ready = fewer-ready settings frame.moment more (more + 5 * 0) _ (omega arith) hears.ready; octets = tt }
       by false = record { same = refl; ready = fewer-ready settings frame.moment (more + 2048) (more + 5 * 1) journal (omega arith) ready; octets = (are, tt) }
 
-  event-writes : (event : Event) → HasOctets event → Ready settings (event_moment event) (more + 2048) journal → Writes settings (event_moment event) more (event_written table settings (parts_in journal) event) (event_written of_journal settings journal event)
+  event-writes : (event : Event) → HasOctets event → Ready settings (event_moment event) (more + 2048) journal → Writes settings (event_moment event) more (event_written table settings (parts_in settings journal) event) (event_written of_journal settings journal event)
   event-writes (Tick s) are ready = second-writes s ready
   event-writes (Arrival frame) are ready = frame-writes frame are ready
 
@@ -109,7 +109,7 @@ later-ready settings m later more fewer journal less few ready = record {
   room = (let room = ready.room in omega (arith, room, few));
 }
 
-all-writes : (settings : Settings) (more m : ℕ) (events : List Event) (journal : Journal) → AreInOrder m events → Ready settings m (more + 2048 * length events) journal → Writes settings (latest m events) more (writing table settings (parts_in journal) events) (writing of_journal settings journal events)
+all-writes : (settings : Settings) (more m : ℕ) (events : List Event) (journal : Journal) → AreInOrder m events → Ready settings m (more + 2048 * length events) journal → Writes settings (latest m events) more (writing table settings (parts_in settings journal) events) (writing of_journal settings journal events)
 all-writes settings more m [] journal order ready = record { same = refl; ready = ready; octets = tt }
 all-writes settings more m (event ∷ events) journal order ready =
     let one = event-writes settings (more + 2048 * length events) journal event order.1.0 (later-ready settings m (event_moment event) (more + 2048 * suc (length events)) ((more + 2048 * length events) + 2048) journal order.0 (omega arith) ready) in
@@ -121,7 +121,7 @@ all-writes settings more m (event ∷ events) journal order ready =
     record {
       same =
           ap (λ (t : Writing Parts). then_written t (writing table settings t.after events)) one.same
-          ∙ ap (then_written (writing_tabled j)) rest.same;
+          ∙ ap (then_written (writing_tabled settings j)) rest.same;
       ready = fewer-ready settings (latest (event_moment event) events) ((more + 5 * left) + 5 * length (data_in next.items)) (more + 5 * length (data_in (j.items ++ next.items))) next.after (omega (arith, long)) rest.ready;
       octets = subst AllOctets (sym (data-append j.items next.items)) (octets-append (data_in j.items) (data_in next.items) one.octets rest.octets);
     }
@@ -131,7 +131,7 @@ may-write settings m journal events may = record { proper = may.proper; last = m
 
 pub table-writes : TableWrites
 table-writes settings parts journal m events stands may =
-    subst (λ p. (writing table settings p events ≡ writing_tabled (writing of_journal settings journal events)) × Stands settings (writing table settings p events).after (writing of_journal settings journal events).after) (sym stands.whole)
+    subst (λ p. (writing table settings p events ≡ writing_tabled settings (writing of_journal settings journal events)) × Stands settings (writing table settings p events).after (writing of_journal settings journal events).after) (sym stands.whole)
     (let writes = all-writes settings 0 m events journal may.order (may-write settings m journal events may) in
     (writes.same, record { proper = writes.ready.proper; whole = ap (λ (t : Writing Parts). t.after) writes.same }))
 
@@ -139,26 +139,26 @@ table-writes settings parts journal m events stands may =
 
 -- a table that absorbed batches stands for the journal with them
 record Stood (settings : Settings) (journal : Journal) (batches : List (List Entry)) : Type 0 where
-  same : with_entries table (parts_in journal) (joined batches) ≡ parts_in (extended journal (joined batches))
+  same : with_entries table (parts_in settings journal) (joined batches) ≡ parts_in settings (extended journal (joined batches))
   proper : IsProper settings (extended journal (joined batches))
 
-stood-on : (settings : Settings) (journal after : Journal) (entries : List Entry) (batches : List (List Entry)) → with_entries table (parts_in journal) entries ≡ parts_in after → after ≡ extended journal entries → Stood settings after batches → Stood settings journal (entries ∷ batches)
+stood-on : (settings : Settings) (journal after : Journal) (entries : List Entry) (batches : List (List Entry)) → with_entries table (parts_in settings journal) entries ≡ parts_in settings after → after ≡ extended journal entries → Stood settings after batches → Stood settings journal (entries ∷ batches)
 stood-on settings journal after entries batches absorbed grown stood =
     let on : extended journal (entries ++ joined batches) ≡ extended after (joined batches) = extended-more journal entries (joined batches) ∙ ap (λ j. extended j (joined batches)) (sym grown) in
     record {
       same =
-          with-more table (parts_in journal) entries (joined batches)
+          with-more table (parts_in settings journal) entries (joined batches)
           ∙ ap (λ p. with_entries table p (joined batches)) absorbed
           ∙ stood.same
-          ∙ ap parts_in (sym on);
+          ∙ ap (parts_in settings) (sym on);
       proper = subst (IsProper settings) (sym on) stood.proper;
     }
 
 module _ (settings : Settings) where
   -- the entries of a change that a table makes are absorbed
-  absorbed-by : (journal : Journal) (t : Change Parts) (j : Change Journal) → t ≡ tabled j → t.after ≡ with_entries table (parts_in journal) t.entries → with_entries table (parts_in journal) j.entries ≡ parts_in j.after
+  absorbed-by : (journal : Journal) (t : Change Parts) (j : Change Journal) → t ≡ tabled settings j → t.after ≡ with_entries table (parts_in settings journal) t.entries → with_entries table (parts_in settings journal) j.entries ≡ parts_in settings j.after
   absorbed-by journal t j same grown =
-      ap (λ (c : Change Parts). with_entries table (parts_in journal) c.entries) (sym same) ∙ sym grown ∙ ap (λ (c : Change Parts). c.after) same
+      ap (λ (c : Change Parts). with_entries table (parts_in settings journal) c.entries) (sym same) ∙ sym grown ∙ ap (λ (c : Change Parts). c.after) same
 
   batches-stood : (m k : ℕ) (events : List Event) (journal : Journal) → AreInOrder m events → Ready settings m (0 + 2048 * length events) journal → Stood settings journal (take k (writing of_journal settings journal events).batches)
   batches-stood m zero events journal order ready = record { same = refl; proper = ready.proper }
@@ -169,7 +169,7 @@ module _ (settings : Settings) where
       let goes = ticks-lift settings (seconds s) (0 + 2048 * length events) (unchanged journal) (fewer-ready settings (seconds s) ((0 + 2048 * length events) + 2048) _ journal (omega (arith, few)) now) in
       let change : Change Journal = ticked of_journal settings (seconds s) (unchanged journal) in
       stood-on settings journal change.after change.entries (take k (writing of_journal settings change.after events).batches)
-      (absorbed-by journal (ticked table settings (seconds s) (unchanged (parts_in journal))) change goes.same (grown-ticked table settings (seconds s) (parts_in journal) (unchanged (parts_in journal)) refl))
+      (absorbed-by journal (ticked table settings (seconds s) (unchanged (parts_in settings journal))) change goes.same (grown-ticked table settings (seconds s) (parts_in settings journal) (unchanged (parts_in settings journal)) refl))
       (tick-grows settings journal s)
       (batches-stood (seconds s) k events change.after order.1.1 goes.ready)
   batches-stood m (suc k) (Arrival frame ∷ events) journal order ready =
@@ -178,7 +178,7 @@ module _ (settings : Settings) where
       let hears = frames-lift settings frame.moment (0 + 2048 * length events) 256 frame (unchanged journal) (frame-sound settings frame order.1.0) now in
       by (control settings frame)
       (stood-on settings journal change.after change.entries (take k (writing of_journal settings change.after events).batches)
-      (absorbed-by journal (hear_by table settings frame.moment frame (unchanged (parts_in journal))).change change (ap (λ (h : Heard Parts). h.change) hears.same) (grown-heard table settings frame.moment (parts_in journal) frame (unchanged (parts_in journal)) refl))
+      (absorbed-by journal (hear_by table settings frame.moment frame (unchanged (parts_in settings journal))).change change (ap (λ (h : Heard Parts). h.change) hears.same) (grown-heard table settings frame.moment (parts_in settings journal) frame (unchanged (parts_in settings journal)) refl))
       (message-grows settings journal frame)
       (batches-stood frame.moment k events change.after order.1.1 hears.ready))
       (batches-stood frame.moment (suc k) events journal order.1.1 (fewer-ready settings frame.moment ((0 + 2048 * length events) + 256) (0 + 2048 * length events) journal (omega arith) now))
@@ -248,11 +248,11 @@ module _ (settings : Settings) (journal : Journal) (events : List Event) (ns : L
   by_journal moment = let written = writing of_journal settings journal events in worked of_journal settings moment journal events (rulings settings written.after ns (data_in written.items))
 
   abbrev by_table : ℕ → Worked Parts
-  by_table moment = let written = writing of_journal settings journal events in worked table settings moment (parts_in journal) events (rulings settings written.after ns (data_in written.items))
+  by_table moment = let written = writing of_journal settings journal events in worked table settings moment (parts_in settings journal) events (rulings settings written.after ns (data_in written.items))
 
   -- all that is known of the round
   record EventsShare (m : ℕ) : Type 0 where
-    same : by_table (latest m events) ≡ worked_tabled (by_journal (latest m events))
+    same : by_table (latest m events) ≡ worked_tabled settings (by_journal (latest m events))
     proper : IsProper settings (by_journal (latest m events)).after
     last : last_moment (by_journal (latest m events)).after ≤ latest m events
     few : length (by_journal (latest m events)).after ≤ length journal + 2048 * length events
@@ -269,12 +269,12 @@ module _ (settings : Settings) (journal : Journal) (events : List Event) (ns : L
       let moment : ℕ = latest m events in
       let few = sound.1 in
       let goes =
-      goes-each settings moment (noted table settings moment) (noted of_journal settings moment) is_sound (λ more n change pass ready. notes-lift settings moment more n change pass ready) (notices_of ruled) sound.0 more (unchanged (parts_in written.after)) (unchanged written.after)
+      goes-each settings moment (noted table settings moment) (noted of_journal settings moment) is_sound (λ more n change pass ready. notes-lift settings moment more n change pass ready) (notices_of ruled) sound.0 more (unchanged (parts_in settings written.after)) (unchanged written.after)
       (record { same = refl; ready = fewer-ready settings moment (more + 5 * length (data_in written.items)) (more + length (notices_of ruled)) written.after (omega (arith, few)) writes.ready }) in
       record {
         same =
             ap (λ (t : Writing Parts). put_together table settings moment t ruled (noting table settings moment t.after ruled)) writes.same
-            ∙ ap (put_together table settings moment (writing_tabled written) ruled) goes.same;
+            ∙ ap (put_together table settings moment (writing_tabled settings written) ruled) goes.same;
         proper = goes.ready.proper;
         last = goes.ready.last;
         few = (let left = goes.ready.room in omega (arith, left, room));
@@ -289,8 +289,8 @@ table-rounds settings parts journal previous m (frame ∷ frames) ns stands may 
     let ruled : List Ruling = rulings settings (all_advanced settings journal events) ns (data_frames settings (frame ∷ frames)) in
     let same_ruled : rulings settings written.after ns (data_in written.items) ≡ ruled = ap (λ j. rulings settings j ns (data_in written.items)) (writing-advances settings journal events) ∙ ap (rulings settings (all_advanced settings journal events) ns) (data-left of_journal settings previous (frame ∷ frames) journal) in
     let share = events-share settings journal events ns m may in
-    let shares = subst (λ t. (by_table settings journal events ns t ≡ worked_tabled (by_journal settings journal events ns t)) × IsProper settings (by_journal settings journal events ns t).after) (latest-closing m previous frame frames) (share.same, share.proper) in
-    let whole : worked table settings closing parts events ruled ≡ worked_tabled (by_journal settings journal events ns closing) = ap (λ p. worked table settings closing p events ruled) stands.whole ∙ ap (worked table settings closing (parts_in journal) events) (sym same_ruled) ∙ shares.0 in
+    let shares = subst (λ t. (by_table settings journal events ns t ≡ worked_tabled settings (by_journal settings journal events ns t)) × IsProper settings (by_journal settings journal events ns t).after) (latest-closing m previous frame frames) (share.same, share.proper) in
+    let whole : worked table settings closing parts events ruled ≡ worked_tabled settings (by_journal settings journal events ns closing) = ap (λ p. worked table settings closing p events ruled) stands.whole ∙ ap (worked table settings closing (parts_in settings journal) events) (sym same_ruled) ∙ shares.0 in
     let meet = sides-meet settings closing journal events ns in (
       ap (λ (w : Worked Parts). w.lines) whole ∙ sym (ap (λ (r : Round). r.lines) meet),
       (

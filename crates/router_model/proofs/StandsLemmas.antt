@@ -51,13 +51,13 @@ proper-with settings journal entry proper fit = record {
 
 pub standing-sees : StandingSees
 standing-sees settings parts journal m stands =
-    ap (λ p. view_in p m) stands.whole ∙ answers journal m (proper-rises settings journal stands.proper)
+    ap (λ p. view_in p m) stands.whole ∙ answers settings journal m (proper-rises settings journal stands.proper)
 
 pub standing-admits : StandingAdmits
 unfolding admits
 standing-admits settings parts journal entry stands =
     ap (λ p. is_admitted p.count p.now (view_in p (moment_of entry)) entry) stands.whole
-    ∙ ap (λ v. is_admitted (length journal) (last_moment journal) v entry) (answers journal (moment_of entry) (proper-rises settings journal stands.proper))
+    ∙ ap (λ v. is_admitted (length journal) (last_moment journal) v entry) (answers settings journal (moment_of entry) (proper-rises settings journal stands.proper))
 
 pub standing-absorbs : StandingAbsorbs
 standing-absorbs settings parts journal entry stands fit =

@@ -100,7 +100,7 @@ seen-now journal m last = at-now m (last_moment journal) last
 
 module _ (settings : Settings) (m : ℕ) where
   -- one request
-  goes-retried : (more : ℕ) (r : Request) (change : Change Journal) → open_in m change.after r.nonce ≡ Some r → nat_lt r.sent_again 2 ≡ true → Ready settings m (suc more) change.after → Goes settings m more (retried table settings m r (tabled change)) (retried of_journal settings m r change)
+  goes-retried : (more : ℕ) (r : Request) (change : Change Journal) → open_in m change.after r.nonce ≡ Some r → nat_lt r.sent_again 2 ≡ true → Ready settings m (suc more) change.after → Goes settings m more (retried table settings m r (tabled settings change)) (retried of_journal settings m r change)
   goes-retried more r change found again ready =
       goes-emitted settings m more (emit.Request r.eid r.source r.invoked r.nonce) _ _
       (goes-entered settings m more change (entry.Retried m r.nonce) ready refl
@@ -115,10 +115,10 @@ module _ (settings : Settings) (m : ℕ) where
       (goes-retried (more + length rs) r j owed.0 owed.1.0 (fewer-ready settings m (more + suc (length rs)) (suc (more + length rs)) j.after (omega arith) goes.ready)))
 
   -- one probe
-  goes-probed : (more : ℕ) (target : Target) (change : Change Journal) → Ready settings m (suc more) change.after → Goes settings m more (probed table settings m target (tabled change)) (probed of_journal settings m target change)
+  goes-probed : (more : ℕ) (target : Target) (change : Change Journal) → Ready settings m (suc more) change.after → Goes settings m more (probed table settings m target (tabled settings change)) (probed of_journal settings m target change)
   goes-probed more target change ready =
       goes-if settings m more change (λ v. nat_lt v.probe_count 9600) _ _ ready
-      (λ is. subst (λ n. Goes settings m more (probed_with table settings m n target (tabled change)) (probed_with of_journal settings m (next_nonce of_journal settings m change) target change))
+      (λ is. subst (λ n. Goes settings m more (probed_with table settings m n target (tabled settings change)) (probed_with of_journal settings m (next_nonce of_journal settings m change) target change))
       (sym (nonce-same settings m (suc more) change ready))
       (goes-emitted settings m more (emit.Probe target.rloc target.eid (next_nonce of_journal settings m change)) _ _
       (goes-entered settings m more change (entry.Probed m target.rloc (next_nonce of_journal settings m change)) ready refl is (eq-eqb _ _ (nonce-next settings m change)))))
@@ -130,9 +130,9 @@ module _ (settings : Settings) (m : ℕ) where
   few : (n k : ℕ) → n ≡ min 16 k → n ≤ 16
   few n k is = omega (arith, is)
 
-  goes-all_probed : (more : ℕ) (change : Change Journal) → Ready settings m (more + 16) change.after → Goes settings m more (all_probed table settings m (tabled change)) (all_probed of_journal settings m change)
+  goes-all_probed : (more : ℕ) (change : Change Journal) → Ready settings m (more + 16) change.after → Goes settings m more (all_probed table settings m (tabled settings change)) (all_probed of_journal settings m change)
   goes-all_probed more change ready =
-      subst (λ v. Goes settings m more (cond settings.probe (each (probed table settings m) (next_targets settings v) (tabled change)) (tabled change)) (all_probed of_journal settings m change))
+      subst (λ v. Goes settings m more (cond settings.probe (each (probed table settings m) (next_targets settings v) (tabled settings change)) (tabled settings change)) (all_probed of_journal settings m change))
       (sym (seen-same settings m _ change ready)) (by settings.probe)
     where
       v : View
@@ -141,18 +141,18 @@ module _ (settings : Settings) (m : ℕ) where
       count : length (next_targets settings v) ≤ 16
       count = few _ _ (length-take 16 (candidates settings v))
 
-      by : (b : Bool) → Goes settings m more (cond b (each (probed table settings m) (next_targets settings v) (tabled change)) (tabled change)) (cond b (each (probed of_journal settings m) (next_targets settings v) change) change)
+      by : (b : Bool) → Goes settings m more (cond b (each (probed table settings m) (next_targets settings v) (tabled settings change)) (tabled settings change)) (cond b (each (probed of_journal settings m) (next_targets settings v) change) change)
       by true =
-          goes-each settings m (probed table settings m) (probed of_journal settings m) (λ target. true) (λ more target change pass ready. goes-probed more target change ready) (next_targets settings v) (all-pass (next_targets settings v)) more (tabled change) change
+          goes-each settings m (probed table settings m) (probed of_journal settings m) (λ target. true) (λ more target change pass ready. goes-probed more target change ready) (next_targets settings v) (all-pass (next_targets settings v)) more (tabled settings change) change
           (record { same = refl; ready = fewer-ready settings m (more + 16) (more + length (next_targets settings v)) change.after (omega (arith, count)) ready })
       by false = record { same = refl; ready = fewer-ready settings m (more + 16) more change.after (omega arith) ready }
 
   -- as many are due as are open, at most
-  goes-retried_first : (more : ℕ) (change : Change Journal) → Ready settings m (more + length (seen of_journal settings m change).requests) change.after → Goes settings m more (all_retried table settings m (tabled change)) (all_retried of_journal settings m change)
+  goes-retried_first : (more : ℕ) (change : Change Journal) → Ready settings m (more + length (seen of_journal settings m change).requests) change.after → Goes settings m more (all_retried table settings m (tabled settings change)) (all_retried of_journal settings m change)
   goes-retried_first more change ready =
-      subst (λ v. Goes settings m more (each (retried table settings m) (filter (due v.now) v.requests) (tabled change)) (all_retried of_journal settings m change))
+      subst (λ v. Goes settings m more (each (retried table settings m) (filter (due v.now) v.requests) (tabled settings change)) (all_retried of_journal settings m change))
       (sym (seen-same settings m _ change ready))
-      (goes-all_retried (filter (due v.now) v.requests) more (tabled change) change
+      (goes-all_retried (filter (due v.now) v.requests) more (tabled settings change) change
       (subst (λ l. AreDue m change.after l) (sym (ap₂ (λ now l. filter (due now) l) (seen-now change.after m ready.last) (seen-requests change.after m ready.last))) (requests-due m change.after))
       (record { same = refl; ready = fewer-ready settings m _ _ change.after (less _ _ _ (length-filter (due v.now) v.requests) (count_by-le-length (due v.now) v.requests)) ready }))
     where

@@ -95,7 +95,7 @@ RisingIsolated = (settings : Settings) (journal : Journal) (i m : ℕ) (frame : 
 
 -- a table that stands for a journal decides as the parts of the journal of an instance
 abbrev pub TableIsolated : Type 0
-TableIsolated = (settings : Settings) (parts : Parts) (journal : Journal) (i m : ℕ) (frame : Frame) → Stands settings parts journal → frame_instance settings frame ≡ Some i → decide_by settings (view_in parts m) frame ≡ decide_by settings (view_in (parts_in (of_instance journal i)) (max m parts.now)) frame
+TableIsolated = (settings : Settings) (parts : Parts) (journal : Journal) (i m : ℕ) (frame : Frame) → Stands settings parts journal → frame_instance settings frame ≡ Some i → decide_by settings (view_in parts m) frame ≡ decide_by settings (view_in (parts_in settings (of_instance journal i)) (max m parts.now)) frame
 
 -- two tables that stand for journals that are one to an instance decide alike, asked as of one moment
 abbrev pub TablesAlike : Type 0

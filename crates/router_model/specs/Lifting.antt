@@ -37,15 +37,15 @@ use Rattle.router_model.specs.View.{View, view}
 
 -- at each moment the parts of a journal are seen as the journal, where its moments don't fall
 abbrev pub PartsAnswer : Type 0
-PartsAnswer = (journal : Journal) (m : ℕ) → IsRising journal → view_in (parts_in journal) m ≡ view journal m
+PartsAnswer = (settings : Settings) (journal : Journal) (m : ℕ) → IsRising journal → view_in (parts_in settings journal) m ≡ view journal m
 
 -- an entry that fits is admitted, and makes of the parts those of the journal with it
 abbrev pub EntryAbsorbed : Type 0
-EntryAbsorbed = (settings : Settings) (journal : Journal) (entry : Entry) → IsRising journal → fits settings journal entry ≡ true → (admits (parts_in journal) entry ≡ true) × (absorbed (parts_in journal) entry ≡ parts_in (entry ∷ journal))
+EntryAbsorbed = (settings : Settings) (journal : Journal) (entry : Entry) → IsRising journal → fits settings journal entry ≡ true → (admits (parts_in settings journal) entry ≡ true) × (absorbed (parts_in settings journal) entry ≡ parts_in settings (entry ∷ journal))
 
 -- entry by entry, from the static mappings on
 abbrev pub AllAbsorbed : Type 0
-AllAbsorbed = (settings : Settings) (entries : List Entry) → EachFits settings (statics settings) entries → parts_of settings entries ≡ parts_in (entries ++ statics settings)
+AllAbsorbed = (settings : Settings) (entries : List Entry) → EachFits settings (statics settings) entries → parts_of settings entries ≡ parts_in settings (entries ++ statics settings)
 
 -- moments don't fall in a journal that a router can have
 abbrev pub ProperRises : Type 0
@@ -80,17 +80,18 @@ pub record Ready (settings : Settings) (m more : ℕ) (journal : Journal) : Type
   pub room : length journal + more ≤ 2 ^ 62
 
 -- the parts of the journal that a change made, with its entries and emits
-abbrev pub tabled : Change Journal → Change Parts
-tabled change =
-    record { after = parts_in change.after; entries = change.entries; emits = change.emits }
+abbrev pub tabled : Settings → Change Journal → Change Parts
+tabled settings change =
+    record { after = parts_in settings change.after; entries = change.entries; emits = change.emits }
 
 -- the same of a verdict
-abbrev pub heard_tabled : Heard Journal → Heard Parts
-heard_tabled heard = record { verdict = heard.verdict; change = tabled heard.change }
+abbrev pub heard_tabled : Settings → Heard Journal → Heard Parts
+heard_tabled settings heard =
+    record { verdict = heard.verdict; change = tabled settings heard.change }
 
 -- a table did as the journal, which is proper, and stays ready for so many entries more
 pub record Goes (settings : Settings) (m more : ℕ) (by_table : Change Parts) (by_journal : Change Journal) : Type 0 where
-  pub same : by_table ≡ tabled by_journal
+  pub same : by_table ≡ tabled settings by_journal
   pub ready : Ready settings m more by_journal.after
 
 -- a notice as decisions give it: there are 8 or 32 status bits, and a nonce has 24
@@ -105,16 +106,16 @@ AreSound notices = (list_all is_sound notices ≡ true) × (length notices ≤ m
 
 -- a notice is noted by a table as by the journal: the same entries, which fit, and the same emits
 abbrev pub NotesLift : Type 0
-NotesLift = (settings : Settings) (m more : ℕ) (notice : Notice) (before : Change Journal) → is_sound notice ≡ true → Ready settings m (suc more) before.after → Goes settings m more (noted table settings m notice (tabled before)) (noted of_journal settings m notice before)
+NotesLift = (settings : Settings) (m more : ℕ) (notice : Notice) (before : Change Journal) → is_sound notice ≡ true → Ready settings m (suc more) before.after → Goes settings m more (noted table settings m notice (tabled settings before)) (noted of_journal settings m notice before)
 
 -- a second is for a table what it is for the journal: the same entries, which fit, and the same emits; at most as many
 -- as requests are open, and 16
 abbrev pub TicksLift : Type 0
-TicksLift = (settings : Settings) (m more : ℕ) (before : Change Journal) → Ready settings m (more + most_targets + length (view before.after m).requests) before.after → Goes settings m more (ticked table settings m (tabled before)) (ticked of_journal settings m before)
+TicksLift = (settings : Settings) (m more : ℕ) (before : Change Journal) → Ready settings m (more + most_targets + length (view before.after m).requests) before.after → Goes settings m more (ticked table settings m (tabled settings before)) (ticked of_journal settings m before)
 
 -- a table answered a message as the journal
 pub record Hears (settings : Settings) (m more : ℕ) (by_table : Heard Parts) (by_journal : Heard Journal) : Type 0 where
-  pub same : by_table ≡ heard_tabled by_journal
+  pub same : by_table ≡ heard_tabled settings by_journal
   pub ready : Ready settings m more by_journal.change.after
 
 -- action and version have their bits, as in each record that is read
@@ -139,7 +140,7 @@ entries_in (message.Control ecm) = requests_in ecm.request
 
 -- a message is heard by a table as by the journal: the same verdict, the same entries, which fit, and the same emits
 abbrev pub MessagesLift : Type 0
-MessagesLift = (settings : Settings) (m more : ℕ) (route : Route) (read : Message) (before : Change Journal) → is_sound_message read ≡ true → Ready settings m (more + entries_in read) before.after → Hears settings m more (message_heard table settings m route read (tabled before)) (message_heard of_journal settings m route read before)
+MessagesLift = (settings : Settings) (m more : ℕ) (route : Route) (read : Message) (before : Change Journal) → is_sound_message read ≡ true → Ready settings m (more + entries_in read) before.after → Hears settings m more (message_heard table settings m route read (tabled settings before)) (message_heard of_journal settings m route read before)
 
 -- octets
 abbrev pub AreOctets : List ℕ → Type 0
@@ -151,7 +152,7 @@ IsSoundFrame settings frame most = (d : Datagram) (read : Message) → course_of
 
 -- a frame is heard by a table as by the journal
 abbrev pub FramesLift : Type 0
-FramesLift = (settings : Settings) (m more most : ℕ) (frame : Frame) (before : Change Journal) → IsSoundFrame settings frame most → Ready settings m (more + most) before.after → Hears settings m more (hear_by table settings m frame (tabled before)) (hear_by of_journal settings m frame before)
+FramesLift = (settings : Settings) (m more most : ℕ) (frame : Frame) (before : Change Journal) → IsSoundFrame settings frame most → Ready settings m (more + most) before.after → Hears settings m more (hear_by table settings m frame (tabled settings before)) (hear_by of_journal settings m frame before)
 
 -- ### the promises of a table
 
@@ -200,7 +201,7 @@ AreInOrder m (event ∷ events) = (m ≤ event_moment event) × (HasOctets event
 
 -- a router with the parts of its journal
 abbrev pub router_tabled : Router Journal → Router Parts
-router_tabled router = record { settings = router.settings; memory = parts_in router.memory }
+router_tabled router = record { settings = router.settings; memory = parts_in router.settings router.memory }
 
 -- the same lines and packets, and what is left as a table keeps it
 abbrev pub outcome_tabled : Outcome (Router Journal) → Outcome (Router Parts)

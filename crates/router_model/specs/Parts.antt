@@ -1,5 +1,6 @@
 -- What a table keeps of a journal: only what still counts, and so no journal.
 use Rattle.std.specs.Prelude.{◌≡◌, ℕ, suc, ◌+◌, max, Bool, List, [], ◌∷◌, filter, length, map, if◌then◌else◌}
+use Rattle.lisp_settings.specs.declared.settings.OwnLocator.{OwnLocator}
 use Rattle.lisp_settings.specs.declared.settings.Settings.{Settings}
 use Rattle.router_log.specs.declared.entry.Entry.{Entry}
 use Rattle.locator_state.specs.Observed.{Observed, recent}
@@ -22,6 +23,8 @@ pub record Parts : Type 0 where
   pub count : ℕ
   pub drawn : ℕ
   pub now : ℕ
+  -- those of the settings that the table is for
+  pub own : List OwnLocator
   -- in order of EID
   pub mappings : List Mapping
   -- in asking order
@@ -30,25 +33,26 @@ pub record Parts : Type 0 where
 
 -- ### the parts of a journal, by its whole list
 
--- what counts of a journal at a moment
-abbrev pub parts_at : Journal → ℕ → Parts
-parts_at journal now = record {
+-- what counts of a journal at a moment, for a router of the settings
+abbrev pub parts_at : Settings → Journal → ℕ → Parts
+parts_at settings journal now = record {
   count = length journal;
   drawn = drawn journal;
   now = now;
+  own = settings.locators;
   mappings = kept_mappings now journal;
   requests = open_requests now journal;
   observed = recent now (observed journal);
 }
 
 -- the parts of a journal
-abbrev pub parts_in : Journal → Parts
-parts_in journal = parts_at journal (last_moment journal)
+abbrev pub parts_in : Settings → Journal → Parts
+parts_in settings journal = parts_at settings journal (last_moment journal)
 
 -- a table with these parts stands for a journal that a router of the settings can have
 pub record Stands (settings : Settings) (parts : Parts) (journal : Journal) : Type 0 where
   pub proper : IsProper settings journal
-  pub whole : parts ≡ parts_in journal
+  pub whole : parts ≡ parts_in settings journal
 
 -- ### questions to parts
 
@@ -73,6 +77,7 @@ with_entry entry parts = record {
   count = suc parts.count;
   drawn = (if uses_nonce entry then 1 else 0) + parts.drawn;
   now = moment_of entry;
+  own = parts.own;
   mappings = absorb mapping_kind (lasts (moment_of entry)) entry parts.mappings;
   requests = absorb request_kind (is_waiting (moment_of entry)) entry parts.requests;
   observed = observing (moment_of entry) entry parts.observed;
@@ -84,7 +89,7 @@ absorbed parts entry = if admits parts entry then with_entry entry parts else pa
 
 -- the parts of the static mappings, and what entries that follow make of them, the newest of which stands first
 abbrev pub parts_of : Settings → List Entry → Parts
-parts_of settings [] = parts_in (statics settings)
+parts_of settings [] = parts_in settings (statics settings)
 parts_of settings (entry ∷ entries) = absorbed (parts_of settings entries) entry
 
 -- parts keep entries as a journal does

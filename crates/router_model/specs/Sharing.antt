@@ -211,22 +211,22 @@ abbrev pub RoundStays : Type 0
 RoundStays = (settings : Settings) (previous : Option ℕ) (frames : List Frame) (journal : Journal) (ns : List ℕ) (m : ℕ) → MayBegin settings m journal (events_after previous frames) → let after = (round settings previous frames journal ns).after in IsProper settings after × ((last_moment after ≤ max m (closing_moment frames)) × (length after ≤ length journal + most_entries * length (events_after previous frames)))
 
 -- what was written, with the parts of the journal
-abbrev pub writing_tabled : Writing Journal → Writing Parts
-writing_tabled written =
-    record { items = written.items; batches = written.batches; after = parts_in written.after }
+abbrev pub writing_tabled : Settings → Writing Journal → Writing Parts
+writing_tabled settings written =
+    record { items = written.items; batches = written.batches; after = parts_in settings written.after }
 
 -- the same of a round
-abbrev pub worked_tabled : Worked Journal → Worked Parts
-worked_tabled result = record {
+abbrev pub worked_tabled : Settings → Worked Journal → Worked Parts
+worked_tabled settings result = record {
   lines = result.lines;
   packets = result.packets;
   batches = result.batches;
-  after = parts_in result.after;
+  after = parts_in settings result.after;
 }
 
 -- a table writes as the journal
 abbrev pub TableWrites : Type 0
-TableWrites = (settings : Settings) (parts : Parts) (journal : Journal) (m : ℕ) (events : List Event) → Stands settings parts journal → MayBegin settings m journal events → let by_table = writing table settings parts events in let by_journal = writing of_journal settings journal events in (by_table ≡ writing_tabled by_journal) × Stands settings by_table.after by_journal.after
+TableWrites = (settings : Settings) (parts : Parts) (journal : Journal) (m : ℕ) (events : List Event) → Stands settings parts journal → MayBegin settings m journal events → let by_table = writing table settings parts events in let by_journal = writing of_journal settings journal events in (by_table ≡ writing_tabled settings by_journal) × Stands settings by_table.after by_journal.after
 
 -- a table that absorbed some of a round's batches stands for the journal after them
 abbrev pub BatchesStand : Type 0

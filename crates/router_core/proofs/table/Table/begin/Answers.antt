@@ -1,10 +1,25 @@
 use Rattle.std.proofs.Common.{List, ap, ◌∙◌}
 use Rattle.std.proofs.lemmas.Result.{on_ok_weaker}
 use Rattle.mapping_records.specs.declared.record.Record.{Record}
-use Rattle.router_model.specs.Parts.{parts_in}
+use Rattle.router_model.specs.Parts.{Parts, parts_in}
 use Rattle.router_core.proofs.StaticLemmas.{journal_of}
 use Rattle.router_core.proofs.table.Table.begin.Goals as goal
 
+pub learn_statics-requires-clause-now : goal.learn_statics-requires-clause-now
+learn_statics-requires-clause-now c =
+    ap (λ (parts : Parts). parts.now) (c.reserve_statics.ensures.parts ∙ c.requires.begins)
+
+pub learn_statics-requires-clause-count : goal.learn_statics-requires-clause-count
+learn_statics-requires-clause-count c =
+    ap (λ (parts : Parts). parts.count) (c.reserve_statics.ensures.parts ∙ c.requires.begins)
+
+pub learn_statics-requires-clause-none : goal.learn_statics-requires-clause-none
+learn_statics-requires-clause-none c =
+    ap (λ (parts : Parts). parts.mappings) (c.reserve_statics.ensures.parts ∙ c.requires.begins)
+
 pub returns : goal.returns
 returns c =
-    on_ok_weaker c.learn_statics.result (λ is. is ∙ ap (λ (l : List Record). parts_in (journal_of l)) c.as_slice-mappings.ensures) c.learn_statics.ensures
+    let settings = c.args.settings.now in
+    on_ok_weaker c.learn_statics.result
+    (λ is. is settings (c.reserve_statics.ensures.parts ∙ c.requires.begins) ∙ ap (λ (l : List Record). parts_in settings (journal_of l)) c.as_slice-mappings.ensures)
+    c.learn_statics.ensures

@@ -10,11 +10,11 @@ returns-then-not-settings c = λ so.
     let none : slice_get (all_due c.args.m c.args.self.now.parts.requests) 0 ≡ None =
     subst (λ (t : TableSeen). slice_get (all_due c.args.m t.parts.requests) 0 ≡ None) c.self.view_is
     (copied-none c.next_due.result _ c.next_due.ensures.first c.if-is_none.ensures) in
-    ticked-quiet c.args.settings.now c.args.self.now.parts c.args.m c.requires none c.if-not-settings.true
+    ticked-quiet c.args.settings.now c.args.self.now.parts c.args.m c.requires.now none c.if-not-settings.true
 
 pub returns-else-not-settings : goal.returns-else-not-settings
 returns-else-not-settings c = λ so.
     let none : slice_get (all_due c.args.m c.args.self.now.parts.requests) 0 ≡ None =
     subst (λ (t : TableSeen). slice_get (all_due c.args.m t.parts.requests) 0 ≡ None) c.self.view_is
     (copied-none c.next_due.result _ c.next_due.ensures.first c.if-is_none.ensures) in
-    ticked-rest c.args.settings.now c.args.self.now.parts c.args.m c.requires none (c.is_at_rest.ensures so)
+    ticked-rest c.args.settings.now c.args.self.now.parts c.args.m c.requires.now none (c.is_at_rest.ensures so c.args.settings.now c.requires.own)

@@ -1,5 +1,6 @@
 use Rattle.std.proofs.Common.{◌≡◌, true, ◌∙◌, ◌≤◌, ◌+◌, List, ◌∷◌, ◌++◌, [], length, take, sym, ap, subst, arith}
 use Rattle.std.proofs.lemmas.List.{take_all, take_more}
+use Rattle.map_cache.specs.declared.mapping.Mapping.{Mapping}
 use Rattle.mapping_records.specs.declared.record.Record.{Record}
 use Rattle.router_log.specs.declared.entry.Entry.TheVariants.{Learned}
 use Rattle.router_model.specs.Parts.{Parts, parts_in, with_entry}
@@ -20,25 +21,24 @@ learn-requires-clause-may c =
     record { later = known.0; count = omega (arith, known.1.0, below, c.requires.few) }
 
 pub returns : goal.returns
-returns c =
-    c.loop-mapping.invariant.0
-    ∙ ap (λ (l : List Record). parts_in (journal_of l)) (take_all c.loop-mapping.mapping-index c.args.mappings.now c.loop-mapping-test.false)
+returns c settings begins =
+    c.loop-mapping.invariant.0 settings begins
+    ∙ ap (λ (l : List Record). parts_in settings (journal_of l)) (take_all c.loop-mapping.mapping-index c.args.mappings.now c.loop-mapping-test.false)
 
 pub loop-mapping-init : goal.loop-mapping-init
-loop-mapping-init c =
-    let begins = c.requires.begins in (
-      begins,
+loop-mapping-init c = (
+  (λ settings begins. begins),
+  (
+    omega (arith, c.requires.now),
+    (
+      omega (arith, c.requires.count),
       (
-        subst (λ (q : Parts). q.now ≤ 0) (sym begins) (omega arith),
-        (
-          subst (λ (q : Parts). q.count ≤ 0) (sym begins) (omega arith),
-          (
-            subst (λ (q : Parts). length q.mappings ≤ 0) (sym begins) (omega arith),
-            (omega (arith, c.requires.room), c.requires.locator_room),
-          ),
-        ),
+        subst (λ (l : List Mapping). length l ≤ 0) (sym c.requires.none) (omega arith),
+        (omega (arith, c.requires.room), c.requires.locator_room),
       ),
-    )
+    ),
+  ),
+)
 
 pub learn-requires-clause-room : goal.learn-requires-clause-room
 learn-requires-clause-room c = omega (arith, c.loop-mapping.invariant.1.1.1.1.0, c.loop-mapping-test.true)
@@ -63,8 +63,9 @@ loop-mapping-preserved c =
     let places = known.1.1.1.1 in
     let taken_places = c.learn.ensures.locator_room in
     let own : length c.in_ok-mapping.mapping.locators ≡ length item.locators = ap (λ (r : Record). length r.locators) c.in_ok-mapping.ensures in (
-      same ∙ static-parts (take i mappings) item before c.loop-mapping.invariant.0
-          ∙ ap (λ (l : List Record). parts_in (journal_of l)) (ap (λ (r : Record). take i mappings ++ r ∷ []) c.mapping-item.is ∙ sym (take_more mappings i item below)),
+      (λ settings begins.
+          same ∙ static-parts settings (take i mappings) item before (c.loop-mapping.invariant.0 settings begins)
+          ∙ ap (λ (l : List Record). parts_in settings (journal_of l)) (ap (λ (r : Record). take i mappings ++ r ∷ []) c.mapping-item.is ∙ sym (take_more mappings i item below))),
       (
         subst (λ (q : Parts). q.now ≤ 0) (sym same) (omega arith),
         (

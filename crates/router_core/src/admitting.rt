@@ -1,0 +1,175 @@
+// Whether an entry may be taken as it is.
+ghost use Rattle.std.specs.Prelude.{◌≡◌, ◌<◌, ◌==◌, ◌||◌, ◌&&◌, ◌^◌, nat_le, nat_lt, is_some, length};
+ghost use Rattle.std.specs.Option.{option_copied};
+ghost use Rattle.request_queue.specs.Queue.{with_nonce};
+ghost use Rattle.router_model.specs.Changes.{has_room};
+ghost use Rattle.router_model.specs.Journal.{moment_of};
+ghost use Rattle.router_model.specs.Limits.{most_probes, most_requests};
+ghost use Rattle.router_model.specs.Mappings.{exact};
+ghost use Rattle.router_model.specs.Parts.{admits, view_in};
+ghost use Rattle.router_model.specs.Proper.{is_in_range, is_short, may_retry, suits};
+
+use crate::Table;
+use ip_headers::Addr;
+use map_cache::MOST_LOCATORS;
+use mapping_records::{Eid, Record};
+use request_queue::Request;
+use router_log::Entry;
+
+// How often a request is sent again, at most.
+const MOST_RETRIES: u8 = 2;
+
+impl Table {
+    /// An entry may follow what the table stands for, but for its nonce: `apply` takes it then. Takes
+    /// no memory.
+    #[tactic(auto, unfolding(router_model::specs::Parts::admits))]
+    pub fn admits(&self, entry: &Entry) -> bool
+        ensures { result ≡ admits self.now.parts entry.now }
+    {
+        self.may_follow(moment_of(entry)) && self.suits(entry)
+    }
+
+    // The journal isn't full, and that moment isn't before its last one.
+    fn may_follow(&self, m: u64) -> bool
+        ensures { result ≡ (nat_lt self.now.parts.count (2 ^ 62)
+            && nat_le self.now.parts.now m) }
+    {
+        self.count < 1 << 62 && self.cache.now() <= m
+    }
+
+    // The entry suits what is seen at its moment.
+    fn suits(&self, entry: &Entry) -> bool
+        ensures { result ≡ suits (view_in self.now.parts (moment_of entry.now)) entry.now }
+    {
+        match entry {
+            Entry::Learned {
+                moment,
+                mapping,
+                fixed,
+            } => !*fixed && (is_in_range(mapping) && self.has_room(*moment, mapping)),
+            Entry::Asked { moment, .. } => self.few_requests(*moment),
+            Entry::Retried { moment, nonce } => self.may_retry(*moment, *nonce),
+            Entry::Answered { moment, nonce } => self.open_request(*moment, *nonce).is_some(),
+            Entry::Bits {
+                moment,
+                eid,
+                width,
+                ..
+            } => self.is_told(*moment, eid, *width),
+            Entry::Probed { moment, .. } => self.few_probes(*moment),
+            Entry::ProbeAnswered { moment, nonce } => self.is_probe_open(*moment, *nonce),
+            Entry::EchoStarted {
+                moment,
+                rloc,
+                nonce,
+            } => self.may_start(*moment, rloc) && is_short(*nonce),
+            Entry::EchoHeard { moment, rloc } => self.is_echo_on(*moment, rloc),
+            Entry::DataFrom { moment, rloc } => self.is_data_due(*moment, rloc),
+            Entry::EchoWanted {
+                moment,
+                rloc,
+                nonce,
+            } => self.may_want(*moment, rloc, *nonce) && is_short(*nonce),
+            Entry::Solicited {
+                moment,
+                rloc,
+                eid,
+                ..
+            } => self.may_be_solicited(*moment, rloc, eid),
+        }
+    }
+
+    // The open request with that nonce may be sent again once more.
+    fn may_retry(&self, m: u64, nonce: u64) -> bool
+        ensures { result ≡ may_retry (with_nonce (view_in self.now.parts m).requests nonce) }
+    {
+        match self.open_request(m, nonce) {
+            None => false,
+            Some(request) => request.sent_again < MOST_RETRIES,
+        }
+    }
+
+    // Status bits of so many locators may be told of a live mapping of that EID.
+    fn is_told(&self, m: u64, eid: &Eid, width: u8) -> bool
+        ensures { result ≡ (is_some (exact (view_in self.now.parts m).mappings eid.now)
+            && ((width == 8) || (width == 32))) }
+    {
+        self.exact(m, eid).is_some() && (width == 8 || width == 32)
+    }
+
+    // ### Questions that only entries ask
+
+    // The open request with that nonce.
+    #[tactic(auto, unfolding(router_model::specs::Parts::view_in))]
+    fn open_request(&self, m: u64, nonce: u64) -> Option<&Request>
+        ensures { option_copied result ≡ with_nonce (view_in self.now.parts m).requests nonce }
+    {
+        self.queue.find(self.moment_at(m), nonce)
+    }
+
+    // There is room for one more probe.
+    #[tactic(auto, unfolding(router_model::specs::Parts::view_in))]
+    fn few_probes(&self, m: u64) -> bool
+        ensures { result ≡ nat_lt (view_in self.now.parts m).probe_count most_probes }
+    {
+        self.locators.may_probe(self.moment_at(m))
+    }
+
+    // A probe with that nonce is open.
+    #[tactic(auto, unfolding(router_model::specs::Parts::view_in))]
+    fn is_probe_open(&self, m: u64, nonce: u64) -> bool
+        ensures { result ≡ is_some ((view_in self.now.parts m).probe_open nonce) }
+    {
+        self.locators.probe_open(self.moment_at(m), nonce).is_some()
+    }
+
+    // An echo is asked of the locator.
+    #[tactic(auto, unfolding(router_model::specs::Parts::view_in))]
+    fn is_echo_on(&self, m: u64, rloc: &Addr) -> bool
+        ensures { result ≡ is_some ((view_in self.now.parts m).echo_on rloc.now) }
+    {
+        self.locators.echo_on(self.moment_at(m), rloc).is_some()
+    }
+
+    // The locator may be sent an SMR for the EID.
+    #[tactic(auto, unfolding(router_model::specs::Parts::view_in))]
+    fn may_be_solicited(&self, m: u64, rloc: &Addr, eid: &Eid) -> bool
+        ensures { result ≡ (view_in self.now.parts m).may_solicit rloc.now eid.now }
+    {
+        self.locators.may_solicit(self.moment_at(m), rloc, eid)
+    }
+}
+
+// The moment of an entry.
+fn moment_of(entry: &Entry) -> u64
+    ensures { result ≡ moment_of entry.now }
+{
+    match entry {
+        Entry::Learned { moment, .. }
+        | Entry::Asked { moment, .. }
+        | Entry::Retried { moment, .. }
+        | Entry::Answered { moment, .. }
+        | Entry::Probed { moment, .. }
+        | Entry::ProbeAnswered { moment, .. }
+        | Entry::Bits { moment, .. }
+        | Entry::EchoStarted { moment, .. }
+        | Entry::EchoHeard { moment, .. }
+        | Entry::DataFrom { moment, .. }
+        | Entry::EchoWanted { moment, .. }
+        | Entry::Solicited { moment, .. } => *moment,
+    }
+}
+
+// Action and version of a record have their bits, and its locators are no more than a mapping may have.
+fn is_in_range(mapping: &Record) -> bool
+    ensures { result ≡ is_in_range mapping.now }
+{
+    mapping.action <= 7 && (mapping.version <= 4095 && mapping.locators.len() <= MOST_LOCATORS)
+}
+
+// The nonce has 24 bits.
+fn is_short(nonce: u32) -> bool
+    ensures { result ≡ is_short nonce }
+{
+    nonce < 1 << 24
+}
