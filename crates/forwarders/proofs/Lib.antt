@@ -1,6 +1,10 @@
 pub mod BatchLemmas
 pub mod ChangeLemmas
+pub mod DecideLemmas
 pub mod LookLemmas
+pub mod PlanLemmas
 pub mod PublishLemmas
 pub mod RuleLemmas
+pub mod RulingLemmas
 pub mod StandLemmas
+pub mod TakeLemmas

@@ -7,7 +7,7 @@ use Rattle.forwarders.specs.Batches.{Along, Begins, count_of, journal_of}
 use Rattle.forwarders.specs.Looks.{Covers}
 use Rattle.forwarders.proofs.BatchLemmas.{begins-either, begins-self, first-front, joined-append}
 
-no-more : (xs ys : List Entry) → length (xs ++ ys) ≤ length xs → xs ++ ys ≡ xs
+pub no-more : (xs ys : List Entry) → length (xs ++ ys) ≤ length xs → xs ++ ys ≡ xs
 no-more xs [] few = append-nil xs
 no-more xs (y ∷ ys) few = absurd (omega (arith, few, length-append xs (y ∷ ys)))
 

@@ -1,0 +1,9 @@
+use Rattle.std.proofs.Common.{rules, ◌%◌, ◌<◌, length}
+use Rattle.forwarders.proofs.TakeLemmas.{taken-of-all}
+use Rattle.forwarders.proofs.taking.take_forwarded.Goals as goal
+
+pub returns-clause-taken : goal.returns-clause-taken
+returns-clause-taken c =
+    let workers = c.args.workers.now in
+    let within : c.args.index % length workers < length workers = search rules in
+    taken-of-all workers (c.args.index % length workers) c.args.index c.index-workers-index.result c.take_of.new.worker c.take_of.result within c.take_of.ensures

@@ -1,0 +1,60 @@
+-- What forwarders decide in a round, and what becomes of its data packets.
+use Rattle.std.specs.Prelude.{◌≡◌, ℕ, ◌<◌, Option, List, [], length, slice_index, slice_index_or, All, IfSome}
+use Rattle.capture_io.specs.Frame.{Frame}
+use Rattle.lisp_settings.specs.declared.settings.Settings.{Settings}
+use Rattle.router_log.specs.declared.entry.Entry.{Entry}
+use Rattle.router_model.specs.Decide.{decide}
+use Rattle.router_model.specs.Sides.{Ruling}
+use Rattle.forwarders.specs.declared.door.looks.Forwarded.{Forwarded}
+use Rattle.forwarders.specs.declared.workers.Answer.{Answer}
+use Rattle.forwarders.specs.declared.workers.Worker.{Worker}
+use Rattle.forwarders.specs.Batches.{Along, Begins, count_of, journal_of}
+use Rattle.forwarders.specs.Publication.{Publication}
+
+-- a decision by a forwarder that had seen the first batches and knew the plan
+pub record Decides (settings : Settings) (first plan : List (List Entry)) (frame : Frame) (forwarded : Forwarded) : Type 0 where
+  pub seen : List (List Entry)
+  pub rises : Begins first seen
+  pub along : Along seen plan
+  pub count : forwarded.look ≡ count_of seen
+  pub decision : forwarded.decision ≡ decide settings (journal_of seen) frame.moment frame
+
+-- places are those of some frames
+abbrev pub AreWithin : List Frame → List ℕ → Type 0
+AreWithin frames places = All (λ place. place < length frames) places
+
+-- an answer is a decision on the frame whose place it has
+abbrev pub IsAnswer : Settings → List (List Entry) → List (List Entry) → List Frame → List ℕ → Answer → Type 0
+IsAnswer settings first plan frames places answer =
+    (d : Frame) → IfSome answer.forwarded (Decides settings first plan (slice_index_or frames (slice_index places answer.index) d))
+
+-- a worker that has decided nothing yet
+abbrev pub IsFresh : Settings → Worker → Type 0
+IsFresh settings worker = (worker.answers.items ≡ []) × (worker.tally ≡ 0) × (worker.forwarder.settings ≡ settings)
+
+-- its forwarder has seen the first batches, and knows the plan
+abbrev pub HasSeen : Settings → List (List Entry) → List (List Entry) → Worker → Type 0
+HasSeen settings first plan worker = worker.forwarder ≡ record { settings = settings; seen = first; plan = plan }
+
+-- a worker whose forwarder was just made
+abbrev pub IsHired : Publication → Worker → Type 0
+IsHired p worker = (worker.answers.items ≡ []) × (worker.tally ≡ 0) × HasSeen p.settings p.batches p.plan worker
+
+-- what each of the workers decided
+abbrev pub HaveAnswered : Settings → List (List Entry) → List (List Entry) → List Frame → List ℕ → List Worker → Type 0
+HaveAnswered settings first plan frames places workers = (i : ℕ) (d : Worker) → i < length workers → All (IsAnswer settings first plan frames places) (slice_index_or workers i d).answers.items
+
+-- what became of a data packet: it was decided by published batches, the first ones among them
+pub record IsDecided (settings : Settings) (first published : List (List Entry)) (frame : Frame) (one : Ruling) : Type 0 where
+  pub front : List (List Entry)
+  pub after : Begins first front
+  pub within : Begins front published
+  pub is : one ≡ record { n = count_of front; decision = decide settings (journal_of front) frame.moment frame }
+
+-- from answers that for the data packet at an index is taken, whatever they are answers to
+abbrev pub IsTaken : List Answer → ℕ → Option Forwarded → List Answer → Type 0
+IsTaken before index forwarded after = (settings : Settings) (first plan : List (List Entry)) (frames : List Frame) (places : List ℕ) → All (IsAnswer settings first plan frames places) before → All (IsAnswer settings first plan frames places) after × ((d : Frame) → IfSome forwarded (Decides settings first plan (slice_index_or frames (slice_index places index) d)))
+
+-- the same from those of all workers
+abbrev pub IsTakenOfAll : List Worker → ℕ → Option Forwarded → List Worker → Type 0
+IsTakenOfAll before index forwarded after = (settings : Settings) (first plan : List (List Entry)) (frames : List Frame) (places : List ℕ) → HaveAnswered settings first plan frames places before → HaveAnswered settings first plan frames places after × ((d : Frame) → IfSome forwarded (Decides settings first plan (slice_index_or frames (slice_index places index) d)))

@@ -1,0 +1,91 @@
+// Forwarders for a round, and batches published beside them.
+ghost use Rattle.std.specs.Prelude.{◌≡◌, ◌+◌, ◌^◌, ◌<◌, ◌≤◌, List, [], ◌++◌, length, All, IfOk, OnOk};
+ghost use Rattle.std.specs.Thread.{IsSync};
+ghost use Rattle.lisp_settings.specs.Lawful.{IsLawful};
+ghost use Rattle.router_log.specs.declared.entry.Entry.{Entry as EntryValue};
+ghost use Rattle.router_model.specs.Proper.{IsProper};
+ghost use Rattle.forwarders.specs.Batches.{Begins, journal_of};
+ghost use Rattle.forwarders.specs.Deciding.{AreWithin, HasSeen, HaveAnswered, IsFresh, IsHired};
+
+use crate::batches::publish_all;
+use crate::door::{Published, Tally};
+use crate::gate::Gate;
+use crate::workers::Worker;
+use crate::working::work_all;
+use capture_io::Frame;
+use lisp_settings::Settings;
+use octets::NoMemory;
+use router_log::Entries;
+use std::alloc::Global;
+use std::sync::Wait;
+use std::thread::{Threads, join_mut};
+
+/// So many workers, or fewer by as many as were refused a place.
+pub(crate) fn hired(
+    alloc: Global,
+    published: &mut Published,
+    count: usize,
+    tally: &mut Tally,
+) -> Result<Vec<Worker>, NoMemory>
+    requires { tally.old + count < 2 ^ 63 }
+    ensures same { published.new ≡ published.old }
+    ensures tally { tally.new ≤ tally.old + count }
+    ensures number { IfOk result (λ workers. length workers.items + tally.new ≡ count + tally.old) }
+    ensures hired { IfOk result (λ workers. All (IsHired published.old) workers.items) }
+{
+    let mut workers = Vec::new(alloc);
+    for _ in 0..count {
+        if let Some(forwarder) = published.forwarder(tally) {
+            workers.push(Worker {
+                forwarder,
+                tally: Tally::new(),
+                answers: Vec::new(alloc),
+            })?;
+        }
+    }
+    Ok(workers)
+}
+
+/// Publishes the batches of a round while the workers decide its data packets.
+pub(crate) fn beside<R: Threads + Wait + Sync, G: Gate>(
+    rt: &R,
+    published: &mut Published,
+    batches: &[Entries],
+    workers: &mut [Worker],
+    settings: &Settings,
+    frames: &[Frame],
+    places: &[usize],
+    gate: &G,
+) -> Result<(), NoMemory>
+    requires lawful { IsLawful settings.now }
+    requires places { AreWithin frames.now places.now }
+    requires number { (length workers.old ≤ 16) × (length places.now < 2 ^ 61) }
+    requires fresh { All (IsFresh settings.now) workers.old }
+    requires none { published.old.pending ≡ [] }
+    requires stands { IsProper published.old.settings (journal_of published.old.batches) }
+    requires proper { IsProper published.old.settings
+        (journal_of (published.old.batches ++ batches.now)) }
+    requires next { Begins (published.old.batches ++ batches.now) published.old.plan }
+    ensures length { length workers.new ≡ length workers.old }
+    ensures decided { (first plan : List (List EntryValue))
+        → All (HasSeen settings.now first plan) workers.old
+        → HaveAnswered settings.now first plan frames.now places.now workers.new }
+    ensures published { OnOk result (published.new
+        ≡ record published.old { batches = published.old.batches ++ batches.now }) }
+{
+    let (_, done) = join_mut(
+        rt,
+        &mut ||
+            requires { IsSync R.row × IsLawful settings.now × AreWithin frames.now places.now
+                × (length workers.now ≤ 16) × (length places.now < 2 ^ 61)
+                × All (IsFresh settings.now) workers.now }
+            ensures { (length workers.exit.now ≡ length workers.entry.now)
+                × ((first plan : List (List EntryValue))
+                → All (HasSeen settings.entry.now first plan) workers.entry.now
+                → HaveAnswered settings.entry.now first plan frames.entry.now places.entry.now
+                workers.exit.now) }
+        { work_all(rt, workers, settings, frames, places, gate) },
+        &mut || publish_all(rt, published, batches),
+    );
+    done
+}

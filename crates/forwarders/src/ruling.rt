@@ -1,0 +1,63 @@
+// What becomes of the data packets of a round.
+ghost use Rattle.std.specs.Prelude.{◌≡◌, List, IfOk, IfSome, IfNone};
+ghost use Rattle.lisp_settings.specs.Lawful.{IsLawful};
+ghost use Rattle.router_log.specs.declared.entry.Entry.{Entry as EntryValue};
+ghost use Rattle.router_model.specs.Parts.{Stands};
+ghost use Rattle.forwarders.specs.Batches.{Begins, count_of, journal_of};
+ghost use Rattle.forwarders.specs.Deciding.{Decides, IsDecided};
+ghost use Rattle.forwarders.specs.Ruling.{ruling_of};
+
+use crate::door::{Forwarded, Published};
+use crate::ruled::Ruled;
+use capture_io::Frame;
+use lisp_settings::Settings;
+use octets::NoMemory;
+use router_core::Table;
+
+// What a forwarder decided.
+fn by_look(forwarded: Forwarded) -> Ruled
+    ensures ruling { ruling_of result
+        ≡ record { n = forwarded.look; decision = forwarded.decision } }
+    ensures look { IfSome result.look (λ look. look ≡ result.n) }
+    ensures some { IfNone result.look ⊥ }
+{
+    let Forwarded { look, decision } = forwarded;
+    Ruled {
+        n: look.count(),
+        decision,
+        look: Some(look),
+    }
+}
+
+/// What becomes of a data packet once all batches of its round are published: what a forwarder
+/// decided, or the table where none did, or one by a list that is ahead of what is published.
+#[tactic(auto, using(crate::proofs::RulingLemmas::decided_by, crate::proofs::RulingLemmas::decided_last))]
+pub(crate) fn ruled(
+    published: &Published,
+    table: &Table,
+    settings: &Settings,
+    frame: &Frame,
+    forwarded: Option<Forwarded>,
+) -> Result<Ruled, NoMemory>
+    requires lawful { IsLawful settings.now }
+    requires stands { Stands settings.now table.now.parts (journal_of published.now.batches) }
+    ensures decided { IfOk result (λ ruled. (first : List (List EntryValue))
+        → Begins first published.now.batches
+        → IfSome forwarded (Decides settings.now first published.now.batches frame.now)
+        → IsDecided settings.now first published.now.batches frame.now (ruling_of ruled)) }
+    ensures look { IfOk result (λ ruled. IfSome ruled.look (λ look. look ≡ ruled.n)) }
+    ensures last { IfOk result (λ ruled.
+        IfNone ruled.look (ruled.n ≡ count_of published.now.batches)) }
+{
+    if let Some(forwarded) = forwarded {
+        if published.covers(&forwarded.look) {
+            return Ok(by_look(forwarded));
+        }
+    }
+    let decision = table.decide(settings, frame.moment, frame)?;
+    Ok(Ruled {
+        n: published.count(),
+        decision,
+        look: None,
+    })
+}

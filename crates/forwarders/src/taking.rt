@@ -1,0 +1,36 @@
+// The answers of workers, taken in the order of the data packets.
+ghost use Rattle.std.specs.Prelude.{◌≡◌, length};
+ghost use Rattle.forwarders.specs.Deciding.{IsTaken, IsTakenOfAll};
+
+use crate::door::Forwarded;
+use crate::workers::{Answer, Worker};
+
+// What a worker decided at this place, if it is for the data packet at this index.
+fn take_of(worker: &mut Worker, place: usize, index: usize) -> Option<Forwarded>
+    ensures { IsTaken worker.old.answers.items index result worker.new.answers.items }
+{
+    take_answer(worker.answers.as_mut_slice(), place, index)
+}
+
+// The same of its answers.
+fn take_answer(answers: &mut [Answer], place: usize, index: usize) -> Option<Forwarded>
+    ensures { IsTaken answers.old index result answers.new }
+{
+    if place < answers.len() && answers[place].index == index {
+        answers[place].forwarded.take()
+    } else {
+        None
+    }
+}
+
+/// What the worker decided to whom a data packet fell.
+pub(crate) fn take_forwarded(workers: &mut [Worker], index: usize) -> Option<Forwarded>
+    ensures length { length workers.new ≡ length workers.old }
+    ensures taken { IsTakenOfAll workers.old index result workers.new }
+{
+    if workers.is_empty() {
+        return None;
+    }
+    let count = workers.len();
+    take_of(&mut workers[index % count], index / count, index)
+}

@@ -1,0 +1,103 @@
+// Forwarders decide the data packets of a round, each in its turns.
+ghost use Rattle.std.specs.Prelude.{◌≡◌, ◌+◌, ◌^◌, ◌<◌, ◌≤◌, List, length, All, IfSome};
+ghost use Rattle.lisp_settings.specs.Lawful.{IsLawful};
+ghost use Rattle.router_log.specs.declared.entry.Entry.{Entry as EntryValue};
+ghost use Rattle.forwarders.specs.Batches.{Begins};
+ghost use Rattle.forwarders.specs.Deciding.{AreWithin, Decides, HasSeen, HaveAnswered, IsAnswer, IsFresh};
+
+use crate::door::{Forwarded, Forwarder, Tally};
+use crate::gate::Gate;
+use crate::workers::{Answer, Worker};
+use capture_io::Frame;
+use lisp_settings::Settings;
+use std::thread::{Threads, for_each_mut};
+
+// What the forwarder decides on a frame, at the frame's moment.
+fn answer(
+    forwarder: &mut Forwarder,
+    tally: &mut Tally,
+    settings: &Settings,
+    frame: &Frame,
+) -> Option<Forwarded>
+    requires lawful { IsLawful settings.now }
+    requires settings { settings.now ≡ forwarder.old.settings }
+    requires tally { tally.old < 2 ^ 63 }
+    ensures settings { forwarder.new.settings ≡ forwarder.old.settings }
+    ensures plan { forwarder.new.plan ≡ forwarder.old.plan }
+    ensures rises { Begins forwarder.old.seen forwarder.new.seen }
+    ensures decided { IfSome result
+        (Decides settings.now forwarder.old.seen forwarder.old.plan frame.now) }
+    ensures tally { tally.new ≤ tally.old + 1 }
+{
+    match forwarder.forward(settings, frame.moment, frame, tally) {
+        Ok(forwarded) => Some(forwarded),
+        Err(_) => None,
+    }
+}
+
+// What the worker decides on the data packets from the one at `start` on, each `step` further. It
+// stops where memory is refused.
+fn work<G: Gate>(
+    worker: &mut Worker,
+    settings: &Settings,
+    frames: &[Frame],
+    places: &[usize],
+    start: usize,
+    step: usize,
+    gate: &G,
+)
+    requires lawful { IsLawful settings.now }
+    requires places { AreWithin frames.now places.now }
+    requires numbers { (start < 16) × (0 < step) × (step ≤ 16)
+        × (length places.now < 2 ^ 61) }
+    requires fresh { IsFresh settings.now worker.old }
+    ensures { All (IsAnswer settings.now worker.old.forwarder.seen worker.old.forwarder.plan
+        frames.now places.now) worker.new.answers.items }
+{
+    let mut index = start;
+    while index < places.len() {
+        let frame = &frames[places[index]];
+        gate.before(start as u32, frame.number);
+        let forwarded = answer(&mut worker.forwarder, &mut worker.tally, settings, frame);
+        if worker.answers.push(Answer { index, forwarded }).is_err() {
+            return;
+        }
+        index += step;
+    }
+}
+
+/// The workers decide in threads of their own, each on the data packets that fall to it in turn.
+pub(crate) fn work_all<R: Threads + Sync, G: Gate>(
+    rt: &R,
+    workers: &mut [Worker],
+    settings: &Settings,
+    frames: &[Frame],
+    places: &[usize],
+    gate: &G,
+)
+    requires lawful { IsLawful settings.now }
+    requires places { AreWithin frames.now places.now }
+    requires number { (length workers.old ≤ 16) × (length places.now < 2 ^ 61) }
+    requires fresh { All (IsFresh settings.now) workers.old }
+    ensures length { length workers.new ≡ length workers.old }
+    ensures decided { (first plan : List (List EntryValue))
+        → All (HasSeen settings.now first plan) workers.old
+        → HaveAnswered settings.now first plan frames.now places.now workers.new }
+{
+    let step = workers.len();
+    if step > 0 {
+        for_each_mut(
+            rt,
+            workers,
+            step,
+            &|start, worker|
+                requires { IsLawful settings.now × AreWithin frames.now places.now
+                    × (start < 16) × (0 < step) × (step ≤ 16) × (length places.now < 2 ^ 61)
+                    × IsFresh settings.now worker.now }
+                ensures { All (IsAnswer settings.entry.now worker.entry.now.forwarder.seen
+                    worker.entry.now.forwarder.plan frames.entry.now places.entry.now)
+                    worker.exit.now.answers.items }
+            { work(worker, settings, frames, places, start, step, gate) },
+        );
+    }
+}
