@@ -1,5 +1,5 @@
 -- Lists that begin others, and the journals of batches.
-use Rattle.std.proofs.Common.{◌≡◌, ◌⊎◌, inl, inr, ⊎_elim, ℕ, ◌+◌, ◌≤◌, List, [], ◌∷◌, ◌++◌, length, sym, refl, ap, ◌∙◌, subst, append_assoc, append-nil, length-append, arith}
+use Rattle.std.proofs.Common.{◌≡◌, ◌⊎◌, inl, inr, ⊎_elim, ℕ, ◌+◌, ◌≤◌, List, [], ◌∷◌, ◌++◌, length, sym, refl, ap, ◌∙◌, append_assoc, append-nil, length-append, arith}
 use Rattle.router_log.specs.declared.entry.Entry.{Entry}
 use Rattle.router_model.specs.Journal.{Journal, extended, first}
 use Rattle.router_model.specs.Sides.{joined}

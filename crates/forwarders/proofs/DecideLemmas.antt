@@ -1,5 +1,5 @@
 -- What forwarders decided, by what was published and planned when they were made.
-use Rattle.std.proofs.Common.{◌≡◌, ℕ, Some, None, Option, IfSome, All, List, [], ◌∷◌, ◌++◌, sym, refl, ap, ◌∙◌, subst}
+use Rattle.std.proofs.Common.{◌≡◌, Some, None, Option, IfSome, All, List, [], ◌∷◌, ◌++◌, sym, subst}
 use Rattle.std.proofs.lemmas.List.Elements.{All-push}
 use Rattle.capture_io.specs.Frame.{Frame}
 use Rattle.lisp_settings.specs.declared.settings.Settings.{Settings}

@@ -1,7 +1,7 @@
 -- What a look tells of the first entries of a journal.
 use Rattle.std.proofs.Common.{◌≡◌, ⊎_elim, ℕ, ◌≤◌, List, [], ◌∷◌, ◌++◌, length, sym, refl, ap, ◌∙◌, subst, append-nil, length-append, arith}
 use Rattle.router_log.specs.declared.entry.Entry.{Entry}
-use Rattle.router_model.specs.Journal.{Journal, extended, first}
+use Rattle.router_model.specs.Journal.{extended, first}
 use Rattle.router_model.specs.Sides.{joined}
 use Rattle.forwarders.specs.Batches.{Along, Begins, count_of, journal_of}
 use Rattle.forwarders.specs.Looks.{Covers}

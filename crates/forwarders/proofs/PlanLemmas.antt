@@ -1,5 +1,5 @@
 -- What is planned, batch by batch, and entry by entry.
-use Rattle.std.proofs.Common.{◌≡◌, ℕ, zero, suc, ◌+◌, ◌<◌, ◌≤◌, IsTrue, List, [], ◌∷◌, ◌++◌, length, take, get_or, drop, refl, sym, ap, ◌∙◌, subst, append_assoc, append-nil, length-append, arith}
+use Rattle.std.proofs.Common.{◌≡◌, ℕ, zero, suc, ◌<◌, ◌≤◌, IsTrue, List, [], ◌∷◌, ◌++◌, length, take, get_or, drop, refl, sym, ap, ◌∙◌, subst, append_assoc, append-nil, length-append, arith}
 use Rattle.std.proofs.Math.Seq.{take-suc}
 use Rattle.std.proofs.lemmas.List.{take-append-drop}
 use Rattle.lisp_settings.specs.declared.settings.Settings.{Settings}
@@ -9,7 +9,7 @@ use Rattle.router_model.specs.Proper.{EachFits, IsProper, fits}
 use Rattle.router_model.proofs.ShareLemmas.{first-is-proper}
 use Rattle.router_model.proofs.SideLemmas.{first-of-more}
 use Rattle.forwarders.specs.Batches.{Begins, count_of, journal_of}
-use Rattle.forwarders.proofs.BatchLemmas.{begins-on, count-up, first-front, journal-length, journal-push}
+use Rattle.forwarders.proofs.BatchLemmas.{count-up, first-front, journal-length, journal-push}
 
 -- a proper journal has the static mappings
 pub long-enough : (settings : Settings) (journal : Journal) → IsProper settings journal → length (statics settings) ≤ length journal

@@ -6,7 +6,7 @@ use Rattle.left_right.specs.Register.{Admits, TurnsAt, Forks, Merges}
 use Rattle.atomic_table.proofs.Lists.{at_set, at_snoc}
 use Rattle.lisp_settings.specs.declared.settings.Settings.{Settings}
 use Rattle.router_log.specs.declared.entry.Entry.{Entry}
-use Rattle.router_model.specs.Journal.{Journal, extended, statics}
+use Rattle.router_model.specs.Journal.{statics}
 use Rattle.router_model.specs.Parts.{Parts, Stands, absorbed}
 use Rattle.router_model.specs.Proper.{IsProper}
 use Rattle.forwarders.specs.declared.door.view.View.{View}

@@ -1,25 +1,24 @@
 -- Decisions by published batches, and by a round's.
-use Rattle.std.proofs.Common.{◌≡◌, ◌⊎◌, ⊎_elim, ℕ, ◌≤◌, List, [], ◌∷◌, ◌++◌, length, take, drop, sym, refl, ap, ◌∙◌, subst, append_assoc, append-nil, length-append, arith}
+use Rattle.std.proofs.Common.{◌≡◌, ⊎_elim, ℕ, ◌≤◌, List, [], ◌∷◌, ◌++◌, length, take, drop, sym, refl, ap, ◌∙◌, subst, append_assoc}
 use Rattle.std.proofs.Math.Seq.{take-append_seam}
 use Rattle.std.proofs.lemmas.List.{append_cancel_left}
 use Rattle.capture_io.specs.Frame.{Frame}
 use Rattle.lisp_settings.specs.declared.settings.Settings.{Settings}
-use Rattle.playback.specs.Events.{Event}
 use Rattle.router_log.specs.declared.decision.Decision.{Decision}
 use Rattle.router_log.specs.declared.entry.Entry.{Entry}
 use Rattle.router_model.specs.Changes.{journal as of_journal}
 use Rattle.router_model.specs.Decide.{decide, decide_by}
 use Rattle.router_model.specs.Journal.{Journal, extended}
 use Rattle.router_model.specs.Parts.{Parts, Stands, table, view_in}
-use Rattle.router_model.specs.Sharing.{IsRuled, MayBegin, after_batches, filled, opening, parts_after}
-use Rattle.router_model.specs.Sides.{Ruling, Writing, joined, ruling_by, writing}
+use Rattle.router_model.specs.Sharing.{filled, opening, parts_after}
+use Rattle.router_model.specs.Sides.{Writing, joined, writing}
 use Rattle.router_model.proofs.FollowLemmas.{table-decides}
 use Rattle.router_model.proofs.ShareLemmas.{batches-stand, table-writes}
 use Rattle.router_model.proofs.SideLemmas.{extended-more, filled-behind, opening-within}
 use Rattle.forwarders.specs.declared.door.looks.Forwarded.{Forwarded}
 use Rattle.forwarders.specs.Batches.{Begins, count_of, journal_of}
 use Rattle.forwarders.specs.Deciding.{Decides, IsDecided}
-use Rattle.forwarders.specs.Ruling.{DecidedAreRuled, first_of_round, last_of_round}
+use Rattle.forwarders.specs.Ruling.{DecidedAreRuled, first_of_round}
 use Rattle.forwarders.proofs.BatchLemmas.{begins-either, begins-self, joined-append, journal-length}
 use Rattle.forwarders.proofs.LookLemmas.{no-more}
 

@@ -1,5 +1,5 @@
 -- Answers that are taken from the workers'.
-use Rattle.std.proofs.Common.{◌≡◌, ℕ, ◌<◌, Option, List, length, get_or, set, All}
+use Rattle.std.proofs.Common.{ℕ, ◌<◌, Option, List, length, get_or, set, All}
 use Rattle.std.proofs.lemmas.List.Elements.{All-set}
 use Rattle.forwarders.specs.declared.door.looks.Forwarded.{Forwarded}
 use Rattle.forwarders.specs.declared.workers.Worker.{Worker}

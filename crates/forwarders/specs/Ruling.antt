@@ -1,5 +1,5 @@
 -- What becomes of a round's data packets, by its batches.
-use Rattle.std.specs.Prelude.{◌≡◌, ℕ, List, ◌++◌, drop, take}
+use Rattle.std.specs.Prelude.{ℕ, List, ◌++◌, drop, take}
 use Rattle.capture_io.specs.Frame.{Frame}
 use Rattle.lisp_settings.specs.declared.settings.Settings.{Settings}
 use Rattle.playback.specs.Events.{Event}

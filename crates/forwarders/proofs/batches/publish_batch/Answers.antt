@@ -1,4 +1,4 @@
-use Rattle.std.proofs.Common.{rules, ◌≡◌, ◌++◌, IsTrue, take, get_or, sym, subst}
+use Rattle.std.proofs.Common.{rules, ◌≡◌, IsTrue, take, get_or, sym, subst}
 use Rattle.router_log.specs.declared.entry.Entry.{Entry}
 use Rattle.router_model.specs.Journal.{extended}
 use Rattle.router_model.specs.Proper.{fits}

@@ -1,8 +1,7 @@
-use Rattle.std.proofs.Common.{rules, ◌≡◌, List, sym, refl, subst, ◌∙◌}
+use Rattle.std.proofs.Common.{rules, ◌≡◌, sym, refl, subst, ◌∙◌}
 use Rattle.std.specs.Fn.{FnOnceReturnsAt}
 use Rattle.left_right.specs.Register.{TurnsAt}
 use Rattle.left_right.specs.Sides.{view as known}
-use Rattle.router_log.specs.declared.entry.Entry.{Entry}
 use Rattle.router_model.specs.Parts.{Parts, Stands}
 use Rattle.router_core.specs.Table.{Memory}
 use Rattle.forwarders.specs.declared.door.view.View.{View}

@@ -1,8 +1,7 @@
-use Rattle.std.proofs.Common.{◌≡◌, true, [], List, fold, sym, refl, ap, ◌∙◌, subst}
+use Rattle.std.proofs.Common.{◌≡◌, true, List, fold, sym, ap, ◌∙◌, subst}
 use Rattle.left_right.specs.Register.{TurnsAt}
 use Rattle.forwarders.specs.declared.door.change.Change.{Change}
 use Rattle.forwarders.specs.declared.door.view.View.{View}
-use Rattle.forwarders.specs.Batches.{batches_from}
 use Rattle.forwarders.specs.Keeping.{Keeps, Starts}
 use Rattle.forwarders.specs.Publication.{Side}
 use Rattle.forwarders.specs.Views.{changed}

@@ -1,13 +1,11 @@
-use Rattle.std.proofs.Common.{◌≡◌, true, List, drop, fold, sym, ap, ◌∙◌, subst}
+use Rattle.std.proofs.Common.{◌≡◌, List, drop, fold, sym, ap, ◌∙◌, subst}
 use Rattle.left_right.specs.Register.{TurnsAt}
-use Rattle.left_right.specs.Sides.{view as known_in}
 use Rattle.router_log.specs.declared.entry.Entry.{Entry}
-use Rattle.router_model.specs.Parts.{Parts, absorbed}
+use Rattle.router_model.specs.Parts.{absorbed}
 use Rattle.forwarders.specs.declared.door.change.Change.{Change}
 use Rattle.forwarders.specs.declared.door.view.View.{View}
 use Rattle.forwarders.specs.Keeping.{GoesOn, IsNext, Keeps, Publishes}
 use Rattle.forwarders.specs.Publication.{Side}
-use Rattle.forwarders.specs.Views.{list_in, plan_in, settings_in}
 use Rattle.forwarders.proofs.ChangeLemmas.{changed-parts, stays-open}
 use Rattle.forwarders.proofs.RuleLemmas.{publishes}
 use Rattle.forwarders.proofs.door.publishing.published_as.Goals as goal
