@@ -80,7 +80,7 @@ fn copies(table: &Table) -> Result<(Shown, Shown), NoMemory>
 }
 
 /// Publishes a table that has just begun, whose static mappings are the first batch, for at most so
-/// many forwarders at a time. It waits for nobody else than `publish` does.
+/// many forwarders at a time. It may wait, as `publish` does.
 pub fn open_hall<R: Wait>(
     rt: &R,
     alloc: Global,
