@@ -3,19 +3,19 @@ use Rattle.std.specs.Prelude.{◌≡◌, ℕ, ◌+◌, List}
 use Rattle.router_log.specs.declared.entry.Entry.{Entry}
 use Rattle.router_model.specs.Journal.{first}
 use Rattle.router_model.specs.Parts.{Stands}
-use Rattle.router_core.specs.Table.{Memory}
+use Rattle.router_core.specs.Table.{TableSeen}
 use Rattle.forwarders.specs.declared.door.looks.ForwardFault.{ForwardFault}
 use Rattle.forwarders.specs.declared.door.looks.ForwardFault.TheVariants as fault
 use Rattle.forwarders.specs.Batches.{Along, Begins, count_of, journal_of}
 use Rattle.forwarders.specs.Publication.{Forwarding}
 
 -- a look can take each table that the forwarder may find
-abbrev pub MayLook : (Memory → Type 0) → Forwarding → Type 0
-MayLook takes before = (seen : List (List Entry)) (memory : Memory) → Begins before.seen seen → Stands before.settings memory.parts (journal_of seen) → takes memory
+abbrev pub MayLook : (TableSeen → Type 0) → Forwarding → Type 0
+MayLook takes before = (seen : List (List Entry)) (now : TableSeen) → Begins before.seen seen → Stands before.settings now.parts (journal_of seen) → takes now
 
 -- an answer to a look at a table that stands for what the forwarder has seen
-pub record Sees {X : Type 0} (answers : Memory → X → Type 0) (now : Forwarding) (answer : X) : Type 0 where
-  pub memory : Memory
+pub record Sees {X : Type 0} (answers : TableSeen → X → Type 0) (now : Forwarding) (answer : X) : Type 0 where
+  pub memory : TableSeen
   pub stands : Stands now.settings memory.parts (journal_of now.seen)
   pub is : answers memory answer
 

@@ -42,12 +42,16 @@ impl Shown {
 
     /// Takes in an entry that the table admits. Any other leaves it, and so does one that is refused
     /// memory.
+    #[tactic(auto, unfolding(router_model::specs::Parts::absorbed))]
     pub fn absorb(&mut self, entry: &Entry) -> Result<(), NoMemory>
         ensures ok { OnOk result (self.new
             ≡ record self.old { parts = absorbed self.old.parts entry.now }) }
         ensures err { OnErr result (self.new ≡ self.old) }
     {
-        self.table.absorb(entry)
+        if !self.table.admits(entry) {
+            return Ok(());
+        }
+        self.table.apply(entry)
     }
 
     /// The publication begins.

@@ -3,7 +3,7 @@ use Rattle.std.specs.Fn.{FnOnceReturnsAt}
 use Rattle.left_right.specs.Register.{TurnsAt}
 use Rattle.left_right.specs.Sides.{view as known}
 use Rattle.router_model.specs.Parts.{Parts, Stands}
-use Rattle.router_core.specs.Table.{Memory}
+use Rattle.router_core.specs.Table.{TableSeen}
 use Rattle.forwarders.specs.declared.door.view.View.{View}
 use Rattle.forwarders.specs.declared.door.view.View.TheVariants.{Reads}
 use Rattle.forwarders.specs.Batches.{count_of, journal_of}
@@ -22,7 +22,7 @@ pub call_once-answer-requires : goal.call_once-answer-requires
 call_once-answer-requires g c =
     let v : View = known c.args.reader.place in
     let entered = c.in-Ok.ensures.1 in
-    let memory : Memory = c.table-table.result.now in
+    let memory : TableSeen = c.table-table.result.now in
     let same : memory.parts ≡ c.in-Ok.reading.part.value.parts = search rules in
     let stands = subst (λ (p : Parts). Stands (settings_in v) p (journal_of entered.seen)) (sym same) entered.stands in
     c.requires.may entered.seen memory entered.rises stands c.table-table.result refl
@@ -40,7 +40,7 @@ returns-in-Ok-clause-sees g c =
     let v : View = known c.args.reader.place in
     let entered = c.in-Ok.ensures.1 in
     let now : known c.leave.result.place ≡ Reads (settings_in v) entered.seen (plan_in v) = c.leave.ensures.1 ∙ entered.view in
-    let memory : Memory = c.table-table.result.now in
+    let memory : TableSeen = c.table-table.result.now in
     let same : memory.parts ≡ c.in-Ok.reading.part.value.parts = search rules in
     let stands = subst (λ (p : Parts). Stands (settings_in v) p (journal_of entered.seen)) (sym same) entered.stands in
     let is : FnOnceReturnsAt g.F.FnOnce c.args.look.0 memory c.call_once-answer.result = search rules in
@@ -52,7 +52,7 @@ returns-in-Ok-clause-count g c =
     let v : View = known c.args.reader.place in
     let entered = c.in-Ok.ensures.1 in
     let now : known c.leave.result.place ≡ Reads (settings_in v) entered.seen (plan_in v) = c.leave.ensures.1 ∙ entered.view in
-    let memory : Memory = c.table-table.result.now in
+    let memory : TableSeen = c.table-table.result.now in
     let same : memory.parts ≡ c.in-Ok.reading.part.value.parts = search rules in
     let stands = subst (λ (p : Parts). Stands (settings_in v) p (journal_of entered.seen)) (sym same) entered.stands in
     subst (λ (w : View). c.count-count.result ≡ count_of (list_in w)) (sym now) (c.count-count.ensures ∙ count-stands (settings_in v) memory.parts entered.seen stands)
