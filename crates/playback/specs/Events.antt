@@ -1,5 +1,5 @@
 -- The events of a capture, and what a machine does for them one after another.
-use Rattle.std.specs.Prelude.{ℕ, suc, ◌-◌, ◌/◌, List, [], ◌∷◌, ◌++◌, flat_map, map, Option, Some, None}
+use Rattle.std.specs.Prelude.{◌≡◌, ℕ, suc, ◌-◌, ◌/◌, List, [], ◌∷◌, ◌++◌, flat_map, map, Option, Some, None}
 use Rattle.std.specs.List.{range_with_len}
 use Rattle.capture_io.specs.Frame.{Frame}
 use Rattle.capture_io.specs.Output.{packet_record}
@@ -71,3 +71,29 @@ abbrev pub played : {S : Type 0} → (S → Event → Outcome S) → S → List 
 played step state [] = idle state
 played step state (event ∷ events) =
     followed (step state event) (played step (step state event).after events)
+
+-- ### what may be done
+
+-- a step of a play: an event, or the end of the capture
+pub data Step : Type 0 where
+  Happens : Event → Step
+  End : Step
+
+-- the steps of events in order
+abbrev pub steps_of : List Event → List Step
+steps_of events = map Happens events
+
+-- the steps of a capture of these frames: its events, and then its end
+abbrev pub all_steps : List Frame → List Step
+all_steps frames = steps_of (events frames) ++ End ∷ []
+
+-- what may be done for steps in order, by what may be done at each of them
+abbrev pub Played : {S : Type 0} → (S → Step → Outcome S → Type 0) → S → List Step → Outcome S → Type 0
+Played does state [] outcome = outcome ≡ idle state
+Played {S} does state (step ∷ steps) outcome =
+    (first : Outcome S) × (rest : Outcome S) × does state step first × Played does first.after steps rest × (outcome ≡ followed first rest)
+
+-- it is determined at each event, and nothing is left to be done at the end
+abbrev pub Determined : {S : Type 0} → (S → Event → Outcome S) → S → Step → Outcome S → Type 0
+Determined step state (Happens event) outcome = outcome ≡ step state event
+Determined step state End outcome = outcome ≡ idle state

@@ -1,11 +1,11 @@
 -- What a play that is cut short leaves at its desk: a beginning of all that it was to say and write.
-use Rattle.std.specs.Prelude.{◌≡◌, ℕ, List, [], ◌++◌, Option, Some, Result, ◌⊎◌, option_map}
+use Rattle.std.specs.Prelude.{◌≡◌, ℕ, ◌+◌, List, [], ◌++◌, length, Option, Some, Result, ◌⊎◌, option_map}
 use Rattle.std.specs.List.{All}
 use Rattle.std.specs.Result.{MatchResult}
 use Rattle.desk.specs.World.{World, Shown, shown}
 use Rattle.capture_io.specs.Frame.{Frame}
 use Rattle.capture_io.specs.Frames.{Run}
-use Rattle.playback.specs.Events.{Event, Outcome, events, played, records_of}
+use Rattle.playback.specs.Events.{Event, Outcome, Played, Step, all_steps, events, records_of, steps_of}
 use Rattle.playback.specs.Playing.{after_output, handed_on, with_output, with_outcome, IsRead}
 use Rattle.playback.specs.declared.output.Output.{Output}
 
@@ -28,38 +28,49 @@ pub record Breaks (file : Option ℕ) (output : Output) (told now : Option World
   pub written : IsFront octets output.records
   pub order : (octets ≡ []) ⊎ (lines ≡ output.lines)
 
-module _ {S : Type 0} (step : S → Event → Outcome S) (start : S) (file : Option ℕ) (old : Shown) where
-  -- events were played, and what was done for the first of them is handed on; the rest is gathered
-  pub record Stands (all : List Event) (output : Output) (now : Option World) : Type 0 where
-    pub first : List Event
-    pub within : IsFront first all
-    pub shown : shown now ≡ Some (with_outcome file (played step start first) old)
-    pub lines : (played step start first).lines ++ output.lines ≡ (played step start all).lines
-    pub records : records_of (played step start first).packets ++ output.records
-        ≡ records_of (played step start all).packets
+module _ {S : Type 0} (does : S → Step → Outcome S → Type 0) (start : S) (file : Option ℕ) (old : Shown) where
+  -- steps were played to a state; what was done for the first of them is handed on, and the rest is gathered
+  pub record Stands (all : List Step) (state : S) (output : Output) (now : Option World) : Type 0 where
+    pub first : List Step
+    pub others : List Step
+    pub whole : first ++ others ≡ all
+    pub done : Outcome S
+    pub held : Outcome S
+    pub is_done : Played does start first done
+    pub is_held : Played does done.after others held
+    pub state_is : state ≡ held.after
+    pub shown : shown now ≡ Some (with_outcome file done old)
+    pub lines : output.lines ≡ held.lines
+    pub records : output.records ≡ records_of held.packets
+    pub written : output.written ≡ length done.packets + length held.packets
 
-  -- a beginning of what was to be said and written for events: of the first of them each line was
-  -- said, and no packet but theirs was written
-  pub record Cut (all : List Event) (now : Option World) : Type 0 where
-    pub first : List Event
-    pub within : IsFront first all
+  -- some of these steps were played, and a beginning of what was done for them was said and written: of the first of
+  -- them each line was said, and no packet but theirs was written
+  pub record Cut (all : List Step) (now : Option World) : Type 0 where
+    pub first : List Step
+    pub others : List Step
+    pub within : IsFront (first ++ others) all
+    pub done : Outcome S
+    pub held : Outcome S
+    pub is_done : Played does start first done
+    pub is_held : Played does done.after others held
     pub lines : List ℕ
     pub octets : List ℕ
     pub shown : shown now ≡ Some (with_output file lines octets old)
-    pub said : IsFront lines (played step start all).lines
-    pub reported : IsFront (played step start first).lines lines
-    pub written : IsFront octets (records_of (played step start first).packets)
+    pub said : IsFront lines (done.lines ++ held.lines)
+    pub reported : IsFront done.lines lines
+    pub written : IsFront octets (records_of done.packets)
 
-  -- the same of a run, of which these frames were read
+  -- the same of a run, of which these frames were read, and perhaps its end
   pub record CutRun (run : Run) (now : Option World) : Type 0 where
     pub frames : List Frame
     pub within : IsFront frames run.frames
     pub read : All IsRead frames
-    pub cut : Cut (events frames) now
+    pub cut : Cut (steps_of (events frames)) now ⊎ ((frames ≡ run.frames) × Cut (all_steps frames) now)
 
--- events are played after others: either all of them, or it is cut short
-abbrev pub Goes : {S T E : Type 0} → (S → Event → Outcome S) → Option ℕ → S → List Event → Output → Option World → Result T E → Output → Option World → Type 0
-Goes {S} step file state next before told result after now =
-    (start : S) (old : Shown) (past : List Event) → (played step start past).after ≡ state
-    → Stands step start file old past before told
-    → MatchResult result (λ _. Stands step start file old (past ++ next) after now) (λ _. Cut step start file old (past ++ next) now)
+-- steps are played after others: either all of them, or it is cut short
+abbrev pub Goes : {S T E : Type 0} → (S → Step → Outcome S → Type 0) → Option ℕ → S → S → List Step → Output → Option World → Result T E → Output → Option World → Type 0
+Goes {S} does file before after next output told result new now =
+    (start : S) (old : Shown) (past : List Step)
+    → Stands does start file old past before output told
+    → MatchResult result (λ _. Stands does start file old (past ++ next) after new now) (λ _. Cut does start file old (past ++ next) now)

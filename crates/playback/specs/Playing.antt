@@ -2,11 +2,11 @@
 use Rattle.std.specs.Prelude.{◌≡◌, ℕ, ◌+◌, ◌*◌, ◌^◌, ◌≤◌, ◌<◌, ◌||◌, nat_le, Bool, List, ◌++◌, length, Option, Some, None, option_map, unwrap_or, Result, Ok, Err}
 use Rattle.std.specs.List.{All}
 use Rattle.desk.specs.declared.file.NamedFile.{NamedFile}
-use Rattle.desk.specs.World.{World, Direction, Shown, changed_at, extended, to_write, IsGiven}
+use Rattle.desk.specs.World.{World, Direction, Shown, changed_at, extended, shown, to_write, IsGiven}
 use Rattle.capture_io.specs.Frame.{Frame}
 use Rattle.capture_io.specs.Frames.{Run}
 use Rattle.capture_io.specs.declared.fault.CaptureFault.{CaptureFault}
-use Rattle.playback.specs.Events.{Event, Outcome, events, played, records_of, second_of}
+use Rattle.playback.specs.Events.{Event, Outcome, Played, Step, all_steps, events, played, records_of, second_of}
 use Rattle.playback.specs.Limits.{most_event_packets, piece_octets}
 use Rattle.playback.specs.declared.machine.Progress.{Progress}
 use Rattle.playback.specs.declared.output.Output.{Output}
@@ -52,19 +52,13 @@ pub record Gathers {S : Type 0} (outcome : Outcome S) (old new : Output) : Type 
   pub lines : new.lines ≡ old.lines ++ outcome.lines
   pub records : new.records ≡ old.records ++ records_of outcome.packets
   pub written : new.written ≡ old.written + length outcome.packets
-  pub few : length outcome.packets ≤ most_event_packets
 
--- an outcome was gathered, and perhaps handed on: once all is, it is said and written
-pub record Plays {S : Type 0} (file : Option ℕ) (outcome : Outcome S)
-    (old : Output) (told : Option World) (new : Output) (now : Option World) : Type 0 where
-  pub handed : handed_on file new now
-      ≡ option_map (after_output file outcome.lines (records_of outcome.packets))
-      (handed_on file old told)
-  pub written : new.written ≡ old.written + length outcome.packets
-
--- the most packets of so many frames and of the seconds so far
-abbrev pub most_packets : Progress → ℕ
-most_packets progress = most_event_packets * (progress.frames + second_of (unwrap_or progress.moment 0))
+-- one of those that may come was gathered, and left a state
+pub record GathersOne {S : Type 0} (may : Outcome S → Type 0) (old new : Output) (after : S) : Type 0 where
+  pub outcome : Outcome S
+  pub is : may outcome
+  pub gathers : Gathers outcome old new
+  pub left : after ≡ outcome.after
 
 -- the outcome of all frames of a run
 abbrev pub outcome_of : {S : Type 0} → (S → Event → Outcome S) → S → Run → Outcome S
@@ -92,3 +86,13 @@ abbrev pub IfFrame : Next → (Frame → Type 0) → Type 0
 IfFrame (next.Frame f) P = P f
 IfFrame next.End P = Unit {0}
 IfFrame (next.Fault fault) P = Unit {0}
+
+-- a capture of that run was played to its end from a state, into a file: what may be done for its steps is said and
+-- written, and left a state
+pub record HasPlayed {S : Type 0} (does : S → Step → Outcome S → Type 0) (start : S) (file : Option ℕ) (old : Shown) (run : Run) (ending : Ending) (after : S) (now : Option World) : Type 0 where
+  pub outcome : Outcome S
+  pub played : Played does start (all_steps run.frames) outcome
+  pub read : All IsRead run.frames
+  pub ends : Ends outcome run ending
+  pub shown : shown now ≡ Some (with_outcome file outcome old)
+  pub left : after ≡ outcome.after

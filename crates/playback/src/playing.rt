@@ -7,10 +7,10 @@ ghost use Rattle.desk.specs.World.{left_of, to_read, shown, shown_of, IsGiven};
 ghost use Rattle.capture_io.specs.Capture.{begin};
 ghost use Rattle.capture_io.specs.Frames.{read_on};
 ghost use Rattle.capture_io.specs.Reading.{beginning};
-ghost use Rattle.playback.specs.Events.{events_of, played};
+ghost use Rattle.playback.specs.Events.{events_of, steps_of};
 ghost use Rattle.playback.specs.Front.{CutRun, Goes};
 ghost use Rattle.playback.specs.Limits.{most_frame_octets, most_records};
-ghost use Rattle.playback.specs.Playing.{most_packets, outcome_of, with_outcome, Ends, IsRead, MayWrite, Plays};
+ghost use Rattle.playback.specs.Playing.{HasPlayed, MayWrite};
 
 use crate::machine::{Machine, Progress};
 use crate::output::{Output, hand_on, hand_on_full};
@@ -38,24 +38,16 @@ pub fn play<D: Desk, M: Machine>(
     file: Option<FileId>,
 ) -> Result<Ending, DeskFault>
     requires begins { reader ≡ beginning reader.id reader.format }
-    requires ready { M.IsReady (record { frames = 0; moment = None }) machine.old }
-    ensures ends { IfOk result (λ ending. IfSome (D.told desk.old) (λ w.
-        let run = read_on reader.format begin (left_of reader.id w) in
-        Ends (outcome_of M.step (M.state machine.old) run) run ending)) }
+    requires ready { M.IsReady (record { frames = 0; moment = None }) 0 machine.old }
     // Each frame was given as one, so that it is in the range of its type.
-    ensures read { IfOk result (λ ending. IfSome (D.told desk.old) (λ w.
-        All IsRead (read_on reader.format begin (left_of reader.id w)).frames)) }
-    ensures shown { OnOk result (IfSome (D.told desk.old) (λ w.
-        let run = read_on reader.format begin (left_of reader.id w) in
-        shown (D.told desk.new) ≡ Some (with_outcome (option_map (λ id. id.number) file)
-        (outcome_of M.step (M.state machine.old) run) (shown_of w)))) }
-    ensures state { OnOk result (IfSome (D.told desk.old) (λ w.
-        let run = read_on reader.format begin (left_of reader.id w) in
-        M.state machine.new ≡ (outcome_of M.step (M.state machine.old) run).after)) }
+    ensures played { IfOk result (λ ending. IfSome (D.told desk.old) (λ w.
+        HasPlayed M.Does (M.state machine.old) (option_map (λ id. id.number) file) (shown_of w)
+        (read_on reader.format begin (left_of reader.id w)) ending
+        (M.state machine.new) (D.told desk.new))) }
 
-    // After a fault a beginning of that was said and written.
+    // After a fault a beginning of what may be done was said and written.
     ensures cut { OnErr result (IfSome (D.told desk.old) (λ w.
-        CutRun M.step (M.state machine.old) (option_map (λ id. id.number) file) (shown_of w)
+        CutRun M.Does (M.state machine.old) (option_map (λ id. id.number) file) (shown_of w)
         (read_on reader.format begin (left_of reader.id w)) (D.told desk.new))) }
     ensures cause { HasCause (D.faults desk.old) (D.faults desk.new) result }
     ensures given { D.given desk.new ≡ D.given desk.old }
@@ -72,30 +64,38 @@ pub fn play<D: Desk, M: Machine>(
     loop {
         match next_frame(alloc, desk, &mut reader)? {
             Next::Frame(frame) => {
-                play_frame(alloc, desk, machine, file, progress, &frame, &mut output)?;
-                progress = Progress {
-                    frames: frame.number,
-                    moment: Some(frame.moment),
-                };
+                progress = play_frame(alloc, desk, machine, file, progress, frame, &mut output)?;
             }
             Next::End => {
-                hand_on(alloc, desk, file, &mut output)?;
-                return Ok(Ending {
-                    fault: None,
-                    frames: progress.frames,
-                    written: output.written,
-                });
+                return play_end(alloc, desk, machine, file, progress, None, output);
             }
             Next::Fault(fault) => {
-                hand_on(alloc, desk, file, &mut output)?;
-                return Ok(Ending {
-                    fault: Some(fault),
-                    frames: progress.frames,
-                    written: output.written,
-                });
+                return play_end(alloc, desk, machine, file, progress, Some(fault), output);
             }
         }
     }
+}
+
+// Lets the machine do what is left to be done, and hands all on.
+fn play_end<D: Desk, M: Machine>(
+    alloc: Global,
+    desk: &mut D,
+    machine: &mut M,
+    file: Option<FileId>,
+    progress: Progress,
+    fault: Option<CaptureFault>,
+    output: Output,
+) -> Result<Ending, DeskFault>
+    // (the helper writes the contract)
+{
+    let mut output = output;
+    machine.close(alloc, progress, &mut output)?;
+    hand_on(alloc, desk, file, &mut output)?;
+    Ok(Ending {
+        fault,
+        frames: progress.frames,
+        written: output.written,
+    })
 }
 
 // Plays a frame behind the seconds before it.
@@ -105,34 +105,32 @@ fn play_frame<D: Desk, M: Machine>(
     machine: &mut M,
     file: Option<FileId>,
     progress: Progress,
-    frame: &Frame,
+    frame: Frame,
     output: &mut Output,
-) -> Result<(), DeskFault>
-    requires ready { M.IsReady progress machine.old }
-    requires next { frame.now.number ≡ progress.frames + 1 }
-    requires later { unwrap_or progress.moment 0 ≤ frame.now.moment }
-    requires most { frame.now.number ≤ most_records }
-    requires moment { frame.now.moment < 2 ^ 32 * 1000000000 }
-    requires size { length frame.now.octets ≤ most_frame_octets }
-    requires room { output.old.written ≤ most_packets progress }
-    ensures ready { OnOk result (M.IsReady
-        (record { frames = frame.now.number; moment = Some frame.now.moment }) machine.new) }
-    ensures plays { OnOk result (Plays (option_map (λ id. id.number) file)
-        (played M.step (M.state machine.old) (events_of progress.moment frame.now))
-        output.old (D.told desk.old) output.new (D.told desk.new)) }
-    ensures state { OnOk result (M.state machine.new
-        ≡ (played M.step (M.state machine.old) (events_of progress.moment frame.now)).after) }
-    ensures goes { Goes M.step (option_map (λ id. id.number) file) (M.state machine.old)
-        (events_of progress.moment frame.now)
+) -> Result<Progress, DeskFault>
+    requires ready { M.IsReady progress output.old.written machine.old }
+    requires next { frame.number ≡ progress.frames + 1 }
+    requires later { unwrap_or progress.moment 0 ≤ frame.moment }
+    requires most { frame.number ≤ most_records }
+    requires moment { frame.moment < 2 ^ 32 * 1000000000 }
+    requires size { length frame.octets ≤ most_frame_octets }
+    ensures reached { IfOk result (λ reached. reached
+        ≡ record { frames = frame.number; moment = Some frame.moment }) }
+    ensures ready { IfOk result (λ reached. M.IsReady reached output.new.written machine.new) }
+    ensures goes { Goes M.Does (option_map (λ id. id.number) file)
+        (M.state machine.old) (M.state machine.new) (steps_of (events_of progress.moment frame))
         output.old (D.told desk.old) result output.new (D.told desk.new) }
-    ensures room { OnOk result (output.new.written ≤ most_packets
-        (record { frames = frame.now.number; moment = Some frame.now.moment })) }
     ensures cause { HasCause (D.faults desk.old) (D.faults desk.new) result }
     ensures given { D.given desk.new ≡ D.given desk.old }
     ensures steady { StaysSteady (D.steady desk.old) (D.steady desk.new)
         (MayWrite (option_map (λ id. id.number) file) (D.given desk.old)) (IsErrOf result Failed) }
 {
-    let reached = play_seconds(alloc, desk, machine, file, progress, frame.moment, output)?;
-    machine.take(alloc, reached, frame, output)?;
-    hand_on_full(alloc, desk, file, output)
+    let reached = Progress {
+        frames: frame.number,
+        moment: Some(frame.moment),
+    };
+    let before = play_seconds(alloc, desk, machine, file, progress, frame.moment, output)?;
+    machine.take(alloc, before, frame, output)?;
+    hand_on_full(alloc, desk, file, output)?;
+    Ok(reached)
 }

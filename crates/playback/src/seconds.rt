@@ -2,10 +2,10 @@
 ghost use Rattle.std.specs.Prelude.{◌≡◌, ◌<◌, ◌≤◌, ◌+◌, ◌*◌, ◌^◌, ◌∷◌, [], Some, IfOk, IsErrOf, OnOk, option_map, unwrap_or};
 ghost use Rattle.desk.specs.declared.fault.DeskFault.TheVariants.{Failed};
 ghost use Rattle.desk.specs.Causes.{HasCause, StaysSteady};
-ghost use Rattle.playback.specs.Events.{played, second_of, ticks, Tick};
+ghost use Rattle.playback.specs.Events.{second_of, steps_of, ticks, Happens, Tick};
 ghost use Rattle.playback.specs.Front.{Goes};
-ghost use Rattle.playback.specs.Limits.{most_event_packets, most_records};
-ghost use Rattle.playback.specs.Playing.{most_packets, MayWrite, Plays};
+ghost use Rattle.playback.specs.Limits.{most_records};
+ghost use Rattle.playback.specs.Playing.{MayWrite};
 
 use crate::machine::{Machine, Progress};
 use crate::output::{Output, hand_on_full};
@@ -23,23 +23,16 @@ pub(crate) fn play_seconds<D: Desk, M: Machine>(
     moment: u64,
     output: &mut Output,
 ) -> Result<Progress, DeskFault>
-    requires ready { M.IsReady progress machine.old }
+    requires ready { M.IsReady progress output.old.written machine.old }
     requires later { unwrap_or progress.moment 0 ≤ moment }
     requires most { progress.frames ≤ most_records }
     requires moment { moment < 2 ^ 32 * 1000000000 }
-    requires room { output.old.written ≤ most_packets progress }
-    ensures ready { IfOk result (λ reached. M.IsReady reached machine.new) }
+    ensures ready { IfOk result (λ reached. M.IsReady reached output.new.written machine.new) }
     ensures frames { IfOk result (λ reached. reached.frames ≡ progress.frames) }
     ensures later { IfOk result (λ reached. unwrap_or reached.moment 0 ≤ moment) }
-    ensures plays { OnOk result (Plays (option_map (λ id. id.number) file)
-        (played M.step (M.state machine.old) (ticks progress.moment moment))
-        output.old (D.told desk.old) output.new (D.told desk.new)) }
-    ensures state { OnOk result (M.state machine.new
-        ≡ (played M.step (M.state machine.old) (ticks progress.moment moment)).after) }
-    ensures goes { Goes M.step (option_map (λ id. id.number) file) (M.state machine.old)
-        (ticks progress.moment moment)
+    ensures goes { Goes M.Does (option_map (λ id. id.number) file)
+        (M.state machine.old) (M.state machine.new) (steps_of (ticks progress.moment moment))
         output.old (D.told desk.old) result output.new (D.told desk.new) }
-    ensures room { IfOk result (λ reached. output.new.written ≤ most_packets reached) }
     ensures cause { HasCause (D.faults desk.old) (D.faults desk.new) result }
     ensures given { D.given desk.new ≡ D.given desk.old }
     ensures steady { StaysSteady (D.steady desk.old) (D.steady desk.new)
@@ -68,21 +61,15 @@ fn play_second<D: Desk, M: Machine>(
     second: u32,
     output: &mut Output,
 ) -> Result<(), DeskFault>
-    requires ready { M.IsReady progress machine.old }
+    requires ready { M.IsReady progress output.old.written machine.old }
     requires later { unwrap_or progress.moment 0 < second * 1000000000 }
     requires most { progress.frames ≤ most_records }
-    requires room { output.old.written < 2 ^ 48 }
     ensures ready { OnOk result (M.IsReady
-        (record { frames = progress.frames; moment = Some (second * 1000000000) }) machine.new) }
-    ensures plays { OnOk result (Plays (option_map (λ id. id.number) file)
-        (M.step (M.state machine.old) (Tick second))
-        output.old (D.told desk.old) output.new (D.told desk.new)) }
-    ensures state { OnOk result (M.state machine.new
-        ≡ (M.step (M.state machine.old) (Tick second)).after) }
-    ensures goes { Goes M.step (option_map (λ id. id.number) file) (M.state machine.old)
-        (Tick second ∷ [])
+        (record { frames = progress.frames; moment = Some (second * 1000000000) })
+        output.new.written machine.new) }
+    ensures goes { Goes M.Does (option_map (λ id. id.number) file)
+        (M.state machine.old) (M.state machine.new) (Happens (Tick second) ∷ [])
         output.old (D.told desk.old) result output.new (D.told desk.new) }
-    ensures few { OnOk result (output.new.written ≤ output.old.written + most_event_packets) }
     ensures cause { HasCause (D.faults desk.old) (D.faults desk.new) result }
     ensures given { D.given desk.new ≡ D.given desk.old }
     ensures steady { StaysSteady (D.steady desk.old) (D.steady desk.new)
