@@ -1,10 +1,9 @@
 -- Events in order, and what is done for them.
-use Rattle.std.proofs.Common.{◌≡◌, ℕ, suc, ◌+◌, ◌-◌, List, [], ◌∷◌, ◌++◌, Option, Some, None, append_assoc, refl, sym, ap, ap₂, ◌∙◌, map}
+use Rattle.std.proofs.Common.{◌≡◌, ℕ, suc, ◌-◌, List, [], ◌∷◌, ◌++◌, Option, Some, None, append_assoc, refl, sym, subst, ap, ap₂, ◌∙◌, map}
 use Rattle.std.specs.List.{range_with_len}
 use Rattle.std.proofs.lemmas.List.{append-nil}
-use Rattle.std.proofs.lemmas.List.FromFn.{map-range_with_len_more}
 use Rattle.capture_io.specs.Frame.{Frame}
-use Rattle.playback.specs.Events.{Event, Outcome, Packet, Tick, Arrival, arrivals, events_after, events_of, followed, idle, played, second_of, ticks}
+use Rattle.playback.specs.Events.{Event, Outcome, Packet, Played, Step, Tick, Arrival, arrivals, events_after, events_of, followed, idle, played, second_of}
 
 -- the outcome of these parts
 abbrev outcome_with : {S : Type 0} → S → List ℕ → List Packet → Outcome S
@@ -22,38 +21,22 @@ played-append step state (event ∷ first) others =
     ap (followed (step state event)) (played-append step (step state event).after first others)
     ∙ sym (followed-assoc (step state event) (played step (step state event).after first) _)
 
--- a frame with the seconds before it, and then the frames after it
-pub played-frame : {S : Type 0} (step : S → Event → Outcome S) (state : S) (previous : Option ℕ) (frame : Frame) (frames : List Frame)
-    → played step state (events_after previous (frame ∷ frames))
-    ≡ followed (played step state (events_of previous frame)) (played step (played step state (events_of previous frame)).after (events_after (Some frame.moment) frames))
-played-frame step state previous frame frames = played-append step state (events_of previous frame) (events_after (Some frame.moment) frames)
-
 -- nothing is done after an outcome
 followed-still : {S : Type 0} (o : Outcome S) → followed o (idle o.after) ≡ o
 followed-still o = ap₂ (outcome_with o.after) (append-nil o.lines) (append-nil o.packets)
 
--- an event alone
-pub played-one : {S : Type 0} (step : S → Event → Outcome S) (state : S) (event : Event) → played step state (event ∷ []) ≡ step state event
-played-one step state event = followed-still (step state event)
+-- steps were played, and then others
+pub plays-append : {S : Type 0} (does : S → Step → Outcome S → Type 0) (start : S) (first others : List Step) (a b : Outcome S)
+    → Played does start first a → Played does a.after others b → Played does start (first ++ others) (followed a b)
+plays-append {S} does start [] others a b is next =
+    subst (λ (o : Outcome S). Played does start others (followed o b)) (sym is) (subst (λ (o : Outcome S). Played does o.after others b) is next)
+plays-append {S} does start (step ∷ first) others a b (one, rest, done, more, whole) next =
+    (one, followed rest b, done, plays-append does one.after first others rest b more (subst (λ (o : Outcome S). Played does o.after others b) whole next),
+    ap (λ (o : Outcome S). followed o b) whole ∙ followed-assoc one rest b)
 
--- seconds in a row, and the one after them
-pub played-second : {S : Type 0} (step : S → Event → Outcome S) (state : S) (first n second : ℕ) → first + n ≡ second
-    → played step state (map Tick (range_with_len first (n + 1)))
-    ≡ followed (played step state (map Tick (range_with_len first n))) (step (played step state (map Tick (range_with_len first n))).after (Tick second))
-played-second step state first n second is =
-    let seconds : List Event = map Tick (range_with_len first n) in
-    ap (played step state) (map-range_with_len_more Tick first n second is)
-    ∙ played-append step state seconds (Tick second ∷ [])
-    ∙ ap (followed (played step state seconds)) (played-one step (played step state seconds).after (Tick second))
-
--- seconds, and then a frame
-pub played-events : {S : Type 0} (step : S → Event → Outcome S) (state : S) (previous : Option ℕ) (frame : Frame)
-    → played step state (events_of previous frame)
-    ≡ followed (played step state (ticks previous frame.moment)) (step (played step state (ticks previous frame.moment)).after (Arrival frame))
-played-events step state previous frame =
-    let seconds : List Event = ticks previous frame.moment in
-    played-append step state seconds (Arrival frame ∷ [])
-    ∙ ap (followed (played step state seconds)) (played-one step (played step state seconds).after (Arrival frame))
+-- a step alone
+pub plays-one : {S : Type 0} (does : S → Step → Outcome S → Type 0) (start : S) (step : Step) (o : Outcome S) → does start step o → Played does start (step ∷ []) o
+plays-one does start step o is = (o, idle o.after, is, refl, sym (followed-still o))
 
 -- the frames among events in a row
 arrivals-append : (first others : List Event) → arrivals (first ++ others) ≡ arrivals first ++ arrivals others

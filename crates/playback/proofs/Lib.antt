@@ -1,4 +1,6 @@
+pub mod DeterminedLemmas
 pub mod EventLemmas
 pub mod FrontLemmas
-pub mod PlayLemmas
+pub mod OutputLemmas
+pub mod PassingLemmas
 pub mod WrittenLemmas

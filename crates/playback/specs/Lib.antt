@@ -1,3 +1,4 @@
+pub mod Determined
 pub mod Events
 pub mod Front
 pub mod Limits

@@ -1,14 +1,13 @@
 -- What a play of a capture leaves at its desk.
-use Rattle.std.specs.Prelude.{◌≡◌, ℕ, ◌+◌, ◌*◌, ◌^◌, ◌≤◌, ◌<◌, ◌||◌, nat_le, Bool, List, ◌++◌, length, Option, Some, None, option_map, unwrap_or, Result, Ok, Err}
+use Rattle.std.specs.Prelude.{◌≡◌, ℕ, ◌+◌, ◌*◌, ◌^◌, ◌<◌, ◌||◌, nat_le, Bool, List, ◌++◌, length, Option, Some, None, option_map, Result, Ok, Err}
 use Rattle.std.specs.List.{All}
 use Rattle.desk.specs.declared.file.NamedFile.{NamedFile}
 use Rattle.desk.specs.World.{World, Direction, Shown, changed_at, extended, shown, to_write, IsGiven}
 use Rattle.capture_io.specs.Frame.{Frame}
 use Rattle.capture_io.specs.Frames.{Run}
 use Rattle.capture_io.specs.declared.fault.CaptureFault.{CaptureFault}
-use Rattle.playback.specs.Events.{Event, Outcome, Played, Step, all_steps, events, played, records_of, second_of}
-use Rattle.playback.specs.Limits.{most_event_packets, piece_octets}
-use Rattle.playback.specs.declared.machine.Progress.{Progress}
+use Rattle.playback.specs.Events.{Event, Outcome, Played, Step, all_steps, events, played, records_of}
+use Rattle.playback.specs.Limits.{piece_octets}
 use Rattle.playback.specs.declared.output.Output.{Output}
 use Rattle.playback.specs.declared.playing.Ending.{Ending}
 use Rattle.playback.specs.declared.reading.Next.{Next}
@@ -43,6 +42,10 @@ is_full output =
 abbrev pub handed_on : Option ℕ → Output → Option World → Option World
 handed_on file output told = option_map (after_output file output.lines output.records) told
 
+-- what is left to read of each id stays
+abbrev pub KeepsReaders : Option World → Option World → Type 0
+KeepsReaders told now = option_map (λ w. w.readers) now ≡ option_map (λ w. w.readers) told
+
 -- all of an outcome was said and written
 abbrev pub with_outcome : {S : Type 0} → Option ℕ → Outcome S → Shown → Shown
 with_outcome file outcome s = with_output file outcome.lines (records_of outcome.packets) s
@@ -75,6 +78,17 @@ pub record Ends {S : Type 0} (outcome : Outcome S) (run : Run) (ending : Ending)
   pub frames : ending.frames ≡ length run.frames
   pub written : ending.written ≡ length outcome.packets
 
+-- a capture of that run was played to its end from a state, into a file: what may be done for its steps is said and
+-- written, and left a state
+pub record HasPlayed {S : Type 0} (does : S → Step → Outcome S → Type 0) (start : S) (file : Option ℕ) (old : Shown)
+    (run : Run) (ending : Ending) (after : S) (now : Option World) : Type 0 where
+  pub outcome : Outcome S
+  pub played : Played does start (all_steps run.frames) outcome
+  pub read : All IsRead run.frames
+  pub ends : Ends outcome run ending
+  pub shown : shown now ≡ Some (with_outcome file outcome old)
+  pub left : after ≡ outcome.after
+
 -- what is next in a capture
 abbrev pub answer_of : Next → Result (Option Frame) CaptureFault
 answer_of (next.Frame f) = Ok (Some f)
@@ -86,13 +100,3 @@ abbrev pub IfFrame : Next → (Frame → Type 0) → Type 0
 IfFrame (next.Frame f) P = P f
 IfFrame next.End P = Unit {0}
 IfFrame (next.Fault fault) P = Unit {0}
-
--- a capture of that run was played to its end from a state, into a file: what may be done for its steps is said and
--- written, and left a state
-pub record HasPlayed {S : Type 0} (does : S → Step → Outcome S → Type 0) (start : S) (file : Option ℕ) (old : Shown) (run : Run) (ending : Ending) (after : S) (now : Option World) : Type 0 where
-  pub outcome : Outcome S
-  pub played : Played does start (all_steps run.frames) outcome
-  pub read : All IsRead run.frames
-  pub ends : Ends outcome run ending
-  pub shown : shown now ≡ Some (with_outcome file outcome old)
-  pub left : after ≡ outcome.after

@@ -13,7 +13,7 @@ mod seconds;
 pub use capture_io::{
     CaptureFault, CaptureReader, Desk, DeskFault, FileId, Frame, NoMemory, Octets,
 };
-pub use laws::{events_keep_the_frames, what_is_written_is_read};
+pub use laws::{determined_plays_are_played, events_keep_the_frames, what_is_written_is_read};
 pub use limits::{PIECE_OCTETS, limits_are};
 pub use machine::{Machine, Progress};
 pub use output::Output;

@@ -66,9 +66,6 @@ pub(crate) fn hand_on_full<D: Desk>(
     file: Option<FileId>,
     output: &mut Output,
 ) -> Result<(), DeskFault>
-    ensures told { OnOk result (
-        handed_on (option_map (λ id. id.number) file) output.new (D.told desk.new)
-        ≡ handed_on (option_map (λ id. id.number) file) output.old (D.told desk.old)) }
     ensures hands { OnOk result (Hands (option_map (λ id. id.number) file)
         output.old (D.told desk.old) output.new (D.told desk.new)) }
     ensures breaks { OnErr result (Breaks (option_map (λ id. id.number) file)

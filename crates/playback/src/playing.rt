@@ -1,16 +1,15 @@
 // The frames of a capture, one after another, through a machine.
-ghost use Rattle.std.specs.Prelude.{◌≡◌, ◌<◌, ◌≤◌, ◌+◌, ◌*◌, ◌^◌, None, Some, IfOk, IfSome, IsErrOf, OnErr, OnOk, length, option_map, unwrap_or};
-ghost use Rattle.std.specs.List.{All};
+ghost use Rattle.std.specs.Prelude.{◌≡◌, ◌<◌, ◌≤◌, ◌+◌, ◌*◌, ◌^◌, ◌∷◌, [], None, Some, IfOk, IfSome, IsErrOf, OnErr, OnOk, length, option_map, unwrap_or};
 ghost use Rattle.desk.specs.declared.fault.DeskFault.TheVariants.{Failed};
 ghost use Rattle.desk.specs.Causes.{HasCause, StaysSteady};
 ghost use Rattle.desk.specs.World.{left_of, to_read, shown, shown_of, IsGiven};
 ghost use Rattle.capture_io.specs.Capture.{begin};
 ghost use Rattle.capture_io.specs.Frames.{read_on};
 ghost use Rattle.capture_io.specs.Reading.{beginning};
-ghost use Rattle.playback.specs.Events.{events_of, steps_of};
+ghost use Rattle.playback.specs.Events.{events_of, steps_of, End};
 ghost use Rattle.playback.specs.Front.{CutRun, Goes};
 ghost use Rattle.playback.specs.Limits.{most_frame_octets, most_records};
-ghost use Rattle.playback.specs.Playing.{HasPlayed, MayWrite};
+ghost use Rattle.playback.specs.Playing.{HasPlayed, KeepsReaders, MayWrite};
 
 use crate::machine::{Machine, Progress};
 use crate::output::{Output, hand_on, hand_on_full};
@@ -67,10 +66,10 @@ pub fn play<D: Desk, M: Machine>(
                 progress = play_frame(alloc, desk, machine, file, progress, frame, &mut output)?;
             }
             Next::End => {
-                return play_end(alloc, desk, machine, file, progress, None, output);
+                return play_end(alloc, desk, machine, file, progress, None, &mut output);
             }
             Next::Fault(fault) => {
-                return play_end(alloc, desk, machine, file, progress, Some(fault), output);
+                return play_end(alloc, desk, machine, file, progress, Some(fault), &mut output);
             }
         }
     }
@@ -84,13 +83,24 @@ fn play_end<D: Desk, M: Machine>(
     file: Option<FileId>,
     progress: Progress,
     fault: Option<CaptureFault>,
-    output: Output,
+    output: &mut Output,
 ) -> Result<Ending, DeskFault>
-    // (the helper writes the contract)
+    requires ready { M.IsReady progress output.old.written machine.old }
+    requires most { progress.frames ≤ most_records }
+    ensures ending { IfOk result (λ ending. ending ≡ record {
+        fault = fault; frames = progress.frames; written = output.new.written }) }
+    ensures lines { OnOk result (output.new.lines ≡ []) }
+    ensures records { OnOk result (output.new.records ≡ []) }
+    ensures goes { Goes M.Does (option_map (λ id. id.number) file)
+        (M.state machine.old) (M.state machine.new) (End ∷ [])
+        output.old (D.told desk.old) result output.new (D.told desk.new) }
+    ensures cause { HasCause (D.faults desk.old) (D.faults desk.new) result }
+    ensures given { D.given desk.new ≡ D.given desk.old }
+    ensures steady { StaysSteady (D.steady desk.old) (D.steady desk.new)
+        (MayWrite (option_map (λ id. id.number) file) (D.given desk.old)) (IsErrOf result Failed) }
 {
-    let mut output = output;
-    machine.close(alloc, progress, &mut output)?;
-    hand_on(alloc, desk, file, &mut output)?;
+    machine.close(alloc, progress, output)?;
+    hand_on(alloc, desk, file, output)?;
     Ok(Ending {
         fault,
         frames: progress.frames,
@@ -120,6 +130,7 @@ fn play_frame<D: Desk, M: Machine>(
     ensures goes { Goes M.Does (option_map (λ id. id.number) file)
         (M.state machine.old) (M.state machine.new) (steps_of (events_of progress.moment frame))
         output.old (D.told desk.old) result output.new (D.told desk.new) }
+    ensures readers { OnOk result (KeepsReaders (D.told desk.old) (D.told desk.new)) }
     ensures cause { HasCause (D.faults desk.old) (D.faults desk.new) result }
     ensures given { D.given desk.new ≡ D.given desk.old }
     ensures steady { StaysSteady (D.steady desk.old) (D.steady desk.new)

@@ -1,9 +1,7 @@
 use Rattle.std.proofs.Common.{◌≡◌, ◌≤◌, ◌-◌, None, IsTrue}
 use Rattle.std.specs.Option.{option_map}
 use Rattle.playback.specs.Limits.{most_records}
-use Rattle.playback.specs.Playing.{handed_on, most_packets}
-use Rattle.playback.proofs.FrontLemmas.{Passing}
-use Rattle.playback.proofs.PlayLemmas.{Ongoing}
+use Rattle.playback.proofs.PassingLemmas.{Passing}
 use Rattle.playback.proofs.playing.play.Given as goal
 
 abbrev pub invariant-loop-output : goal.invariant-loop-output
@@ -13,10 +11,9 @@ invariant-loop-output g l = record {
   format : l.reader.format ≡ l.fn.reader.format;
   moment : l.progress.moment ≡ l.reader.position.greatest;
   frames : l.progress.frames ≡ l.reader.position.count;
-  few : l.output.written ≤ most_packets l.progress;
-  ready : g.M.Machine.IsReady l.progress l.machine;
-  going : Ongoing g.M.Machine.step l.fn.reader.id (option_map (λ id. id.number) l.file) l.fn.reader.format (g.M.Machine.state l.fn.machine) l.reader.position (g.M.Machine.state l.machine) l.output.written (g.D.Desk.told l.fn.desk) (handed_on (option_map (λ id. id.number) l.file) l.output (g.D.Desk.told l.desk));
-  passing : Passing g.M.Machine.step l.fn.reader.id (option_map (λ id. id.number) l.file) l.fn.reader.format (g.M.Machine.state l.fn.machine) l.reader.position (g.M.Machine.state l.machine) l.output (g.D.Desk.told l.fn.desk) (g.D.Desk.told l.desk);
+  most : l.progress.frames ≤ most_records;
+  ready : g.M.Machine.IsReady l.progress l.output.written l.machine;
+  passing : Passing g.M.Machine.Does l.fn.reader.id (option_map (λ id. id.number) l.file) l.fn.reader.format (g.M.Machine.state l.fn.machine) l.reader.position (g.M.Machine.state l.machine) l.output (g.D.Desk.told l.fn.desk) (g.D.Desk.told l.desk);
   given : g.D.Desk.given l.desk ≡ g.D.Desk.given l.fn.desk;
   steady : IsTrue (g.D.Desk.steady l.fn.desk) → IsTrue (g.D.Desk.steady l.desk);
   faults : g.D.Desk.faults l.fn.desk ≤ g.D.Desk.faults l.desk;
