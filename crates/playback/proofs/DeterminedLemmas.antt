@@ -2,13 +2,13 @@
 use Rattle.std.proofs.Common.{◌≡◌, ℕ, List, [], ◌∷◌, ◌++◌, Option, Some, refl, sym, ap, ap₂, ◌∙◌, ◌⊎◌, inl, inr, subst}
 use Rattle.std.proofs.lemmas.List.{append-nil}
 use Rattle.std.specs.List.{All}
-use Rattle.desk.specs.World.{World, Shown, shown}
+use Rattle.desk.specs.World.{World, Shown}
 use Rattle.capture_io.specs.Frame.{Frame}
 use Rattle.capture_io.specs.Frames.{Run}
 use Rattle.playback.specs.Determined.{CutPlay, EndPlay}
 use Rattle.playback.specs.Events.{Determined, End, Event, Happens, Outcome, Played, Step, all_steps, events, followed, played, records_of, steps_of}
 use Rattle.playback.specs.Front.{Cut, CutRun, IsFront}
-use Rattle.playback.specs.Playing.{outcome_of, with_outcome, Ends, HasPlayed, IsRead}
+use Rattle.playback.specs.Playing.{with_outcome, Ends, HasPlayed, IsRead}
 use Rattle.playback.specs.declared.playing.Ending.{Ending}
 use Rattle.playback.proofs.EventLemmas.{played-append}
 use Rattle.playback.proofs.FrontLemmas.{front-front, front-lines}

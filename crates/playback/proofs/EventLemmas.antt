@@ -30,9 +30,13 @@ pub plays-append : {S : Type 0} (does : S → Step → Outcome S → Type 0) (st
     → Played does start first a → Played does a.after others b → Played does start (first ++ others) (followed a b)
 plays-append {S} does start [] others a b is next =
     subst (λ (o : Outcome S). Played does start others (followed o b)) (sym is) (subst (λ (o : Outcome S). Played does o.after others b) is next)
-plays-append {S} does start (step ∷ first) others a b (one, rest, done, more, whole) next =
-    (one, followed rest b, done, plays-append does one.after first others rest b more (subst (λ (o : Outcome S). Played does o.after others b) whole next),
-    ap (λ (o : Outcome S). followed o b) whole ∙ followed-assoc one rest b)
+plays-append {S} does start (step ∷ first) others a b (one, rest, done, more, whole) next = (
+  one,
+  followed rest b,
+  done,
+  plays-append does one.after first others rest b more (subst (λ (o : Outcome S). Played does o.after others b) whole next),
+  ap (λ (o : Outcome S). followed o b) whole ∙ followed-assoc one rest b,
+)
 
 -- a step alone
 pub plays-one : {S : Type 0} (does : S → Step → Outcome S → Type 0) (start : S) (step : Step) (o : Outcome S) → does start step o → Played does start (step ∷ []) o

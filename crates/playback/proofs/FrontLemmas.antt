@@ -1,5 +1,5 @@
 -- What a play that is cut short leaves, from call to call.
-use Rattle.std.proofs.Common.{◌≡◌, ◌≤◌, ℕ, zero, suc, ◌+◌, ◌-◌, length, List, [], ◌∷◌, ◌++◌, map, take, drop, Option, Some, None, Result, Ok, Err, append_assoc, refl, sym, ap, ap₂, ◌∙◌, ◌⊎◌, subst, inl, inr, arith}
+use Rattle.std.proofs.Common.{◌≡◌, ◌≤◌, ℕ, zero, suc, ◌+◌, ◌-◌, List, [], ◌∷◌, ◌++◌, map, take, drop, Option, Some, None, Result, Ok, Err, append_assoc, refl, sym, ap, ap₂, ◌∙◌, ◌⊎◌, subst, inl, inr, arith}
 use Rattle.std.specs.List.{range_with_len}
 use Rattle.std.specs.Option.{option_map}
 use Rattle.std.specs.Result.{MatchResult, OnErr, OnOk}
@@ -9,7 +9,7 @@ use Rattle.desk.specs.World.{World, Shown, after_say, after_write, shown, shown_
 use Rattle.capture_io.specs.Frame.{Frame}
 use Rattle.playback.specs.Events.{Arrival, Event, Happens, Outcome, Played, Step, Tick, events_of, followed, idle, played, records_of, second_of, steps_of, ticks}
 use Rattle.playback.specs.Front.{Breaks, Cut, Hands, IsFront, Stands}
-use Rattle.playback.specs.Playing.{after_output, handed_on, with_outcome, with_output, GathersOne}
+use Rattle.playback.specs.Playing.{after_output, with_outcome, with_output, GathersOne}
 use Rattle.playback.specs.declared.output.Output.{Output}
 use Rattle.playback.proofs.EventLemmas.{played-append, plays-append, plays-one}
 use Rattle.playback.proofs.OutputLemmas.{records_of-append, says_and_writes, with_output-twice, written-none}
@@ -142,9 +142,11 @@ module _ {S : Type 0} (step : S → Event → Outcome S) (start : S) where
 
   pub front-octets : (first all : List Event) → IsFront first all → IsFront (records_of (played step start first).packets) (records_of (played step start all).packets)
   front-octets first all is =
-      let more = played step (played step start first).after is.0 in
-      (records_of more.packets, sym (ap (λ (o : Outcome S). records_of o.packets) (played-append step start first is.0) ∙ records_of-append (played step start first).packets more.packets)
-      ∙ ap (λ (l : List Event). records_of (played step start l).packets) is.1)
+      let more = played step (played step start first).after is.0 in (
+        records_of more.packets,
+        sym (ap (λ (o : Outcome S). records_of o.packets) (played-append step start first is.0) ∙ records_of-append (played step start first).packets more.packets)
+            ∙ ap (λ (l : List Event). records_of (played step start l).packets) is.1,
+      )
 
 module _ {S : Type 0} (does : S → Step → Outcome S → Type 0) (start : S) (file : Option ℕ) (old : Shown) where
   -- where only reading came between

@@ -4,7 +4,7 @@ use Rattle.std.specs.List.{All}
 use Rattle.std.proofs.lemmas.List.{append-nil, length-append}
 use Rattle.std.proofs.lemmas.List.Elements.{All-append, All-cons, All-nil}
 use Rattle.std.specs.Option.{option_map, IfSome, IsSomeAnd}
-use Rattle.std.specs.Result.{IfOk, MatchResult, OnErr, OnOk}
+use Rattle.std.specs.Result.{IfOk, OnErr, OnOk}
 use Rattle.desk.specs.World.{World, Shown, after_read, found_at, left_of, shown, shown_of}
 use Rattle.desk.proofs.Reading.{left-after_read, shown-after_read}
 use Rattle.capture_io.specs.Capture.{begin, outcome}
@@ -17,7 +17,7 @@ use Rattle.capture_io.specs.declared.position.Position.{Position}
 use Rattle.capture_io.proofs.Runs.{read_on-end, read_on-fault, read_on-frame}
 use Rattle.playback.specs.Events.{End, Event, Outcome, Played, Step, all_steps, events, events_after, events_of, followed, idle, records_of, steps_of}
 use Rattle.playback.specs.Front.{Cut, CutRun, Goes, Stands}
-use Rattle.playback.specs.Playing.{with_outcome, with_output, HasPlayed, IsRead, KeepsReaders}
+use Rattle.playback.specs.Playing.{with_output, HasPlayed, IsRead, KeepsReaders}
 use Rattle.playback.specs.declared.output.Output.{Output}
 use Rattle.playback.specs.declared.playing.Ending.{Ending}
 use Rattle.playback.proofs.FrontLemmas.{cut_here, stands-played, stands_shown, steps-append}

@@ -5,7 +5,7 @@ use Rattle.std.specs.Result.{MatchResult}
 use Rattle.desk.specs.World.{World, Shown, shown}
 use Rattle.capture_io.specs.Frame.{Frame}
 use Rattle.capture_io.specs.Frames.{Run}
-use Rattle.playback.specs.Events.{Event, Outcome, Played, Step, all_steps, events, records_of, steps_of}
+use Rattle.playback.specs.Events.{Outcome, Played, Step, all_steps, events, records_of, steps_of}
 use Rattle.playback.specs.Playing.{after_output, handed_on, with_output, with_outcome, IsRead}
 use Rattle.playback.specs.declared.output.Output.{Output}
 

@@ -69,7 +69,15 @@ pub fn play<D: Desk, M: Machine>(
                 return play_end(alloc, desk, machine, file, progress, None, &mut output);
             }
             Next::Fault(fault) => {
-                return play_end(alloc, desk, machine, file, progress, Some(fault), &mut output);
+                return play_end(
+                    alloc,
+                    desk,
+                    machine,
+                    file,
+                    progress,
+                    Some(fault),
+                    &mut output,
+                );
             }
         }
     }
@@ -88,7 +96,10 @@ fn play_end<D: Desk, M: Machine>(
     requires ready { M.IsReady progress output.old.written machine.old }
     requires most { progress.frames ≤ most_records }
     ensures ending { IfOk result (λ ending. ending ≡ record {
-        fault = fault; frames = progress.frames; written = output.new.written }) }
+      fault = fault;
+      frames = progress.frames;
+      written = output.new.written;
+    }) }
     ensures lines { OnOk result (output.new.lines ≡ []) }
     ensures records { OnOk result (output.new.records ≡ []) }
     ensures goes { Goes M.Does (option_map (λ id. id.number) file)

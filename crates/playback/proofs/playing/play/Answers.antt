@@ -1,6 +1,5 @@
 use Rattle.std.proofs.Common.{◌≡◌, ◌∙◌, Some, None, ap, refl, sym, arith}
 use Rattle.std.specs.Option.{option_map}
-use Rattle.capture_io.specs.Frame.{Frame}
 use Rattle.capture_io.specs.Reading.{Reading, passed}
 use Rattle.capture_io.specs.declared.position.Position.{Position}
 use Rattle.desk.specs.declared.desk.FileId.{FileId}

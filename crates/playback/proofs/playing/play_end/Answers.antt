@@ -1,4 +1,4 @@
-use Rattle.std.proofs.Common.{◌∷◌, ◌++◌, [], List, rules, refl, inr}
+use Rattle.std.proofs.Common.{◌∷◌, ◌++◌, [], List, rules, inr}
 use Rattle.std.specs.Option.{option_map}
 use Rattle.desk.specs.declared.desk.FileId.{FileId}
 use Rattle.playback.specs.Events.{End, Step}

@@ -1,4 +1,4 @@
-use Rattle.std.proofs.Common.{◌≡◌, ◌∙◌, ◌∷◌, ◌++◌, [], List, append_assoc, ap, rules, sym, subst}
+use Rattle.std.proofs.Common.{◌≡◌, ◌∷◌, ◌++◌, [], List, ap, rules}
 use Rattle.std.specs.Option.{option_map}
 use Rattle.capture_io.specs.Frame.{Frame}
 use Rattle.desk.specs.declared.desk.FileId.{FileId}
