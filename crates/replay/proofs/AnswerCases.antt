@@ -3,7 +3,6 @@ use Rattle.octets.specs.Rules.{first_failing}
 use Rattle.command_words.specs.Words.{words_of}
 use Rattle.command_words.specs.declared.words.Words.{Words}
 use Rattle.std.proofs.Common.{◌≡◌, ℕ, List, [], ◌∷◌, ◌++◌, length, Option, Some, None, Result, Ok, Err, append_assoc, refl, sym, ap, subst, ◌∙◌}
-use Rattle.std.specs.List.{All}
 use Rattle.std.specs.Option.{option_map, IfSome}
 use Rattle.std.specs.Result.{IfOk, OnOk}
 use Rattle.std.proofs.lemmas.List.{append-nil, map-append}
@@ -17,9 +16,10 @@ use Rattle.capture_io.specs.Output.{out_header}
 use Rattle.capture_io.specs.declared.format.Format.{Format}
 use Rattle.lisp_settings.specs.Lawful.{IsLawful}
 use Rattle.lisp_settings.specs.declared.settings.Settings.{Settings}
-use Rattle.playback.specs.Events.{Outcome, records_of}
-use Rattle.playback.specs.Playing.{outcome_of, with_outcome, Ends, IsRead}
+use Rattle.playback.specs.Events.{Determined, Outcome, records_of}
+use Rattle.playback.specs.Playing.{outcome_of, with_outcome, Ends, HasPlayed}
 use Rattle.playback.specs.declared.playing.Ending.{Ending}
+use Rattle.playback.proofs.DeterminedLemmas.{end-play}
 use Rattle.router_model.specs.Journal.{statics}
 use Rattle.router_model.specs.Lifting.{outcome_tabled, WereRead}
 use Rattle.router_model.specs.Parts.{Parts, parts_in, table}
@@ -120,22 +120,20 @@ as_plain settings format octets parts lawful begins read = rw begins (run-replay
 pub table_replayed : (settings : Settings) (id reader : ℕ) (format : Format) (name : List ℕ) (old made new : Option World) (ending : Ending) (entries : ℕ) (parts after : Parts) (kept : Settings)
     → IsLawful settings → parts ≡ parts_in settings (statics settings)
     → IfSome old (λ w. found_at id w.writers ≡ None) → made ≡ option_map (λ w. after_write id out_header (after_make id name w)) old
-    → IfSome made (λ w. All IsRead (read_on format begin (left_of reader w)).frames)
-    → IfSome made (λ w. Ends (table_of settings parts (read_on format begin (left_of reader w))) (read_on format begin (left_of reader w)) ending)
-    → IfSome made (λ w. shown new ≡ Some (with_outcome (Some id) (table_of settings parts (read_on format begin (left_of reader w))) (shown_of w)))
-    → IfSome made (λ w. router_of kept after ≡ (table_of settings parts (read_on format begin (left_of reader w))).after)
+    → IfSome made (λ w. HasPlayed (Determined (after_event table)) (router_of settings parts) (Some id) (shown_of w) (read_on format begin (left_of reader w)) ending (router_of kept after) new)
     → entries ≡ after.count
     → IfSome old (λ w. HasReplayed settings name (read_on format begin (left_of reader w)) (counts_of ending entries) (shown_of w) (shown new))
-table_replayed settings id reader format name old None new ending entries parts after kept lawful begins fresh makes read ends frames left count =
+table_replayed settings id reader format name old None new ending entries parts after kept lawful begins fresh makes played count =
     frames_replayed settings id reader format name old None new ending entries fresh makes tt tt tt
-table_replayed settings id reader format name old (Some w) new ending entries parts after kept lawful begins fresh makes read ends frames left count =
+table_replayed settings id reader format name old (Some w) new ending entries parts after kept lawful begins fresh makes played count =
     let run = read_on format begin (left_of reader w) in
-    let same : table_of settings parts run ≡ outcome_tabled (replay_of settings run) = as_plain settings format (left_of reader w) parts lawful begins read in
-    let goes : Ends (outcome_tabled (replay_of settings run)) run ending = subst (λ (o : Outcome (Router Parts)). Ends o run ending) same ends in
+    let ended = end-play (after_event table) (router_of settings parts) (Some id) (shown_of w) run ending (router_of kept after) new played in
+    let same : table_of settings parts run ≡ outcome_tabled (replay_of settings run) = as_plain settings format (left_of reader w) parts lawful begins ended.read in
+    let goes : Ends (outcome_tabled (replay_of settings run)) run ending = subst (λ (o : Outcome (Router Parts)). Ends o run ending) same ended.ends in
     frames_replayed settings id reader format name old (Some w) new ending entries fresh makes
     (record { fault = goes.fault; frames = goes.frames; written = goes.written })
-    (subst (λ (o : Outcome (Router Parts)). shown new ≡ Some (with_outcome (Some id) o (shown_of w))) same frames)
-    (count ∙ ap (λ (r : Router Parts). r.memory.count) (left ∙ ap (λ (o : Outcome (Router Parts)). o.after) same))
+    (subst (λ (o : Outcome (Router Parts)). shown new ≡ Some (with_outcome (Some id) o (shown_of w))) same ended.shown)
+    (count ∙ ap (λ (r : Router Parts). r.memory.count) (ended.left ∙ ap (λ (o : Outcome (Router Parts)). o.after) same))
 
 -- the last line makes of that the answer
 closed : (settings : Settings) (output : List ℕ) (run : Run) (counts : Counts) (old : Shown) (mid new : Option World) (s : Status) → HasReplayed settings output run counts old (shown mid)
@@ -207,10 +205,11 @@ gives_shown run w (Some v) new ending s ends frames said is =
 
 -- the same, over what the desk tells
 pub messages_answered : (reader : ℕ) (format : Format) (old now new : Option World) (ending : Ending) (s : Status)
-    → IfSome old (λ w. Ends (outcome_of showing tt (read_on format begin (left_of reader w))) (read_on format begin (left_of reader w)) ending)
-    → IfSome old (λ w. shown now ≡ Some (with_outcome None (outcome_of showing tt (read_on format begin (left_of reader w))) (shown_of w)))
+    → IfSome old (λ w. HasPlayed (Determined showing) tt None (shown_of w) (read_on format begin (left_of reader w)) ending tt now)
     → new ≡ option_map (after_say (closing ending.fault (count_line ending.frames))) now → s ≡ status_of ending.fault
     → IfSome old (λ w. Gives (messages_shown (read_on format begin (left_of reader w))) s (shown_of w) (shown new))
-messages_answered reader format None now new ending s ends frames said is = tt
-messages_answered reader format (Some w) now new ending s ends frames said is =
-    gives_shown (read_on format begin (left_of reader w)) w now new ending s ends frames said is
+messages_answered reader format None now new ending s played said is = tt
+messages_answered reader format (Some w) now new ending s played said is =
+    let run = read_on format begin (left_of reader w) in
+    let ended = end-play showing tt None (shown_of w) run ending tt now played in
+    gives_shown run w now new ending s ended.ends ended.shown said is

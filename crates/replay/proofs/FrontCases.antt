@@ -24,11 +24,12 @@ use Rattle.lisp_settings.specs.Lawful.{IsLawful}
 use Rattle.lisp_settings.specs.Settings.{settings_of}
 use Rattle.lisp_settings.specs.declared.fault.SettingsFault.{SettingsFault}
 use Rattle.lisp_settings.specs.declared.settings.Settings.{Settings}
-use Rattle.playback.specs.Events.{Event, Outcome, events, events_after, events_of, played, records_of}
+use Rattle.playback.specs.Events.{Determined, Event, Outcome, events, events_after, events_of, played, records_of}
 use Rattle.playback.specs.Front.{CutRun, IsFront}
-use Rattle.playback.specs.Playing.{outcome_of, with_outcome, with_output, Ends, IsRead}
+use Rattle.playback.specs.Playing.{outcome_of, with_outcome, with_output, Ends, HasPlayed, IsRead}
 use Rattle.playback.specs.declared.playing.Ending.{Ending}
-use Rattle.playback.proofs.PlayLemmas.{with_output-none}
+use Rattle.playback.proofs.DeterminedLemmas.{cut-play, end-play}
+use Rattle.playback.proofs.OutputLemmas.{with_output-none}
 use Rattle.playback.proofs.FrontLemmas.{front-all, front-behind, front-front, front-lines, front-more, front-octets, front-same, front-take}
 use Rattle.router_model.specs.Journal.{statics}
 use Rattle.router_model.specs.Lifting.{AreInOrder, event_moment, outcome_tabled}
@@ -215,27 +216,27 @@ replay_front settings name run id w new first lines octets fresh is within said 
 -- a play by the table that was cut short
 play_front : (settings : Settings) (name : List ℕ) (format : Format) (octets : List ℕ) (id : ℕ) (w : World) (new : Option World) (parts : Parts) → IsLawful settings → parts ≡ parts_in settings (statics settings)
     → found_at id w.writers ≡ None
-    → CutRun (after_event table) (router_of settings parts) (Some id) (shown_of (after_write id out_header (after_make id name w))) (read_on format begin octets) new
+    → CutRun (Determined (after_event table)) (router_of settings parts) (Some id) (shown_of (after_write id out_header (after_make id name w))) (read_on format begin octets) new
     → EndsFront (replayed settings name (read_on format begin octets)) (replayed_part settings name (read_on format begin octets)) (shown_of w) new
 play_front settings name format octets id w new parts lawful begins fresh cut_run =
     let run = read_on format begin octets in
-    let cut = cut_run.cut in
-    let some = events cut_run.frames in
+    let cut = cut-play (after_event table) (router_of settings parts) (Some id) (shown_of (after_write id out_header (after_make id name w))) run new cut_run in
+    let some = events cut.frames in
     let all = events run.frames in
-    let within = front-events cut_run.frames run.frames cut_run.within in
-    let by = λ (first : List Event) (front : IsFront first some). tabled settings format octets parts cut_run.frames first lawful begins cut_run.within cut_run.read front in
+    let within = front-events cut.frames run.frames cut.within in
+    let by = λ (first : List Event) (front : IsFront first some). tabled settings format octets parts cut.frames first lawful begins cut.within cut.read front in
     let whole = by some (front-all some) in
-    let part = by cut.first cut.within in
+    let part = by cut.first cut.front in
     let said : IsFront cut.lines (played plain (started settings) some).lines = subst (λ (o : Outcome (Router Parts)). IsFront cut.lines o.lines) whole cut.said in
     let reported : IsFront (played plain (started settings) cut.first).lines cut.lines = subst (λ (o : Outcome (Router Parts)). IsFront o.lines cut.lines) part cut.reported in
     let written : IsFront cut.octets (records_of (played plain (started settings) cut.first).packets) = subst (λ (o : Outcome (Router Parts)). IsFront cut.octets (records_of o.packets)) part cut.written in
-    replay_front settings name run id w new cut.first cut.lines cut.octets fresh cut.shown (front-front cut.first some all cut.within within)
+    replay_front settings name run id w new cut.first cut.lines cut.octets fresh cut.shown (front-front cut.first some all cut.front within)
     (front-front cut.lines (played plain (started settings) some).lines (replay_of settings run).lines said (front-lines plain (started settings) some all within)) reported written
 
 -- the same, over what the desk tells
 pub table_front : (settings : Settings) (id reader : ℕ) (format : Format) (name : List ℕ) (old made new : Option World) (parts : Parts) → IsLawful settings → parts ≡ parts_in settings (statics settings)
     → IfSome old (λ w. found_at id w.writers ≡ None) → made ≡ option_map (λ w. after_write id out_header (after_make id name w)) old
-    → IfSome made (λ w. CutRun (after_event table) (router_of settings parts) (Some id) (shown_of w) (read_on format begin (left_of reader w)) new)
+    → IfSome made (λ w. CutRun (Determined (after_event table)) (router_of settings parts) (Some id) (shown_of w) (read_on format begin (left_of reader w)) new)
     → IfSome old (λ w. EndsFront (replayed settings name (read_on format begin (left_of reader w))) (replayed_part settings name (read_on format begin (left_of reader w))) (shown_of w) new)
 table_front settings id reader format name None made new parts lawful begins fresh makes cut = tt
 table_front settings id reader format name (Some w) made new parts lawful begins fresh makes cut =
@@ -384,15 +385,15 @@ shown_front run w new first lines octets same within said reported =
     })
 
 pub messages_front : (reader : ℕ) (format : Format) (old new : Option World)
-    → IfSome old (λ w. CutRun showing tt None (shown_of w) (read_on format begin (left_of reader w)) new)
+    → IfSome old (λ w. CutRun (Determined showing) tt None (shown_of w) (read_on format begin (left_of reader w)) new)
     → IfSome old (λ w. EndsFront (messages_shown (read_on format begin (left_of reader w))) (shown_part (read_on format begin (left_of reader w))) (shown_of w) new)
 messages_front reader format None new cut = tt
 messages_front reader format (Some w) new cut_run =
     let run = read_on format begin (left_of reader w) in
-    let cut = cut_run.cut in
-    let within = front-events cut_run.frames run.frames cut_run.within in
-    shown_front run w new cut.first cut.lines cut.octets cut.shown (front-front cut.first (events cut_run.frames) (events run.frames) cut.within within)
-    (front-front cut.lines (played showing tt (events cut_run.frames)).lines (played showing tt (events run.frames)).lines cut.said (front-lines showing tt (events cut_run.frames) (events run.frames) within)) cut.reported
+    let cut = cut-play showing tt None (shown_of w) run new cut_run in
+    let within = front-events cut.frames run.frames cut.within in
+    shown_front run w new cut.first cut.lines cut.octets cut.shown (front-front cut.first (events cut.frames) (events run.frames) cut.front within)
+    (front-front cut.lines (played showing tt (events cut.frames)).lines (played showing tt (events run.frames)).lines cut.said (front-lines showing tt (events cut.frames) (events run.frames) within)) cut.reported
 
 -- a part of the last line of a show
 last_front : (run : Run) (w : World) (mid new : Option World) (ending : Ending) → Ends (outcome_of showing tt run) run ending
@@ -421,12 +422,14 @@ last_front run w (Some v) new ending ends frames says =
     })
 
 pub line_front : (reader : ℕ) (format : Format) (old mid new : Option World) (ending : Ending)
-    → IfSome old (λ w. Ends (outcome_of showing tt (read_on format begin (left_of reader w))) (read_on format begin (left_of reader w)) ending)
-    → IfSome old (λ w. shown mid ≡ Some (with_outcome None (outcome_of showing tt (read_on format begin (left_of reader w))) (shown_of w)))
+    → IfSome old (λ w. HasPlayed (Determined showing) tt None (shown_of w) (read_on format begin (left_of reader w)) ending tt mid)
     → SaysPart (closing ending.fault (count_line ending.frames)) mid new
     → IfSome old (λ w. EndsFront (messages_shown (read_on format begin (left_of reader w))) (shown_part (read_on format begin (left_of reader w))) (shown_of w) new)
-line_front reader format None mid new ending ends frames says = tt
-line_front reader format (Some w) mid new ending ends frames says = last_front (read_on format begin (left_of reader w)) w mid new ending ends frames says
+line_front reader format None mid new ending has says = tt
+line_front reader format (Some w) mid new ending has says =
+    let run = read_on format begin (left_of reader w) in
+    let ended = end-play showing tt None (shown_of w) run ending tt mid has in
+    last_front run w mid new ending ended.ends ended.shown says
 
 -- memory was wanting for a last line: none of it was said
 pub says_none : (line : List ℕ) (told : Option World) → SaysPart line told told

@@ -7,8 +7,8 @@ use Rattle.capture_io.specs.Frame.{Frame}
 use Rattle.capture_io.specs.Output.{packet_record}
 use Rattle.lisp_settings.specs.Lawful.{IsLawful}
 use Rattle.lisp_settings.specs.declared.settings.Settings.{Settings}
-use Rattle.playback.specs.Events.{Arrival, Event, Packet, records_of, second_of}
-use Rattle.playback.specs.Playing.{Gathers}
+use Rattle.playback.specs.Events.{Arrival, Determined, End, Event, Happens, Outcome, Packet, idle, records_of, second_of}
+use Rattle.playback.specs.Playing.{Gathers, GathersOne}
 use Rattle.playback.specs.declared.output.Output.{Output}
 use Rattle.router_log.specs.Lines.{frame_line}
 use Rattle.router_log.specs.declared.emit.Emit.{Emit}
@@ -24,7 +24,7 @@ use Rattle.router_model.proofs.StaticsLemmas.{length-statics}
 use Rattle.router_model.specs.Course.{Course, control, course_of}
 use Rattle.router_model.specs.Decide.{decide_by, decide_course}
 use Rattle.router_model.specs.Plain.{Router, after_data, after_decision, after_event, after_message, after_tick, emit_packets, packet_of, packets_of}
-use Rattle.replay.specs.Taking.{router_of, Sends}
+use Rattle.replay.specs.Taking.{most_event_packets, router_of, GathersFew, Sends}
 
 -- a verdict sends at most one packet
 pub packets_few : (moment : ℕ) (packet : Option (List ℕ)) → length (packets_of moment packet) ≤ 1
@@ -87,15 +87,17 @@ emits-more settings moment first others old mid new a b =
 pub message-gathers : (router : Router Parts) (frame : Frame) (heard : Heard Parts) (old first new : Output)
     → first.lines ≡ old.lines ++ frame_line frame.number frame.moment router.memory.count heard.verdict → first.records ≡ old.records → first.written ≡ old.written
     → Sends (emit_packets router.settings frame.moment heard.change.emits) first new → length heard.change.emits ≤ 256
-    → Gathers (after_message table router frame heard) old new
+    → GathersFew (after_message table router frame heard) old new
 message-gathers router frame heard old first new lines records written sent few =
     let packets = emit_packets router.settings frame.moment heard.change.emits in
     let count : length packets ≡ length heard.change.emits = length-map heard.change.emits _ in
     let a = sent.written in
     record {
-      lines = sent.lines ∙ lines;
-      records = sent.records ∙ ap (λ (r : List ℕ). r ++ records_of packets) records;
-      written = omega (arith, a, written);
+      gathers = record {
+        lines = sent.lines ∙ lines;
+        records = sent.records ∙ ap (λ (r : List ℕ). r ++ records_of packets) records;
+        written = omega (arith, a, written);
+      };
       few = omega (arith, count, few);
     }
 
@@ -103,7 +105,7 @@ message-gathers router frame heard old first new lines records written sent few 
 pub data-gathers : (router : Router Parts) (frame : Frame) (verdict : Verdict) (change : Change Parts) (old first mid new : Output)
     → first.lines ≡ old.lines ++ frame_line frame.number frame.moment router.memory.count verdict → first.records ≡ old.records → first.written ≡ old.written
     → Sends (packets_of frame.moment (packet_of verdict)) first mid → Sends (emit_packets router.settings frame.moment change.emits) mid new → length change.emits ≤ 5
-    → Gathers (after_data table router frame verdict change) old new
+    → GathersFew (after_data table router frame verdict change) old new
 data-gathers router frame verdict change old first mid new lines records written sent emitted few =
     let packets = packets_of frame.moment (packet_of verdict) in
     let more = emit_packets router.settings frame.moment change.emits in
@@ -113,11 +115,13 @@ data-gathers router frame verdict change old first mid new lines records written
     let a = sent.written in
     let b = emitted.written in
     record {
-      lines = emitted.lines ∙ sent.lines ∙ lines;
-      records = emitted.records ∙ ap (λ (r : List ℕ). r ++ records_of more) (sent.records ∙ ap (λ (r : List ℕ). r ++ records_of packets) records)
-          ∙ append_assoc old.records (records_of packets) (records_of more)
-          ∙ ap (λ (r : List ℕ). old.records ++ r) (sym (flat_map-append (λ (packet : Packet). packet_record packet.moment packet.octets) packets more));
-      written = b ∙ (let w : mid.written ≡ old.written + length packets = a ∙ ap (λ (n : ℕ). n + length packets) written in omega (arith, w, both));
+      gathers = record {
+        lines = emitted.lines ∙ sent.lines ∙ lines;
+        records = emitted.records ∙ ap (λ (r : List ℕ). r ++ records_of more) (sent.records ∙ ap (λ (r : List ℕ). r ++ records_of packets) records)
+            ∙ append_assoc old.records (records_of packets) (records_of more)
+            ∙ ap (λ (r : List ℕ). old.records ++ r) (sym (flat_map-append (λ (packet : Packet). packet_record packet.moment packet.octets) packets more));
+        written = b ∙ (let w : mid.written ≡ old.written + length packets = a ∙ ap (λ (n : ℕ). n + length packets) written in omega (arith, w, both));
+      };
       few = omega (arith, one, both, count, few);
     }
 
@@ -129,13 +133,11 @@ decided settings parts frame course is apart = rw (apart, is) refl
 
 -- the packets of emits are what a second gives
 pub second-gathers : (router : Router Parts) (moment : ℕ) (change : Change Parts) (old new : Output)
-    → Sends (emit_packets router.settings moment change.emits) old new → length change.emits ≤ 1040 → Gathers (after_tick table router moment change) old new
+    → Sends (emit_packets router.settings moment change.emits) old new → length change.emits ≤ 1040 → GathersFew (after_tick table router moment change) old new
 second-gathers router moment change old new sent few =
     let count : length (emit_packets router.settings moment change.emits) ≡ length change.emits = length-map change.emits _ in
     record {
-      lines = sent.lines ∙ sym (append-nil old.lines);
-      records = sent.records;
-      written = sent.written;
+      gathers = record { lines = sent.lines ∙ sym (append-nil old.lines); records = sent.records; written = sent.written };
       few = omega (arith, count, few);
     }
 
@@ -158,6 +160,25 @@ ready-later frames before after earlier second later few more =
     let same : second * 1000000000 / 1000000000 ≡ second = grind arith in
     rw same (omega (arith, past, few, more))
 
+-- the packets of a frame more
+pub packets-more : (frames number before after sent earlier moment : ℕ) → number ≡ frames + 1 → earlier ≤ moment → before ≤ most_event_packets * (frames + second_of earlier) → sent ≤ most_event_packets → after ≡ before + sent → after ≤ most_event_packets * (number + second_of moment)
+packets-more frames number before after sent earlier moment next later few some is =
+    let past = not-earlier earlier moment later in
+    omega (arith, next, past, few, some, is)
+
+-- and of a second
+pub packets-later : (frames before after sent earlier second : ℕ) → earlier < second * 1000000000 → before ≤ most_event_packets * (frames + second_of earlier) → sent ≤ most_event_packets → after ≡ before + sent → after ≤ most_event_packets * (frames + second_of (second * 1000000000))
+packets-later frames before after sent earlier second later few some is =
+    let past = second-later earlier second later in
+    let same : second * 1000000000 / 1000000000 ≡ second = grind arith in
+    rw same (omega (arith, past, few, some, is))
+
+-- they are counted in 64 bits
+pub packets-left : (frames written moment : ℕ) → frames ≤ 1000000000 → moment < 2 ^ 32 * 1000000000 → written ≤ most_event_packets * (frames + second_of moment) → written < 2 ^ 48
+packets-left frames written moment most early few =
+    let past = second-later moment (2 ^ 32) early in
+    omega (arith, past, most, few)
+
 -- there is room for more
 pub room-left : (frames count moment : ℕ) → frames ≤ 1000000000 → moment < 2 ^ 32 * 1000000000 → count ≤ 65536 + 256 * frames + 1040 * second_of moment → count < 2 ^ 60
 room-left frames count moment most early few =
@@ -166,12 +187,26 @@ room-left frames count moment most early few =
 
 -- a router begins ready, with an entry for each static mapping
 pub ready-first : (settings : Settings) (parts : Parts) → IsLawful settings → parts ≡ parts_in settings (statics settings)
-    → IsLawful settings × ((settings.locators ≡ parts.own) × ((parts.now ≤ 0) × (parts.count ≤ 65536 + 256 * 0 + 1040 * second_of 0)))
+    → IsLawful settings × ((settings.locators ≡ parts.own) × ((parts.now ≤ 0) × ((parts.count ≤ 65536 + 256 * 0 + 1040 * second_of 0) × (0 ≤ most_event_packets * (0 + second_of 0)))))
 ready-first settings parts lawful is =
     let count = length-statics settings in
     let few = lawful.few_mappings in
     let first = statics-first settings in
-    (lawful, (sym (ap (λ (p : Parts). p.own) is), (rw is first, rw is (let few_entries : length (statics settings) ≤ 65536 + 256 * 0 + 1040 * second_of 0 = omega (arith, count, few) in few_entries))))
+    (lawful, (sym (ap (λ (p : Parts). p.own) is), (rw is first, (rw is (let few_entries : length (statics settings) ≤ 65536 + 256 * 0 + 1040 * second_of 0 = omega (arith, count, few) in few_entries), omega arith))))
+
+-- what is determined at an event was gathered
+pub gathers-determined : {S : Type 0} (step : S → Event → Outcome S) (before after : S) (event : Event) (old new : Output)
+    → Gathers (step before event) old new → after ≡ (step before event).after → GathersOne (Determined step before (Happens event)) old new after
+gathers-determined step before after event old new gathers is = record { outcome = step before event; is = refl; gathers = gathers; left = is }
+
+-- nothing is left to be done at the end
+pub gathers-end : {S : Type 0} (step : S → Event → Outcome S) (state : S) (output : Output) → GathersOne (Determined step state End) output output state
+gathers-end step state output = record {
+  outcome = idle state;
+  is = refl;
+  gathers = record { lines = sym (append-nil output.lines); records = sym (append-nil output.records); written = omega arith };
+  left = refl;
+}
 
 -- behind an event a table is for the settings that it was for
 pub own-kept : (settings : Settings) (old new : Parts) (event : Event) → settings.locators ≡ old.own → router_of settings new ≡ (after_event table (router_of settings old) event).after → settings.locators ≡ new.own

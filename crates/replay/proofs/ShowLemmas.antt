@@ -15,5 +15,4 @@ lines_gathered frame old new lines records written = record {
   lines = lines;
   records = records ∙ sym (append-nil old.records);
   written = omega (arith, written);
-  few = omega arith;
 }

@@ -1,7 +1,9 @@
 -- What a frame adds to a replay, for contracts of parts alone.
-use Rattle.std.specs.Prelude.{◌≡◌, ◌+◌, List, ◌++◌, length}
+use Rattle.std.specs.Prelude.{◌≡◌, ◌≤◌, ◌+◌, ◌*◌, ℕ, List, ◌++◌, length, unwrap_or}
 use Rattle.lisp_settings.specs.declared.settings.Settings.{Settings}
-use Rattle.playback.specs.Events.{Packet, records_of}
+use Rattle.playback.specs.Events.{Outcome, Packet, records_of, second_of}
+use Rattle.playback.specs.Playing.{Gathers}
+use Rattle.playback.specs.declared.machine.Progress.{Progress}
 use Rattle.playback.specs.declared.output.Output.{Output}
 use Rattle.router_model.specs.Parts.{Parts}
 use Rattle.router_model.specs.Plain.{Router}
@@ -9,6 +11,19 @@ use Rattle.router_model.specs.Plain.{Router}
 -- a router by its settings and the parts of its table
 abbrev pub router_of : Settings → Parts → Router Parts
 router_of settings parts = record { settings = settings; memory = parts }
+
+-- packets that are gathered at one event, at most, so that they are counted in 64 bits
+abbrev pub most_event_packets : ℕ
+most_event_packets = 2048
+
+-- the most packets of so many frames and of the seconds so far
+abbrev pub most_packets : Progress → ℕ
+most_packets progress = most_event_packets * (progress.frames + second_of (unwrap_or progress.moment 0))
+
+-- an outcome of no more packets than that was gathered
+pub record GathersFew {S : Type 0} (outcome : Outcome S) (old new : Output) : Type 0 where
+  pub gathers : Gathers outcome old new
+  pub few : length outcome.packets ≤ most_event_packets
 
 -- packets were gathered, and no line
 pub record Sends (packets : List Packet) (old new : Output) : Type 0 where

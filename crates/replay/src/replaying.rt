@@ -9,11 +9,11 @@ ghost use Rattle.capture_io.specs.Frames.{read_on};
 ghost use Rattle.capture_io.specs.Reading.{beginning};
 ghost use Rattle.lisp_settings.specs.Lawful.{IsLawful};
 ghost use Rattle.lisp_settings.specs.Settings.{settings_of};
-ghost use Rattle.playback.specs.Events.{second_of};
+ghost use Rattle.playback.specs.Events.{second_of, Determined};
 ghost use Rattle.router_model.specs.Limits.{most_heard, most_mappings, most_ticked};
 ghost use Rattle.router_model.specs.Parts.{Parts, table};
 ghost use Rattle.router_model.specs.Plain.{Router, after_event};
-ghost use Rattle.replay.specs.Taking.{router_of};
+ghost use Rattle.replay.specs.Taking.{most_packets, router_of};
 ghost use Rattle.replay.specs.Answer.{after_header, after_settings, is_end, is_of_form, replayed, Gives};
 ghost use Rattle.replay.specs.Front.{part_after_header, part_after_settings, replayed_part, EndsFront};
 ghost use Rattle.replay.specs.Readings.{HasReplayed, HasReplayedFile};
@@ -53,14 +53,16 @@ impl<'a> Machine for Replay<'a> {
 
     ghost state = { λ replay. router_of replay.settings.now replay.table.parts };
 
-    ghost step = { after_event table };
+    ghost Does = { Determined (after_event table) };
 
-    // The table is for the settings. What frames and seconds add at most to the static mappings.
-    ghost IsReady = { λ progress replay. IsLawful replay.settings.now
+    // The table is for the settings. What frames and seconds add at most to the static mappings, and how
+    // many packets they send.
+    ghost IsReady = { λ progress written replay. IsLawful replay.settings.now
         × ((replay.settings.now.locators ≡ replay.table.parts.own)
         × ((replay.table.parts.now ≤ unwrap_or progress.moment 0)
-        × (replay.table.parts.count
-        ≤ most_mappings + most_heard * progress.frames + most_ticked * second_of (unwrap_or progress.moment 0)))) };
+        × ((replay.table.parts.count
+        ≤ most_mappings + most_heard * progress.frames + most_ticked * second_of (unwrap_or progress.moment 0))
+        × (written ≤ most_packets progress)))) };
 
     fn tick(
         &mut self,
@@ -76,10 +78,19 @@ impl<'a> Machine for Replay<'a> {
         &mut self,
         alloc: Global,
         _progress: Progress,
-        frame: &Frame,
+        frame: Frame,
         output: &mut Output,
     ) -> Result<(), NoMemory> {
-        take_frame(alloc, self.settings, &mut self.table, frame, output)
+        take_frame(alloc, self.settings, &mut self.table, &frame, output)
+    }
+
+    fn close(
+        &mut self,
+        _alloc: Global,
+        _progress: Progress,
+        _output: &mut Output,
+    ) -> Result<(), NoMemory> {
+        Ok(())
     }
 }
 

@@ -7,6 +7,7 @@ ghost use Rattle.desk.specs.World.{content, left_of, to_read, shown, shown_of, I
 ghost use Rattle.capture_io.specs.Capture.{begin, header_rules};
 ghost use Rattle.capture_io.specs.Frames.{read_on};
 ghost use Rattle.capture_io.specs.Reading.{beginning};
+ghost use Rattle.playback.specs.Events.{Determined};
 ghost use Rattle.replay.specs.Answer.{after_header, is_end, messages_shown, Gives};
 ghost use Rattle.replay.specs.Front.{part_after_header, shown_part, EndsFront};
 ghost use Rattle.replay.specs.Show.{showing};
@@ -29,9 +30,9 @@ impl Machine for Show {
 
     ghost state = { λ _. tt };
 
-    ghost step = { showing };
+    ghost Does = { Determined showing };
 
-    ghost IsReady = { λ _ _. Unit {0} };
+    ghost IsReady = { λ _ _ _. Unit {0} };
 
     fn tick(
         &mut self,
@@ -47,10 +48,19 @@ impl Machine for Show {
         &mut self,
         alloc: Global,
         _progress: Progress,
-        frame: &Frame,
+        frame: Frame,
         output: &mut Output,
     ) -> Result<(), NoMemory> {
-        push_shown(alloc, frame, &mut output.lines)
+        push_shown(alloc, &frame, &mut output.lines)
+    }
+
+    fn close(
+        &mut self,
+        _alloc: Global,
+        _progress: Progress,
+        _output: &mut Output,
+    ) -> Result<(), NoMemory> {
+        Ok(())
     }
 }
 

@@ -3,7 +3,6 @@ ghost use Rattle.std.specs.Prelude.{◌≡◌, ◌<◌, ◌≤◌, ◌+◌, ◌*
 ghost use Rattle.std.specs.List.{list_all};
 ghost use Rattle.lisp_settings.specs.Lawful.{IsLawful};
 ghost use Rattle.playback.specs.Events.{Arrival, Tick};
-ghost use Rattle.playback.specs.Playing.{Gathers};
 ghost use Rattle.router_core.specs.Seen.{course_seen, IfLeaving, IfSettled};
 ghost use Rattle.router_core.specs.Sendable.{IsSendable};
 ghost use Rattle.router_core.specs.Steps.{HasEntered, MayStep};
@@ -16,7 +15,7 @@ ghost use Rattle.router_model.specs.Limits.{most_heard, most_notices, most_ticke
 ghost use Rattle.router_model.specs.Note.{noted};
 ghost use Rattle.router_model.specs.Parts.{table, view_in};
 ghost use Rattle.router_model.specs.Plain.{after_decision, after_event, after_message, emit_packets, packet_of, packets_of, FitsRecord};
-ghost use Rattle.replay.specs.Taking.{router_of, Sends};
+ghost use Rattle.replay.specs.Taking.{router_of, GathersFew, Sends};
 
 use capture_io::Frame;
 use lisp_settings::Settings;
@@ -38,7 +37,7 @@ pub(crate) fn take_second(
     requires own { settings.now.locators ≡ memory.old.parts.own }
     requires may { MayStep (seconds second) memory.old.parts }
     requires room { output.old.written < 2 ^ 48 }
-    ensures gathers { OnOk result (Gathers
+    ensures gathers { OnOk result (GathersFew
         (after_event table (router_of settings.now memory.old.parts) (Tick second))
         output.old output.new) }
     ensures state { OnOk result (router_of settings.now memory.new.parts
@@ -64,7 +63,7 @@ pub(crate) fn take_frame(
     requires count { memory.old.parts.count < 2 ^ 60 }
     requires moment { frame.now.moment < 2 ^ 32 * 1000000000 }
     requires room { output.old.written < 2 ^ 48 }
-    ensures gathers { OnOk result (Gathers
+    ensures gathers { OnOk result (GathersFew
         (after_event table (router_of settings.now memory.old.parts) (Arrival frame.now))
         output.old output.new) }
     ensures state { OnOk result (router_of settings.now memory.new.parts
@@ -93,7 +92,7 @@ fn hear(
     requires may { MayStep frame.now.moment memory.old.parts }
     requires moment { frame.now.moment < 2 ^ 32 * 1000000000 }
     requires room { output.old.written < 2 ^ 48 }
-    ensures gathers { OnOk result (Gathers
+    ensures gathers { OnOk result (GathersFew
         (after_message table (router_of settings.now memory.old.parts) frame.now
         (course_heard table settings.now frame.now.moment (course_seen course.entry)
         (unchanged memory.old.parts))) output.old output.new) }
@@ -138,7 +137,7 @@ fn decide(
     requires count { memory.old.parts.count < 2 ^ 60 }
     requires moment { frame.now.moment < 2 ^ 32 * 1000000000 }
     requires room { output.old.written < 2 ^ 48 }
-    ensures gathers { OnOk result (Gathers
+    ensures gathers { OnOk result (GathersFew
         (after_decision table (router_of settings.now memory.old.parts) frame.now
         (decide_course settings.now (view_in memory.old.parts frame.now.moment)
         (course_seen course.entry))) output.old output.new) }

@@ -14,7 +14,7 @@ pub returns-clause-answer : goal.returns-clause-answer
 returns-clause-answer g c =
     table_replayed c.args.settings.now c.in_ok-file.file.number c.args.reader.id c.args.reader.format c.args.output.now (g.D.Desk.told c.args.desk.now) (g.D.Desk.told c.make_output.new.desk) (g.D.Desk.told c.play-ended.new.desk)
     c.in_ok-ending.ending c.entries_of-entries.result c.in_ok-table.table.parts c.play-ended.new.machine.table.parts c.play-ended.new.machine.settings.now c.requires.lawful c.in_ok-table.ensures.parts c.in_ok-file.ensures.fresh c.in_ok-file.ensures.told
-    c.in_ok-ending.ensures.read c.in_ok-ending.ensures.ends c.in_ok-ending.ensures.shown c.in_ok-ending.ensures.state c.entries_of-entries.ensures
+    c.in_ok-ending.ensures.played c.entries_of-entries.ensures
 
 pub returns-in_err-ending-clause-steady : goal.returns-in_err-ending-clause-steady
 returns-in_err-ending-clause-steady g c =

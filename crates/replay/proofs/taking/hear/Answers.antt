@@ -1,7 +1,6 @@
 use Rattle.std.proofs.Common.{◌≡◌, ◌∙◌, ◌++◌, ℕ, List, ap, refl, subst, sym}
 use Rattle.std.proofs.lemmas.Result.{on_ok_weaker}
 use Rattle.capture_io.specs.Frame.{Frame}
-use Rattle.playback.specs.Playing.{Gathers}
 use Rattle.playback.specs.declared.output.Output.{Output}
 use Rattle.router_log.specs.Lines.{frame_line}
 use Rattle.router_log.specs.declared.emit.Emit.{Emit}
@@ -13,7 +12,7 @@ use Rattle.router_model.specs.Plain.{after_message, emit_packets}
 use Rattle.router_core.specs.Seen.{course_seen}
 use Rattle.router_core.specs.Steps.{HasEntered, MayStep}
 use Rattle.router_core.specs.Table.{heard_seen}
-use Rattle.replay.specs.Taking.{router_of, Sends}
+use Rattle.replay.specs.Taking.{router_of, GathersFew, Sends}
 use Rattle.replay.proofs.ReplayLemmas.{message-gathers}
 use Rattle.replay.proofs.taking.hear.Goals as goal
 
@@ -47,5 +46,5 @@ returns-clause-gathers c =
     let sent : Sends (emit_packets settings frame.moment heard.change.emits) first new =
     subst (λ (m : ℕ). Sends (emit_packets settings m heard.change.emits) first new) now
     (subst (λ (l : List Emit). Sends (emit_packets settings inside.moment l) first new) c.as_slice.ensures sends) in
-    subst (λ (h : Heard Parts). Gathers (after_message table (router_of settings parts) frame h) old new) is
+    subst (λ (h : Heard Parts). GathersFew (after_message table (router_of settings parts) frame h) old new) is
     (message-gathers (router_of settings parts) frame heard old first new lines refl refl sent c.in_ok-heard.ensures.sent.few)) c.push_emits.ensures

@@ -2,11 +2,10 @@ use Rattle.std.proofs.Common.{◌≡◌, ◌∙◌, false, ap, sym, subst, arith
 use Rattle.std.proofs.lemmas.Result.{on_ok_weaker}
 use Rattle.std.specs.Result.{OnOk}
 use Rattle.playback.specs.Events.{Outcome}
-use Rattle.playback.specs.Playing.{Gathers}
 use Rattle.router_model.specs.Course.{control, is_message}
 use Rattle.router_model.specs.Parts.{Parts}
 use Rattle.router_model.specs.Plain.{Router}
-use Rattle.replay.specs.Taking.{router_of}
+use Rattle.replay.specs.Taking.{router_of, GathersFew}
 use Rattle.replay.proofs.ReplayLemmas.{decided}
 use Rattle.replay.proofs.taking.take_frame.Goals as goal
 
@@ -14,7 +13,7 @@ pub returns-else-is_message-clause-gathers : goal.returns-else-is_message-clause
 returns-else-is_message-clause-gathers c =
     let apart : control c.args.settings.now c.args.frame.now ≡ false =
     ap is_message (sym c.course_of-course.ensures.course) ∙ sym c.is_message.ensures ∙ c.if-is_message.false in
-    subst (λ (o : Outcome (Router Parts)). OnOk c.decide.result (Gathers o c.args.output.now c.decide.new.output))
+    subst (λ (o : Outcome (Router Parts)). OnOk c.decide.result (GathersFew o c.args.output.now c.decide.new.output))
     (decided c.args.settings.now c.args.memory.now.parts c.args.frame.now _ c.course_of-course.ensures.course apart) c.decide.ensures.gathers
 
 pub returns-else-is_message-clause-state : goal.returns-else-is_message-clause-state

@@ -1,6 +1,9 @@
 use Rattle.std.proofs.Common.{arith, unwrap_or}
 use Rattle.playback.specs.Events.{Arrival}
-use Rattle.replay.proofs.ReplayLemmas.{on_ok_two, own-kept, ready-more, room-left}
+use Rattle.router_model.specs.Parts.{table}
+use Rattle.router_model.specs.Plain.{after_event}
+use Rattle.replay.specs.Taking.{router_of}
+use Rattle.replay.proofs.ReplayLemmas.{gathers-determined, on_ok_three, on_ok_two, own-kept, packets-left, packets-more, ready-more, room-left}
 use Rattle.replay.proofs.replaying.ReplayMachine.take.Goals as goal
 
 pub take_frame-requires-clause-count : goal.take_frame-requires-clause-count
@@ -9,10 +12,31 @@ take_frame-requires-clause-count c =
     let most = c.requires.most in
     let later = c.requires.later in
     let early = c.requires.moment in
-    room-left c.args._progress.frames c.args.self.now.table.parts.count (unwrap_or c.args._progress.moment 0) (omega (arith, next, most)) (omega (arith, later, early)) c.requires.ready.1.1.1
+    room-left c.args._progress.frames c.args.self.now.table.parts.count (unwrap_or c.args._progress.moment 0) (omega (arith, next, most)) (omega (arith, later, early)) c.requires.ready.1.1.1.0
+
+pub take_frame-requires-clause-room : goal.take_frame-requires-clause-room
+take_frame-requires-clause-room c =
+    let next = c.requires.next in
+    let most = c.requires.most in
+    let later = c.requires.later in
+    let early = c.requires.moment in
+    packets-left c.args._progress.frames c.args.output.now.written (unwrap_or c.args._progress.moment 0) (omega (arith, next, most)) (omega (arith, later, early)) c.requires.ready.1.1.1.1
 
 pub returns-clause-ready : goal.returns-clause-ready
 returns-clause-ready c =
     let ready = c.requires.ready in
-    on_ok_two c.take_frame.result c.take_frame.ensures.entered c.take_frame.ensures.state (λ entered state.
-    (ready.0, (own-kept c.args.self.now.settings.now c.args.self.now.table.parts c.take_frame.new.memory.parts (Arrival c.args.frame.now) ready.1.0 state, (entered.now, ready-more c.args._progress.frames c.args.frame.now.number _ _ (unwrap_or c.args._progress.moment 0) c.args.frame.now.moment c.requires.next c.requires.later ready.1.1.1 entered.count))))
+    let frames = c.args._progress.frames in
+    let earlier = unwrap_or c.args._progress.moment 0 in
+    let number = c.args.frame.number in
+    let moment = c.args.frame.moment in
+    on_ok_three c.take_frame.result c.take_frame.ensures.entered c.take_frame.ensures.state c.take_frame.ensures.gathers (λ entered state gathers.
+    (ready.0, (own-kept c.args.self.now.settings.now c.args.self.now.table.parts c.take_frame.new.memory.parts (Arrival c.args.frame) ready.1.0 state,
+    (entered.now, (ready-more frames number _ _ earlier moment c.requires.next c.requires.later ready.1.1.1.0 entered.count,
+    packets-more frames number c.args.output.now.written _ _ earlier moment c.requires.next c.requires.later ready.1.1.1.1 gathers.few gathers.gathers.written)))))
+
+pub returns-clause-gathers : goal.returns-clause-gathers
+returns-clause-gathers c =
+    let settings = c.args.self.now.settings.now in
+    let before = router_of settings c.args.self.now.table.parts in
+    on_ok_two c.take_frame.result c.take_frame.ensures.gathers c.take_frame.ensures.state (λ gathers state.
+    gathers-determined (after_event table) before (router_of settings c.take_frame.new.memory.parts) (Arrival c.args.frame) c.args.output.now c.take_frame.new.output gathers.gathers state)
