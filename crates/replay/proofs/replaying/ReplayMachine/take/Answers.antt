@@ -29,10 +29,19 @@ returns-clause-ready c =
     let earlier = unwrap_or c.args._progress.moment 0 in
     let number = c.args.frame.number in
     let moment = c.args.frame.moment in
-    on_ok_three c.take_frame.result c.take_frame.ensures.entered c.take_frame.ensures.state c.take_frame.ensures.gathers (λ entered state gathers.
-    (ready.0, (own-kept c.args.self.now.settings.now c.args.self.now.table.parts c.take_frame.new.memory.parts (Arrival c.args.frame) ready.1.0 state,
-    (entered.now, (ready-more frames number _ _ earlier moment c.requires.next c.requires.later ready.1.1.1.0 entered.count,
-    packets-more frames number c.args.output.now.written _ _ earlier moment c.requires.next c.requires.later ready.1.1.1.1 gathers.few gathers.gathers.written)))))
+    on_ok_three c.take_frame.result c.take_frame.ensures.entered c.take_frame.ensures.state c.take_frame.ensures.gathers (λ entered state gathers. (
+      ready.0,
+      (
+        own-kept c.args.self.now.settings.now c.args.self.now.table.parts c.take_frame.new.memory.parts (Arrival c.args.frame) ready.1.0 state,
+        (
+          entered.now,
+          (
+            ready-more frames number _ _ earlier moment c.requires.next c.requires.later ready.1.1.1.0 entered.count,
+            packets-more frames number c.args.output.now.written _ _ earlier moment c.requires.next c.requires.later ready.1.1.1.1 gathers.few gathers.gathers.written,
+          ),
+        ),
+      ),
+    ))
 
 pub returns-clause-gathers : goal.returns-clause-gathers
 returns-clause-gathers c =

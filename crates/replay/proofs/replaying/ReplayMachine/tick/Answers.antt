@@ -23,10 +23,19 @@ returns-clause-ready c =
     let ready = c.requires.ready in
     let frames = c.args._progress.frames in
     let earlier = unwrap_or c.args._progress.moment 0 in
-    on_ok_three c.take_second.result c.take_second.ensures.entered c.take_second.ensures.state c.take_second.ensures.gathers (λ entered state gathers.
-    (ready.0, (own-kept c.args.self.now.settings.now c.args.self.now.table.parts c.take_second.new.memory.parts (Tick c.args.second) ready.1.0 state,
-    (entered.now, (ready-later frames _ _ earlier c.args.second c.requires.later ready.1.1.1.0 entered.count,
-    packets-later frames c.args.output.now.written _ _ earlier c.args.second c.requires.later ready.1.1.1.1 gathers.few gathers.gathers.written)))))
+    on_ok_three c.take_second.result c.take_second.ensures.entered c.take_second.ensures.state c.take_second.ensures.gathers (λ entered state gathers. (
+      ready.0,
+      (
+        own-kept c.args.self.now.settings.now c.args.self.now.table.parts c.take_second.new.memory.parts (Tick c.args.second) ready.1.0 state,
+        (
+          entered.now,
+          (
+            ready-later frames _ _ earlier c.args.second c.requires.later ready.1.1.1.0 entered.count,
+            packets-later frames c.args.output.now.written _ _ earlier c.args.second c.requires.later ready.1.1.1.1 gathers.few gathers.gathers.written,
+          ),
+        ),
+      ),
+    ))
 
 pub returns-clause-gathers : goal.returns-clause-gathers
 returns-clause-gathers c =
