@@ -2,7 +2,6 @@ pub mod AnswerCases
 pub mod CaptureAnswers
 pub mod FrontCases
 pub mod MessageLemmas
-pub mod NotingLemmas
 pub mod PieceLemmas
 pub mod ReplayLemmas
 pub mod ShowLemmas

@@ -26,7 +26,7 @@ own-absorbed parts entry = by (admits parts entry)
     by true = refl
     by false = refl
 
-own-entries : (parts : Parts) (entries : List Entry) → (with_entries table parts entries).own ≡ parts.own
+pub own-entries : (parts : Parts) (entries : List Entry) → (with_entries table parts entries).own ≡ parts.own
 own-entries parts [] = refl
 own-entries parts (entry ∷ entries) = own-entries (absorbed parts entry) entries ∙ own-absorbed parts entry
 

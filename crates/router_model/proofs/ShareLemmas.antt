@@ -30,7 +30,7 @@ use Rattle.router_model.proofs.NoteLemmas.{notes-lift}
 use Rattle.router_model.proofs.NoticeLemmas.{notices-sound}
 use Rattle.router_model.proofs.PartsLemmas.{and_both}
 use Rattle.router_model.proofs.ReplayLemmas.{after-order}
-use Rattle.router_model.proofs.SideLemmas.{batches-are-ends, data-append, data-left, extended-more, first-batches, message-grows, on-batches, sides-meet, tick-grows, writing-advances, writing-adds}
+use Rattle.router_model.proofs.SideLemmas.{batches-are-ends, data-append, data-left, extended-more, first-batches, journal-adds, message-grows, on-batches, sides-meet, tick-grows, worked-adds, writing-advances, writing-adds}
 use Rattle.router_model.proofs.SoundLemmas.{frame-sound}
 use Rattle.router_model.proofs.StaticsLemmas.{length-extended}
 use Rattle.router_model.proofs.TickLemmas.{ticks-lift}
@@ -280,8 +280,14 @@ module _ (settings : Settings) (journal : Journal) (events : List Event) (ns : L
         few = (let left = goes.ready.room in omega (arith, left, room));
       }
 
+-- the journal after a round is the one before with its batches
+worked-grows : (settings : Settings) (moment : ℕ) (journal : Journal) (events : List Event) (ruled : List Ruling) → let result = worked of_journal settings moment journal events ruled in result.after ≡ extended journal (joined result.batches)
+worked-grows settings moment journal events ruled =
+    worked-adds of_journal settings moment journal events ruled
+    ∙ journal-adds journal (joined (worked of_journal settings moment journal events ruled).batches)
+
 pub table-rounds : TableRounds
-table-rounds settings parts journal previous m [] ns stands may = (refl, (refl, stands))
+table-rounds settings parts journal previous m [] ns stands may = (refl, (refl, (stands, refl)))
 table-rounds settings parts journal previous m (frame ∷ frames) ns stands may =
     let events : List Event = events_after previous (frame ∷ frames) in
     let closing : ℕ = closing_moment (frame ∷ frames) in
@@ -295,8 +301,13 @@ table-rounds settings parts journal previous m (frame ∷ frames) ns stands may 
       ap (λ (w : Worked Parts). w.lines) whole ∙ sym (ap (λ (r : Round). r.lines) meet),
       (
         ap (λ (w : Worked Parts). w.packets) whole ∙ sym (ap (λ (r : Round). r.packets) meet),
-        subst (Stands settings (worked table settings closing parts events ruled).after) (sym (ap (λ (r : Round). r.after) meet))
-            (record { proper = shares.1; whole = ap (λ (w : Worked Parts). w.after) whole }),
+        (
+          subst (Stands settings (worked table settings closing parts events ruled).after) (sym (ap (λ (r : Round). r.after) meet))
+              (record { proper = shares.1; whole = ap (λ (w : Worked Parts). w.after) whole }),
+          ap (λ (r : Round). r.after) meet
+              ∙ (worked-grows settings closing journal events (rulings settings written.after ns (data_in written.items))
+              ∙ sym (ap (λ (w : Worked Parts). extended journal (joined w.batches)) whole)),
+        ),
       ),
     )
 
@@ -389,7 +400,8 @@ tables-share settings parts journal previous m frames ruled stands may all =
       };
       lines = ap (λ (w : Worked Parts). w.lines) whole ∙ does.0;
       packets = ap (λ (w : Worked Parts). w.packets) whole ∙ does.1.0;
-      stands = subst (λ (p : Parts). Stands settings p (round settings previous frames journal ns).after) (sym (ap (λ (w : Worked Parts). w.after) whole)) does.1.1;
+      stands = subst (λ (p : Parts). Stands settings p (round settings previous frames journal ns).after) (sym (ap (λ (w : Worked Parts). w.after) whole)) does.1.1.0;
+      added = does.1.1.1 ∙ sym (ap (λ (w : Worked Parts). extended journal (joined w.batches)) whole);
     }
 
 pub all-batches : AllBatches

@@ -236,9 +236,10 @@ BatchesStand = (settings : Settings) (parts : Parts) (journal : Journal) (m : �
 abbrev pub BatchesRule : Type 0
 BatchesRule = (settings : Settings) (parts : Parts) (journal : Journal) (m : ℕ) (events : List Event) (k : ℕ) (frame : Frame) → Stands settings parts journal → MayBegin settings m journal events → let after = with_entries table parts (joined (take k (writing table settings parts events).batches)) in ruling_by settings after frame ≡ ruling settings (all_advanced settings journal events) after.count frame
 
--- a round that a table works by the rulings of the journal is that of the journal, and then it stands for its journal
+-- a round that a table works by the rulings of the journal is that of the journal, then it stands for its journal, and
+-- the journal is the one before with the round's batches
 abbrev pub TableRounds : Type 0
-TableRounds = (settings : Settings) (parts : Parts) (journal : Journal) (previous : Option ℕ) (m : ℕ) (frames : List Frame) (ns : List ℕ) → Stands settings parts journal → MayBegin settings m journal (events_after previous frames) → let by_table = worked table settings (closing_moment frames) parts (events_after previous frames) (rulings settings (all_advanced settings journal (events_after previous frames)) ns (data_frames settings frames)) in let by_journal = round settings previous frames journal ns in (by_table.lines ≡ by_journal.lines) × ((by_table.packets ≡ by_journal.packets) × Stands settings by_table.after by_journal.after)
+TableRounds = (settings : Settings) (parts : Parts) (journal : Journal) (previous : Option ℕ) (m : ℕ) (frames : List Frame) (ns : List ℕ) → Stands settings parts journal → MayBegin settings m journal (events_after previous frames) → let by_table = worked table settings (closing_moment frames) parts (events_after previous frames) (rulings settings (all_advanced settings journal (events_after previous frames)) ns (data_frames settings frames)) in let by_journal = round settings previous frames journal ns in (by_table.lines ≡ by_journal.lines) × ((by_table.packets ≡ by_journal.packets) × (Stands settings by_table.after by_journal.after × (by_journal.after ≡ extended journal (joined by_table.batches))))
 
 -- the parts after so many batches
 abbrev pub parts_after : Parts → List (List Entry) → ℕ → Parts
@@ -250,14 +251,15 @@ pub record IsRuled (settings : Settings) (parts : Parts) (batches : List (List E
   pub late : first ≤ k
   pub is : one ≡ ruling_by settings (parts_after parts batches k) frame
 
--- what a round does is a round of the journal, by numbers that it may have, and then it stands for the journal of that
--- round
+-- what a round does is a round of the journal, by numbers that it may have, then it stands for the journal of that round,
+-- and that is the journal before with the round's batches
 pub record Shares (settings : Settings) (previous : Option ℕ) (frames : List Frame) (journal : Journal) (result : Worked Parts) : Type 0 where
   pub ns : List ℕ
   pub lawful : AreLawful settings previous frames journal ns
   pub lines : result.lines ≡ (round settings previous frames journal ns).lines
   pub packets : result.packets ≡ (round settings previous frames journal ns).packets
   pub stands : Stands settings result.after (round settings previous frames journal ns).after
+  pub added : (round settings previous frames journal ns).after ≡ extended journal (joined result.batches)
 
 -- so does a table that works a round, where such tables decided its data packets beside it
 abbrev pub TablesShare : Type 0

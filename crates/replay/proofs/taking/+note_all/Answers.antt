@@ -11,7 +11,7 @@ use Rattle.router_model.specs.Parts.{Parts, table}
 use Rattle.router_model.specs.Plain.{emit_packets}
 use Rattle.router_core.proofs.ChangeLemmas.{both}
 use Rattle.replay.specs.Taking.{Sends}
-use Rattle.replay.proofs.NotingLemmas.{all-from, behind}
+use Rattle.router_core.proofs.NotingLemmas.{all-from, behind}
 use Rattle.replay.proofs.ReplayLemmas.{emits-more, first-left}
 use Rattle.replay.proofs.taking.+note_all.Goals as goal
 
