@@ -24,7 +24,8 @@ use Rattle.router_model.proofs.StaticsLemmas.{length-statics}
 use Rattle.router_model.specs.Course.{Course, control, course_of}
 use Rattle.router_model.specs.Decide.{decide_by, decide_course}
 use Rattle.router_model.specs.Plain.{Router, after_data, after_decision, after_event, after_message, after_tick, emit_packets, packet_of, packets_of}
-use Rattle.replay.specs.Taking.{most_event_packets, router_of, GathersFew, Sends}
+use Rattle.router_model.specs.Limits.{most_event_packets}
+use Rattle.replay.specs.Taking.{router_of, GathersFew, Sends}
 
 -- a verdict sends at most one packet
 pub packets_few : (moment : ℕ) (packet : Option (List ℕ)) → length (packets_of moment packet) ≤ 1

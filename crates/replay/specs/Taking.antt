@@ -5,16 +5,13 @@ use Rattle.playback.specs.Events.{Outcome, Packet, records_of, second_of}
 use Rattle.playback.specs.Playing.{Gathers}
 use Rattle.playback.specs.declared.machine.Progress.{Progress}
 use Rattle.playback.specs.declared.output.Output.{Output}
+use Rattle.router_model.specs.Limits.{most_event_packets}
 use Rattle.router_model.specs.Parts.{Parts}
 use Rattle.router_model.specs.Plain.{Router}
 
 -- a router by its settings and the parts of its table
 abbrev pub router_of : Settings → Parts → Router Parts
 router_of settings parts = record { settings = settings; memory = parts }
-
--- packets that are gathered at one event, at most, so that they are counted in 64 bits
-abbrev pub most_event_packets : ℕ
-most_event_packets = 2048
 
 -- the most packets of so many frames and of the seconds so far
 abbrev pub most_packets : Progress → ℕ

@@ -4,6 +4,7 @@ use Rattle.std.specs.List.{flat_map}
 use Rattle.std.proofs.lemmas.Bool.Decides.{nat_tests}
 use Rattle.capture_io.specs.Frame.{Frame}
 use Rattle.router_model.specs.Cut.{AreShort, AreWithin, Filling, behind, cut_on, empty, in_front, is_full, octets_of, with_frame}
+use Rattle.router_model.specs.Limits.{most_round_octets}
 use Rattle.router_model.specs.Sharing.{CutKeeps, CutSingly, CutWithin, LastRoundCloses, RoundCloses, RoundStaysOpen}
 
 front-keeps : (b : Bool) (frame : Frame) (rounds : List (List Frame)) → flat_map (λ frames. frames) (in_front b frame rounds) ≡ frame ∷ flat_map (λ frames. frames) rounds
@@ -29,29 +30,29 @@ neither true b is = absurd cc
 neither false b is = (refl, is)
 
 -- what is known of a round that is open
-not-full : (size : ℕ) (filling : Filling) → is_full size filling ≡ false → (filling.frames < size) × (filling.octets ≤ 16777216)
+not-full : (size : ℕ) (filling : Filling) → is_full size filling ≡ false → (filling.frames < size) × (filling.octets ≤ most_round_octets)
 not-full size filling is = by filling.frames filling.octets (neither _ _ is)
   where
-    by : (f o : ℕ) → (nat_le size f ≡ false) × (nat_lt 16777216 o ≡ false) → (f < size) × (o ≤ 16777216)
+    by : (f o : ℕ) → (nat_le size f ≡ false) × (nat_lt most_round_octets o ≡ false) → (f < size) × (o ≤ most_round_octets)
     by f o are = (let a = are.0 in grind (arith, nat_tests), let b = are.1 in grind (arith, nat_tests))
 
 -- the rest of a round that is open, and the rounds after it, are within the limits
 abbrev RestWithin : ℕ → ℕ → Filling → List (List Frame) → Type 0
 RestWithin size most filling [] = Unit {0}
 RestWithin size most filling (round ∷ rounds) =
-    (filling.frames + length round ≤ size) × ((filling.octets + octets_of round ≤ 16777216 + most) × AreWithin size (16777216 + most) rounds)
+    (filling.frames + length round ≤ size) × ((filling.octets + octets_of round ≤ most_round_octets + most) × AreWithin size (most_round_octets + most) rounds)
 
 -- so are all, where it is empty
-all-within : (size most : ℕ) (rounds : List (List Frame)) → RestWithin size most empty rounds → AreWithin size (16777216 + most) rounds
+all-within : (size most : ℕ) (rounds : List (List Frame)) → RestWithin size most empty rounds → AreWithin size (most_round_octets + most) rounds
 all-within size most [] rest = tt
 all-within size most (round ∷ rounds) rest = (let few = rest.0 in omega (arith, few), (let short = rest.1.0 in omega (arith, short), rest.1.1))
 
-front-within : (size most : ℕ) (filling : Filling) (frame : Frame) (rounds : List (List Frame)) → filling.octets ≤ 16777216 → length frame.octets ≤ most → filling.frames < size → RestWithin size most (with_frame filling frame) rounds → RestWithin size most filling (in_front false frame rounds)
+front-within : (size most : ℕ) (filling : Filling) (frame : Frame) (rounds : List (List Frame)) → filling.octets ≤ most_round_octets → length frame.octets ≤ most → filling.frames < size → RestWithin size most (with_frame filling frame) rounds → RestWithin size most filling (in_front false frame rounds)
 front-within size most filling frame [] octets short few rest = (omega (arith, few), (omega (arith, octets, short), tt))
 front-within size most filling frame (round ∷ rounds) octets short few rest =
     (let more = rest.0 in omega (arith, more), (let more = rest.1.0 in omega (arith, more), rest.1.1))
 
-on-within : (size most : ℕ) (filling : Filling) (frames : List Frame) → filling.frames < size → filling.octets ≤ 16777216 → AreShort most frames → 1 ≤ size → RestWithin size most filling (cut_on size filling frames)
+on-within : (size most : ℕ) (filling : Filling) (frames : List Frame) → filling.frames < size → filling.octets ≤ most_round_octets → AreShort most frames → 1 ≤ size → RestWithin size most filling (cut_on size filling frames)
 on-within size most filling [] few octets short some = tt
 on-within size most filling (frame ∷ frames) few octets short some =
     by (is_full size (with_frame filling frame)) refl (on-within size most empty frames some (omega arith) short.1 some)
@@ -60,7 +61,7 @@ on-within size most filling (frame ∷ frames) few octets short some =
     now : Filling
     now = with_frame filling frame
 
-    by : (b : Bool) → is_full size now ≡ b → RestWithin size most empty (cut_on size empty frames) → (now.frames < size → now.octets ≤ 16777216 → RestWithin size most now (cut_on size now frames)) → RestWithin size most filling (in_front b frame (cut_on size (cond b empty now) frames))
+    by : (b : Bool) → is_full size now ≡ b → RestWithin size most empty (cut_on size empty frames) → (now.frames < size → now.octets ≤ most_round_octets → RestWithin size most now (cut_on size now frames)) → RestWithin size most filling (in_front b frame (cut_on size (cond b empty now) frames))
     by true is anew on = (let f = few in omega (arith, f), (let s = short.0 in omega (arith, octets, s), all-within size most _ anew))
     by false is anew on =
         let room = not-full size now is in

@@ -28,7 +28,7 @@ second_below : (m : ℕ) → m < 2 ^ 32 * 1000000000 → m / 1000000000 ≤ 2 ^ 
 second_below m less = let whole = div-mul-le_self m 1000000000 in omega (arith, less, whole)
 
 -- it doesn't fall where the moments don't
-second_later : (from to : ℕ) → from ≤ to → from / 1000000000 ≤ to / 1000000000
+pub second_later : (from to : ℕ) → from ≤ to → from / 1000000000 ≤ to / 1000000000
 second_later from to later =
     let a = div-add-mod' from 1000000000 in
     let b = div-add-mod' to 1000000000 in
@@ -37,7 +37,7 @@ second_later from to later =
     omega (arith, a, b, c, d, later)
 
 -- a frame, and the seconds before it
-length-events_of : (m : ℕ) (frame : Frame) (rest : List Event) → length (events_of (Some m) frame ++ rest) ≡ second_of frame.moment - second_of m + 1 + length rest
+pub length-events_of : (m : ℕ) (frame : Frame) (rest : List Event) → length (events_of (Some m) frame ++ rest) ≡ second_of frame.moment - second_of m + 1 + length rest
 length-events_of m frame rest =
     let seconds = range_with_len (suc (second_of m)) (second_of frame.moment - second_of m) in
     let a = length-append (events_of (Some m) frame) rest in

@@ -1,6 +1,7 @@
 -- The frames of a capture, cut into rounds.
 use Rattle.std.specs.Prelude.{◌≡◌, ℕ, suc, ◌+◌, ◌≤◌, ◌||◌, nat_le, nat_lt, Bool, true, false, List, [], ◌∷◌, fold, length, if◌then◌else◌}
 use Rattle.capture_io.specs.Frame.{Frame}
+use Rattle.router_model.specs.Limits.{most_round_octets}
 
 -- the frames of a round so far, and their octets
 pub record Filling : Type 0 where
@@ -22,7 +23,7 @@ with_frames filling frames = fold with_frame filling frames
 
 -- a round is closed by its size, or by the frame that brings its octets past 16 MiB
 abbrev pub is_full : ℕ → Filling → Bool
-is_full size filling = nat_le size filling.frames || nat_lt 16777216 filling.octets
+is_full size filling = nat_le size filling.frames || nat_lt most_round_octets filling.octets
 
 -- what is open behind a frame
 abbrev pub behind : ℕ → Filling → Filling

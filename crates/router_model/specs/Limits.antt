@@ -31,3 +31,11 @@ most_notices = 5
 -- entries that come of an event, at most, which is no sharp bound
 abbrev pub most_entries : ℕ
 most_entries = 2 * most_requests
+
+-- octets of a round's frames past which it is closed, by the frame that brings it there
+abbrev pub most_round_octets : ℕ
+most_round_octets = 16777216
+
+-- packets that are sent for an event, at most, which is no sharp bound; so they are counted in 64 bits
+abbrev pub most_event_packets : ℕ
+most_event_packets = 2048

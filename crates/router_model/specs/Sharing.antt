@@ -10,7 +10,7 @@ use Rattle.router_model.specs.Course.{control}
 use Rattle.router_model.specs.Cut.{AreShort, AreWithin, Filling, StaysOpen, cut, cut_on, is_full, with_frame, with_frames}
 use Rattle.router_model.specs.Journal.{Journal, extended, first, last_moment, statics}
 use Rattle.router_model.specs.Lifting.{AreInOrder, FramesInOrder}
-use Rattle.router_model.specs.Limits.{most_entries}
+use Rattle.router_model.specs.Limits.{most_entries, most_round_octets}
 use Rattle.router_model.specs.Parts.{Parts, Stands, parts_in, table}
 use Rattle.router_model.specs.Plain.{Router, plain, started}
 use Rattle.router_model.specs.Proper.{IsProper}
@@ -25,7 +25,7 @@ CutKeeps = (size : ℕ) (frames : List Frame) → flat_map (λ frames. frames) (
 
 -- a round is of at most its size, and of 16 MiB and one frame
 abbrev pub CutWithin : Type 0
-CutWithin = (size most : ℕ) (frames : List Frame) → 1 ≤ size → AreShort most frames → AreWithin size (16777216 + most) (cut size frames)
+CutWithin = (size most : ℕ) (frames : List Frame) → 1 ≤ size → AreShort most frames → AreWithin size (most_round_octets + most) (cut size frames)
 
 -- rounds of one frame
 abbrev pub CutSingly : Type 0
