@@ -2,6 +2,7 @@
 use Rattle.std.proofs.Common.{◌≡◌, ◌⊎◌, inl, inr, ⊎_elim, ℕ, ◌+◌, ◌≤◌, List, [], ◌∷◌, ◌++◌, length, sym, refl, ap, ◌∙◌, append_assoc, append-nil, length-append, arith}
 use Rattle.router_log.specs.declared.entry.Entry.{Entry}
 use Rattle.router_model.specs.Journal.{Journal, extended, first}
+use Rattle.router_model.specs.Sharing.{filled}
 use Rattle.router_model.specs.Sides.{joined}
 use Rattle.router_model.proofs.SideLemmas.{extended-more, first-of-more}
 use Rattle.router_model.proofs.StaticsLemmas.{length-extended}
@@ -60,3 +61,18 @@ pub count-up : (front whole : List (List Entry)) → Begins front whole → coun
 count-up front whole b =
     let parts : count_of whole ≡ length (joined front ++ joined b.0) = ap length (ap joined (sym b.1) ∙ joined-append front b.0) in
     omega (arith, parts, length-append (joined front) (joined b.0))
+
+-- batches without entries add nothing
+pub joined-filled : (batches : List (List Entry)) → joined (filled batches) ≡ joined batches
+joined-filled [] = refl
+joined-filled ([] ∷ batches) = joined-filled batches
+joined-filled ((entry ∷ entries) ∷ batches) = ap (λ (l : List Entry). (entry ∷ entries) ++ l) (joined-filled batches)
+
+-- the journal of batches that have entries is that of all
+pub journal-filled : (before batches : List (List Entry)) → journal_of (before ++ filled batches) ≡ extended (journal_of before) (joined batches)
+journal-filled before batches =
+    journal-behind before (before ++ filled batches) (filled batches, refl) ∙ ap (extended (journal_of before)) (joined-filled batches)
+
+-- and so it is with one batch more
+pub journal-more : (before : List (List Entry)) (entries : List Entry) → journal_of (before ++ filled (entries ∷ [])) ≡ extended (journal_of before) entries
+journal-more before entries = journal-filled before (entries ∷ []) ∙ ap (extended (journal_of before)) (append-nil entries)

@@ -20,6 +20,7 @@ decides-from settings first seen plan told frame same (Some f) rises plans is de
       along = subst (λ (z : List (List Entry)). Along decided.seen z) plans decided.along;
       count = decided.count;
       decision = decided.decision;
+      given = decided.given;
     })
 
 pub all-with : {X : Type 0} (P : X → Type 0) (xs : List X) (x : X) → All P xs → P x → All P (xs ++ x ∷ [])

@@ -1,10 +1,17 @@
 pub mod BatchLemmas
 pub mod ChangeLemmas
 pub mod DecideLemmas
+pub mod FinishLemmas
+pub mod FrameLemmas
 pub mod LookLemmas
+pub mod NoteLemmas
 pub mod PlanLemmas
 pub mod PublishLemmas
+pub mod PutLemmas
+pub mod RoundLemmas
 pub mod RuleLemmas
 pub mod RulingLemmas
+pub mod RunLemmas
 pub mod StandLemmas
 pub mod TakeLemmas
+pub mod WriteLemmas

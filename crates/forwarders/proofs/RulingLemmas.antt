@@ -1,5 +1,5 @@
 -- Decisions by published batches, and by a round's.
-use Rattle.std.proofs.Common.{◌≡◌, ⊎_elim, ℕ, ◌≤◌, List, [], ◌∷◌, ◌++◌, length, take, drop, sym, refl, ap, ◌∙◌, subst, append_assoc}
+use Rattle.std.proofs.Common.{◌≡◌, ⊎_elim, ℕ, ◌≤◌, List, [], ◌++◌, length, take, drop, sym, ap, ◌∙◌, subst, append_assoc}
 use Rattle.std.proofs.Math.Seq.{take-append_seam}
 use Rattle.std.proofs.lemmas.List.{append_cancel_left}
 use Rattle.capture_io.specs.Frame.{Frame}
@@ -19,7 +19,7 @@ use Rattle.forwarders.specs.declared.door.looks.Forwarded.{Forwarded}
 use Rattle.forwarders.specs.Batches.{Begins, count_of, journal_of}
 use Rattle.forwarders.specs.Deciding.{Decides, IsDecided}
 use Rattle.forwarders.specs.Ruling.{DecidedAreRuled, first_of_round}
-use Rattle.forwarders.proofs.BatchLemmas.{begins-either, begins-self, joined-append, journal-length}
+use Rattle.forwarders.proofs.BatchLemmas.{begins-either, begins-self, joined-append, joined-filled, journal-length}
 use Rattle.forwarders.proofs.LookLemmas.{no-more}
 
 -- ### by what is published
@@ -50,11 +50,6 @@ pub decided_last : (settings : Settings) (first published : List (List Entry)) (
 decided_last settings first published frame n d begins count is = decided-at settings first published published frame n d begins (begins-self published) count is
 
 -- ### by the batches of a round
-
-joined-filled : (batches : List (List Entry)) → joined (filled batches) ≡ joined batches
-joined-filled [] = refl
-joined-filled ([] ∷ batches) = joined-filled batches
-joined-filled ((entry ∷ entries) ∷ batches) = ap (λ (l : List Entry). (entry ∷ entries) ++ l) (joined-filled batches)
 
 pub decided-are-ruled : DecidedAreRuled
 decided-are-ruled settings parts before m events frame one stands may decided =

@@ -9,6 +9,7 @@ use Rattle.forwarders.specs.declared.door.looks.Forwarded.{Forwarded}
 use Rattle.forwarders.specs.declared.workers.Answer.{Answer}
 use Rattle.forwarders.specs.declared.workers.Worker.{Worker}
 use Rattle.forwarders.specs.Batches.{Along, Begins, count_of, journal_of}
+use Rattle.forwarders.specs.Given.{IsGiven}
 use Rattle.forwarders.specs.Publication.{Publication}
 
 -- a decision by a forwarder that had seen the first batches and knew the plan
@@ -18,6 +19,7 @@ pub record Decides (settings : Settings) (first plan : List (List Entry)) (frame
   pub along : Along seen plan
   pub count : forwarded.look ≡ count_of seen
   pub decision : forwarded.decision ≡ decide settings (journal_of seen) frame.moment frame
+  pub given : IsGiven forwarded.decision
 
 -- places are those of some frames
 abbrev pub AreWithin : List Frame → List ℕ → Type 0

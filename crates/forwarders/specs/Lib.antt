@@ -1,7 +1,11 @@
 pub mod Batches
 pub mod Deciding
+pub mod Finishing
+pub mod Gathering
+pub mod Given
 pub mod Keeping
 pub mod Looks
 pub mod Publication
+pub mod Rounding
 pub mod Ruling
 pub mod Views

@@ -1,5 +1,6 @@
 -- What becomes of a round's data packets, by its batches.
-use Rattle.std.specs.Prelude.{ℕ, List, ◌++◌, drop, take}
+use Rattle.std.specs.Prelude.{◌≡◌, ℕ, List, ◌++◌, drop, take, slice_index_or, All, IfNone, IfSome}
+use Rattle.std.specs.List.{AllZip}
 use Rattle.capture_io.specs.Frame.{Frame}
 use Rattle.lisp_settings.specs.declared.settings.Settings.{Settings}
 use Rattle.playback.specs.Events.{Event}
@@ -10,6 +11,7 @@ use Rattle.router_model.specs.Sides.{Ruling, writing}
 use Rattle.forwarders.specs.declared.ruled.Ruled.{Ruled}
 use Rattle.forwarders.specs.Batches.{journal_of}
 use Rattle.forwarders.specs.Deciding.{IsDecided}
+use Rattle.forwarders.specs.Given.{IsGiven}
 
 -- how a data packet was decided
 abbrev pub ruling_of : Ruled → Ruling
@@ -26,3 +28,22 @@ last_of_round before batches first = first_of_round before batches first ++ fill
 -- what was decided by published batches, the first of the round among them, is what a table rules that absorbed as many
 abbrev pub DecidedAreRuled : Type 0
 DecidedAreRuled = (settings : Settings) (parts : Parts) (before : List (List Entry)) (m : ℕ) (events : List Event) (frame : Frame) (one : Ruling) → Stands settings parts (journal_of before) → MayBegin settings m (journal_of before) events → let batches = (writing table settings parts events).batches in IsDecided settings (first_of_round before batches (opening events)) (last_of_round before batches (opening events)) frame one → IsRuled settings parts batches (opening events) frame one
+
+-- ### all data packets of a round
+
+-- what became of the data packet at a place among the frames
+pub record IsRuledAt (settings : Settings) (first published : List (List Entry)) (frames : List Frame) (place : ℕ) (one : Ruled) : Type 0 where
+  pub decided : (d : Frame) → IsDecided settings first published (slice_index_or frames place d) (ruling_of one)
+  pub given : IsGiven one.decision
+
+-- the same of several, in order
+abbrev pub AreRuled : Settings → List (List Entry) → List (List Entry) → List Frame → List ℕ → List Ruled → Type 0
+AreRuled settings first published frames places ruled = AllZip (IsRuledAt settings first published frames) places ruled
+
+-- a look is of as many entries as decided; without one, all did
+pub record HasLooked (last : ℕ) (one : Ruled) : Type 0 where
+  pub look : IfSome one.look (λ look. look ≡ one.n)
+  pub alone : IfNone one.look (one.n ≡ last)
+
+abbrev pub HaveLooked : ℕ → List Ruled → Type 0
+HaveLooked last ruled = All (HasLooked last) ruled

@@ -5,17 +5,27 @@
 mod batches;
 mod door;
 mod gate;
+mod gathering;
 mod hiring;
 mod laws;
+mod notices;
+mod putting;
+mod round;
+mod round_done;
 mod ruled;
 mod ruling;
+mod rulings;
+mod sending;
 mod taking;
 mod workers;
 mod working;
+mod writing;
 
 pub use door::{ForwardFault, Forwarded, Forwarder, Look, Published, Tally, open_hall};
 pub use gate::Gate;
 pub use laws::{batches_make_the_journal, decided_packets_are_ruled};
 pub use octets::NoMemory;
+pub use round::run_round;
+pub use round_done::{Line, Lines, Packet, Packets, RoundDone};
 pub use router_core::{Settings, Table};
-pub use router_log::{Decision, Entries, Entry};
+pub use router_log::{Decision, Entries, Entry, Verdict};

@@ -5,7 +5,8 @@ ghost use Rattle.router_log.specs.declared.entry.Entry.{Entry as EntryValue};
 ghost use Rattle.router_model.specs.Parts.{Stands};
 ghost use Rattle.forwarders.specs.Batches.{Begins, count_of, journal_of};
 ghost use Rattle.forwarders.specs.Deciding.{Decides, IsDecided};
-ghost use Rattle.forwarders.specs.Ruling.{ruling_of};
+ghost use Rattle.forwarders.specs.Given.{IsGiven};
+ghost use Rattle.forwarders.specs.Ruling.{HasLooked, ruling_of};
 
 use crate::door::{Forwarded, Published};
 use crate::ruled::Ruled;
@@ -45,9 +46,9 @@ pub(crate) fn ruled(
         → Begins first published.now.batches
         → IfSome forwarded (Decides settings.now first published.now.batches frame.now)
         → IsDecided settings.now first published.now.batches frame.now (ruling_of ruled)) }
-    ensures look { IfOk result (λ ruled. IfSome ruled.look (λ look. look ≡ ruled.n)) }
-    ensures last { IfOk result (λ ruled.
-        IfNone ruled.look (ruled.n ≡ count_of published.now.batches)) }
+    ensures given { IfOk result (λ ruled.
+        IfSome forwarded (λ forwarded. IsGiven forwarded.decision) → IsGiven ruled.decision) }
+    ensures looked { IfOk result (HasLooked (count_of published.now.batches)) }
 {
     if let Some(forwarded) = forwarded {
         if published.covers(&forwarded.look) {

@@ -5,6 +5,7 @@ ghost use Rattle.left_right.specs.Sides.{view as known};
 ghost use Rattle.lisp_settings.specs.Lawful.{IsLawful};
 ghost use Rattle.router_model.specs.Decide.{decide};
 ghost use Rattle.forwarders.specs.Batches.{count_of, journal_of};
+ghost use Rattle.forwarders.specs.Given.{IsGiven};
 ghost use Rattle.forwarders.specs.Looks.{MayLook, Refuses, Rereads, Sees};
 ghost use Rattle.forwarders.specs.Views.{IsReading, forwarding_of};
 
@@ -108,6 +109,7 @@ impl Forwarder {
         ensures decision { IfOk result (λ forwarded. forwarded.decision
             ≡ decide settings.now (journal_of self.new.seen) m frame.now) }
         ensures count { IfOk result (λ forwarded. forwarded.look ≡ count_of self.new.seen) }
+        ensures given { IfOk result (λ forwarded. IsGiven forwarded.decision) }
         ensures rereads { IfOk result (λ _. Rereads self.old self.new) }
         ensures same { IfOk result (λ _. tally.new ≡ tally.old) }
         ensures refused { IfErr result (λ fault.

@@ -1,0 +1,94 @@
+-- A round with forwarders, from what its call asks for.
+use Rattle.std.proofs.Common.{◌≡◌, ℕ, ◌+◌, ◌*◌, ◌^◌, ◌≤◌, ◌<◌, List, [], ◌∷◌, ◌++◌, length, take, Option, All, sym, subst, arith}
+use Rattle.capture_io.specs.Frame.{Frame}
+use Rattle.lisp_settings.specs.declared.settings.Settings.{Settings}
+use Rattle.playback.specs.Events.{events_after}
+use Rattle.router_log.specs.declared.entry.Entry.{Entry}
+use Rattle.router_model.specs.Journal.{extended}
+use Rattle.router_model.specs.Lifting.{FramesInOrder}
+use Rattle.router_model.specs.Limits.{most_ticked}
+use Rattle.router_model.specs.Parts.{Parts, Stands}
+use Rattle.router_model.specs.Proper.{IsProper}
+use Rattle.router_model.specs.Rounds.{closing_moment}
+use Rattle.router_model.specs.Sharing.{MayBegin}
+use Rattle.forwarders.specs.declared.gathering.Written.{Written}
+use Rattle.forwarders.specs.declared.round_done.RoundDone.{RoundDone}
+use Rattle.forwarders.specs.declared.ruled.Ruled.{Ruled}
+use Rattle.forwarders.specs.Batches.{count_of, journal_of}
+use Rattle.forwarders.specs.Finishing.{Finishes, noted_of}
+use Rattle.forwarders.specs.Gathering.{IsWritten, round_writing}
+use Rattle.forwarders.specs.Publication.{Publication}
+use Rattle.forwarders.specs.Rounding.{RunsRound, begun_at}
+use Rattle.forwarders.specs.Ruling.{AreRuled, HaveLooked}
+use Rattle.forwarders.proofs.RoundLemmas.{closing-early, may-begin, notices-proper, places-few, published-stands, round-few, ruled-few, runs-round}
+
+-- what a round is asked for
+pub record MayRun (settings : Settings) (previous : Option ℕ) (frames : List Frame) (parts : Parts) (before : List (List Entry)) : Type 0 where
+  pub stands : Stands settings parts (journal_of before)
+  pub some : 1 ≤ length frames
+  pub number : length frames ≤ 4096
+  pub order : FramesInOrder (begun_at previous frames) frames
+  pub moments : All (λ (f : Frame). f.moment < 2 ^ 32 * 1000000000) frames
+  pub later : parts.now ≤ begun_at previous frames
+  pub room : parts.count < 2 ^ 60
+
+module _ (settings : Settings) (previous : Option ℕ) (parts : Parts) (before : List (List Entry)) where
+  none-run : MayRun settings previous [] parts before → ⊥
+  none-run may = let some = may.some in omega (arith, some)
+
+  begins-of : (frame : Frame) (frames : List Frame) → MayRun settings previous (frame ∷ frames) parts before → MayBegin settings (begun_at previous (frame ∷ frames)) (journal_of before) (events_after previous (frame ∷ frames))
+  begins-of frame frames may = may-begin settings previous frame frames parts (journal_of before) may.stands may.later may.room may.number may.order may.moments
+
+  pub closes-early : (frames : List Frame) (moment : ℕ) → MayRun settings previous frames parts before → moment ≡ closing_moment frames → moment < 2 ^ 32 * 1000000000
+  closes-early [] moment may is = absurd (none-run may)
+  closes-early (frame ∷ frames) moment may is = let early = closing-early frame frames may.moments in omega (arith, early, is)
+
+  module _ (from : ℕ) (written : Written) where
+    pub few-places : (frames : List Frame) → MayRun settings previous frames parts before → IsWritten settings previous frames parts from written → length written.places < 2 ^ 61
+    few-places [] may is = absurd (none-run may)
+    few-places (frame ∷ frames) may is =
+        let few = places-few settings previous frame frames parts before may.stands (begins-of frame frames may) from written is in
+        let number = may.number in
+        omega (arith, few, number)
+
+    pub then-stands : (frames : List Frame) (after : Parts) → MayRun settings previous frames parts before → IsWritten settings previous frames parts from written → after ≡ (round_writing settings previous frames parts).after → Stands settings after (journal_of (before ++ written.batches))
+    then-stands [] after may is same = absurd (none-run may)
+    then-stands (frame ∷ frames) after may is same = published-stands settings previous frame frames parts before may.stands (begins-of frame frames may) from written is after same
+
+    module _ (ruled : List Ruled) where
+      abbrev Ruling-of : List Frame → Type 0
+      Ruling-of frames = AreRuled settings (before ++ take from written.batches) (before ++ written.batches) frames written.places ruled
+
+      -- there is room for what the notices add
+      pub notices-room : (frames : List Frame) (after : Parts) → MayRun settings previous frames parts before → IsWritten settings previous frames parts from written → Ruling-of frames → after.count ≤ parts.count + most_ticked * length (events_after previous frames) → after.count + 5 * length ruled < 2 ^ 61
+      notices-room [] after may is are few = absurd (none-run may)
+      notices-room (frame ∷ frames) after may is are few =
+          let rulings = ruled-few settings previous frame frames parts before may.stands (begins-of frame frames may) from written is ruled are in
+          let events_few = round-few previous frame frames may.order (closing-early frame frames may.moments) in
+          let number = may.number in
+          let room = may.room in
+          omega (arith, few, rulings, events_few, number, room)
+
+      pub notices-go : (frames : List Frame) (moment : ℕ) (after : Parts) → MayRun settings previous frames parts before → IsWritten settings previous frames parts from written → Ruling-of frames → moment ≡ closing_moment frames → after ≡ (round_writing settings previous frames parts).after
+          → IsProper settings (extended (journal_of (before ++ written.batches)) (noted_of settings moment after ruled).entries)
+      notices-go [] moment after may is are closes same = absurd (none-run may)
+      notices-go (frame ∷ frames) moment after may is are closes same =
+          subst (λ (m : ℕ). IsProper settings (extended (journal_of (before ++ written.batches)) (noted_of settings m after ruled).entries)) (sym closes)
+          (notices-proper settings previous frame frames parts before may.stands (begins-of frame frames may) from written is ruled are after same)
+
+pub all-run : (settings : Settings) (previous : Option ℕ) (frames : List Frame) (parts now after : Parts) (old middle new : Publication) (from : ℕ) (written : Written) (ruled : List Ruled) (moment : ℕ) (undone done : RoundDone)
+    → MayRun settings previous frames parts old.batches
+    → IsWritten settings previous frames parts from written
+    → AreRuled settings (old.batches ++ take from written.batches) (old.batches ++ written.batches) frames written.places ruled
+    → HaveLooked (count_of (old.batches ++ written.batches)) ruled
+    → old.pending ≡ []
+    → middle ≡ record old { batches = old.batches ++ written.batches; plan = old.batches ++ written.batches }
+    → now ≡ (round_writing settings previous frames parts).after
+    → moment ≡ closing_moment frames
+    → (undone.lines ≡ []) × (undone.written ≡ [])
+    → Finishes settings moment ruled now middle written undone after new done
+    → RunsRound settings previous frames old new parts after done
+all-run settings previous [] parts now after old middle new from written ruled moment undone done may is are looked none published wrote closes empty finishes =
+    absurd (none-run settings previous parts old.batches may)
+all-run settings previous (frame ∷ frames) parts now after old middle new from written ruled moment undone done may is are looked none published wrote closes empty finishes =
+    runs-round settings previous frame frames parts now after old middle new from written ruled moment undone done may.stands (begins-of settings previous parts old.batches frame frames may) may.order is are looked none published wrote closes empty finishes

@@ -1,0 +1,8 @@
+use Rattle.forwarders.proofs.FinishLemmas.{finished}
+use Rattle.forwarders.proofs.round.finish_round.Goals as goal
+
+pub returns : goal.returns
+returns g c = record {
+  finishes = finished c.put_together.result c.args.settings.now c.args.moment c.args.ruled.items c.as_slice.result.now c.from_vec-ruled.result.items c.args.table.now.parts c.note_round.new.table.parts c.args.published.now c.note_round.new.published c.args.written.now c.note_round.new.items.items c.args.done.now c.put_together.new.done
+      c.as_slice.ensures.value c.from_vec-ruled.ensures.items c.requires.given c.in_ok-note_round.ensures.notes c.in_ok-note_round.ensures.published c.put_together.ensures.lines c.put_together.ensures.packets;
+}

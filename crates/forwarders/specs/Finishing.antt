@@ -1,0 +1,36 @@
+-- How a round ends: its notices are noted, and its lines and packets put together.
+use Rattle.std.specs.Prelude.{◌≡◌, ℕ, ◌+◌, ◌*◌, ◌≤◌, List, [], ◌∷◌, ◌++◌, length, map, All}
+use Rattle.lisp_settings.specs.declared.settings.Settings.{Settings}
+use Rattle.router_model.specs.Changes.{Change}
+use Rattle.router_model.specs.Parts.{Parts, table}
+use Rattle.router_model.specs.Plain.{emit_packets}
+use Rattle.router_model.specs.Sharing.{filled}
+use Rattle.router_model.specs.Sides.{noting}
+use Rattle.forwarders.specs.declared.gathering.Gathered.{Gathered}
+use Rattle.forwarders.specs.declared.gathering.Written.{Written}
+use Rattle.forwarders.specs.declared.round_done.RoundDone.{RoundDone}
+use Rattle.forwarders.specs.declared.ruled.Ruled.{Ruled}
+use Rattle.forwarders.specs.Gathering.{IsFit, lines_in, packet_gathered, packets_in}
+use Rattle.forwarders.specs.Publication.{Publication}
+use Rattle.forwarders.specs.Ruling.{ruling_of}
+
+-- what the notices of a round's data packets change
+abbrev pub noted_of : Settings → ℕ → Parts → List Ruled → Change Parts
+noted_of settings moment before ruled = noting table settings moment before (map ruling_of ruled)
+
+-- what was gathered, and behind it the packets of notices
+abbrev pub with_noted : Settings → ℕ → Parts → List Ruled → List Gathered → List Gathered
+with_noted settings moment before ruled items =
+    items ++ map packet_gathered (emit_packets settings moment (noted_of settings moment before ruled).emits)
+
+-- the notices were noted and published, and all was put behind what was done
+pub record Finishes (settings : Settings) (moment : ℕ) (ruled : List Ruled) (before : Parts) (old : Publication) (written : Written) (undone : RoundDone) (after : Parts) (new : Publication) (done : RoundDone) : Type 0 where
+  pub parts : after ≡ (noted_of settings moment before ruled).after
+  pub published : new ≡ record old {
+    batches = old.batches ++ filled ((noted_of settings moment before ruled).entries ∷ []);
+    plan = old.batches ++ filled ((noted_of settings moment before ruled).entries ∷ []);
+  }
+  pub lines : done.lines ≡ undone.lines ++ lines_in (with_noted settings moment before ruled written.items.items) ruled
+  pub packets : done.written ≡ undone.written ++ packets_in (with_noted settings moment before ruled written.items.items) ruled
+  pub fits : All IsFit written.items.items → All IsFit (with_noted settings moment before ruled written.items.items)
+  pub few : length (with_noted settings moment before ruled written.items.items) ≤ length written.items.items + 5 * length ruled

@@ -1,0 +1,243 @@
+// A round of a replay.
+ghost use Rattle.std.specs.Prelude.{◌≡◌, ◌+◌, ◌*◌, ◌^◌, ◌<◌, ◌≤◌, [], ◌++◌, length, map, take, All, IfOk, OnOk};
+ghost use Rattle.std.specs.List.{AllZip};
+ghost use Rattle.lisp_settings.specs.Lawful.{IsLawful};
+ghost use Rattle.playback.specs.Events.{events_after};
+ghost use Rattle.router_core.specs.Steps.{HasEntered};
+ghost use Rattle.router_model.specs.Journal.{extended};
+ghost use Rattle.router_model.specs.Lifting.{FramesInOrder};
+ghost use Rattle.router_model.specs.Limits.{most_entries};
+ghost use Rattle.router_model.specs.Parts.{Stands};
+ghost use Rattle.router_model.specs.Proper.{IsProper};
+ghost use Rattle.router_model.specs.Rounds.{closing_moment};
+ghost use Rattle.forwarders.specs.Batches.{count_of, journal_of};
+ghost use Rattle.forwarders.specs.Deciding.{AreWithin};
+ghost use Rattle.forwarders.specs.Given.{IsGiven};
+ghost use Rattle.forwarders.specs.Finishing.{Finishes, noted_of};
+ghost use Rattle.forwarders.specs.Rounding.{AreWritable, GrewBy, HasCome, IsRound, RunsRound, begun_at, last_length};
+ghost use Rattle.forwarders.specs.Ruling.{AreRuled, HaveLooked};
+
+use crate::door::Published;
+use crate::gate::Gate;
+use crate::gathering::Written;
+use crate::notices::note_round;
+use crate::putting::put_together;
+use crate::round_done::{Lines, Packets, RoundDone};
+use crate::ruled::Ruled;
+use crate::rulings::{publish_round, rule_all};
+use crate::writing::write_round;
+use capture_io::Frame;
+use lisp_settings::Settings;
+use octets::NoMemory;
+use router_core::Table;
+use std::alloc::Global;
+use std::collections::VecDeque;
+use std::sync::Wait;
+use std::thread::Threads;
+
+// The moment of the last frame.
+fn closing_moment(frames: &[Frame]) -> u64
+    requires { 1 ≤ length frames.now }
+    ensures { result ≡ closing_moment frames.now }
+{
+    let last = &frames[frames.len() - 1];
+    last.moment
+}
+
+// Publishes the batches of a round while so many workers, at most, decide its data packets. Answers what
+// became of these.
+fn decide_round<R: Threads + Wait + Sync, G: Gate>(
+    rt: &R,
+    alloc: Global,
+    settings: &Settings,
+    table: &Table,
+    published: &mut Published,
+    workers: u32,
+    frames: &[Frame],
+    from: usize,
+    written: &Written,
+    gate: &G,
+) -> Result<Vec<Ruled>, NoMemory>
+    requires lawful { IsLawful settings.now }
+    requires settings { published.old.settings ≡ settings.now }
+    requires workers { workers ≤ 16 }
+    requires places { AreWithin frames.now written.now.places }
+    requires number { length written.now.places < 2 ^ 61 }
+    requires from { from ≤ length written.now.batches }
+    requires none { published.old.pending ≡ [] }
+    requires plan { published.old.plan ≡ published.old.batches }
+    requires begins { IsProper settings.now (journal_of published.old.batches) }
+    requires stands { Stands settings.now table.now.parts
+        (journal_of (published.old.batches ++ written.now.batches)) }
+    ensures published { OnOk result (published.new ≡ record published.old {
+      batches = published.old.batches ++ written.now.batches;
+      plan = published.old.batches ++ written.now.batches;
+    }) }
+    ensures ruled { IfOk result (λ ruled. AreRuled settings.now
+        (published.old.batches ++ take from written.now.batches)
+        (published.old.batches ++ written.now.batches)
+        frames.now written.now.places ruled.items) }
+    ensures looked { IfOk result (λ ruled. HaveLooked
+        (count_of (published.old.batches ++ written.now.batches)) ruled.items) }
+{
+    let batches = written.batches.as_slice();
+    let places = written.places.as_slice();
+    published.plan(batches);
+    let most = places.len().min(workers as usize);
+    let mut workers = publish_round(
+        rt, alloc, settings, published, batches, from, most, frames, places, gate,
+    )?;
+    rule_all(
+        alloc,
+        settings,
+        table,
+        published,
+        frames,
+        places,
+        workers.as_mut_slice(),
+    )
+}
+
+// Notes what the data packets noticed, and puts lines and packets together.
+fn finish_round<R: Wait>(
+    rt: &R,
+    alloc: Global,
+    settings: &Settings,
+    table: &mut Table,
+    published: &mut Published,
+    moment: u64,
+    ruled: Vec<Ruled>,
+    written: &mut Written,
+    done: &mut RoundDone,
+) -> Result<(), NoMemory>
+    requires lawful { IsLawful settings.now }
+    requires settings { published.old.settings ≡ settings.now }
+    requires given { All (λ one. IsGiven one.decision) ruled.items }
+    requires later { table.old.parts.now ≤ moment }
+    requires count { table.old.parts.count + 5 * length ruled.items < 2 ^ 61 }
+    requires moment { moment < 2 ^ 32 * 1000000000 }
+    requires none { published.old.pending ≡ [] }
+    requires plan { published.old.plan ≡ published.old.batches }
+    requires stands { IsProper settings.now (journal_of published.old.batches) }
+    requires proper { IsProper settings.now (extended (journal_of published.old.batches)
+        (noted_of settings.now moment table.old.parts ruled.items).entries) }
+    ensures finishes { OnOk result (Finishes settings.now moment ruled.items table.old.parts
+        published.old written.old done.old table.new.parts published.new done.new) }
+{
+    note_round(
+        rt,
+        alloc,
+        settings,
+        table,
+        published,
+        moment,
+        ruled.as_slice(),
+        &mut written.items,
+    )?;
+    let mut ruled = VecDeque::from_vec(ruled);
+    put_together(alloc, &mut written.items, &mut ruled, done)
+}
+
+// Works a round, of which nothing was gathered or done yet.
+fn work_round<R: Threads + Wait + Sync, G: Gate>(
+    rt: &R,
+    alloc: Global,
+    settings: &Settings,
+    table: &mut Table,
+    published: &mut Published,
+    workers: u32,
+    previous: Option<u64>,
+    frames: &[Frame],
+    gate: &G,
+    written: &mut Written,
+    done: &mut RoundDone,
+) -> Result<(), NoMemory>
+    requires lawful { IsLawful settings.now }
+    requires settings { published.old.settings ≡ settings.now }
+    requires workers { workers ≤ 16 }
+    requires stands { Stands settings.now table.old.parts (journal_of published.old.batches) }
+    requires none { published.old.pending ≡ [] }
+    requires plan { published.old.plan ≡ published.old.batches }
+    requires number { (1 ≤ length frames.now) × (length frames.now ≤ 4096) }
+    requires order { FramesInOrder (begun_at previous frames.now) frames.now }
+    requires moments { All (λ frame. frame.moment < 2 ^ 32 * 1000000000) frames.now }
+    requires later { table.old.parts.now ≤ begun_at previous frames.now }
+    requires count { table.old.parts.count < 2 ^ 60 }
+    requires empty { (written.old.items.items ≡ []) × (written.old.batches ≡ [])
+        × (written.old.places ≡ []) }
+    requires undone { (done.old.lines ≡ []) × (done.old.written ≡ []) }
+    ensures { OnOk result (RunsRound settings.now previous frames.now
+        published.old published.new table.old.parts table.new.parts done.new) }
+{
+    let from = write_round(alloc, settings, table, previous, frames, written)?;
+    let ruled = decide_round(
+        rt, alloc, settings, table, published, workers, frames, from, written, gate,
+    )?;
+    let moment = closing_moment(frames);
+    finish_round(
+        rt, alloc, settings, table, published, moment, ruled, written, done,
+    )
+}
+
+/// One round of a replay: its seconds and control messages in order, the published table's batches
+/// with their entries, and its data packets, decided beside that by at most so many workers in threads of
+/// their own, each by looks at what is published then; by the caller's table where no worker decided.
+/// What data packets noticed is noted last, at the last frame's moment, and published as one batch.
+///
+/// `previous` is the moment of the frame before the round, in nanoseconds; None before the first
+/// frame. The table stands for what is published, before and after. With no worker, and in a round
+/// without data packets, no thread is made. After a refusal the publication can only be closed.
+pub fn run_round<R: Threads + Wait + Sync, G: Gate>(
+    rt: &R,
+    alloc: Global,
+    settings: &Settings,
+    table: &mut Table,
+    published: &mut Published,
+    workers: u32,
+    previous: Option<u64>,
+    frames: &[Frame],
+    gate: &G,
+) -> Result<RoundDone, NoMemory>
+    requires lawful { IsLawful settings.now }
+    requires settings { published.old.settings ≡ settings.now }
+    requires workers { workers ≤ 16 }
+    requires stands { Stands settings.now table.old.parts (journal_of published.old.batches) }
+    requires none { published.old.pending ≡ [] }
+    requires plan { published.old.plan ≡ published.old.batches }
+    requires number { (1 ≤ length frames.now) × (length frames.now ≤ 4096) }
+    requires order { FramesInOrder (begun_at previous frames.now) frames.now }
+    requires moments { All (λ frame. frame.moment < 2 ^ 32 * 1000000000) frames.now }
+    requires later { table.old.parts.now ≤ begun_at previous frames.now }
+    requires count { table.old.parts.count < 2 ^ 60 }
+    ensures round { IfOk result (λ done. IsRound settings.now previous frames.now
+        published.old published.new table.new.parts done) }
+    ensures published { OnOk result (GrewBy published.old published.new) }
+    ensures looks { IfOk result (λ done. AllZip
+        (HasCome settings.now (last_length settings.now previous frames.now published.old))
+        frames.now done.lines) }
+    ensures entered { OnOk result (HasEntered
+        (most_entries * length (events_after previous frames.now)) (closing_moment frames.now)
+        table.old.parts table.new.parts) }
+    ensures packets { IfOk result (λ done.
+        AreWritable (length (events_after previous frames.now)) done.written) }
+{
+    let mut written = Written::new(alloc);
+    let mut done = RoundDone {
+        lines: Lines::new(alloc),
+        written: Packets::new(alloc),
+    };
+    work_round(
+        rt,
+        alloc,
+        settings,
+        table,
+        published,
+        workers,
+        previous,
+        frames,
+        gate,
+        &mut written,
+        &mut done,
+    )?;
+    Ok(done)
+}

@@ -1,0 +1,247 @@
+// The writer's side of a round: its seconds and control messages in order. Data packets are left for
+// later.
+ghost use Rattle.std.specs.Prelude.{◌≡◌, ◌+◌, ◌*◌, ◌^◌, ◌<◌, ◌≤◌, List, [], ◌∷◌, ◌++◌, length, slice_index_or, unwrap_or, true, All, IfOk, OnOk, Option, Some};
+ghost use Rattle.capture_io.specs.Frame.{Frame as FrameValue};
+ghost use Rattle.lisp_settings.specs.Lawful.{IsLawful};
+ghost use Rattle.playback.specs.Events.{Arrival, Tick, events_after, second_of, ticks};
+ghost use Rattle.router_log.specs.Moments.{seconds};
+ghost use Rattle.router_core.specs.Seen.{course_seen};
+ghost use Rattle.router_core.specs.Steps.{HasEntered, MayStep};
+ghost use Rattle.router_model.specs.Course.{course_of, control};
+ghost use Rattle.router_model.specs.Lifting.{FramesInOrder};
+ghost use Rattle.router_model.specs.Limits.{most_ticked};
+ghost use Rattle.router_model.specs.Rounds.{closing_moment};
+ghost use Rattle.router_model.specs.Sharing.{filled};
+ghost use Rattle.forwarders.specs.Gathering.{IsWritten, Writes, round_writing};
+ghost use Rattle.forwarders.specs.Rounding.{begun_at};
+
+use crate::gathering::{Gathered, Written};
+use crate::round_done::Line;
+use crate::sending::push_emits;
+use capture_io::Frame;
+use lisp_settings::Settings;
+use octets::{Items, NoMemory};
+use router_core::{Changed, Course, Heard, Table, course_of};
+use router_log::Entries;
+use std::alloc::Global;
+
+/// Adds a batch, if it has entries.
+pub(crate) fn keep_batch(batches: &mut Items<Entries>, entries: Entries) -> Result<(), NoMemory>
+    ensures { OnOk result (batches.new ≡ batches.old ++ filled (entries ∷ [])) }
+{
+    if entries.len() == 0 {
+        return Ok(());
+    }
+    batches.push(entries)
+}
+
+// Lets a second begin: gathers its packets, and keeps its entries as a batch.
+fn write_second(
+    alloc: Global,
+    settings: &Settings,
+    table: &mut Table,
+    second: u32,
+    written: &mut Written,
+) -> Result<(), NoMemory>
+    requires lawful { IsLawful settings.now }
+    requires own { settings.now.locators ≡ table.old.parts.own }
+    requires may { MayStep (seconds second) table.old.parts }
+    ensures writes { OnOk result ((frames : List FrameValue) → Writes settings.now frames
+        (Tick second ∷ []) table.old.parts written.old table.new.parts written.new) }
+    ensures now { OnOk result (table.new.parts.now ≤ seconds second) }
+{
+    let Changed { entries, emits } = table.tick(settings, second)?;
+    let moment = u64::from(second) * 1_000_000_000;
+    push_emits(
+        alloc,
+        settings,
+        moment,
+        emits.as_slice(),
+        &mut written.items,
+    )?;
+    keep_batch(&mut written.batches, entries)
+}
+
+// The seconds that begin after a moment, up to that of another and with it; none before the first
+// frame.
+fn write_seconds(
+    alloc: Global,
+    settings: &Settings,
+    table: &mut Table,
+    previous: Option<u64>,
+    moment: u64,
+    written: &mut Written,
+) -> Result<(), NoMemory>
+    requires lawful { IsLawful settings.now }
+    requires own { settings.now.locators ≡ table.old.parts.own }
+    requires later { table.old.parts.now ≤ unwrap_or previous moment }
+    requires order { unwrap_or previous moment ≤ moment }
+    requires moment { moment < 2 ^ 32 * 1000000000 }
+    requires count { table.old.parts.count + most_ticked * second_of moment < 2 ^ 61 }
+    ensures writes { OnOk result ((frames : List FrameValue) → Writes settings.now frames
+        (ticks previous moment) table.old.parts written.old table.new.parts written.new) }
+    ensures now { OnOk result (table.new.parts.now ≤ moment) }
+{
+    let Some(from) = previous else {
+        return Ok(());
+    };
+    let first = second_of(from) + 1;
+    let end = second_of(moment) + 1;
+    for second in first..end {
+        write_second(alloc, settings, table, second as u32, written)?;
+    }
+    Ok(())
+}
+
+// The second in which a moment lies.
+fn second_of(moment: u64) -> u64
+    ensures { result ≡ second_of moment }
+{
+    moment / 1_000_000_000
+}
+
+// A frame: a control message is heard, a data packet is left for later.
+fn write_frame(
+    alloc: Global,
+    settings: &Settings,
+    table: &mut Table,
+    place: usize,
+    frame: &Frame,
+    written: &mut Written,
+) -> Result<(), NoMemory>
+    requires lawful { IsLawful settings.now }
+    requires may { MayStep frame.now.moment table.old.parts }
+    requires moment { frame.now.moment < 2 ^ 32 * 1000000000 }
+    ensures writes { OnOk result ((frames : List FrameValue) → place < length frames
+        → ((d : FrameValue) → slice_index_or frames place d ≡ frame.now)
+        → Writes settings.now frames (Arrival frame.now ∷ [])
+        table.old.parts written.old table.new.parts written.new) }
+    ensures now { OnOk result (table.new.parts.now ≤ frame.now.moment) }
+{
+    let course = course_of(settings, frame);
+    if course.is_message() {
+        write_message(alloc, settings, table, frame, course, written)
+    } else {
+        leave(place, frame, written)
+    }
+}
+
+// Hears a control message: gathers its line and its packets, and keeps its entries as a batch.
+fn write_message(
+    alloc: Global,
+    settings: &Settings,
+    table: &mut Table,
+    frame: &Frame,
+    course: Course,
+    written: &mut Written,
+) -> Result<(), NoMemory>
+    requires lawful { IsLawful settings.now }
+    requires may { MayStep frame.now.moment table.old.parts }
+    requires moment { frame.now.moment < 2 ^ 32 * 1000000000 }
+    requires course { course_seen course ≡ course_of settings.now frame.now }
+    requires message { control settings.now frame.now ≡ true }
+    ensures writes { OnOk result ((frames : List FrameValue) → Writes settings.now frames
+        (Arrival frame.now ∷ []) table.old.parts written.old table.new.parts written.new) }
+    ensures now { OnOk result (table.new.parts.now ≤ frame.now.moment) }
+{
+    let n = table.count();
+    let Heard {
+        verdict,
+        entries,
+        emits,
+    } = table.hear_course(settings, frame.moment, course)?;
+    written.items.push_back(Gathered::Message(Line {
+        number: frame.number,
+        moment: frame.moment,
+        n,
+        verdict,
+        look: None,
+    }))?;
+    push_emits(
+        alloc,
+        settings,
+        frame.moment,
+        emits.as_slice(),
+        &mut written.items,
+    )?;
+    keep_batch(&mut written.batches, entries)
+}
+
+// Leaves a data packet for later.
+fn leave(place: usize, frame: &Frame, written: &mut Written) -> Result<(), NoMemory>
+    ensures items { OnOk result (written.new.items.items
+        ≡ written.old.items.items ++ Gathered.Left frame.now.number frame.now.moment ∷ []) }
+    ensures batches { OnOk result (written.new.batches ≡ written.old.batches) }
+    ensures places { OnOk result (written.new.places ≡ written.old.places ++ place ∷ []) }
+{
+    written.items.push_back(Gathered::Left {
+        number: frame.number,
+        moment: frame.moment,
+    })?;
+    written.places.push(place)
+}
+
+// Frames in order, each behind the seconds after the one before, from a moment on.
+fn write_frames(
+    alloc: Global,
+    settings: &Settings,
+    table: &mut Table,
+    from: u64,
+    frames: &[Frame],
+    written: &mut Written,
+) -> Result<(), NoMemory>
+    requires lawful { IsLawful settings.now }
+    requires own { settings.now.locators ≡ table.old.parts.own }
+    requires later { table.old.parts.now ≤ from }
+    requires from { from < 2 ^ 32 * 1000000000 }
+    requires number { length frames.now ≤ 4096 }
+    requires order { FramesInOrder from frames.now }
+    requires moments { All (λ frame. frame.moment < 2 ^ 32 * 1000000000) frames.now }
+    requires count { table.old.parts.count < 2 ^ 60 + most_ticked * 2 ^ 32 }
+    ensures writes { OnOk result (Writes settings.now frames.now
+        (events_after (Some from) frames.now) table.old.parts written.old table.new.parts written.new) }
+    ensures now { OnOk result (1 ≤ length frames.now
+        → table.new.parts.now ≤ closing_moment frames.now) }
+{
+    let mut last = from;
+    for (place, frame) in frames.iter().enumerate() {
+        write_seconds(alloc, settings, table, Some(last), frame.moment, written)?;
+        write_frame(alloc, settings, table, place, frame, written)?;
+        last = frame.moment;
+    }
+    Ok(())
+}
+
+/// The writer's side of a round, of which nothing was gathered yet. Answers how many of the batches are
+/// those of the seconds before the first frame.
+pub(crate) fn write_round(
+    alloc: Global,
+    settings: &Settings,
+    table: &mut Table,
+    previous: Option<u64>,
+    frames: &[Frame],
+    written: &mut Written,
+) -> Result<usize, NoMemory>
+    requires lawful { IsLawful settings.now }
+    requires own { settings.now.locators ≡ table.old.parts.own }
+    requires later { table.old.parts.now ≤ begun_at previous frames.now }
+    requires number { (1 ≤ length frames.now) × (length frames.now ≤ 4096) }
+    requires order { FramesInOrder (begun_at previous frames.now) frames.now }
+    requires moments { All (λ frame. frame.moment < 2 ^ 32 * 1000000000) frames.now }
+    requires count { table.old.parts.count < 2 ^ 60 }
+    requires none { (written.old.items.items ≡ []) × (written.old.batches ≡ [])
+        × (written.old.places ≡ []) }
+    ensures written { IfOk result (λ from.
+        IsWritten settings.now previous frames.now table.old.parts from written.new) }
+    ensures table { OnOk result (table.new.parts
+        ≡ (round_writing settings.now previous frames.now table.old.parts).after) }
+    ensures entered { OnOk result (HasEntered
+        (most_ticked * length (events_after previous frames.now)) (closing_moment frames.now)
+        table.old.parts table.new.parts) }
+{
+    let first = &frames[0];
+    write_seconds(alloc, settings, table, previous, first.moment, written)?;
+    let from = written.batches.len();
+    write_frames(alloc, settings, table, first.moment, frames, written)?;
+    Ok(from)
+}
