@@ -1,6 +1,6 @@
-"""Worked frames whose report depends on threads, and all that a replay with two workers and rounds of four may end with.
+"""Worked frames whose report depends on threads, and each way in which two workers and rounds of four frames may end.
 
-Four misses are a round, and their request is written with its last frame. In the next one the Map-Reply comes amid three
+Four misses are a round, and their request is written with its last frame. In the next one a Map-Reply comes amid three
 packets: each of them is decided with both of its entries or with none.
 """
 import itertools
