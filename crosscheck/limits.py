@@ -195,7 +195,7 @@ def rounds_by_octets():
     """63 of the longest frames, and two that bring the round to 16 MiB, or past it by one octet."""
     size = len(shared("packet"))
     full = [MOST_OCTETS] * 63 + [MOST_OCTETS - size, size, size, size]
-    yield misses_in_rounds("a round of 16 MiB and one frame more", "At 16 MiB it is open, so the next frame is its last.",
+    yield misses_in_rounds("a round of 16 MiB and one frame more", "At 16 MiB a round is still open.",
                            full, 66, "--workers 2")
     full[63] += 1
     yield misses_in_rounds("a round of an octet more than 16 MiB", "It is closed by the frame with that octet.",

@@ -73,7 +73,8 @@ class Round:
         self.ends, self.events, self.deciders = [], [], {}
         for frame in frames:
             self.play_seconds(frame.moment)
-            self.ends = self.ends if frame is not frames[0] else [len(router.journal)]
+            if frame.number == frames[0].number:
+                self.ends = [len(router.journal)]
             self.events.append(self.heard(frame) if router.is_control(frame.link, frame.octets) else frame)
 
     def play_seconds(self, moment):
@@ -108,16 +109,18 @@ class Round:
                 noticed += notices
             lines += event.lines
             packets += event.packets
-        for notice in noticed:
-            packets += ((self.last, packet) for packet in self.router.note(self.last, notice))
-        return Told(lines, packets)
+        return Told(lines, packets + self.noted(noticed))
+
+    def noted(self, noticed):
+        """What is sent for all that was noticed."""
+        return [(self.last, packet) for notice in noticed for packet in self.router.note(self.last, notice)]
 
 
-def played(router, frames, file, size, choose):
+def played(router, frames, file, size, choose, kind=Round):
     """Says the lines of each round and one at the end, and writes what is sent."""
     count = written = 0
     for part in cut(frames, size):
-        lines, packets = Round(router, part).all_told(choose)
+        lines, packets = kind(router, part).all_told(choose)
         print(*lines, sep="\n")
         for moment, packet in packets:
             file.write(output_record(moment, packet))
@@ -125,10 +128,9 @@ def played(router, frames, file, size, choose):
     print(plain.last_line(count, written, router))
 
 
-def replay(settings, capture, output, size, choose):
-    """Replays a capture by rounds of that size."""
-    play = lambda router, frames, file: played(router, frames, file, size, choose)
-    return plain.replay(settings, capture, output, play)
+def replay(settings, capture, output, *how):
+    """Replays a capture by rounds of a size, with a choice of numbers."""
+    return plain.replay(settings, capture, output, lambda *parts: played(*parts, *how))
 
 
 class Stepwise(Router):
@@ -165,7 +167,9 @@ def last(_, ends):
 
 
 def at_random(r):
-    return lambda _, ends: r.choice(ends)
+    """Any of the ends; of a frame the same ones each time."""
+    seed = r.random()
+    return lambda number, ends: random.Random(f"{seed} {number}").choice(ends)
 
 
 def forced(number, ends):

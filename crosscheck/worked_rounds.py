@@ -10,10 +10,11 @@ from row_runs import SECOND, START, capture_of
 
 WORKERS, SIZE = 2, 4
 SETTINGS = TEXTS["tenant"]
-MOMENTS = [i * SECOND // 10 for i in range(8)]
 REPLY, FREE = 6, (5, 7, 8)
-CAPTURE = capture_of([(moment, shared("reply" if number == REPLY else "packet"))
-                      for number, moment in enumerate(MOMENTS, 1)])
+# The frames, with their moments in milliseconds.
+FRAMES = [(100 * i, shared("reply" if i + 1 == REPLY else "packet")) for i in range(8)]
+MOMENTS = [at * SECOND // 1000 for at, _ in FRAMES]
+CAPTURE = capture_of([(moment, octets) for moment, (_, octets) in zip(MOMENTS, FRAMES)])
 
 
 def verdict(number, knowing):
