@@ -62,8 +62,8 @@ class Repeated(Round):
                 late, packets = self.late(end[1])
                 counts.update(runs=times * (late > 0), late=times * late, packets=times * packets)
         print(f"{runs} runs, {len(ends)} different ends, {counts['wrong']} runs wrong")
-        print(f"{counts['late']} of {counts['packets']} packets, in {counts['runs']} runs, are decided by more than their "
-              "round began with")
+        print(f"{counts['late']} of {counts['packets']} packets, in {counts['runs']} runs, "
+              "are decided by more than their round began with")
         return not counts["wrong"]
 
 
