@@ -2,9 +2,9 @@
 """Replays a capture without workers and with some, in rounds of several sizes, and prints the best run of each.
 
 usage: workers.py PROGRAM FOLDER FRAMES RUNS | workers.py --write FOLDER FRAMES SEED
-The folder has settings.toml and capture.pcap, and all kinds of runs go by turns. Of each kind it prints frames a second,
-user and system time, the greatest memory, and the report's last line where that isn't the one without workers. With
---write it makes the two files: packets of 80 to 1,400 octets, made from a number, 10,000 a second, to one mapping; of
+The folder has settings.toml and capture.pcap, and all kinds of runs go by turns. Of each kind it prints frames a
+second, user and system time, the greatest memory, and the report's last line where that isn't the one without workers.
+With --write it makes the two files: packets of 80 to 1,400 octets, made from a number, 10,000 a second, to one mapping; of
 each hundred frames one is to an address that must be asked for, and from the 5,000th frame on one is the Map-Reply to
 what was asked for 5,000 frames before, so that it is open also in the largest rounds.
 """

@@ -1,8 +1,8 @@
 #!/usr/bin/env bash
 # Replays captures of many frames without workers, and with 1, 2 and 4 of them in rounds of 64, 256 and 4,096 frames:
 # packets to one mapping, packets to 50,000, and packets of which one in a hundred is a Map-Reply that is learned. It
-# prints of each the best of some runs, which go by turns: frames a second, user and system time, and the greatest memory.
-# The words `4 by 256` say that there are 4 workers, and rounds of 256 frames.
+# prints of each the best of some runs, which go by turns: frames a second, user and system time, and the greatest
+# memory. `4 by 256` are 4 workers, and rounds of 256 frames.
 # usage: bench/workers.sh [FRAMES [SEED [RUNS [PROGRAM]]]]
 set -eu
 frames=${1:-1000000}
