@@ -3,7 +3,7 @@ import re
 from typing import NamedTuple
 
 NUMBER = re.compile(r"0|[1-9][0-9]*")
-# More workers than none are of no form until there are forwarders.
+# More workers than none are of no form until the program has them.
 MOST_WORKERS, MOST_ROUND, MOST_MAPPINGS = 0, 4096, 50_000
 
 

@@ -5,11 +5,12 @@ usage: compare.py PROGRAM [ROUNDS [SEED]]
 Each round makes settings and a capture of 300 frames, at times 2,000: packets of the site, packets in tunnels that
 tell status bits, nonces and versions, replies to what the router asked and probed, Map-Requests of all kinds and
 other control messages, in both families and mostly in several instances, many of them spoiled or late, some a minute
-or ten behind the frame before; and then 40 settings files with spoiled values. It ends with status 1 at the first
-difference.
+or ten behind the frame before; then such a capture that fits a router with workers, at times cut short, which the
+program replays with 1 to 16 of these and rounds of 1 to 4,096 frames; and then 40 settings files with spoiled values.
+Without workers the program must say and write what the plain router does, and with them what its own numbers make of
+that. Before these it replays worked frames with two workers, a hundred times. What has workers waits until the program
+has them (`MOST_WORKERS`). It ends with status 1 at the first difference.
 """
-import contextlib
-import io
 import os
 import random
 import struct
@@ -19,13 +20,20 @@ import tempfile
 import tomllib
 
 import plain
+import rounds
 import settings as rules
+import worked_rounds
+from commands import MOST_WORKERS
 from makers import framed, packet, settings, spoiled_settings
 from sites import Site
 from talk import Talk
-from wire import contents
+from wire import contents, existing
 
 FEW, MANY = 300, 2000
+# Frames of a router's round, mostly few, so that a capture has many.
+SIZES = [1, 2, 3, 4, 6, 10, 20, 60, 256, 4096]
+# How often worked frames are replayed.
+WORKED = 100
 
 
 def unrelated(r, link, unit):
@@ -36,7 +44,8 @@ def unrelated(r, link, unit):
         yield seconds * 10**9 + r.randrange(10**9 // unit) * unit, framed(r, link, packet(r))
 
 
-def frames(r, text, link, unit):
+def frames(r, text, link, unit, size=1):
+    """Frames that mostly fit what a router with rounds of a size does."""
     try:
         site = Site(text.encode())
     except rules.Fault:
@@ -44,7 +53,7 @@ def frames(r, text, link, unit):
     if r.random() < 0.1:
         return unrelated(r, link, unit)
     hurried = r.random() < 0.05
-    return Talk(r, site, link, unit, hurried).frames(MANY if hurried else FEW)
+    return Talk(r, site, link, unit, hurried, size).frames(MANY if hurried else FEW)
 
 
 def capture(r, text, path, make=frames):
@@ -61,14 +70,6 @@ def run(*command):
     return subprocess.run(command, capture_output=True, text=True).stdout
 
 
-def said(call, *words):
-    """What a call of the plain router prints."""
-    report = io.StringIO()
-    with contextlib.redirect_stdout(report):
-        call(*words)
-    return report.getvalue()
-
-
 def write(path, text):
     with open(path, "w") as file:
         file.write(text)
@@ -78,21 +79,24 @@ class Round:
     """The files of a round, and the program."""
 
     def __init__(self, program, folder):
-        self.program = program
+        self.program, self.end = program, None
         names = ("settings.toml", "capture.pcap", "ours.pcap", "plain.pcap")
         self.settings, self.capture, self.ours, self.theirs = (os.path.join(folder, name) for name in names)
 
-    def same_replay(self):
+    def words(self, *more):
+        """The words of a replay; there is no output yet."""
         for name in (self.ours, self.theirs):
             if os.path.exists(name):
                 os.remove(name)
-        words = "--settings", self.settings, "--in", self.capture, "--out", self.ours
-        ours = run(self.program, "replay", *words)
-        theirs = said(plain.replay, self.settings, self.capture, self.theirs)
+        return "replay", "--settings", self.settings, "--in", self.capture, "--out", self.ours, *more
+
+    def same_replay(self):
+        ours = run(self.program, *self.words())
+        theirs = plain.said(plain.replay, self.settings, self.capture, self.theirs)
         return ours == theirs and contents(self.ours) == contents(self.theirs)
 
     def same_show(self):
-        return run(self.program, "show", "--in", self.capture) == said(plain.show, self.capture)
+        return run(self.program, "show", "--in", self.capture) == plain.said(plain.show, self.capture)
 
     def same_settings(self, r):
         text = spoiled_settings(r)
@@ -103,25 +107,65 @@ class Round:
         write(self.settings, text)
         return self.same_replay()
 
+    # With workers.
+
+    def ended(self, workers, size):
+        """What the program ends with; a round has 256 frames where the words don't say a size."""
+        more = "--workers", str(workers), *(("--round", str(size)) if size != 256 else ())
+        done = subprocess.run([self.program, *self.words(*more)], capture_output=True)
+        return done.returncode, done.stdout.decode(errors="replace"), existing(self.ours)
+
+    def is_lawful(self, workers, size):
+        """Whether the program ends as its own numbers say; else it is said why not."""
+        self.end = self.ended(workers, size)
+        found = rounds.fault(self.settings, self.capture, size, self.end)
+        if found:
+            print(f"with {workers} workers and rounds of {size} the report is\n{self.end[1]}but\n{found}", end="")
+        return not found
+
+    def worked(self):
+        """Whether worked frames end in one of the ways that are worked out, each time."""
+        write(self.settings, worked_rounds.SETTINGS)
+        with open(self.capture, "wb") as file:
+            file.write(worked_rounds.CAPTURE)
+        wanted, size = worked_rounds.ends(), worked_rounds.SIZE
+        return all(self.is_lawful(worked_rounds.WORKERS, size) and self.end in wanted for _ in range(WORKED))
+
+    def lawful_rounds(self, r, text, make=frames):
+        """Whether a replay of frames that fit rounds of a size ends as it may."""
+        size = r.choice([*SIZES, r.randint(1, 4096)])
+        capture(r, text, self.capture, lambda *parts: make(*parts, size))
+        if r.random() < 0.2:
+            os.truncate(self.capture, max(0, os.path.getsize(self.capture) - r.randint(1, 200)))
+        return self.is_lawful(r.randint(1, 16), size)
+
     def agrees(self, r):
         text = settings(r)
         write(self.settings, text)
         capture(r, text, self.capture)
-        return self.same_replay() and self.same_show() and all(self.same_settings(r) for _ in range(40))
+        return (self.same_replay() and self.same_show() and (not MOST_WORKERS or self.lawful_rounds(r, text))
+                and all(self.same_settings(r) for _ in range(40)))
+
+
+    def left(self, words):
+        """Leaves the files of what differs, and ends."""
+        print(words)
+        for name in (self.settings, self.capture):
+            os.replace(name, os.path.basename(name))
+        sys.exit(1)
 
 
 def main(kind=Round):
-    rounds = int(sys.argv[2]) if len(sys.argv) > 2 else 20
+    count = int(sys.argv[2]) if len(sys.argv) > 2 else 20
     seed = int(sys.argv[3]) if len(sys.argv) > 3 else 1
     with tempfile.TemporaryDirectory() as folder:
         one = kind(sys.argv[1], folder)
-        for i in range(rounds):
+        if MOST_WORKERS and not one.worked():
+            one.left("worked frames differ")
+        for i in range(count):
             if not one.agrees(random.Random(f"{seed} {i}")):
-                print(f"round {i} of seed {seed} differs")
-                for name in (one.settings, one.capture):
-                    os.replace(name, os.path.basename(name))
-                sys.exit(1)
-    print(f"{rounds} rounds agree")
+                one.left(f"round {i} of seed {seed} differs")
+    print(f"{count} rounds agree")
 
 
 if __name__ == "__main__":

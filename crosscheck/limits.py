@@ -1,10 +1,11 @@
-"""Rows at the limits of what the router remembers, made by loops: too long for a file of rows.
+"""Rows at the limits of what the router remembers, and of rounds, made by loops: too long for a file of rows.
 
 Their packets are those of shared.toml with other octets.
 """
 import struct
 
 from checksums import ip_summed, udp_summed
+from commands import MOST_WORKERS
 from nonces import nonce_at
 from row_runs import REPLAY, SECOND, SHARED, START, Row, Run, capture_of, octets_of, tables_of
 
@@ -12,6 +13,8 @@ TEXTS, PACKETS, _ = tables_of(SHARED)
 MILLI, MICRO = 10**6, 1000
 # Requests that are open; echoes asked for, echoes wanted and peers solicited; mappings that live.
 MOST_OPEN, MOST, MOST_MAPPINGS = 1024, 4096, 65536
+# Of a frame; 64 times as many are 16 MiB.
+MOST_OCTETS = 262144
 LISTED = 0x0102030405060708
 DELIVERED = "delivered 0"
 
@@ -20,13 +23,13 @@ def shared(name):
     return octets_of(name, PACKETS)
 
 
-def row(name, shows, frames, packets, entries, settings):
+def row(name, shows, frames, packets, entries, settings, words=REPLAY):
     """A row of frames with their moments and verdicts, and packets with their moments."""
     lines = [f"{i} {(START + moment) // SECOND}.{moment % SECOND:09} {verdict}\n"
              for i, (moment, _, verdict) in enumerate(frames, 1)]
     report = "".join(lines) + f"end frames={len(frames)} written={len(packets)} entries={entries}\n"
     files = {"settings": settings.encode(), "in": capture_of([frame[:2] for frame in frames])}
-    return Row("limits.py", name, shows, [Run(REPLAY.split(), files, 0, report, capture_of(packets))])
+    return Row("limits.py", name, shows, [Run(words.split(), files, 0, report, capture_of(packets))])
 
 
 def drawn(i, *listed):
@@ -171,5 +174,35 @@ def started_echoes():
                frames, packets, 2 + 2 * MOST, settings)
 
 
+# Rounds.
+
+
+def misses_in_rounds(name, shows, sizes, first, words):
+    """Misses of so many octets, the first of them a round, which asks with its last one; those behind it find that."""
+    frames = [(i * MICRO, shared("packet").ljust(size, b"\0"), f"n={int(i >= first)} drop 13 miss")
+              for i, size in enumerate(sizes)]
+    return row(name, shows, frames, [((first - 1) * MICRO, shared("asked"))], 1, TEXTS["tenant"], f"{REPLAY} {words}")
+
+
+def rounds_by_size():
+    size = len(shared("packet"))
+    yield misses_in_rounds("a round of 256 frames", "So many are a round where the words say no size.",
+                           [size] * 258, 256, "--workers 2")
+    yield misses_in_rounds("a round of 4096 frames", "The most that may be a round.",
+                           [size] * 4098, 4096, "--workers 3 --round 4096")
+
+
+def rounds_by_octets():
+    """63 of the longest frames, and two that bring the round to 16 MiB, or past it by one octet."""
+    size = len(shared("packet"))
+    full = [MOST_OCTETS] * 63 + [MOST_OCTETS - size, size, size, size]
+    yield misses_in_rounds("a round of 16 MiB and one frame more", "At 16 MiB a round is still open.",
+                           full, 66, "--workers 2")
+    full[63] += 1
+    yield misses_in_rounds("a round of an octet more than 16 MiB", "It is closed by the frame with that octet.",
+                           full, 65, "--workers 2 --round 4096")
+
+
 def rows():
-    return [open_requests(), live_mappings(), wanted_echoes(), solicited_peers(), started_echoes()]
+    return [open_requests(), live_mappings(), wanted_echoes(), solicited_peers(), started_echoes(),
+            *([*rounds_by_size(), *rounds_by_octets()] if MOST_WORKERS else [])]

@@ -6,11 +6,12 @@ Each round makes up to 2,000 EIDs of a few addresses: of one address the prefixe
 and those that differ from them in the last bit; all hosts and all prefixes of a small prefix; hosts that differ in one
 bit; and the same in several instances. Some are mappings of the settings, with up to 32 locators. The frames are mostly
 packets to addresses at the ends of these EIDs and beside them, and replies of many records, which learn, replace,
-shorten and take away what nests around the asked address, some a minute or two behind the frame before. It ends with
-status 1 at the first difference.
+shorten and take away what nests around the asked address, some a minute or two behind the frame before; and then such
+frames with workers, as compare.py has them. It ends with status 1 at the first difference.
 """
 import struct
 
+from commands import MOST_WORKERS
 from compare import Round, capture, main, write
 from fitting import longer, randomly, record, shorter
 from journal import SECOND, Learned
@@ -141,8 +142,8 @@ def settings(r, iids, fixed):
 class Nested(Talk):
     """Frames that regard the EIDs of a round."""
 
-    def __init__(self, r, site, link, unit, eids):
-        super().__init__(r, site, link, unit, False)
+    def __init__(self, r, site, link, unit, eids, size):
+        super().__init__(r, site, link, unit, False, size)
         attached = {own.iid for own in self.homes()}
         self.eids = eids
         self.reached = [eid for eid in eids if eid.iid in attached]
@@ -197,19 +198,16 @@ def lasting(r, eid):
 
 
 class NestedRound(Round):
-    def make(self, r):
-        """Writes the settings and the capture."""
+    def agrees(self, r):
         iids = r.sample(INSTANCES, r.choice([1, 2, 2, 3, 4]))
         eids = made_eids(r, iids)
         text = settings(r, iids, fixed_eids(r, eids))
         write(self.settings, text)
         site = Site(text.encode())
         count = PROBING if site.probe else FRAMES
-        capture(r, text, self.capture, lambda r, _, link, unit: Nested(r, site, link, unit, eids).frames(count))
-
-    def agrees(self, r):
-        self.make(r)
-        return self.same_replay()
+        make = lambda r, _, link, unit, size=1: Nested(r, site, link, unit, eids, size).frames(count)
+        capture(r, text, self.capture, make)
+        return self.same_replay() and (not MOST_WORKERS or self.lawful_rounds(r, text, make))
 
 
 if __name__ == "__main__":

@@ -68,12 +68,17 @@ def of_delivered(site, header, home, known, address):
         yield Refresh(known.mapping.eid)
 
 
+def fixed(site):
+    """What a journal begins with."""
+    return [Learned(0, mapping, True) for mapping in site.mappings]
+
+
 class Noting:
     """A site and its journal, which each notice is judged by as it then stands."""
 
-    def __init__(self, site):
+    def __init__(self, site, entries=None):
         self.site = site
-        self.journal = Journal(Learned(0, mapping, True) for mapping in site.mappings)
+        self.journal = Journal(fixed(site) if entries is None else entries)
         self.notes = {
             Ask: self.missed, Refresh: self.refreshed, ToldBits: self.told, WantedEcho: self.wanted,
             HeardEcho: self.heard_echo, HeardData: self.heard_data, Solicit: self.solicited, EchoDue: self.started}

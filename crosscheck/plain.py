@@ -5,6 +5,8 @@ usage: plain.py replay SETTINGS CAPTURE OUTPUT | plain.py show CAPTURE
 It prints the report, for a replay with lawful settings and a capture with a lawful header writes the output, and ends
 with the status of such a run. What is TOML is judged by Python's reader of it (TOML 1.0).
 """
+import contextlib
+import io
 import sys
 
 import settings as rules
@@ -16,23 +18,6 @@ from sites import Site
 from wire import Packet, Refused, link_payload, need
 
 
-def replay(settings, capture, output):
-    try:
-        with open(settings, "rb") as file:
-            router = Router(Site(file.read()))
-        frames = frames_of(capture)
-        with open(output, "wb") as file:
-            file.write(output_header())
-            played(router, frames, file)
-    except rules.Fault as fault:
-        print(f"settings {fault}")
-        return 2
-    except CaptureFault as fault:
-        print(f"capture {fault}")
-        return 3
-    return 0
-
-
 def played(router, frames, file):
     """Says a line for each frame and one at the end, and writes what is sent."""
     count = written = 0
@@ -41,11 +26,37 @@ def played(router, frames, file):
         sent = router.until(moment)
         known = len(router.journal)
         verdict, packets = router.take(moment, link, frame)
-        print(f"{count} {moment // SECOND}.{moment % SECOND:09} n={known} {verdict}")
+        print(frame_line(count, moment, known, verdict))
         for at, packet in [*sent, *((moment, packet) for packet in packets)]:
             written += 1
             file.write(output_record(at, packet))
-    print(f"end frames={count} written={written} entries={len(router.journal)}")
+    print(last_line(count, written, router))
+
+
+def frame_line(number, moment, known, verdict):
+    return f"{number} {moment // SECOND}.{moment % SECOND:09} n={known} {verdict}"
+
+
+def last_line(count, written, router):
+    return f"end frames={count} written={written} entries={len(router.journal)}"
+
+
+def replay(settings, capture, output, play=played):
+    """Replays a capture by a call that plays its frames through a router."""
+    try:
+        with open(settings, "rb") as file:
+            router = Router(Site(file.read()))
+        frames = frames_of(capture)
+        with open(output, "wb") as file:
+            file.write(output_header())
+            play(router, frames, file)
+    except rules.Fault as fault:
+        print(f"settings {fault}")
+        return 2
+    except CaptureFault as fault:
+        print(f"capture {fault}")
+        return 3
+    return 0
 
 
 # Messages.
@@ -96,6 +107,21 @@ def show(capture):
         return 3
     print(f"end frames={count}")
     return 0
+
+
+# What a call ends with.
+
+
+def ended(call, *words):
+    """What a call answers, and what it prints."""
+    report = io.StringIO()
+    with contextlib.redirect_stdout(report):
+        status = call(*words)
+    return status, report.getvalue()
+
+
+def said(call, *words):
+    return ended(call, *words)[1]
 
 
 if __name__ == "__main__":

@@ -20,23 +20,26 @@ def is_group(address):
 
 
 class Router(Noting):
-    """A site and its journal."""
+    """A site and its journal, which begins with the site's mappings or is of those entries."""
 
-    def __init__(self, site):
-        super().__init__(site)
+    def __init__(self, site, entries=None):
+        super().__init__(site, entries)
         self.latest = None
 
     # Seconds.
 
     def until(self, moment):
         """Plays the whole seconds behind the frame before, up to a frame's moment: what is sent, and when."""
-        sent, second = [], None if self.latest is None else self.latest // SECOND + 1
+        return [sent for packets in self.seconds(moment) for sent in packets]
+
+    def seconds(self, moment):
+        """Plays these seconds one after another, and tells of each what is sent; it passes over idle ones."""
+        second = None if self.latest is None else self.latest // SECOND + 1
         self.latest = moment
         while second is not None and second * SECOND <= moment:
             packets = self.ticked(second * SECOND)
-            sent += ((second * SECOND, packet) for packet in packets)
+            yield [(second * SECOND, packet) for packet in packets]
             second = second + 1 if packets else self.journal.next_second(second)
-        return sent
 
     def ticked(self, moment):
         """What is sent at a whole second: due requests once more, and probes."""
@@ -71,6 +74,20 @@ class Router(Noting):
         return not self.site.is_own(address) and self.site.ours(len(address)) is not None
 
     # Frames.
+
+    def is_control(self, link, frame):
+        """Whether a frame is a control message to the router, well-formed or not: no journal changes that."""
+        try:
+            _, place, octets = link_payload(link, frame)
+            packet = Packet(octets, place)
+            if self.site.is_own(packet.source) or not self.site.is_own(packet.dest):
+                return False
+            if packet.fragment or packet.protocol != 17:
+                return False
+            source, dest, _, _ = packet.udp()
+        except Refused:
+            return False
+        return dest != 4341 and 4342 in (source, dest)
 
     def take(self, moment, link, frame):
         """The verdict of a frame, and the packets that are sent for it: its own, then those of what is noticed."""

@@ -17,11 +17,13 @@ import tempfile
 
 import limits
 import plain
+import rounds
 import trial
 from commands import Replay, Trial, command_of
-from compare import said
+from differing import difference, output_lines
+from rounds import Unforced, forced
 from row_runs import BadRow, files_of_rows, rows_of
-from wire import contents
+from wire import existing
 
 MOST_TRIED = 2000
 
@@ -48,7 +50,7 @@ class Plain:
         return not run.fails and not (type(command) is Trial and command.count > MOST_TRIED)
 
     def end(self, run, folder):
-        command, status = command_of(run.words), []
+        command = command_of(run.words)
         if command is None:
             return 1, "usage\n"
         if type(command) is Trial:
@@ -57,19 +59,26 @@ class Plain:
         paths = [os.path.join(folder, name) for name in names]
         for path in paths[:2] if run.is_steady else []:
             open(path, "ab").close()
-        call = plain.replay if type(command) is Replay else plain.show
         try:
-            report = said(lambda: status.append(call(*paths)))
+            return plain.ended(replay_of(command) if type(command) is Replay else plain.show, *paths)
         except FileNotFoundError:
             return 4, ""
-        return status[0], report
+        except Unforced as choice:
+            return None, f"{choice}\n"
+
+
+def replay_of(command):
+    """The call that replays: with workers each data packet must have one number that it may have."""
+    if command.workers == 0:
+        return plain.replay
+    return lambda *paths: rounds.replay(*paths, command.round, forced)
 
 
 def tried(count, folder):
     """The line of a trial, by a replay of its input; the files of that go."""
     source, captured = trial.write(count, folder)
     output = os.path.join(folder, "trial.pcap")
-    line = trial.replayed(count, said(plain.replay, source, captured, output), output)
+    line = trial.replayed(count, plain.said(plain.replay, source, captured, output), output)
     for path in source, captured, output:
         os.remove(path)
     return line
@@ -82,35 +91,10 @@ def ended(judge, run):
             with open(os.path.join(folder, name), "wb") as file:
                 file.write(octets)
         output = os.path.join(folder, "out")
-        return *judge.end(run, folder), contents(output) if os.path.exists(output) else None
+        return *judge.end(run, folder), existing(output)
 
 
 # What is said.
-
-
-def output_lines(output):
-    """An output in lines: of each packet its moment, the length that it had and its octets, sixteen a line."""
-    if output is None:
-        return ["no file"]
-    lines, at, number = [f"header {output[:24].hex()}"], 24, 0
-    while at < len(output):
-        number += 1
-        second, nanosecond, kept, length = (int.from_bytes(output[at + i:at + i + 4], "little") for i in (0, 4, 8, 12))
-        packet = output[at + 16:at + 16 + kept]
-        lines.append(f"packet {number} at {second}.{nanosecond:09}, {length} octets")
-        lines += [f"packet {number}, octet {i}: {packet[i:i + 16].hex()}" for i in range(0, len(packet), 16)]
-        at += 16 + kept
-    return lines
-
-
-def difference(place, wanted, got):
-    """The first line in which two lists of lines differ."""
-    longest = max(len(wanted), len(got))
-    wanted, got = (lines + ["nothing"] * (longest - len(lines)) for lines in (wanted, got))
-    number = next((i for i in range(longest) if wanted[i] != got[i]), None)
-    if number is None:
-        return ""
-    return f"  {place}, line {number + 1}\n    wanted {wanted[number]}\n    got    {got[number]}\n"
 
 
 def differences(run, end):

@@ -7,7 +7,7 @@ from journal import (AGAIN, ECHO_COUNTS, ECHO_ON, MOST_REQUESTS, OPEN, PROBE_AGA
                      SOLICITED, WANTED, Asked, Bits, EchoStarted, EchoWanted, Learned, Solicited, ends)
 from makers import AWAY, HOMES, OTHERS, between, framed, host, inside, packet, raw, spoiled, udp
 from messages import Eid
-from router import Router
+from rounds import Stepwise
 
 MILLI, DAY = 10**6, 86_400 * SECOND
 # Long pauses between frames, in seconds: of requests, probes and echoes, of those that come again, of those that count.
@@ -15,11 +15,14 @@ LONG = [(3, 10)] * 10 + [(55, 65)] * 5 + [(590, 610), (0, 700)]
 
 
 class Talk:
-    """Frames one after another; some are at the very end of something that the router keeps, or just before."""
+    """Frames one after another; some are at the very end of something that the router keeps, or just before.
 
-    def __init__(self, r, site, link, unit, hurried):
+    They fit what a router with rounds of that size asks for.
+    """
+
+    def __init__(self, r, site, link, unit, hurried, size=1):
         self.r, self.site, self.link, self.unit, self.hurried = r, site, link, unit, hurried
-        self.router = Router(site)
+        self.router = Stepwise(site, size)
         self.arrivals = Arrivals(r, site, self.router.journal)
         self.now = 1_700_000_000 * SECOND + self.rounded(r.choice([0, r.randrange(SECOND)]))
         self.replies, self.iid, self.filled = [], None, False

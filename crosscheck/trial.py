@@ -14,7 +14,6 @@ import tempfile
 import plain
 from captures import output_header, output_record
 from choice import hash_of
-from compare import said
 from row_runs import START
 from wire import contents, udp_packet
 
@@ -85,7 +84,7 @@ def lines(program, count, folder):
     source, captured = write(count, folder)
     outputs = [os.path.join(folder, name) for name in ("plain.pcap", "out.pcap")]
     if count in PLAIN:
-        yield "plain router", replayed(count, said(plain.replay, source, captured, outputs[0]), outputs[0])
+        yield "plain router", replayed(count, plain.said(plain.replay, source, captured, outputs[0]), outputs[0])
     if count in KNOWN:
         yield "known", line(count, f"frames={count + 1} written={count} entries={count}", KNOWN[count])
     if program:

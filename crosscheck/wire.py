@@ -28,6 +28,11 @@ def contents(path):
         return file.read()
 
 
+def existing(path):
+    """The octets of a file, or None where it isn't there."""
+    return contents(path) if os.path.exists(path) else None
+
+
 def number(octets, at, size):
     return int.from_bytes(octets[at:at + size], "big")
 
