@@ -1,4 +1,5 @@
 pub mod BatchLemmas
+pub mod BeginLemmas
 pub mod ChangeLemmas
 pub mod DecideLemmas
 pub mod FinishLemmas

@@ -1,9 +1,8 @@
 -- A round with forwarders is a round of the journal.
-use Rattle.std.proofs.Common.{◌≡◌, ◌∙◌, ℕ, suc, ◌+◌, ◌-◌, ◌*◌, ◌^◌, ◌≤◌, ◌<◌, not, Bool, true, false, cond, List, [], ◌∷◌, ◌++◌, drop, length, map, slice_index_or, take, Option, Some, None, All, append_assoc, refl, sym, ap, subst, arith}
-use Rattle.std.specs.List.{AllZip, range_with_len}
-use Rattle.std.proofs.lemmas.List.{length-append, length-map, take-append-drop}
+use Rattle.std.proofs.Common.{◌≡◌, ◌∙◌, ℕ, suc, ◌≤◌, not, Bool, true, false, cond, List, [], ◌∷◌, ◌++◌, drop, length, map, slice_index_or, take, Option, All, append_assoc, refl, sym, ap, subst, arith}
+use Rattle.std.specs.List.{AllZip}
+use Rattle.std.proofs.lemmas.List.{length-map, take-append-drop}
 use Rattle.std.proofs.lemmas.List.Elements.{All-cons}
-use Rattle.std.proofs.lemmas.List.FromFn.{length-range_with_len}
 use Rattle.capture_io.specs.Frame.{Frame}
 use Rattle.lisp_settings.specs.declared.settings.Settings.{Settings}
 use Rattle.playback.specs.Events as events
@@ -14,14 +13,14 @@ use Rattle.router_model.specs.Changes.{Change, journal as of_journal, unchanged}
 use Rattle.router_model.specs.Course.{control}
 use Rattle.router_model.specs.Hear.{hear_by}
 use Rattle.router_model.specs.Journal.{Journal, extended, last_moment}
-use Rattle.router_model.specs.Lifting.{AreInOrder, FramesInOrder}
+use Rattle.router_model.specs.Lifting.{FramesInOrder}
 use Rattle.router_model.specs.Parts.{Parts, Stands, table}
 use Rattle.router_model.specs.Plain.{emit_packets}
 use Rattle.router_model.specs.Proper.{IsProper}
 use Rattle.router_model.specs.Rounds.{all_advanced, closing_moment, data_frames, round}
 use Rattle.router_model.specs.Sharing.{IsRuled, MayBegin, Shares, filled, opening}
 use Rattle.router_model.specs.Sides.{Ruling, Worked, Writing, data_in, event_written, joined, left_for_later, message_written, worked, writing}
-use Rattle.router_model.proofs.ShareLemmas.{round-in-order, round-stays, table-writes, tables-share}
+use Rattle.router_model.proofs.ShareLemmas.{round-stays, table-writes, tables-share}
 use Rattle.router_model.proofs.SideLemmas.{data-left, extended-more, journal-adds, writing-adds, writing-advances}
 use Rattle.forwarders.specs.declared.gathering.Gathered.{Gathered}
 use Rattle.forwarders.specs.declared.gathering.Written.{Written}
@@ -38,69 +37,11 @@ use Rattle.forwarders.specs.Publication.{Publication}
 use Rattle.forwarders.specs.Rounding.{HasCome, RunsRound, begun_at, last_length, line_seen, packet_seen}
 use Rattle.forwarders.specs.Ruling.{AreRuled, HaveLooked, IsRuledAt, first_of_round, last_of_round, ruling_of}
 use Rattle.forwarders.proofs.BatchLemmas.{joined-push, journal-filled, journal-length}
+use Rattle.forwarders.proofs.BeginLemmas.{begun-latest}
 use Rattle.forwarders.proofs.PutLemmas.{all_packets, lines-come, lines-seen, packets-few, packets-fit, packets-seen}
 use Rattle.forwarders.proofs.RulingLemmas.{decided-are-ruled}
-use Rattle.forwarders.proofs.FrameLemmas.{latest, latest-closes}
-use Rattle.forwarders.proofs.WriteLemmas.{filled-append, seconds-end, seconds-rise}
-
--- ### moments
-
-begun-latest : (m : ℕ) (frames : List Frame) → FramesInOrder m frames → m ≤ latest m frames
-begun-latest m [] order = omega arith
-begun-latest m (frame ∷ frames) order =
-    let here = order.0 in
-    let rest = begun-latest frame.moment frames order.1.1 in
-    omega (arith, here, rest)
-
-pub closing-early : (frame : Frame) (frames : List Frame) → All (λ (f : Frame). f.moment < 2 ^ 32 * 1000000000) (frame ∷ frames) → closing_moment (frame ∷ frames) < 2 ^ 32 * 1000000000
-closing-early frame [] all = all 0 frame (omega arith)
-closing-early frame (next ∷ frames) all = closing-early next frames (λ k d below. all (suc k) d (omega (arith, below)))
-
--- ### how many events there are
-
-events-few : (from : ℕ) (frames : List Frame) → FramesInOrder from frames → length (events_after (Some from) frames) + second_of from ≤ length frames + second_of (latest from frames)
-events-few from [] order = omega arith
-events-few from (frame ∷ frames) order =
-    let seconds : List Event = ticks (Some from) frame.moment in
-    let rest : List Event = events_after (Some frame.moment) frames in
-    let number : length seconds ≡ second_of frame.moment - second_of from =
-    length-map (range_with_len (suc (second_of from)) (second_of frame.moment - second_of from)) Tick ∙ length-range_with_len (suc (second_of from)) (second_of frame.moment - second_of from) in
-    let one = length-append seconds (Arrival frame ∷ []) in
-    let both = length-append (seconds ++ Arrival frame ∷ []) rest in
-    let later = seconds-rise from frame.moment order.0 in
-    let few = events-few frame.moment frames order.1.1 in
-    omega (arith, number, one, both, later, few)
-
-pub round-few : (previous : Option ℕ) (frame : Frame) (frames : List Frame) → FramesInOrder (begun_at previous (frame ∷ frames)) (frame ∷ frames) → closing_moment (frame ∷ frames) < 2 ^ 32 * 1000000000 → length (events_after previous (frame ∷ frames)) ≤ length (frame ∷ frames) + 2 ^ 32
-round-few None frame frames order early =
-    let few = events-few frame.moment frames order.1.1 in
-    let last = seconds-end (latest frame.moment (frame ∷ frames)) (subst (λ (m : ℕ). m < 2 ^ 32 * 1000000000) (sym (latest-closes frame.moment (frame ∷ frames) (omega arith))) early) in
-    omega (arith, few, last)
-round-few (Some from) frame frames order early =
-    let few = events-few from (frame ∷ frames) order in
-    let last = seconds-end (latest from (frame ∷ frames)) (subst (λ (m : ℕ). m < 2 ^ 32 * 1000000000) (sym (latest-closes from (frame ∷ frames) (omega arith))) early) in
-    omega (arith, few, last)
-
-events-order : (previous : Option ℕ) (frame : Frame) (frames : List Frame) → FramesInOrder (begun_at previous (frame ∷ frames)) (frame ∷ frames) → AreInOrder (begun_at previous (frame ∷ frames)) (events_after previous (frame ∷ frames))
-events-order None frame frames order =
-    let rest = round-in-order None (frame ∷ frames) (omega arith, order.1) in (order.0, rest.1)
-events-order (Some from) frame frames order = round-in-order (Some from) (frame ∷ frames) order
-
--- a round may begin
-pub may-begin : (settings : Settings) (previous : Option ℕ) (frame : Frame) (frames : List Frame) (parts : Parts) (journal : Journal)
-    → Stands settings parts journal → parts.now ≤ begun_at previous (frame ∷ frames) → parts.count < 2 ^ 60 → length (frame ∷ frames) ≤ 4096
-    → FramesInOrder (begun_at previous (frame ∷ frames)) (frame ∷ frames) → All (λ (f : Frame). f.moment < 2 ^ 32 * 1000000000) (frame ∷ frames)
-    → MayBegin settings (begun_at previous (frame ∷ frames)) journal (events_after previous (frame ∷ frames))
-may-begin settings previous frame frames parts journal stands later room number order moments =
-    let now : parts.now ≡ last_moment journal = ap (λ (p : Parts). p.now) stands.whole in
-    let count : parts.count ≡ length journal = ap (λ (p : Parts). p.count) stands.whole in
-    let few = round-few previous frame frames order (closing-early frame frames moments) in
-    record {
-      proper = stands.proper;
-      last = omega (arith, now, later);
-      order = events-order previous frame frames order;
-      room = omega (arith, count, room, few, number);
-    }
+use Rattle.forwarders.proofs.FrameLemmas.{latest-closes}
+use Rattle.forwarders.proofs.WriteLemmas.{filled-append}
 
 -- ### batches
 

@@ -20,7 +20,8 @@ use Rattle.forwarders.specs.Gathering.{IsWritten, round_writing}
 use Rattle.forwarders.specs.Publication.{Publication}
 use Rattle.forwarders.specs.Rounding.{RunsRound, begun_at}
 use Rattle.forwarders.specs.Ruling.{AreRuled, HaveLooked}
-use Rattle.forwarders.proofs.RoundLemmas.{closing-early, may-begin, notices-proper, places-few, published-stands, round-few, ruled-few, runs-round}
+use Rattle.forwarders.proofs.BeginLemmas.{closing-early, may-begin, round-few}
+use Rattle.forwarders.proofs.RoundLemmas.{notices-proper, places-few, published-stands, ruled-few, runs-round}
 
 -- what a round is asked for
 pub record MayRun (settings : Settings) (previous : Option ℕ) (frames : List Frame) (parts : Parts) (before : List (List Entry)) : Type 0 where

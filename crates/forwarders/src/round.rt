@@ -179,13 +179,14 @@ fn work_round<R: Threads + Wait + Sync, G: Gate>(
     )
 }
 
-/// One round of a replay: its seconds and control messages in order, the published table's batches
-/// with their entries, and its data packets, decided beside that by at most so many workers in threads of
-/// their own, each by looks at what is published then; by the caller's table where no worker decided.
-/// What data packets noticed is noted last, at the last frame's moment, and published as one batch.
+/// One round of a replay. The table takes its seconds and control messages first, in order, and their
+/// entries are published batch by batch. Beside that at most so many workers, in threads of their own,
+/// decide its data packets, each by looks at what is published then; where none decided, the table
+/// does. What data packets noticed is noted last, at the last frame's moment, and published as one
+/// batch.
 ///
-/// `previous` is the moment of the frame before the round, in nanoseconds; None before the first
-/// frame. The table stands for what is published, before and after. With no worker, and in a round
+/// `previous` is the moment of the frame before the round, in nanoseconds, None before the first
+/// frame. The table stands for all that is published, before and after. With no worker, and in a round
 /// without data packets, no thread is made. After a refusal the publication can only be closed.
 pub fn run_round<R: Threads + Wait + Sync, G: Gate>(
     rt: &R,
