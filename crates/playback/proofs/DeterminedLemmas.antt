@@ -6,57 +6,40 @@ use Rattle.desk.specs.World.{World, Shown}
 use Rattle.capture_io.specs.Frame.{Frame}
 use Rattle.capture_io.specs.Frames.{Run}
 use Rattle.playback.specs.Determined.{CutPlay, EndPlay}
-use Rattle.playback.specs.Events.{Determined, End, Event, Happens, Outcome, Played, Step, all_steps, events, followed, played, records_of, steps_of}
+use Rattle.playback.specs.Events.{Determined, End, Event, Happens, Outcome, Pause, Played, Step, events, followed, happened, played, records_of}
 use Rattle.playback.specs.Front.{Cut, CutRun, IsFront}
 use Rattle.playback.specs.Playing.{with_outcome, Ends, HasPlayed, IsRead}
-use Rattle.playback.specs.declared.playing.Ending.{Ending}
-use Rattle.playback.proofs.EventLemmas.{played-append}
+use Rattle.playback.specs.declared.plays.Ending.{Ending}
+use Rattle.playback.proofs.EventLemmas.{happened-append, played-append}
 use Rattle.playback.proofs.FrontLemmas.{front-front, front-lines}
 
--- the events among steps
-abbrev happened : List Step → List Event
-happened [] = []
-happened (Happens event ∷ steps) = event ∷ happened steps
-happened (End ∷ steps) = happened steps
-
-happened-append : (first others : List Step) → happened (first ++ others) ≡ happened first ++ happened others
-happened-append [] others = refl
-happened-append (Happens event ∷ first) others = ap (λ (l : List Event). event ∷ l) (happened-append first others)
-happened-append (End ∷ first) others = happened-append first others
-
-happened-steps : (events : List Event) → happened (steps_of events) ≡ events
-happened-steps [] = refl
-happened-steps (event ∷ events) = ap (λ (l : List Event). event ∷ l) (happened-steps events)
-
-happened-all : (frames : List Frame) → happened (all_steps frames) ≡ events frames
-happened-all frames =
-    happened-append (steps_of (events frames)) (End ∷ []) ∙ ap (λ (l : List Event). l ++ []) (happened-steps (events frames)) ∙ append-nil (events frames)
+-- with the end they are the same
+happened-closed : (steps : List Step) → happened (steps ++ End ∷ []) ≡ happened steps
+happened-closed steps = happened-append steps (End ∷ []) ∙ append-nil (happened steps)
 
 front-happened : (first all : List Step) → IsFront first all → IsFront (happened first) (happened all)
 front-happened first all is = (happened is.0, sym (happened-append first is.0) ∙ ap happened is.1)
 
 module _ {S : Type 0} (step : S → Event → Outcome S) where
   -- what may be done for steps is what is done for their events
-  determined-played : (start : S) (steps : List Step) (outcome : Outcome S) → Played (Determined step) start steps outcome → outcome ≡ played step start (happened steps)
+  pub determined-played : (start : S) (steps : List Step) (outcome : Outcome S) → Played (Determined step) start steps outcome → outcome ≡ played step start (happened steps)
   determined-played start [] outcome is = is
   determined-played start (Happens event ∷ steps) outcome (first, rest, is, others, whole) =
       let more = determined-played (step start event).after steps rest (subst (λ (o : Outcome S). Played (Determined step) o.after steps rest) is others) in
+      whole ∙ ap₂ (λ (a b : Outcome S). followed a b) is more
+  determined-played start (Pause ∷ steps) outcome (first, rest, is, others, whole) =
+      let more = determined-played start steps rest (subst (λ (o : Outcome S). Played (Determined step) o.after steps rest) is others) in
       whole ∙ ap₂ (λ (a b : Outcome S). followed a b) is more
   determined-played start (End ∷ steps) outcome (first, rest, is, others, whole) =
       let more = determined-played start steps rest (subst (λ (o : Outcome S). Played (Determined step) o.after steps rest) is others) in
       whole ∙ ap₂ (λ (a b : Outcome S). followed a b) is more
 
-  pub determined-events : (start : S) (events : List Event) (outcome : Outcome S) → Played (Determined step) start (steps_of events) outcome → outcome ≡ played step start events
-  determined-events start events outcome is = determined-played start (steps_of events) outcome is ∙ ap (played step start) (happened-steps events)
-
-  pub determined-frames : (start : S) (frames : List Frame) (outcome : Outcome S) → Played (Determined step) start (all_steps frames) outcome → outcome ≡ played step start (events frames)
-  determined-frames start frames outcome is = determined-played start (all_steps frames) outcome is ∙ ap (played step start) (happened-all frames)
-
   module _ (start : S) (file : Option ℕ) (old : Shown) where
     -- a play to the end
     pub end-play : (run : Run) (ending : Ending) (after : S) (now : Option World) → HasPlayed (Determined step) start file old run ending after now → EndPlay step start file old run ending after now
     end-play run ending after now has =
-        let same = determined-frames start run.frames has.outcome has.played in
+        let events = happened-closed has.steps ∙ has.steps_are.events in
+        let same = determined-played start (has.steps ++ End ∷ []) has.outcome has.played ∙ ap (played step start) events in
         record {
           read = has.read;
           ends = subst (λ (o : Outcome S). Ends o run ending) same has.ends;
@@ -95,6 +78,6 @@ module _ {S : Type 0} (step : S → Event → Outcome S) where
     pub cut-play : (run : Run) (now : Option World) → CutRun (Determined step) start file old run now → CutPlay step start file old run now
     cut-play run now cut = cases cut.cut
       where
-        cases : Cut (Determined step) start file old (steps_of (events cut.frames)) now ⊎ ((cut.frames ≡ run.frames) × Cut (Determined step) start file old (all_steps cut.frames) now) → CutPlay step start file old run now
-        cases (inl some) = cut-frames run cut.frames (steps_of (events cut.frames)) now (happened-steps (events cut.frames)) cut.within cut.read some
-        cases (inr (whole, all)) = cut-frames run cut.frames (all_steps cut.frames) now (happened-all cut.frames) cut.within cut.read all
+        cases : Cut (Determined step) start file old cut.steps now ⊎ ((cut.frames ≡ run.frames) × Cut (Determined step) start file old (cut.steps ++ End ∷ []) now) → CutPlay step start file old run now
+        cases (inl some) = cut-frames run cut.frames cut.steps now cut.steps_are.events cut.within cut.read some
+        cases (inr (whole, all)) = cut-frames run cut.frames (cut.steps ++ End ∷ []) now (happened-closed cut.steps ∙ cut.steps_are.events) cut.within cut.read all

@@ -1,9 +1,10 @@
 -- Events in order, and what is done for them.
 use Rattle.std.proofs.Common.{◌≡◌, ℕ, suc, ◌-◌, List, [], ◌∷◌, ◌++◌, Option, Some, None, append_assoc, refl, sym, subst, ap, ap₂, ◌∙◌, map}
-use Rattle.std.specs.List.{range_with_len}
+use Rattle.std.specs.List.{range_with_len, All}
 use Rattle.std.proofs.lemmas.List.{append-nil}
+use Rattle.std.proofs.lemmas.List.Elements.{All-cons, All-nil}
 use Rattle.capture_io.specs.Frame.{Frame}
-use Rattle.playback.specs.Events.{Event, Outcome, Packet, Played, Step, Tick, Arrival, arrivals, events_after, events_of, followed, idle, played, second_of}
+use Rattle.playback.specs.Events.{Event, Outcome, Packet, Played, Step, Tick, Arrival, Happens, Pause, End, GoesOn, arrivals, events_after, events_of, followed, happened, idle, played, second_of, steps_of}
 
 -- the outcome of these parts
 abbrev outcome_with : {S : Type 0} → S → List ℕ → List Packet → Outcome S
@@ -37,6 +38,22 @@ plays-append {S} does start (step ∷ first) others a b (one, rest, done, more, 
   plays-append does one.after first others rest b more (subst (λ (o : Outcome S). Played does o.after others b) whole next),
   ap (λ (o : Outcome S). followed o b) whole ∙ followed-assoc one rest b,
 )
+
+-- the events among steps in a row
+pub happened-append : (first others : List Step) → happened (first ++ others) ≡ happened first ++ happened others
+happened-append [] others = refl
+happened-append (Happens event ∷ first) others = ap (λ (l : List Event). event ∷ l) (happened-append first others)
+happened-append (Pause ∷ first) others = happened-append first others
+happened-append (End ∷ first) others = happened-append first others
+
+pub happened-steps : (events : List Event) → happened (steps_of events) ≡ events
+happened-steps [] = refl
+happened-steps (event ∷ events) = ap (λ (l : List Event). event ∷ l) (happened-steps events)
+
+-- events are no end
+pub open-steps : (events : List Event) → All GoesOn (steps_of events)
+open-steps [] = All-nil GoesOn
+open-steps (event ∷ events) = All-cons GoesOn (Happens event) (steps_of events) tt (open-steps events)
 
 -- a step alone
 pub plays-one : {S : Type 0} (does : S → Step → Outcome S → Type 0) (start : S) (step : Step) (o : Outcome S) → does start step o → Played does start (step ∷ []) o

@@ -14,6 +14,15 @@ use Rattle.playback.specs.declared.output.Output.{Output}
 use Rattle.playback.proofs.EventLemmas.{played-append, plays-append, plays-one}
 use Rattle.playback.proofs.OutputLemmas.{records_of-append, says_and_writes, with_output-twice, written-none}
 
+-- nothing is gathered
+pub gathers-idle : {S : Type 0} (may : Outcome S → Type 0) (output : Output) (state : S) → may (idle state) → GathersOne may output output state
+gathers-idle may output state is = record {
+  outcome = idle state;
+  is = is;
+  gathers = record { lines = sym (append-nil output.lines); records = sym (append-nil output.records); written = omega arith };
+  left = refl;
+}
+
 module _ {X : Type 0} where
   pub front-all : (xs : List X) → IsFront xs xs
   front-all xs = ([], append-nil xs)

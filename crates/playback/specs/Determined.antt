@@ -4,10 +4,10 @@ use Rattle.std.specs.List.{All}
 use Rattle.desk.specs.World.{World, Shown, shown}
 use Rattle.capture_io.specs.Frame.{Frame}
 use Rattle.capture_io.specs.Frames.{Run}
-use Rattle.playback.specs.Events.{Determined, Event, Outcome, Played, all_steps, events, played, records_of, steps_of}
+use Rattle.playback.specs.Events.{Determined, Event, Outcome, Played, Step, events, happened, played, records_of}
 use Rattle.playback.specs.Front.{CutRun, IsFront}
 use Rattle.playback.specs.Playing.{outcome_of, with_outcome, with_output, Ends, HasPlayed, IsRead}
-use Rattle.playback.specs.declared.playing.Ending.{Ending}
+use Rattle.playback.specs.declared.plays.Ending.{Ending}
 
 module _ {S : Type 0} (step : S → Event → Outcome S) (start : S) (file : Option ℕ) (old : Shown) where
   -- a capture of that run was played to its end, and left a state
@@ -34,17 +34,11 @@ module _ {S : Type 0} (step : S → Event → Outcome S) (start : S) (file : Opt
 
 -- ### laws
 
--- what may be done for events is what is done for them
-abbrev pub EventsArePlayed : Type 0 → Type 0
-EventsArePlayed S =
-    (step : S → Event → Outcome S) (start : S) (events : List Event) (outcome : Outcome S)
-    → Played (Determined step) start (steps_of events) outcome → outcome ≡ played step start events
-
--- so it is for frames, to the end of their capture
-abbrev pub FramesArePlayed : Type 0 → Type 0
-FramesArePlayed S =
-    (step : S → Event → Outcome S) (start : S) (frames : List Frame) (outcome : Outcome S)
-    → Played (Determined step) start (all_steps frames) outcome → outcome ≡ played step start (events frames)
+-- what may be done for steps is what is done for their events
+abbrev pub StepsArePlayed : Type 0 → Type 0
+StepsArePlayed S =
+    (step : S → Event → Outcome S) (start : S) (steps : List Step) (outcome : Outcome S)
+    → Played (Determined step) start steps outcome → outcome ≡ played step start (happened steps)
 
 -- a play to the end says and writes it
 abbrev pub EndsArePlayed : Type 0 → Type 0

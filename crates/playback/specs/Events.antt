@@ -1,6 +1,6 @@
 -- The events of a capture, and what a machine does for them one after another.
 use Rattle.std.specs.Prelude.{◌≡◌, ℕ, suc, ◌-◌, ◌/◌, List, [], ◌∷◌, ◌++◌, flat_map, map, Option, Some, None}
-use Rattle.std.specs.List.{range_with_len}
+use Rattle.std.specs.List.{range_with_len, All}
 use Rattle.capture_io.specs.Frame.{Frame}
 use Rattle.capture_io.specs.Output.{packet_record}
 
@@ -74,18 +74,33 @@ played step state (event ∷ events) =
 
 -- ### what may be done
 
--- a step of a play: an event, or the end of the capture
+-- a step of a play: an event, a pause in which its caller works, or the end of the capture
 pub data Step : Type 0 where
   Happens : Event → Step
+  Pause : Step
   End : Step
 
 -- the steps of events in order
 abbrev pub steps_of : List Event → List Step
 steps_of events = map Happens events
 
--- the steps of a capture of these frames: its events, and then its end
-abbrev pub all_steps : List Frame → List Step
-all_steps frames = steps_of (events frames) ++ End ∷ []
+-- the events among steps
+abbrev pub happened : List Step → List Event
+happened [] = []
+happened (Happens event ∷ steps) = event ∷ happened steps
+happened (Pause ∷ steps) = happened steps
+happened (End ∷ steps) = happened steps
+
+-- a step that isn't the end
+abbrev pub GoesOn : Step → Type 0
+GoesOn (Happens event) = Unit {0}
+GoesOn Pause = Unit {0}
+GoesOn End = ⊥
+
+-- the events of frames, with pauses among them
+pub record AreStepsOf (frames : List Frame) (steps : List Step) : Type 0 where
+  pub events : happened steps ≡ events frames
+  pub goes_on : All GoesOn steps
 
 -- what may be done for steps in order, by what may be done at each of them
 abbrev pub Played : {S : Type 0} → (S → Step → Outcome S → Type 0) → S → List Step → Outcome S → Type 0
@@ -93,7 +108,8 @@ Played does state [] outcome = outcome ≡ idle state
 Played {S} does state (step ∷ steps) outcome =
     (first : Outcome S) × (rest : Outcome S) × does state step first × Played does first.after steps rest × (outcome ≡ followed first rest)
 
--- it is determined at each event, and nothing is left to be done at the end
+-- it is determined at each event, and nothing is done at a pause and at the end
 abbrev pub Determined : {S : Type 0} → (S → Event → Outcome S) → S → Step → Outcome S → Type 0
 Determined step state (Happens event) outcome = outcome ≡ step state event
+Determined step state Pause outcome = outcome ≡ idle state
 Determined step state End outcome = outcome ≡ idle state

@@ -1,11 +1,11 @@
 -- What a play that is cut short leaves at its desk: a beginning of all that it was to say and write.
-use Rattle.std.specs.Prelude.{◌≡◌, ℕ, ◌+◌, List, [], ◌++◌, length, Option, Some, Result, ◌⊎◌, option_map}
+use Rattle.std.specs.Prelude.{◌≡◌, ℕ, ◌+◌, List, [], ◌∷◌, ◌++◌, length, Option, Some, Result, ◌⊎◌, option_map}
 use Rattle.std.specs.List.{All}
 use Rattle.std.specs.Result.{MatchResult}
 use Rattle.desk.specs.World.{World, Shown, shown}
 use Rattle.capture_io.specs.Frame.{Frame}
 use Rattle.capture_io.specs.Frames.{Run}
-use Rattle.playback.specs.Events.{Outcome, Played, Step, all_steps, events, records_of, steps_of}
+use Rattle.playback.specs.Events.{AreStepsOf, End, Outcome, Played, Step, records_of}
 use Rattle.playback.specs.Playing.{after_output, handed_on, with_output, with_outcome, IsRead}
 use Rattle.playback.specs.declared.output.Output.{Output}
 
@@ -66,7 +66,9 @@ module _ {S : Type 0} (does : S → Step → Outcome S → Type 0) (start : S) (
     pub frames : List Frame
     pub within : IsFront frames run.frames
     pub read : All IsRead frames
-    pub cut : Cut (steps_of (events frames)) now ⊎ ((frames ≡ run.frames) × Cut (all_steps frames) now)
+    pub steps : List Step
+    pub steps_are : AreStepsOf frames steps
+    pub cut : Cut steps now ⊎ ((frames ≡ run.frames) × Cut (steps ++ End ∷ []) now)
 
 -- steps are played after others: either all of them, or it is cut short
 abbrev pub Goes : {S T E : Type 0} → (S → Step → Outcome S → Type 0) → Option ℕ → S → S → List Step → Output → Option World → Result T E → Output → Option World → Type 0

@@ -1,15 +1,15 @@
 -- What a play of a capture leaves at its desk.
-use Rattle.std.specs.Prelude.{◌≡◌, ℕ, ◌+◌, ◌*◌, ◌^◌, ◌<◌, ◌||◌, nat_le, Bool, List, ◌++◌, length, Option, Some, None, option_map, Result, Ok, Err}
+use Rattle.std.specs.Prelude.{◌≡◌, ℕ, ◌+◌, ◌*◌, ◌^◌, ◌<◌, ◌||◌, nat_le, Bool, List, [], ◌∷◌, ◌++◌, length, Option, Some, None, option_map, Result, Ok, Err}
 use Rattle.std.specs.List.{All}
 use Rattle.desk.specs.declared.file.NamedFile.{NamedFile}
 use Rattle.desk.specs.World.{World, Direction, Shown, changed_at, extended, shown, to_write, IsGiven}
 use Rattle.capture_io.specs.Frame.{Frame}
 use Rattle.capture_io.specs.Frames.{Run}
 use Rattle.capture_io.specs.declared.fault.CaptureFault.{CaptureFault}
-use Rattle.playback.specs.Events.{Event, Outcome, Played, Step, all_steps, events, played, records_of}
+use Rattle.playback.specs.Events.{AreStepsOf, End, Event, Outcome, Played, Step, events, played, records_of}
 use Rattle.playback.specs.Limits.{piece_octets}
 use Rattle.playback.specs.declared.output.Output.{Output}
-use Rattle.playback.specs.declared.playing.Ending.{Ending}
+use Rattle.playback.specs.declared.plays.Ending.{Ending}
 use Rattle.playback.specs.declared.reading.Next.{Next}
 use Rattle.playback.specs.declared.reading.Next.TheVariants as next
 
@@ -78,12 +78,14 @@ pub record Ends {S : Type 0} (outcome : Outcome S) (run : Run) (ending : Ending)
   pub frames : ending.frames ≡ length run.frames
   pub written : ending.written ≡ length outcome.packets
 
--- a capture of that run was played to its end from a state, into a file: what may be done for its steps is said and
--- written, and left a state
+-- a capture of that run was played to its end from a state, into a file: what may be done for its events, with pauses
+-- among them, and at the end is said and written, and left a state
 pub record HasPlayed {S : Type 0} (does : S → Step → Outcome S → Type 0) (start : S) (file : Option ℕ) (old : Shown)
     (run : Run) (ending : Ending) (after : S) (now : Option World) : Type 0 where
+  pub steps : List Step
+  pub steps_are : AreStepsOf run.frames steps
   pub outcome : Outcome S
-  pub played : Played does start (all_steps run.frames) outcome
+  pub played : Played does start (steps ++ End ∷ []) outcome
   pub read : All IsRead run.frames
   pub ends : Ends outcome run ending
   pub shown : shown now ≡ Some (with_outcome file outcome old)

@@ -5,7 +5,7 @@ ghost use Rattle.capture_io.specs.Capture.{begin, format_of, header_rules};
 ghost use Rattle.capture_io.specs.Frame.{Frame};
 ghost use Rattle.capture_io.specs.Frames.{capture, read_on};
 ghost use Rattle.capture_io.specs.Output.{out_header};
-ghost use Rattle.playback.specs.Determined.{CutsArePlayed, EndsArePlayed, EventsArePlayed, FramesArePlayed};
+ghost use Rattle.playback.specs.Determined.{CutsArePlayed, EndsArePlayed, StepsArePlayed};
 ghost use Rattle.playback.specs.Events.{Packet, arrivals, events, records_of};
 ghost use Rattle.playback.specs.Limits.{most_records};
 ghost use Rattle.playback.specs.Written.{AreInOrder, frames_of, out_format};
@@ -15,11 +15,10 @@ pub fn events_keep_the_frames()
     ensures { (frames : List Frame) → arrivals (events frames) ≡ frames }
 {}
 
-/// Where it is determined what is done at each event, and nothing is left to be done at the end, a play
+/// Where it is determined what is done at each event, and nothing is done at a pause and at the end, a play
 /// says and writes that, and one that is cut short a beginning of it.
 pub fn determined_plays_are_played<S>()
-    ensures events { EventsArePlayed S }
-    ensures frames { FramesArePlayed S }
+    ensures steps { StepsArePlayed S }
     ensures ends { EndsArePlayed S }
     ensures cuts { CutsArePlayed S }
 {}

@@ -7,6 +7,7 @@ mod limits;
 mod machine;
 mod output;
 mod playing;
+mod plays;
 mod reading;
 mod seconds;
 
@@ -17,4 +18,5 @@ pub use laws::{determined_plays_are_played, events_keep_the_frames, what_is_writ
 pub use limits::{PIECE_OCTETS, limits_are};
 pub use machine::{Machine, Progress};
 pub use output::Output;
-pub use playing::{Ending, play};
+pub use playing::play;
+pub use plays::{Ending, Play, Turn};

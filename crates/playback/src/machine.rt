@@ -1,6 +1,6 @@
-// What is done for the events of a capture, and at its end.
-ghost use Rattle.std.specs.Prelude.{◌≡◌, ◌<◌, ◌≤◌, ◌+◌, ◌*◌, ◌^◌, ℕ, Some, length, unwrap_or, OnOk};
-ghost use Rattle.playback.specs.Events.{Arrival, End, Happens, Outcome, Step, Tick};
+// What is done for the events of a capture.
+ghost use Rattle.std.specs.Prelude.{◌≡◌, ◌<◌, ◌≤◌, ◌+◌, ◌*◌, ◌^◌, ℕ, Bool, false, Some, length, unwrap_or, IfOk, OnOk};
+ghost use Rattle.playback.specs.Events.{Arrival, Happens, Outcome, Step, Tick};
 ghost use Rattle.playback.specs.Limits.{most_frame_octets, most_records};
 ghost use Rattle.playback.specs.Playing.{GathersOne};
 ghost use Rattle.playback.specs.declared.machine.Progress.{Progress};
@@ -19,8 +19,8 @@ pub struct Progress {
     pub moment: Option<u64>,
 }
 
-/// What is done for the events of a capture, one after another, and at its end. A machine may do at
-/// once what several events ask for, and what it does need not be determined.
+/// What is done for the events of a capture, one after another. A machine may gather events, and leave
+/// it to its caller to do what they ask for once it is full; and what is done need not be determined.
 pub trait Machine {
     ghost State: { Type 0 };
 
@@ -28,6 +28,9 @@ pub trait Machine {
 
     /// What may be done at a step, and the state after it.
     ghost Does: { State → Step → Outcome State → Type 0 };
+
+    /// Its caller is to work before the next event.
+    ghost full: { State → Bool };
 
     /// What the calls ask of it, and keep, at a progress, with so many packets written.
     ghost IsReady: { Progress → ℕ → Self → Type 0 };
@@ -41,23 +44,26 @@ pub trait Machine {
         output: &mut Output,
     ) -> Result<(), NoMemory>
         requires ready { IsReady progress output.old.written self.old }
+        requires not_full { full (state self.old) ≡ false }
         requires later { unwrap_or progress.moment 0 < second * 1000000000 }
         requires most { progress.frames ≤ most_records }
         ensures ready { OnOk result (IsReady
             (record { frames = progress.frames; moment = Some (second * 1000000000) })
             output.new.written self.new) }
+        ensures not_full { OnOk result (full (state self.new) ≡ false) }
         ensures gathers { OnOk result (GathersOne (Does (state self.old) (Happens (Tick second)))
             output.old output.new (state self.new)) };
 
-    /// Takes a frame, and gathers lines and packets.
+    /// Takes a frame, and gathers lines and packets. Answers that the machine is full.
     fn take(
         &mut self,
         alloc: Global,
         progress: Progress,
         frame: Frame,
         output: &mut Output,
-    ) -> Result<(), NoMemory>
+    ) -> Result<bool, NoMemory>
         requires ready { IsReady progress output.old.written self.old }
+        requires not_full { full (state self.old) ≡ false }
         requires next { frame.number ≡ progress.frames + 1 }
         requires later { unwrap_or progress.moment 0 ≤ frame.moment }
         requires most { frame.number ≤ most_records }
@@ -66,18 +72,7 @@ pub trait Machine {
         ensures ready { OnOk result (IsReady
             (record { frames = frame.number; moment = Some frame.moment })
             output.new.written self.new) }
+        ensures full { IfOk result (λ is. is ≡ full (state self.new)) }
         ensures gathers { OnOk result (GathersOne (Does (state self.old) (Happens (Arrival frame)))
-            output.old output.new (state self.new)) };
-
-    /// Does what is left to be done at the end of the capture, and gathers lines and packets.
-    fn close(
-        &mut self,
-        alloc: Global,
-        progress: Progress,
-        output: &mut Output,
-    ) -> Result<(), NoMemory>
-        requires ready { IsReady progress output.old.written self.old }
-        requires most { progress.frames ≤ most_records }
-        ensures gathers { OnOk result (GathersOne (Does (state self.old) End)
             output.old output.new (state self.new)) };
 }

@@ -1,34 +1,27 @@
 // The frames of a capture, one after another, through a machine.
-ghost use Rattle.std.specs.Prelude.{◌≡◌, ◌<◌, ◌≤◌, ◌+◌, ◌*◌, ◌^◌, ◌∷◌, [], None, Some, IfOk, IfSome, IsErrOf, OnErr, OnOk, length, option_map, unwrap_or};
+ghost use Rattle.std.specs.Prelude.{◌≡◌, ◌<◌, ◌≤◌, ◌+◌, ◌*◌, ◌^◌, None, Some, false, IfOk, IfSome, IsErrOf, OnErr, OnOk, length, option_map, unwrap_or};
 ghost use Rattle.desk.specs.declared.fault.DeskFault.TheVariants.{Failed};
 ghost use Rattle.desk.specs.Causes.{HasCause, StaysSteady};
-ghost use Rattle.desk.specs.World.{left_of, to_read, shown, shown_of, IsGiven};
+ghost use Rattle.desk.specs.World.{left_of, to_read, shown_of, IsGiven};
 ghost use Rattle.capture_io.specs.Capture.{begin};
 ghost use Rattle.capture_io.specs.Frames.{read_on};
 ghost use Rattle.capture_io.specs.Reading.{beginning};
-ghost use Rattle.playback.specs.Events.{events_of, steps_of, End};
+ghost use Rattle.playback.specs.Events.{events_of, idle, steps_of, End};
 ghost use Rattle.playback.specs.Front.{CutRun, Goes};
 ghost use Rattle.playback.specs.Limits.{most_frame_octets, most_records};
 ghost use Rattle.playback.specs.Playing.{HasPlayed, KeepsReaders, MayWrite};
 
 use crate::machine::{Machine, Progress};
-use crate::output::{Output, hand_on, hand_on_full};
-use crate::reading::{Next, next_frame};
+use crate::output::{Output, hand_on_full};
+use crate::plays::{Ending, Play, Turn};
 use crate::seconds::play_seconds;
-use capture_io::{CaptureFault, CaptureReader, Frame};
+use capture_io::{CaptureReader, Frame};
 use desk::{Desk, DeskFault, FileId};
 use std::alloc::Global;
 
-/// How a capture ended: its fault, if it has one, the frames before that, and the packets written.
-#[derive(Clone, Copy)]
-pub struct Ending {
-    pub fault: Option<CaptureFault>,
-    pub frames: u32,
-    pub written: u64,
-}
-
-/// Plays the frames of a capture whose header was read, and the seconds between them, through the
-/// machine. Its lines are said; its packets are written into the file, if there is one.
+/// Plays the frames of a capture whose header was read, and the seconds between them, through a
+/// machine that is never full and has nothing to do at the end. Its lines are said; its packets are
+/// written into the file, if there is one.
 pub fn play<D: Desk, M: Machine>(
     alloc: Global,
     desk: &mut D,
@@ -38,6 +31,8 @@ pub fn play<D: Desk, M: Machine>(
 ) -> Result<Ending, DeskFault>
     requires begins { reader ≡ beginning reader.id reader.format }
     requires ready { M.IsReady (record { frames = 0; moment = None }) 0 machine.old }
+    requires not_full { (state : M.State) → M.full state ≡ false }
+    requires rests { (state : M.State) → M.Does state End (idle state) }
     // Each frame was given as one, so that it is in the range of its type.
     ensures played { IfOk result (λ ending. IfSome (D.told desk.old) (λ w.
         HasPlayed M.Does (M.state machine.old) (option_map (λ id. id.number) file) (shown_of w)
@@ -54,73 +49,15 @@ pub fn play<D: Desk, M: Machine>(
         (IsGiven reader.id to_read (D.given desk.old)
         × MayWrite (option_map (λ id. id.number) file) (D.given desk.old)) (IsErrOf result Failed) }
 {
-    let mut output = Output::new(alloc);
-    let mut reader = reader;
-    let mut progress = Progress {
-        frames: 0,
-        moment: None,
-    };
-    loop {
-        match next_frame(alloc, desk, &mut reader)? {
-            Next::Frame(frame) => {
-                progress = play_frame(alloc, desk, machine, file, progress, frame, &mut output)?;
-            }
-            Next::End => {
-                return play_end(alloc, desk, machine, file, progress, None, &mut output);
-            }
-            Next::Fault(fault) => {
-                return play_end(
-                    alloc,
-                    desk,
-                    machine,
-                    file,
-                    progress,
-                    Some(fault),
-                    &mut output,
-                );
-            }
-        }
+    let mut play = Play::new(alloc, reader, file);
+    match play.on(alloc, desk, machine)? {
+        Turn::Full => unreachable!(),
+        Turn::Ended(fault) => play.end(alloc, desk, fault),
     }
 }
 
-// Lets the machine do what is left to be done, and hands all on.
-fn play_end<D: Desk, M: Machine>(
-    alloc: Global,
-    desk: &mut D,
-    machine: &mut M,
-    file: Option<FileId>,
-    progress: Progress,
-    fault: Option<CaptureFault>,
-    output: &mut Output,
-) -> Result<Ending, DeskFault>
-    requires ready { M.IsReady progress output.old.written machine.old }
-    requires most { progress.frames ≤ most_records }
-    ensures ending { IfOk result (λ ending. ending ≡ record {
-      fault = fault;
-      frames = progress.frames;
-      written = output.new.written;
-    }) }
-    ensures lines { OnOk result (output.new.lines ≡ []) }
-    ensures records { OnOk result (output.new.records ≡ []) }
-    ensures goes { Goes M.Does (option_map (λ id. id.number) file)
-        (M.state machine.old) (M.state machine.new) (End ∷ [])
-        output.old (D.told desk.old) result output.new (D.told desk.new) }
-    ensures cause { HasCause (D.faults desk.old) (D.faults desk.new) result }
-    ensures given { D.given desk.new ≡ D.given desk.old }
-    ensures steady { StaysSteady (D.steady desk.old) (D.steady desk.new)
-        (MayWrite (option_map (λ id. id.number) file) (D.given desk.old)) (IsErrOf result Failed) }
-{
-    machine.close(alloc, progress, output)?;
-    hand_on(alloc, desk, file, output)?;
-    Ok(Ending {
-        fault,
-        frames: progress.frames,
-        written: output.written,
-    })
-}
-
-// Plays a frame behind the seconds before it.
-fn play_frame<D: Desk, M: Machine>(
+/// Plays a frame behind the seconds before it. Answers that the machine is full.
+pub(crate) fn play_frame<D: Desk, M: Machine>(
     alloc: Global,
     desk: &mut D,
     machine: &mut M,
@@ -128,16 +65,18 @@ fn play_frame<D: Desk, M: Machine>(
     progress: Progress,
     frame: Frame,
     output: &mut Output,
-) -> Result<Progress, DeskFault>
+) -> Result<bool, DeskFault>
     requires ready { M.IsReady progress output.old.written machine.old }
+    requires not_full { M.full (M.state machine.old) ≡ false }
     requires next { frame.number ≡ progress.frames + 1 }
     requires later { unwrap_or progress.moment 0 ≤ frame.moment }
     requires most { frame.number ≤ most_records }
     requires moment { frame.moment < 2 ^ 32 * 1000000000 }
     requires size { length frame.octets ≤ most_frame_octets }
-    ensures reached { IfOk result (λ reached. reached
-        ≡ record { frames = frame.number; moment = Some frame.moment }) }
-    ensures ready { IfOk result (λ reached. M.IsReady reached output.new.written machine.new) }
+    ensures ready { OnOk result (M.IsReady
+        (record { frames = frame.number; moment = Some frame.moment })
+        output.new.written machine.new) }
+    ensures full { IfOk result (λ is. is ≡ M.full (M.state machine.new)) }
     ensures goes { Goes M.Does (option_map (λ id. id.number) file)
         (M.state machine.old) (M.state machine.new) (steps_of (events_of progress.moment frame))
         output.old (D.told desk.old) result output.new (D.told desk.new) }
@@ -147,12 +86,8 @@ fn play_frame<D: Desk, M: Machine>(
     ensures steady { StaysSteady (D.steady desk.old) (D.steady desk.new)
         (MayWrite (option_map (λ id. id.number) file) (D.given desk.old)) (IsErrOf result Failed) }
 {
-    let reached = Progress {
-        frames: frame.number,
-        moment: Some(frame.moment),
-    };
     let before = play_seconds(alloc, desk, machine, file, progress, frame.moment, output)?;
-    machine.take(alloc, before, frame, output)?;
+    let is_full = machine.take(alloc, before, frame, output)?;
     hand_on_full(alloc, desk, file, output)?;
-    Ok(reached)
+    Ok(is_full)
 }

@@ -1,5 +1,5 @@
 // The seconds between the frames of a capture, one after another, through a machine.
-ghost use Rattle.std.specs.Prelude.{◌≡◌, ◌<◌, ◌≤◌, ◌+◌, ◌*◌, ◌^◌, ◌∷◌, [], Some, IfOk, IsErrOf, OnOk, option_map, unwrap_or};
+ghost use Rattle.std.specs.Prelude.{◌≡◌, ◌<◌, ◌≤◌, ◌+◌, ◌*◌, ◌^◌, ◌∷◌, [], false, Some, IfOk, IsErrOf, OnOk, option_map, unwrap_or};
 ghost use Rattle.desk.specs.declared.fault.DeskFault.TheVariants.{Failed};
 ghost use Rattle.desk.specs.Causes.{HasCause, StaysSteady};
 ghost use Rattle.playback.specs.Events.{second_of, steps_of, ticks, Happens, Tick};
@@ -24,10 +24,12 @@ pub(crate) fn play_seconds<D: Desk, M: Machine>(
     output: &mut Output,
 ) -> Result<Progress, DeskFault>
     requires ready { M.IsReady progress output.old.written machine.old }
+    requires not_full { M.full (M.state machine.old) ≡ false }
     requires later { unwrap_or progress.moment 0 ≤ moment }
     requires most { progress.frames ≤ most_records }
     requires moment { moment < 2 ^ 32 * 1000000000 }
     ensures ready { IfOk result (λ reached. M.IsReady reached output.new.written machine.new) }
+    ensures not_full { OnOk result (M.full (M.state machine.new) ≡ false) }
     ensures frames { IfOk result (λ reached. reached.frames ≡ progress.frames) }
     ensures later { IfOk result (λ reached. unwrap_or reached.moment 0 ≤ moment) }
     ensures goes { Goes M.Does (option_map (λ id. id.number) file)
@@ -63,11 +65,13 @@ fn play_second<D: Desk, M: Machine>(
     output: &mut Output,
 ) -> Result<(), DeskFault>
     requires ready { M.IsReady progress output.old.written machine.old }
+    requires not_full { M.full (M.state machine.old) ≡ false }
     requires later { unwrap_or progress.moment 0 < second * 1000000000 }
     requires most { progress.frames ≤ most_records }
     ensures ready { OnOk result (M.IsReady
         (record { frames = progress.frames; moment = Some (second * 1000000000) })
         output.new.written machine.new) }
+    ensures not_full { OnOk result (M.full (M.state machine.new) ≡ false) }
     ensures goes { Goes M.Does (option_map (λ id. id.number) file)
         (M.state machine.old) (M.state machine.new) (Happens (Tick second) ∷ [])
         output.old (D.told desk.old) result output.new (D.told desk.new) }

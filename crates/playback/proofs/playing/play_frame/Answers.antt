@@ -17,8 +17,8 @@ returns-in_err-before-clause-goes g c = λ start old past stands.
     (Happens (Arrival frame) ∷ [], frame-steps past c.args.progress.moment frame) (goes start old past stands) in
     search (rules, cut)
 
-pub returns-in_err-take-clause-goes : goal.returns-in_err-take-clause-goes
-returns-in_err-take-clause-goes g c = λ start old past stands.
+pub returns-in_err-is_full-clause-goes : goal.returns-in_err-is_full-clause-goes
+returns-in_err-is_full-clause-goes g c = λ start old past stands.
     let file = option_map (λ (id : FileId). id.number) c.args.file in
     let does = g.M.Machine.Does in
     let frame = c.args.frame in
@@ -43,7 +43,7 @@ returns-in_err-hand_on_full-clause-goes g c = λ start old past stands.
     let now = g.D.Desk.told c.hand_on_full.new.desk in
     let all : List Step = past ++ steps_of (events_of c.args.progress.moment frame) in
     let after = g.M.Machine.state c.take.new.self in
-    let gathered = stands-gathers does start file old (past ++ seconds) (Happens (Arrival frame)) (g.M.Machine.state c.play_seconds.new.machine) after c.play_seconds.new.output c.take.new.output told c.in_ok-take.ensures.gathers (goes start old past stands) in
+    let gathered = stands-gathers does start file old (past ++ seconds) (Happens (Arrival frame)) (g.M.Machine.state c.play_seconds.new.machine) after c.play_seconds.new.output c.take.new.output told c.in_ok-is_full.ensures.gathers (goes start old past stands) in
     let whole = rw (frame-steps past c.args.progress.moment frame) at gathered in
     let cut = breaks-cut does start file old all after c.take.new.output told now c.in_err-hand_on_full.ensures.breaks whole in
     search (rules, cut)
@@ -60,7 +60,7 @@ returns-clause-goes g c = λ start old past stands.
     let now = g.D.Desk.told c.hand_on_full.new.desk in
     let all : List Step = past ++ steps_of (events_of c.args.progress.moment frame) in
     let after = g.M.Machine.state c.take.new.self in
-    let gathered = stands-gathers does start file old (past ++ seconds) (Happens (Arrival frame)) (g.M.Machine.state c.play_seconds.new.machine) after c.play_seconds.new.output c.take.new.output told c.in_ok-take.ensures.gathers (goes start old past stands) in
+    let gathered = stands-gathers does start file old (past ++ seconds) (Happens (Arrival frame)) (g.M.Machine.state c.play_seconds.new.machine) after c.play_seconds.new.output c.take.new.output told c.in_ok-is_full.ensures.gathers (goes start old past stands) in
     let whole = rw (frame-steps past c.args.progress.moment frame) at gathered in
     let handed = c.in_ok-hand_on_full.ensures in
     stands-hands does start file old all after c.take.new.output c.hand_on_full.new.output told now handed.hands handed.written whole

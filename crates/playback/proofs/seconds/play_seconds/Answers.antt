@@ -17,6 +17,7 @@ loop-second-init g c =
       later = c.requires.later;
       frames = refl;
       ready = c.requires.ready;
+      not_full = c.requires.not_full;
       goes = λ start old past stands. rw (none, append-nil past) stands;
       readers = refl;
       given = refl;
@@ -42,6 +43,7 @@ loop-second-preserved g c =
       later = grind (arith, below, end);
       frames = inv.frames;
       ready = done.ready;
+      not_full = done.not_full;
       goes = λ start old past stands.
           let after = done.goes start old (past ++ seconds_of first n) (inv.goes start old past stands) in
           rw (more, ← seconds-more past first n second place) after;

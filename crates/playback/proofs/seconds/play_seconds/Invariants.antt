@@ -1,4 +1,4 @@
-use Rattle.std.proofs.Common.{◌≡◌, ◌<◌, ◌≤◌, ◌*◌, ◌-◌, ◌++◌, List, unwrap_or, IsTrue}
+use Rattle.std.proofs.Common.{◌≡◌, ◌<◌, ◌≤◌, ◌*◌, ◌-◌, ◌++◌, false, List, unwrap_or, IsTrue}
 use Rattle.std.specs.Option.{option_map}
 use Rattle.playback.specs.Events.{Step}
 use Rattle.desk.specs.World.{Shown}
@@ -14,6 +14,7 @@ invariant-loop-second g l = record {
   later : unwrap_or l.reached.moment 0 ≤ l.moment;
   frames : l.reached.frames ≡ l.fn.progress.frames;
   ready : g.M.Machine.IsReady l.reached l.output.written l.machine;
+  not_full : g.M.Machine.full (g.M.Machine.state l.machine) ≡ false;
   goes : (start : g.M.Machine.State) → (old : Shown) → (past : List Step)
       → Stands g.M.Machine.Does start (option_map (λ id. id.number) l.file) old past (g.M.Machine.state l.fn.machine) l.fn.output (g.D.Desk.told l.fn.desk)
       → Stands g.M.Machine.Does start (option_map (λ id. id.number) l.file) old (past ++ seconds_of l.first (l.second - l.first)) (g.M.Machine.state l.machine) l.output (g.D.Desk.told l.desk);

@@ -1,0 +1,154 @@
+// A play of a capture, from pause to pause.
+ghost use Rattle.std.specs.Prelude.{◌≡◌, ◌<◌, ◌≤◌, None, false, true, IfOk, IsErrOf, OnErr, OnOk, option_map};
+ghost use Rattle.desk.specs.declared.fault.DeskFault.TheVariants.{Failed};
+ghost use Rattle.desk.specs.Causes.{HasCause, StaysSteady};
+ghost use Rattle.desk.specs.World.{to_read, IsGiven};
+ghost use Rattle.capture_io.specs.Reading.{beginning};
+ghost use Rattle.playback.specs.Front.{Breaks};
+ghost use Rattle.playback.specs.Passing.{file_of, IfFull, IsBegun, IsBetween, IsSamePlay, PassesOn};
+ghost use Rattle.playback.specs.Playing.{handed_on, MayWrite};
+
+use crate::machine::{Machine, Progress};
+use crate::output::{Output, hand_on};
+use crate::playing::play_frame;
+use crate::reading::{Next, next_frame};
+use capture_io::{CaptureFault, CaptureReader};
+use desk::{Desk, DeskFault, FileId};
+use std::alloc::Global;
+
+/// A play of a capture: what is left to read, the file into which packets are written, if there is
+/// one, how far it has come, and what is gathered to go out.
+#[derive(Drop)]
+pub struct Play {
+    pub reader: CaptureReader,
+    pub file: Option<FileId>,
+    pub progress: Progress,
+    pub output: Output,
+}
+
+/// Why a play stands still.
+#[derive(Clone, Copy, Debug, PartialEq, Eq)]
+pub enum Turn {
+    /// The machine is full: its caller is to work before the play goes on.
+    Full,
+    /// The capture is at its end, or at its fault.
+    Ended(Option<CaptureFault>),
+}
+
+/// How a capture ended: its fault, if it has one, the frames before that, and the packets written.
+#[derive(Clone, Copy)]
+pub struct Ending {
+    pub fault: Option<CaptureFault>,
+    pub frames: u32,
+    pub written: u64,
+}
+
+impl Play {
+    /// A play of a capture whose header was read. Takes no memory.
+    pub fn new(alloc: Global, reader: CaptureReader, file: Option<FileId>) -> Play
+        requires begins { reader ≡ beginning reader.id reader.format }
+        ensures reader { result.reader ≡ reader }
+        ensures file { result.file ≡ file }
+        ensures progress { result.progress ≡ record { frames = 0; moment = None } }
+        ensures begun { IsBegun result }
+        ensures between { IsBetween result }
+    {
+        Play {
+            reader,
+            file,
+            progress: Progress {
+                frames: 0,
+                moment: None,
+            },
+            output: Output::new(alloc),
+        }
+    }
+
+    /// Plays frames, each behind the seconds before it, until the machine is full or none is left. What
+    /// is gathered goes out in pieces: lines are said, packets are written into the file.
+    pub fn on<D: Desk, M: Machine>(
+        &mut self,
+        alloc: Global,
+        desk: &mut D,
+        machine: &mut M,
+    ) -> Result<Turn, DeskFault>
+        requires between { IsBetween self.old }
+        requires ready { M.IsReady self.old.progress self.old.output.written machine.old }
+        requires not_full { M.full (M.state machine.old) ≡ false }
+        ensures file { self.new.file ≡ self.old.file }
+        ensures same { IfOk result (λ turn. IfFull turn (IsSamePlay self.old self.new)) }
+        ensures between { IfOk result (λ turn. IfFull turn (IsBetween self.new)) }
+        ensures ready { OnOk result (M.IsReady self.new.progress self.new.output.written machine.new) }
+        ensures full { IfOk result (λ turn. IfFull turn (M.full (M.state machine.new) ≡ true)) }
+        ensures more { IfOk result (λ turn. IfFull turn (self.old.progress.frames < self.new.progress.frames)) }
+        ensures passes { PassesOn M.Does self.old self.new (M.state machine.old) (M.state machine.new)
+            (D.told desk.old) result (D.told desk.new) }
+        ensures cause { HasCause (D.faults desk.old) (D.faults desk.new) result }
+        ensures given { D.given desk.new ≡ D.given desk.old }
+        ensures steady { StaysSteady (D.steady desk.old) (D.steady desk.new)
+            (IsGiven self.old.reader.id to_read (D.given desk.old)
+            × MayWrite (file_of self.old) (D.given desk.old)) (IsErrOf result Failed) }
+    {
+        loop {
+            match next_frame(alloc, desk, &mut self.reader)? {
+                Next::Frame(frame) => {
+                    let (file, before) = (self.file, self.progress);
+                    let reached = Progress {
+                        frames: frame.number,
+                        moment: Some(frame.moment),
+                    };
+                    let is_full = play_frame(
+                        alloc,
+                        desk,
+                        machine,
+                        file,
+                        before,
+                        frame,
+                        &mut self.output,
+                    )?;
+                    self.progress = reached;
+                    if is_full {
+                        return Ok(Turn::Full);
+                    }
+                }
+                Next::End => return Ok(Turn::Ended(None)),
+                Next::Fault(fault) => return Ok(Turn::Ended(Some(fault))),
+            }
+        }
+    }
+
+    /// Hands on what is still gathered, at the end of a capture or at its fault.
+    pub fn end<D: Desk>(
+        self,
+        alloc: Global,
+        desk: &mut D,
+        fault: Option<CaptureFault>,
+    ) -> Result<Ending, DeskFault>
+        ensures ending { IfOk result (λ ending. ending ≡ record {
+          fault = fault;
+          frames = self.progress.frames;
+          written = self.output.written;
+        }) }
+        ensures told { OnOk result (D.told desk.new
+            ≡ handed_on (file_of self) self.output (D.told desk.old)) }
+        ensures breaks { OnErr result (Breaks (file_of self)
+            self.output (D.told desk.old) (D.told desk.new)) }
+        ensures cause { HasCause (D.faults desk.old) (D.faults desk.new) result }
+        ensures given { D.given desk.new ≡ D.given desk.old }
+        ensures steady { StaysSteady (D.steady desk.old) (D.steady desk.new)
+            (MayWrite (file_of self) (D.given desk.old)) (IsErrOf result Failed) }
+    {
+        let Play {
+            reader: _,
+            file,
+            progress,
+            mut output,
+        } = self;
+        hand_on(alloc, desk, file, &mut output)?;
+        Ok(Ending {
+            fault,
+            frames: progress.frames,
+            written: output.written,
+        })
+    }
+}
