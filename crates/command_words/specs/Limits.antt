@@ -1,6 +1,10 @@
 -- The limits of the numbers among the words (this router's choice).
 use Rattle.std.specs.Prelude.{ℕ}
 
+-- forwarders that decide data packets beside each other, at most
+abbrev pub most_workers : ℕ
+most_workers = 16
+
 -- frames that are handed to forwarders at once, at most
 abbrev pub most_round_frames : ℕ
 most_round_frames = 4096

@@ -3,7 +3,7 @@ use Rattle.std.specs.Prelude.{ℕ, ◌≤◌, Bool, true, false, ◌&&◌, ◌||
 use Rattle.std.specs.List.{list_all, list_any}
 use Rattle.std.specs.Str.{bytes_eq}
 use Rattle.std.specs.Str.Parse.{digits_value}
-use Rattle.command_words.specs.Limits.{default_round_frames, most_round_frames, most_trial_mappings}
+use Rattle.command_words.specs.Limits.{default_round_frames, most_round_frames, most_trial_mappings, most_workers}
 use Rattle.command_words.specs.declared.words.Words.{Words}
 use Rattle.command_words.specs.declared.words.Words.TheVariants.{Replay, Show, Trial}
 
@@ -81,14 +81,14 @@ unless_over settings input output workers round =
     if bytes_eq output input || bytes_eq output settings then None
     else Some (Replay settings input output workers round)
 
--- `--settings F --in F --out F [--workers N] [--round N]`; there are no workers yet
+-- `--settings F --in F --out F [--workers N] [--round N]`
 abbrev pub replay_of : List (List ℕ) → Option Words
 replay_of words = do
   options ← options_of replay_names words
   settings ← value_of (codes "--settings") options
   input ← value_of (codes "--in") options
   output ← value_of (codes "--out") options
-  workers ← number_or 0 0 0 (value_of (codes "--workers") options)
+  workers ← number_or 0 most_workers 0 (value_of (codes "--workers") options)
   round ← number_or 1 most_round_frames default_round_frames (value_of (codes "--round") options)
   unless_over settings input output workers round
 
@@ -107,10 +107,12 @@ trial_of (number ∷ []) = do
   Some (Trial n)
 trial_of (number ∷ (other ∷ more)) = None
 
--- a trial is of so many mappings at most
-abbrev pub HasFewMappings : Words → Type 0
-HasFewMappings (Trial n) = n ≤ most_trial_mappings
-HasFewMappings _ = Unit {0}
+-- the numbers are within their limits
+abbrev pub AreWithinLimits : Words → Type 0
+AreWithinLimits (Replay settings input output workers round) =
+    (workers ≤ most_workers) × ((1 ≤ round) × (round ≤ most_round_frames))
+AreWithinLimits (Show input) = Unit {0}
+AreWithinLimits (Trial n) = n ≤ most_trial_mappings
 
 -- what the words behind a command say
 abbrev pub command_of : List ℕ → List (List ℕ) → Option Words

@@ -5,5 +5,7 @@ mod limits;
 mod options;
 mod words;
 
-pub use limits::{DEFAULT_ROUND_FRAMES, MOST_ROUND_FRAMES, MOST_TRIAL_MAPPINGS, limits_are};
+pub use limits::{
+    DEFAULT_ROUND_FRAMES, MOST_ROUND_FRAMES, MOST_TRIAL_MAPPINGS, MOST_WORKERS, limits_are,
+};
 pub use words::{Text, Word, Words, WordsFault, read_words};

@@ -59,10 +59,10 @@ fn is_value(word: &str) -> bool
 /// The number behind an option's name, from the least to the greatest, and without the option the
 /// default. None where it isn't spelled so.
 pub fn number_or(words: &[Word], name: &str, bounds: (u32, u32), default: u32) -> Option<u32>
-    requires { default ≤ bounds.1 }
+    requires { (bounds.0 ≤ default) × (default ≤ bounds.1) }
     ensures number { result ≡ number_or bounds.0 bounds.1 default
         (value_of name.now (map string_bytes words.now)) }
-    ensures most { IfSome result (λ n. n ≤ bounds.1) }
+    ensures within { IfSome result (λ n. (bounds.0 ≤ n) × (n ≤ bounds.1)) }
 {
     match value_of(name, words) {
         Some(text) => number_in(text, bounds.0, bounds.1),
@@ -73,7 +73,7 @@ pub fn number_or(words: &[Word], name: &str, bounds: (u32, u32), default: u32) -
 /// The number from the least to the greatest that the text writes in decimal digits.
 pub fn number_in(text: &str, least: u32, greatest: u32) -> Option<u32>
     ensures number { result ≡ number_in least greatest text.now }
-    ensures most { IfSome result (λ n. n ≤ greatest) }
+    ensures within { IfSome result (λ n. (least ≤ n) × (n ≤ greatest)) }
 {
     if !is_decimal(text.as_bytes()) {
         return None;

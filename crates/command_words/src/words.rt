@@ -1,9 +1,9 @@
 // The words after the program's name.
 ghost use Rattle.std.specs.Prelude.{◌≡◌, ◌≤◌, Err, None, Some, map, string_bytes, IfOk, option_map};
-ghost use Rattle.command_words.specs.Words.{replay_of, show_of, trial_of, words_of, HasFewMappings};
+ghost use Rattle.command_words.specs.Words.{replay_of, show_of, trial_of, words_of, AreWithinLimits};
 ghost use Rattle.command_words.specs.declared.words.WordsFault.TheVariants.{Usage, Memory};
 
-use crate::limits::{DEFAULT_ROUND_FRAMES, MOST_ROUND_FRAMES, MOST_TRIAL_MAPPINGS};
+use crate::limits::{DEFAULT_ROUND_FRAMES, MOST_ROUND_FRAMES, MOST_TRIAL_MAPPINGS, MOST_WORKERS};
 use crate::options::{are_options, number_in, number_or, value_of};
 use octets::NoMemory;
 use std::alloc::{AllocError, Global};
@@ -89,7 +89,7 @@ impl From<AllocError> for WordsFault {
 pub fn read_words(alloc: Global, words: &[Word]) -> Result<Words, WordsFault>
     ensures ok { IfOk result (λ read. words_of (map string_bytes words.now) ≡ Some read) }
     ensures usage { result ≡ Err Usage → words_of (map string_bytes words.now) ≡ None }
-    ensures few { IfOk result HasFewMappings }
+    ensures limits { IfOk result AreWithinLimits }
 {
     let [command, rest @ ..] = words else {
         return Err(WordsFault::Usage);
@@ -105,7 +105,7 @@ pub fn read_words(alloc: Global, words: &[Word]) -> Result<Words, WordsFault>
 fn read_replay(alloc: Global, words: &[Word]) -> Result<Words, WordsFault>
     ensures ok { IfOk result (λ read. replay_of (map string_bytes words.now) ≡ Some read) }
     ensures usage { result ≡ Err Usage → replay_of (map string_bytes words.now) ≡ None }
-    ensures few { IfOk result HasFewMappings }
+    ensures limits { IfOk result AreWithinLimits }
 {
     let names = ["--settings", "--in", "--out", "--workers", "--round"];
     if !are_options(&names, words) {
@@ -114,7 +114,7 @@ fn read_replay(alloc: Global, words: &[Word]) -> Result<Words, WordsFault>
     let settings = value_of("--settings", words).ok_or(WordsFault::Usage)?;
     let input = value_of("--in", words).ok_or(WordsFault::Usage)?;
     let output = value_of("--out", words).ok_or(WordsFault::Usage)?;
-    let workers = number_or(words, "--workers", (0, 0), 0).ok_or(WordsFault::Usage)?;
+    let workers = number_or(words, "--workers", (0, MOST_WORKERS), 0).ok_or(WordsFault::Usage)?;
     let round = number_or(
         words,
         "--round",
@@ -137,7 +137,7 @@ fn read_replay(alloc: Global, words: &[Word]) -> Result<Words, WordsFault>
 fn read_show(alloc: Global, words: &[Word]) -> Result<Words, WordsFault>
     ensures ok { IfOk result (λ read. show_of (map string_bytes words.now) ≡ Some read) }
     ensures usage { result ≡ Err Usage → show_of (map string_bytes words.now) ≡ None }
-    ensures few { IfOk result HasFewMappings }
+    ensures limits { IfOk result AreWithinLimits }
 {
     if !are_options(&["--in"], words) {
         return Err(WordsFault::Usage);
@@ -151,7 +151,7 @@ fn read_show(alloc: Global, words: &[Word]) -> Result<Words, WordsFault>
 fn read_trial(words: &[Word]) -> Result<Words, WordsFault>
     ensures ok { IfOk result (λ read. trial_of (map string_bytes words.now) ≡ Some read) }
     ensures usage { result ≡ Err Usage → trial_of (map string_bytes words.now) ≡ None }
-    ensures few { IfOk result HasFewMappings }
+    ensures limits { IfOk result AreWithinLimits }
 {
     match words {
         [number] => match number_in(number.as_str(), 1, MOST_TRIAL_MAPPINGS) {
