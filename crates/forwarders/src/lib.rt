@@ -22,7 +22,7 @@ mod working;
 mod writing;
 
 pub use door::{ForwardFault, Forwarded, Forwarder, Look, Published, Tally, open_hall};
-pub use gate::Gate;
+pub use gate::{Gate, OpenGate};
 pub use laws::{batches_make_the_journal, decided_packets_are_ruled};
 pub use octets::NoMemory;
 pub use round::run_round;

@@ -1,0 +1,3 @@
+pub mod GatheringLemmas
+pub mod PlayLemmas
+pub mod RoundLemmas

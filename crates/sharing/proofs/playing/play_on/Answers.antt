@@ -1,0 +1,81 @@
+use Rattle.std.proofs.Common.{◌≡◌, ◌∙◌, Some, ap, refl, arith}
+use Rattle.capture_io.specs.Capture.{begin}
+use Rattle.capture_io.specs.Frames.{read_on}
+use Rattle.capture_io.specs.Reading.{Reading}
+use Rattle.desk.specs.World.{World, left_of}
+use Rattle.playback.specs.Events.{Pause}
+use Rattle.playback.specs.Passing.{file_of}
+use Rattle.playback.specs.declared.plays.Play.{Play}
+use Rattle.playback.proofs.PassingLemmas.{ends-played, passing-first, passing-pause}
+use Rattle.sharing.specs.Gathering.{Gathering, InRounds, WorksRound, gathering_of}
+use Rattle.sharing.specs.declared.gathering.Gathering.{Gathering as Router}
+use Rattle.sharing.proofs.RoundLemmas.{gathers-as, none-due}
+use Rattle.sharing.proofs.playing.play_on.Goals as goal
+
+abbrev state_of : Router → Gathering
+state_of router = gathering_of router.settings.now router.published.batches router.size router.previous router.frames.items
+
+pub loop-play-init : goal.loop-play-init
+loop-play-init g c =
+    let new = c.new-play.ensures in
+    let play = c.new-play.result in
+    let start = state_of c.args.router.now in
+    record {
+      between = new.between;
+      id = ap (λ (r : Reading). r.id) new.reader;
+      format = ap (λ (r : Reading). r.format) new.reader;
+      file = new.file;
+      ready = rw (new.progress, new.begun.written) c.requires.ready;
+      not_full = none-due start c.requires.none c.requires.ready.size.0;
+      passing = passing-first InRounds play.reader.id (file_of play) play.reader.format start play.reader.position play.output (g.D.Desk.told c.args.desk.now) new.begun.position new.begun.lines new.begun.records new.begun.written;
+      given = refl;
+      steady = λ steady. steady;
+      faults = omega arith;
+    }
+
+pub loop-play-preserved : goal.loop-play-preserved
+loop-play-preserved g c =
+    let inv = c.loop-play.invariant in
+    let on = c.in_ok-on.ensures in
+    let between = rw c.in-Full.is at on.between in
+    let same = rw c.in-Full.is at on.same in
+    let full = rw c.in-Full.is at on.full in
+    let mid = c.on.new.self in
+    let next = c.work_round.new.play in
+    let is = c.work_round.ensures.play in
+    let work = c.in_ok-work_round-in-Full.ensures in
+    let start = state_of c.args.router.now in
+    let state = state_of c.on.new.machine in
+    let after = state_of c.work_round.new.router in
+    let told = g.D.Desk.told c.args.desk.now in
+    let now = g.D.Desk.told c.on.new.desk in
+    let passing = rw c.in-Full.is at (on.passes start told inv.passing) in
+    let gathers = gathers-as (WorksRound state state.frames) (InRounds state Pause) mid.output next.output after (λ outcome works. (full, works)) work.gathers in
+    record {
+      between = rw is (record { fault = between.fault; moment = between.moment; frames = between.frames; most = between.most });
+      id = ap (λ (p : Play). p.reader.id) is ∙ same.id ∙ inv.id;
+      format = ap (λ (p : Play). p.reader.format) is ∙ same.format ∙ inv.format;
+      file = ap (λ (p : Play). p.file) is ∙ same.file ∙ inv.file;
+      ready = work.ready;
+      not_full = none-due after work.none work.ready.size.0;
+      passing = rw is (passing-pause InRounds mid.reader.id (file_of mid) mid.reader.format start mid.reader.position state after told now mid.output next.output passing gathers);
+      given = on.given ∙ inv.given;
+      steady = λ steady. on.steady.stays (inv.steady steady);
+      faults = omega (arith, inv.faults, on.cause.later);
+    }
+
+pub returns-in-Ended-clause-played : goal.returns-in-Ended-clause-played
+returns-in-Ended-clause-played g c =
+    let inv = c.loop-play.invariant in
+    let on = c.in_ok-on.ensures in
+    let mid = c.on.new.self in
+    let next = c.work_last.new.play in
+    let is = c.work_last.ensures.play in
+    let start = state_of c.args.router.now in
+    let told = g.D.Desk.told c.args.desk.now in
+    let over = rw (inv.id, inv.format, inv.file) at (rw c.in-Ended.is at (on.passes start told inv.passing)) in
+    let file : next.file ≡ Some c.args.file = ap (λ (p : Play). p.file) is ∙ c.on.ensures.file ∙ inv.file in
+    let progress = ap (λ (p : Play). p.progress) is in
+    ends-played InRounds (Some c.args.file.number) start (λ (w : World). read_on c.args.reader.format begin (left_of c.args.reader.id w)) told mid.progress.frames c.in-Ended.fault
+    (state_of c.on.new.machine) (state_of c.work_last.new.router) mid.output next.output (g.D.Desk.told c.on.new.desk) (g.D.Desk.told c.end.new.desk) c.end.result
+    over c.in_ok-work_last-in-Ended.ensures.gathers (rw file at c.end.ensures.told) (rw progress at c.end.ensures.ending)

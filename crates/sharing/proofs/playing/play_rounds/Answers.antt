@@ -1,0 +1,12 @@
+use Rattle.std.proofs.Common.{◌∙◌, sym}
+use Rattle.capture_io.specs.Capture.{begin}
+use Rattle.capture_io.specs.Frames.{read_on}
+use Rattle.desk.specs.World.{World, left_of}
+use Rattle.forwarders.proofs.BatchLemmas.{journal-length}
+use Rattle.sharing.proofs.PlayLemmas.{plays-shared}
+use Rattle.sharing.proofs.playing.play_rounds.Goals as goal
+
+pub returns-clause-shared : goal.returns-clause-shared
+returns-clause-shared g c =
+    plays-shared c.args.settings.now c.args.crew.now.round _ (λ (w : World). read_on c.args.reader.format begin (left_of c.args.reader.id w)) c.in_ok-ending.ending c.closed-entries.result _ _
+    (g.D.Desk.told c.args.desk.now) (g.D.Desk.told c.play_on-ended.new.desk) c.requires.round.0 c.in_ok-router.ensures.begins c.in_ok-ending.ensures.played (c.closed-entries.ensures ∙ sym (journal-length c.play_on-ended.new.router.published.batches))

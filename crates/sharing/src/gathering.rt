@@ -1,0 +1,135 @@
+// A router that gathers the frames of a round, which is worked once it is full.
+ghost use Rattle.std.specs.Prelude.{◌≡◌, ◌≤◌, length, IfOk, None};
+ghost use Rattle.command_words.specs.Limits.{most_round_frames, most_workers};
+ghost use Rattle.lisp_settings.specs.Lawful.{IsLawful};
+ghost use Rattle.router_model.specs.Cut.{is_full};
+ghost use Rattle.router_model.specs.Lifting.{AreOctets};
+ghost use Rattle.forwarders.specs.Batches.{count_of};
+ghost use Rattle.sharing.specs.Gathering.{Gathering as GatheringValue, InRounds, MayGather, gathering_of, is_due, none_gathered};
+
+use crate::crew::Crew;
+use crate::limits::MOST_ROUND_OCTETS;
+use capture_io::Frame;
+use forwarders::{Gate, Published, open_hall};
+use lisp_settings::Settings;
+use octets::NoMemory;
+use playback::{Machine, Output, Progress};
+use router_core::Table;
+use std::alloc::Global;
+use std::sync::Wait;
+use std::thread::Threads;
+
+/// A router that is replayed in rounds: its table, the same as it is published to forwarders, and the
+/// frames that came since the last round.
+pub(crate) struct Gathering<'a> {
+    pub settings: &'a Settings,
+    pub table: Table,
+    pub published: Published,
+    /// The frames of a round, at most 4,096.
+    pub size: usize,
+    /// The moment of the frame before the round.
+    pub previous: Option<u64>,
+    pub frames: Vec<Frame>,
+    /// Those of the frames.
+    pub octets: usize,
+}
+
+impl<'a> Machine for Gathering<'a> {
+    ghost State = { GatheringValue };
+
+    ghost state = { λ g. gathering_of g.settings.now g.published.batches g.size g.previous g.frames.items };
+
+    ghost Does = { InRounds };
+
+    ghost full = { is_due };
+
+    ghost IsReady = { λ progress written g. MayGather g.settings.now g.table.parts g.published
+        (gathering_of g.settings.now g.published.batches g.size g.previous g.frames.items)
+        g.octets progress written };
+
+    // The seconds of a round are worked with it.
+    fn tick(
+        &mut self,
+        _alloc: Global,
+        _progress: Progress,
+        _second: u32,
+        _output: &mut Output,
+    ) -> Result<(), NoMemory> {
+        Ok(())
+    }
+
+    fn take(
+        &mut self,
+        _alloc: Global,
+        _progress: Progress,
+        frame: Frame,
+        _output: &mut Output,
+    ) -> Result<bool, NoMemory> {
+        fit(frame.octets.as_slice());
+        self.octets += frame.octets.len();
+        self.frames.push(frame)?;
+        Ok(is_full(self.size, self.frames.len(), self.octets))
+    }
+}
+
+/// A router that begins with its static mappings, published to forwarders. It may wait.
+pub(crate) fn begun<'a, R: Threads + Wait + Sync, G: Gate>(
+    crew: &Crew<'_, R, G>,
+    alloc: Global,
+    settings: &'a Settings,
+) -> Result<Gathering<'a>, NoMemory>
+    requires workers { (1 ≤ crew.now.workers) × (crew.now.workers ≤ most_workers) }
+    requires round { (1 ≤ crew.now.round) × (crew.now.round ≤ most_round_frames) }
+    requires lawful { IsLawful settings.now }
+    ensures begins { IfOk result (λ g. gathering_of g.settings.now g.published.batches g.size g.previous g.frames.items
+        ≡ none_gathered crew.now.round settings.now) }
+    ensures ready { IfOk result (λ g. MayGather g.settings.now g.table.parts g.published
+        (gathering_of g.settings.now g.published.batches g.size g.previous g.frames.items)
+        g.octets (record { frames = 0; moment = None }) 0) }
+{
+    let table = Table::new(alloc, settings)?;
+    let published = open_hall(crew.rt, alloc, settings, &table, crew.workers)?;
+    Ok(Gathering {
+        settings,
+        table,
+        published,
+        size: crew.round,
+        previous: None,
+        frames: Vec::new(alloc),
+        octets: 0,
+    })
+}
+
+impl<'a> Gathering<'a> {
+    /// Ends the publication, which may wait. Answers the length of the journal.
+    pub fn closed<R: Wait>(self, rt: &R) -> u64
+        ensures { result ≡ count_of self.entry.published.batches }
+    {
+        let Gathering {
+            settings: _,
+            table: _,
+            published,
+            size: _,
+            previous: _,
+            frames: _,
+            octets: _,
+        } = self;
+        let entries = published.count();
+        published.close(rt);
+        entries
+    }
+}
+
+// So many frames and octets make a round of that size.
+fn is_full(size: usize, frames: usize, octets: usize) -> bool
+    ensures { result ≡ is_full size (record { frames = frames; octets = octets }) }
+{
+    frames >= size || octets > MOST_ROUND_OCTETS
+}
+
+// Octets are below 256, which a round asks of its frames.
+fn fit(octets: &[u8])
+    ensures { AreOctets octets.now }
+{
+    let _ = octets;
+}

@@ -1,0 +1,118 @@
+// A round that is worked: its lines and packets are gathered to go out.
+ghost use Rattle.std.specs.Prelude.{◌≡◌, ◌<◌, ◌≤◌, ◌+◌, ◌++◌, ◌^◌, [], length, map, All, OnOk};
+ghost use Rattle.command_words.specs.Limits.{most_workers};
+ghost use Rattle.playback.specs.Events.{records_of};
+ghost use Rattle.playback.specs.Playing.{GathersOne};
+ghost use Rattle.router_model.specs.Rounds.{closing_moment, lines_text};
+ghost use Rattle.forwarders.specs.Gathering.{IsWritable};
+ghost use Rattle.forwarders.specs.Rounding.{line_seen, packet_seen};
+ghost use Rattle.sharing.specs.Gathering.{ClosesRound, MayGather, WorksRound, gathering_of};
+
+use crate::crew::Crew;
+use crate::gathering::Gathering;
+use capture_io::Frame;
+use forwarders::{Gate, Line, Packet, run_round};
+use octets::{NoMemory, Octets};
+use playback::{Output, Play};
+use router_log::push_frame_line;
+use std::alloc::Global;
+use std::sync::Wait;
+use std::thread::Threads;
+
+/// Works the round of the frames, of which there is one, and gathers its lines and packets. It starts
+/// threads, and waits for them.
+pub(crate) fn work_round<R: Threads + Wait + Sync, G: Gate>(
+    crew: &Crew<'_, R, G>,
+    alloc: Global,
+    router: &mut Gathering<'_>,
+    play: &mut Play,
+) -> Result<(), NoMemory>
+    requires workers { crew.now.workers ≤ most_workers }
+    requires some { 1 ≤ length router.old.frames.items }
+    requires ready { MayGather router.old.settings.now router.old.table.parts router.old.published
+        (gathering_of router.old.settings.now router.old.published.batches router.old.size router.old.previous router.old.frames.items)
+        router.old.octets play.old.progress play.old.output.written }
+    ensures play { play.new ≡ record play.old { output = play.new.output } }
+    ensures gathers { OnOk result (GathersOne
+        (WorksRound (gathering_of router.old.settings.now router.old.published.batches router.old.size router.old.previous router.old.frames.items)
+        router.old.frames.items) play.old.output play.new.output
+        (gathering_of router.new.settings.now router.new.published.batches router.new.size router.new.previous router.new.frames.items)) }
+    ensures ready { OnOk result (MayGather router.new.settings.now router.new.table.parts router.new.published
+        (gathering_of router.new.settings.now router.new.published.batches router.new.size router.new.previous router.new.frames.items)
+        router.new.octets play.new.progress play.new.output.written) }
+    ensures none { OnOk result (router.new.frames.items ≡ []) }
+{
+    let done = run_round(
+        crew.rt,
+        alloc,
+        router.settings,
+        &mut router.table,
+        &mut router.published,
+        crew.workers,
+        router.previous,
+        router.frames.as_slice(),
+        crew.gate,
+    )?;
+    router.previous = Some(closing_moment(router.frames.as_slice()));
+    router.frames.clear();
+    router.octets = 0;
+    push_lines(done.lines.as_slice(), &mut play.output.lines)?;
+    push_packets(done.written.as_slice(), &mut play.output)
+}
+
+/// Works the round of the frames that are left at the end of a capture, if there are some.
+pub(crate) fn work_last<R: Threads + Wait + Sync, G: Gate>(
+    crew: &Crew<'_, R, G>,
+    alloc: Global,
+    router: &mut Gathering<'_>,
+    play: &mut Play,
+) -> Result<(), NoMemory>
+    requires workers { crew.now.workers ≤ most_workers }
+    requires ready { MayGather router.old.settings.now router.old.table.parts router.old.published
+        (gathering_of router.old.settings.now router.old.published.batches router.old.size router.old.previous router.old.frames.items)
+        router.old.octets play.old.progress play.old.output.written }
+    ensures play { play.new ≡ record play.old { output = play.new.output } }
+    ensures gathers { OnOk result (GathersOne
+        (ClosesRound router.old.frames.items (gathering_of router.old.settings.now router.old.published.batches router.old.size router.old.previous router.old.frames.items))
+        play.old.output play.new.output
+        (gathering_of router.new.settings.now router.new.published.batches router.new.size router.new.previous router.new.frames.items)) }
+{
+    if router.frames.is_empty() {
+        return Ok(());
+    }
+    work_round(crew, alloc, router, play)
+}
+
+// The moment of the last of some frames.
+fn closing_moment(frames: &[Frame]) -> u64
+    requires { 1 ≤ length frames.now }
+    ensures { result ≡ closing_moment frames.now }
+{
+    let frame = &frames[frames.len() - 1];
+    frame.moment
+}
+
+// Gathers the lines of a round.
+fn push_lines(lines: &[Line], out: &mut Octets) -> Result<(), NoMemory>
+    ensures { OnOk result (out.new ≡ out.old ++ lines_text (map line_seen lines.now)) }
+{
+    for line in lines {
+        push_frame_line(line.number, line.moment, line.n, &line.verdict, out)?;
+    }
+    Ok(())
+}
+
+// Gathers the packets of a round.
+fn push_packets(packets: &[Packet], output: &mut Output) -> Result<(), NoMemory>
+    requires writable { All IsWritable packets.now }
+    requires room { output.old.written + length packets.now < 2 ^ 50 }
+    ensures lines { OnOk result (output.new.lines ≡ output.old.lines) }
+    ensures records { OnOk result (output.new.records
+        ≡ output.old.records ++ records_of (map packet_seen packets.now)) }
+    ensures written { OnOk result (output.new.written ≡ output.old.written + length packets.now) }
+{
+    for packet in packets {
+        output.push_packet(packet.moment, packet.octets.as_slice())?;
+    }
+    Ok(())
+}
