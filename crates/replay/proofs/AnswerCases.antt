@@ -18,15 +18,15 @@ use Rattle.lisp_settings.specs.Lawful.{IsLawful}
 use Rattle.lisp_settings.specs.declared.settings.Settings.{Settings}
 use Rattle.playback.specs.Events.{Determined, Outcome, records_of}
 use Rattle.playback.specs.Playing.{outcome_of, with_outcome, Ends, HasPlayed}
-use Rattle.playback.specs.declared.playing.Ending.{Ending}
+use Rattle.playback.specs.declared.plays.Ending.{Ending}
 use Rattle.playback.proofs.DeterminedLemmas.{end-play}
-use Rattle.router_model.specs.Journal.{statics}
+use Rattle.router_model.specs.Journal.{Journal, statics}
 use Rattle.router_model.specs.Lifting.{outcome_tabled, WereRead}
 use Rattle.router_model.specs.Parts.{Parts, parts_in, table}
 use Rattle.router_model.specs.Plain.{Router, after_event}
 use Rattle.router_model.proofs.RunLemmas.{run-replays}
-use Rattle.replay.specs.Answer.{Answer, answer, after_words, closing, replayed, told_off, status_of, made_files, Gives, after_header, messages_shown}
-use Rattle.replay.specs.Readings.{replay_of, HasReplayed, HasReplayedFile}
+use Rattle.replay.specs.Answer.{Answer, answer, answer_by, after_words, closing, replayed, told_off, status_of, made_files, Gives, after_header, messages_shown}
+use Rattle.replay.specs.Readings.{replay_of, HasReplayed, HasReplayedBy, HasReplayedFile}
 use Rattle.replay.specs.declared.replaying.Counts.{Counts}
 use Rattle.replay.specs.Lines.{count_line, end_line, fault_line}
 use Rattle.replay.specs.Show.{showing}
@@ -73,14 +73,13 @@ counts_of ending entries =
     record { fault = ending.fault; frames = ending.frames; written = ending.written; entries = entries }
 
 -- what the steps of a replay leave, before its last line
-has_replayed : (settings : Settings) (id : ℕ) (name : List ℕ) (run : Run) (w : World) (new : Option World) (ending : Ending) (entries : ℕ)
-    → found_at id w.writers ≡ None → Ends (replay_of settings run) run ending
-    → shown new ≡ Some (with_outcome (Some id) (replay_of settings run) (shown_of (after_write id out_header (after_make id name w))))
-    → entries ≡ length (replay_of settings run).after.memory
-    → HasReplayed settings name run (counts_of ending entries) (shown_of w) (shown new)
-has_replayed settings id name run w None ending entries fresh ends frames count = cc
-has_replayed settings id name run w (Some v) ending entries fresh ends frames count =
-    let outcome = replay_of settings run in
+pub has_replayed : (outcome : Outcome (Router Journal)) (id : ℕ) (name : List ℕ) (run : Run) (w : World) (new : Option World) (ending : Ending) (entries : ℕ)
+    → found_at id w.writers ≡ None → Ends outcome run ending
+    → shown new ≡ Some (with_outcome (Some id) outcome (shown_of (after_write id out_header (after_make id name w))))
+    → entries ≡ length outcome.after.memory
+    → HasReplayedBy outcome name run (counts_of ending entries) (shown_of w) (shown new)
+has_replayed outcome id name run w None ending entries fresh ends frames count = cc
+has_replayed outcome id name run w (Some v) ending entries fresh ends frames count =
     let file : NamedFile = record { name = name; octets = out_header ++ records_of outcome.packets } in
     let aim : Shown = record (shown_of w) { said = w.said ++ outcome.lines; writers = w.writers ++ (id, file) ∷ [] } in
     let is_aim : shown_of v ≡ aim = cc (frames, outcome_shown outcome id name w fresh) in
@@ -105,7 +104,7 @@ frames_replayed : (settings : Settings) (id reader : ℕ) (format : Format) (nam
     → IfSome old (λ w. HasReplayed settings name (read_on format begin (left_of reader w)) (counts_of ending entries) (shown_of w) (shown new))
 frames_replayed settings id reader format name None made new ending entries fresh makes ends frames count = tt
 frames_replayed settings id reader format name (Some w) made new ending entries fresh makes ends frames count =
-    has_replayed settings id name (read_on format begin (left_of reader w)) w new ending entries fresh (rw makes at ends) (rw makes at frames) (rw makes at count)
+    has_replayed (replay_of settings (read_on format begin (left_of reader w))) id name (read_on format begin (left_of reader w)) w new ending entries fresh (rw makes at ends) (rw makes at frames) (rw makes at count)
 
 -- the frames of a file, by a table
 abbrev table_of : Settings → Parts → Run → Outcome (Router Parts)
@@ -136,12 +135,10 @@ table_replayed settings id reader format name old (Some w) new ending entries pa
     (count ∙ ap (λ (r : Router Parts). r.memory.count) (ended.left ∙ ap (λ (o : Outcome (Router Parts)). o.after) same))
 
 -- the last line makes of that the answer
-closed : (settings : Settings) (output : List ℕ) (run : Run) (counts : Counts) (old : Shown) (mid new : Option World) (s : Status) → HasReplayed settings output run counts old (shown mid)
-    → new ≡ option_map (after_say (closing counts.fault (end_line counts.frames counts.written counts.entries))) mid → s ≡ status_of counts.fault → Gives (replayed settings output run) s old (shown new)
-unfolding replayed
-closed settings output run counts old None new s has said is = absurd has.left
-closed settings output run counts old (Some v) new s has said is =
-    let outcome = replay_of settings run in
+pub closed : (outcome : Outcome (Router Journal)) (output : List ℕ) (run : Run) (counts : Counts) (old : Shown) (mid new : Option World) (s : Status) → HasReplayedBy outcome output run counts old (shown mid)
+    → new ≡ option_map (after_say (closing counts.fault (end_line counts.frames counts.written counts.entries))) mid → s ≡ status_of counts.fault → Gives (answer_by outcome output run) s old (shown new)
+closed outcome output run counts old None new s has said is = absurd has.left
+closed outcome output run counts old (Some v) new s has said is =
     let last = closing counts.fault (end_line counts.frames counts.written counts.entries) in
     let line : last ≡ closing run.fault (end_line (length run.frames) (length outcome.packets) (length outcome.after.memory)) = rw (has.fault, has.frames, has.written, has.entries) refl in
     rw said (record {
@@ -153,6 +150,11 @@ closed settings output run counts old (Some v) new s has said is =
       };
     })
 
+-- that of the plain router
+replayed-closed : (settings : Settings) (output : List ℕ) (run : Run) (s : Status) (old : Shown) (new : Option Shown) → Gives (answer_by (replay_of settings run) output run) s old new → Gives (replayed settings output run) s old new
+unfolding replayed
+replayed-closed settings output run s old new gives = gives
+
 -- the answer to a file that was replayed
 pub file_closed : (settings : Settings) (output input : List ℕ) (counts : Counts) (old mid new : Option World) (s : Status)
     → IfSome old (λ w. HasReplayedFile settings output (content input w.files) (Ok counts) (shown_of w) (shown mid))
@@ -162,7 +164,8 @@ file_closed settings output input counts None mid new s has said is = tt
 file_closed settings output input counts (Some w) mid new s has said is =
     let file = content input w.files in
     gives_as (replayed settings output (capture file)) (after_header (replayed settings output) file (first_failing (header_rules file))) s (shown_of w) (shown new)
-    (ap (after_header (replayed settings output) file) (sym has.0)) (closed settings output (capture file) counts (shown_of w) mid new s has.1 said is)
+    (ap (after_header (replayed settings output) file) (sym has.0))
+    (replayed-closed settings output (capture file) s (shown_of w) (shown new) (closed (replay_of settings (capture file)) output (capture file) counts (shown_of w) mid new s has.1 said is))
 
 -- the answer to a file whose header has a fault
 pub file_refused : (settings : Settings) (output input : List ℕ) (fault : CaptureFault) (old mid new : Option World) (s : Status)

@@ -27,7 +27,7 @@ use Rattle.lisp_settings.specs.declared.settings.Settings.{Settings}
 use Rattle.playback.specs.Events.{Determined, Event, Outcome, events, events_after, events_of, played, records_of}
 use Rattle.playback.specs.Front.{CutRun, IsFront}
 use Rattle.playback.specs.Playing.{outcome_of, with_outcome, with_output, Ends, HasPlayed, IsRead}
-use Rattle.playback.specs.declared.playing.Ending.{Ending}
+use Rattle.playback.specs.declared.plays.Ending.{Ending}
 use Rattle.playback.proofs.DeterminedLemmas.{cut-play, end-play}
 use Rattle.playback.proofs.OutputLemmas.{with_output-none}
 use Rattle.playback.proofs.FrontLemmas.{front-all, front-behind, front-front, front-lines, front-more, front-octets, front-same, front-take}

@@ -4,6 +4,7 @@ pub mod FrontCases
 pub mod MessageLemmas
 pub mod PieceLemmas
 pub mod ReplayLemmas
+pub mod SharedCases
 pub mod ShowLemmas
 pub mod SteadyLemmas
 pub mod TrialLemmas

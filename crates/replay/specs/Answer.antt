@@ -14,8 +14,9 @@ use Rattle.capture_io.specs.declared.fault.CaptureFault.{CaptureFault}
 use Rattle.lisp_settings.specs.Settings.{settings_of}
 use Rattle.lisp_settings.specs.declared.fault.SettingsFault.{SettingsFault}
 use Rattle.lisp_settings.specs.declared.settings.Settings.{Settings}
-use Rattle.playback.specs.Events.{events, played, records_of}
-use Rattle.router_model.specs.Plain.{plain, started}
+use Rattle.playback.specs.Events.{Outcome, events, played, records_of}
+use Rattle.router_model.specs.Journal.{Journal}
+use Rattle.router_model.specs.Plain.{Router, plain, started}
 use Rattle.replay.specs.Lines.{count_line, end_line, fault_line, settings_line}
 use Rattle.replay.specs.Show.{showing}
 use Rattle.replay.specs.Trial.{trial_text}
@@ -42,17 +43,19 @@ closing (Some fault) line = fault_line fault
 abbrev pub told_off : Status → List ℕ → Answer
 told_off status line = record { status = status; said = line; made = [] }
 
--- the frames of a capture, replayed into a file: what the plain router says and writes for them
+-- the answer to the frames of a capture that are replayed into a file, by what is said and written for them
+abbrev pub answer_by : Outcome (Router Journal) → List ℕ → Run → Answer
+answer_by outcome output run = record {
+  status = status_of run.fault;
+  said =
+      outcome.lines
+      ++ closing run.fault (end_line (length run.frames) (length outcome.packets) (length outcome.after.memory));
+  made = record { name = output; octets = out_header ++ records_of outcome.packets } ∷ [];
+}
+
+-- by what the plain router says and writes
 unfoldable pub replayed : Settings → List ℕ → Run → Answer
-replayed settings output run =
-    let outcome = played plain (started settings) (events run.frames) in
-    let frames = length run.frames in
-    let entries = length outcome.after.memory in
-    record {
-      status = status_of run.fault;
-      said = outcome.lines ++ closing run.fault (end_line frames (length outcome.packets) entries);
-      made = record { name = output; octets = out_header ++ records_of outcome.packets } ∷ [];
-    }
+replayed settings output run = answer_by (played plain (started settings) (events run.frames)) output run
 
 -- the messages in the frames of a capture, shown
 unfoldable pub messages_shown : Run → Answer

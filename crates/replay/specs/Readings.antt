@@ -12,6 +12,7 @@ use Rattle.playback.specs.Events.{Outcome, records_of}
 use Rattle.playback.specs.Playing.{outcome_of}
 use Rattle.router_model.specs.Journal.{Journal}
 use Rattle.router_model.specs.Plain.{Router, plain, started}
+use Rattle.router_model.specs.Rounds.{Lawful, rounds}
 use Rattle.replay.specs.Answer.{Answer, Leaves, status_of}
 use Rattle.replay.specs.declared.replaying.Counts.{Counts}
 
@@ -24,23 +25,25 @@ abbrev pub replay_of : Settings → Run → Outcome (Router Journal)
 replay_of settings run = outcome_of plain (started settings) run
 
 -- the answer to a replay into a file of that name, but for its last line
-abbrev pub unclosed : Settings → List ℕ → Run → Answer
-unclosed settings output run =
-    let outcome = replay_of settings run in
-    record {
-      status = status_of run.fault;
-      said = outcome.lines;
-      made = record { name = output; octets = out_header ++ records_of outcome.packets } ∷ [];
-    }
+abbrev pub unclosed : Outcome (Router Journal) → List ℕ → Run → Answer
+unclosed outcome output run = record {
+  status = status_of run.fault;
+  said = outcome.lines;
+  made = record { name = output; octets = out_header ++ records_of outcome.packets } ∷ [];
+}
 
--- a run was replayed, but for its last line, which has these counts
-pub record HasReplayed (settings : Settings) (output : List ℕ) (run : Run) (counts : Counts)
+-- a run was replayed with that outcome, but for its last line, which has these counts
+pub record HasReplayedBy (outcome : Outcome (Router Journal)) (output : List ℕ) (run : Run) (counts : Counts)
     (old : Shown) (new : Option Shown) : Type 0 where
   pub fault : counts.fault ≡ run.fault
   pub frames : counts.frames ≡ length run.frames
-  pub written : counts.written ≡ length (replay_of settings run).packets
-  pub entries : counts.entries ≡ length (replay_of settings run).after.memory
-  pub left : IsSomeAnd new (Leaves (unclosed settings output run) old)
+  pub written : counts.written ≡ length outcome.packets
+  pub entries : counts.entries ≡ length outcome.after.memory
+  pub left : IsSomeAnd new (Leaves (unclosed outcome output run) old)
+
+-- with that of the plain router
+abbrev pub HasReplayed : Settings → List ℕ → Run → Counts → Shown → Option Shown → Type 0
+HasReplayed settings output run counts old new = HasReplayedBy (replay_of settings run) output run counts old new
 
 -- the same of a file, unless its header has a fault
 abbrev pub HasReplayedFile : Settings → List ℕ → List ℕ → Result Counts CaptureFault → Shown → Option Shown
@@ -49,4 +52,20 @@ HasReplayedFile settings output file (Ok counts) old new =
     (first_failing (header_rules file) ≡ None)
     × HasReplayed settings output (capture file) counts old new
 HasReplayedFile settings output file (Err fault) old new =
+    (first_failing (header_rules file) ≡ Some fault) × (new ≡ Some old)
+
+-- in rounds of a size, with the outcome of numbers that they may have
+pub record HasReplayedInRounds (size : ℕ) (settings : Settings) (output : List ℕ) (run : Run) (counts : Counts)
+    (old : Shown) (new : Option Shown) : Type 0 where
+  pub ns : List (List ℕ)
+  pub lawful : Lawful settings run.frames size ns
+  pub replayed : HasReplayedBy (rounds settings run.frames size ns) output run counts old new
+
+-- the same of a file
+abbrev pub HasReplayedFileInRounds : ℕ → Settings → List ℕ → List ℕ → Result Counts CaptureFault → Shown → Option Shown
+    → Type 0
+HasReplayedFileInRounds size settings output file (Ok counts) old new =
+    (first_failing (header_rules file) ≡ None)
+    × HasReplayedInRounds size settings output (capture file) counts old new
+HasReplayedFileInRounds size settings output file (Err fault) old new =
     (first_failing (header_rules file) ≡ Some fault) × (new ≡ Some old)

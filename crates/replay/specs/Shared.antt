@@ -1,36 +1,22 @@
 -- What a run with forwarders answers, by its words, the files, and the numbers that its report shows.
-use Rattle.std.specs.Prelude.{◌≡◌, ℕ, zero, suc, ◌==◌, List, [], ◌∷◌, ◌++◌, length, Option, Some, None, Result, Ok, Err, if◌then◌else◌}
+use Rattle.std.specs.Prelude.{◌≡◌, ℕ, zero, suc, Bool, true, false, List, [], Option, Some, None, Result, Ok, Err}
 use Rattle.octets.specs.Rules.{first_failing}
 use Rattle.command_words.specs.Words.{words_of}
 use Rattle.command_words.specs.declared.words.Words.{Words}
-use Rattle.command_words.specs.declared.words.Words.TheVariants.{Replay, Show, Trial}
+use Rattle.command_words.specs.declared.words.Words.TheVariants.{Replay}
 use Rattle.desk.specs.declared.file.NamedFile.{NamedFile}
 use Rattle.desk.specs.World.{Shown, content}
 use Rattle.capture_io.specs.Frames.{Run, capture}
 use Rattle.capture_io.specs.Capture.{header_rules}
-use Rattle.capture_io.specs.Output.{out_header}
 use Rattle.capture_io.specs.declared.fault.CaptureFault.{CaptureFault}
 use Rattle.lisp_settings.specs.Settings.{settings_of}
 use Rattle.lisp_settings.specs.declared.fault.SettingsFault.{SettingsFault}
 use Rattle.lisp_settings.specs.declared.settings.Settings.{Settings}
-use Rattle.playback.specs.Events.{Outcome, records_of}
-use Rattle.router_model.specs.Journal.{Journal}
-use Rattle.router_model.specs.Plain.{Router}
 use Rattle.router_model.specs.Rounds.{Lawful, rounds}
-use Rattle.replay.specs.Answer.{Answer, Gives, after_header, after_words, closing, replayed, status_of, told_off}
-use Rattle.replay.specs.Lines.{end_line, settings_line}
+use Rattle.replay.specs.Answer.{Answer, Gives, after_header, after_words, answer_by, replayed, told_off}
+use Rattle.replay.specs.Lines.{settings_line}
 use Rattle.replay.specs.declared.status.Status.{Status}
 use Rattle.replay.specs.declared.status.Status.TheVariants.{Settings as BadSettings}
-
--- the answer to the frames of a capture, by what was said and written for them
-abbrev pub answer_by : Outcome (Router Journal) → List ℕ → Run → Answer
-answer_by outcome output run = record {
-  status = status_of run.fault;
-  said =
-      outcome.lines
-      ++ closing run.fault (end_line (length run.frames) (length outcome.packets) (length outcome.after.memory));
-  made = record { name = output; octets = out_header ++ records_of outcome.packets } ∷ [];
-}
 
 -- the frames of a capture, replayed in rounds of a size with these numbers
 unfoldable pub shared : List ℕ → ℕ → List (List ℕ) → Settings → Run → Answer
@@ -41,11 +27,15 @@ abbrev pub after_settings_by : (Settings → Run → Answer) → List ℕ → Re
 after_settings_by frames file (Err fault) = told_off BadSettings (settings_line fault)
 after_settings_by frames file (Ok settings) = after_header (frames settings) file (first_failing (header_rules file))
 
+-- with so many forwarders, of which there may be none
+abbrev pub frames_by : ℕ → ℕ → List (List ℕ) → List ℕ → Settings → Run → Answer
+frames_by zero size ns output settings run = replayed settings output run
+frames_by (suc workers) size ns output settings run = shared output size ns settings run
+
 -- the answer to what words say: without forwarders that of the plain router
 abbrev pub after_words_by : List NamedFile → List (List ℕ) → Option Words → Answer
 after_words_by files ns (Some (Replay settings input output workers round)) =
-    after_settings_by (λ s. if workers == 0 then replayed s output else shared output round ns s)
-    (content input files) (settings_of (content settings files))
+    after_settings_by (frames_by workers round ns output) (content input files) (settings_of (content settings files))
 after_words_by files ns words = after_words files words
 
 -- the answer to words, where these files are there
@@ -73,8 +63,48 @@ MayHave files ns (Some (Replay settings input output workers round)) =
     AreChosen workers round ns (content input files) (settings_of (content settings files))
 MayHave files ns words = ns ≡ []
 
--- a run ends by an answer with numbers that it may have, and leaves what that says
+-- a run of what words say ends by an answer with numbers that it may have, and leaves what that says
+pub record GivesAfter (files : List NamedFile) (words : Option Words) (s : Status) (old : Shown) (new : Option Shown) : Type 0 where
+  pub ns : List (List ℕ)
+  pub lawful : MayHave files ns words
+  pub gives : Gives (after_words_by files ns words) s old new
+
+-- the same of words
 pub record GivesWith (words : List (List ℕ)) (files : List NamedFile) (s : Status) (old : Shown) (new : Option Shown) : Type 0 where
   pub ns : List (List ℕ)
   pub lawful : MayHave files ns (words_of words)
   pub gives : Gives (answer_with words files ns) s old new
+
+-- of a capture, by its file and the fault of its header
+pub record SharesOf (size : ℕ) (settings : Settings) (output file : List ℕ) (broken : Option CaptureFault) (s : Status) (old : Shown) (new : Option Shown) : Type 0 where
+  pub ns : List (List ℕ)
+  pub lawful : AreNumbersOf settings size ns file broken
+  pub gives : Gives (after_header (shared output size ns settings) file broken) s old new
+
+abbrev pub SharesFile : ℕ → Settings → List ℕ → List ℕ → Status → Shown → Option Shown → Type 0
+SharesFile size settings output file s old new = SharesOf size settings output file (first_failing (header_rules file)) s old new
+
+-- the same by the settings, and by their text
+pub record SharesBy (size : ℕ) (output file : List ℕ) (settings : Result Settings SettingsFault) (s : Status) (old : Shown) (new : Option Shown) : Type 0 where
+  pub ns : List (List ℕ)
+  pub lawful : AreNumbers size ns file settings
+  pub gives : Gives (after_settings_by (shared output size ns) file settings) s old new
+
+abbrev pub Shares : ℕ → List ℕ → List ℕ → List ℕ → Status → Shown → Option Shown → Type 0
+Shares size output file text s old new = SharesBy size output file (settings_of text) s old new
+
+-- with so many forwarders
+pub record GivesFor (workers size : ℕ) (output file text : List ℕ) (s : Status) (old : Shown) (new : Option Shown) : Type 0 where
+  pub ns : List (List ℕ)
+  pub lawful : AreChosen workers size ns file (settings_of text)
+  pub gives : Gives (after_settings_by (frames_by workers size ns output) file (settings_of text)) s old new
+
+-- there are some
+abbrev pub are_some : ℕ → Bool
+are_some zero = false
+are_some (suc workers) = true
+
+-- words that ask for forwarders
+abbrev pub has_workers : Option Words → Bool
+has_workers (Some (Replay settings input output workers round)) = are_some workers
+has_workers words = false

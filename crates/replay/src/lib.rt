@@ -2,6 +2,7 @@
 #![tactic(auto)]
 
 mod frame_text;
+mod in_rounds;
 mod last_lines;
 mod message_lines;
 mod output_file;
@@ -16,4 +17,5 @@ mod trying;
 pub use command_words::{Text, Word, Words, WordsFault, read_words};
 pub use router_log::{Reason, Verdict};
 pub use running::run;
+pub use sharing::{Gate, OpenGate};
 pub use status::Status;

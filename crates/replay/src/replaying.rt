@@ -1,5 +1,5 @@
 // A capture, replayed by the settings.
-ghost use Rattle.std.specs.Prelude.{◌≡◌, ◌≤◌, ◌+◌, ◌*◌, unwrap_or, IfOk, IfSome, IsErrOf, IsTrue, OnErr};
+ghost use Rattle.std.specs.Prelude.{◌≡◌, false, ◌≤◌, ◌+◌, ◌*◌, unwrap_or, IfOk, IfSome, IsErrOf, IsTrue, OnErr};
 ghost use Rattle.octets.specs.Rules.{first_failing};
 ghost use Rattle.desk.specs.declared.fault.DeskFault.TheVariants.{Failed};
 ghost use Rattle.desk.specs.Causes.{HasCause, StaysSteady};
@@ -55,6 +55,8 @@ impl<'a> Machine for Replay<'a> {
 
     ghost Does = { Determined (after_event table) };
 
+    ghost full = { λ _. false };
+
     // The table is for the settings. What frames and seconds add at most to the static mappings, and how
     // many packets they send.
     ghost IsReady = { λ progress written replay. IsLawful replay.settings.now
@@ -80,17 +82,9 @@ impl<'a> Machine for Replay<'a> {
         _progress: Progress,
         frame: Frame,
         output: &mut Output,
-    ) -> Result<(), NoMemory> {
-        take_frame(alloc, self.settings, &mut self.table, &frame, output)
-    }
-
-    fn close(
-        &mut self,
-        _alloc: Global,
-        _progress: Progress,
-        _output: &mut Output,
-    ) -> Result<(), NoMemory> {
-        Ok(())
+    ) -> Result<bool, NoMemory> {
+        take_frame(alloc, self.settings, &mut self.table, &frame, output)?;
+        Ok(false)
     }
 }
 

@@ -1,14 +1,18 @@
 // The run: the top call.
-ghost use Rattle.std.specs.Prelude.{◌≡◌, ◌↔◌, ◌⊎◌, None, Some, false, true, map, string_bytes, IfOk, IfSome, IsErrOf, IsSomeAnd, IsTrue, OnErr};
+ghost use Rattle.std.specs.Prelude.{◌≡◌, ◌≤◌, ◌↔◌, ◌⊎◌, None, Some, false, true, map, string_bytes, IfOk, IfSome, IsErrOf, IsSomeAnd, IsTrue, OnErr, OnOk};
+ghost use Rattle.command_words.specs.Limits.{most_round_frames, most_workers};
 ghost use Rattle.octets.specs.Causes.{Rose};
 ghost use Rattle.desk.specs.declared.fault.DeskFault.TheVariants.{Failed};
 ghost use Rattle.desk.specs.Causes.{HasCause, StaysSteady};
-ghost use Rattle.desk.specs.World.{shown, shown_of};
+ghost use Rattle.desk.specs.World.{content, shown, shown_of, IsThere};
+ghost use Rattle.lisp_settings.specs.Settings.{settings_of};
 ghost use Rattle.replay.specs.declared.status.Status.TheVariants.{Done, Usage, Host, Memory};
-ghost use Rattle.command_words.specs.Words.{words_of, HasFewMappings};
-ghost use Rattle.replay.specs.Answer.{after_words, answer, is_of_form, is_outside, names_read, AreThere, Gives, Leaves};
-ghost use Rattle.replay.specs.Front.{part, part_after_words, EndsFront, LeavesFront};
+ghost use Rattle.command_words.specs.Words.{words_of, AreWithinLimits};
+ghost use Rattle.replay.specs.Answer.{after_settings, after_words, answer, is_of_form, is_outside, names_read, AreThere, Leaves};
+ghost use Rattle.replay.specs.Shared.{has_workers, GivesAfter, GivesFor, GivesWith};
+ghost use Rattle.replay.specs.Front.{part, part_after_settings, part_after_words, EndsFront, LeavesFront};
 
+use crate::in_rounds::share_capture;
 use crate::last_lines::refuse_words;
 use crate::replaying::replay_capture;
 use crate::showing::show_capture;
@@ -16,22 +20,38 @@ use crate::trying::try_number;
 use crate::{Status, Word};
 use command_words::{Words, WordsFault, read_words};
 use desk::{Desk, DeskFault};
+use sharing::{Crew, Gate};
 use std::alloc::Global;
+use std::sync::Wait;
+use std::thread::Threads;
 
 /// A run of the words over a desk. Where the desk tells its octets, status, report and output are
-/// those of the router that decides each frame by its journal. After `Host` or `Memory` nothing
+/// those of the router that decides each frame by its journal. With forwarders, each data packet is decided
+/// by the journal's first entries, of which its line has the number. After `Host` or `Memory` nothing
 /// more is said.
-pub fn run<D: Desk>(alloc: Global, words: &[Word], desk: &mut D) -> Status
+///
+/// With forwarders it starts threads, and waits for them. A forwarder calls the gate before each decision.
+pub fn run<R: Threads + Wait + Sync, D: Desk, G: Gate>(
+    rt: &R,
+    alloc: Global,
+    words: &[Word],
+    desk: &mut D,
+    gate: &G,
+) -> Status
     ensures status { is_outside result ≡ false → IfSome (D.told desk.old) (λ w.
         result ≡ (answer (map string_bytes words.now) w.files).status) }
-    ensures left { is_outside result ≡ false → IfSome (shown (D.told desk.old)) (λ old.
-        IsSomeAnd (shown (D.told desk.new))
+    ensures left { is_outside result ≡ false → has_workers (words_of (map string_bytes words.now)) ≡ false
+        → IfSome (shown (D.told desk.old)) (λ old. IsSomeAnd (shown (D.told desk.new))
         (Leaves (answer (map string_bytes words.now) old.files) old)) }
+
+    // With forwarders there are numbers that the packets may have, for which it is so.
+    ensures shared { is_outside result ≡ false → IfSome (D.told desk.old) (λ w.
+        GivesWith (map string_bytes words.now) w.files result (shown_of w) (shown (D.told desk.new))) }
 
     // After `Host` or `Memory` a beginning of that report was said, and no output was made, or one with a
     // beginning of that output. Each packet that was written was reported before.
-    ensures front { is_outside result ≡ true → IfSome (shown (D.told desk.old)) (λ old.
-        IsSomeAnd (shown (D.told desk.new))
+    ensures front { is_outside result ≡ true → has_workers (words_of (map string_bytes words.now)) ≡ false
+        → IfSome (shown (D.told desk.old)) (λ old. IsSomeAnd (shown (D.told desk.new))
         (LeavesFront (answer (map string_bytes words.now) old.files)
         (part (map string_bytes words.now) old.files) old)) }
 
@@ -54,18 +74,29 @@ pub fn run<D: Desk>(alloc: Global, words: &[Word], desk: &mut D) -> Status
         × AreThere (names_read (words_of (map string_bytes words.now))) (D.told desk.old)))
         → (result ≡ Done) ⊎ (result ≡ Memory)) }
 {
-    match answer_words(alloc, words, desk) {
+    match answer_words(rt, alloc, words, desk, gate) {
         Ok(status) => status,
         Err(DeskFault::Failed) => Status::Host,
         Err(DeskFault::Memory) => Status::Memory,
     }
 }
 
-fn answer_words<D: Desk>(alloc: Global, words: &[Word], desk: &mut D) -> Result<Status, DeskFault>
-    ensures answer { IfOk result (λ s. IfSome (D.told desk.old) (λ w.
-        Gives (answer (map string_bytes words.now) w.files) s (shown_of w)
-        (shown (D.told desk.new)))) }
-    ensures front { OnErr result (IfSome (D.told desk.old) (λ w.
+fn answer_words<R: Threads + Wait + Sync, D: Desk, G: Gate>(
+    rt: &R,
+    alloc: Global,
+    words: &[Word],
+    desk: &mut D,
+    gate: &G,
+) -> Result<Status, DeskFault>
+    ensures status { IfOk result (λ s. IfSome (D.told desk.old) (λ w.
+        s ≡ (answer (map string_bytes words.now) w.files).status)) }
+    ensures shared { IfOk result (λ s. IfSome (D.told desk.old) (λ w.
+        GivesWith (map string_bytes words.now) w.files s (shown_of w) (shown (D.told desk.new)))) }
+    ensures left { has_workers (words_of (map string_bytes words.now)) ≡ false
+        → OnOk result (IfSome (D.told desk.old) (λ w.
+        IsSomeAnd (shown (D.told desk.new)) (Leaves (answer (map string_bytes words.now) w.files) (shown_of w)))) }
+    ensures front { has_workers (words_of (map string_bytes words.now)) ≡ false
+        → OnErr result (IfSome (D.told desk.old) (λ w.
         EndsFront (answer (map string_bytes words.now) w.files)
         (part (map string_bytes words.now) w.files) (shown_of w) (D.told desk.new))) }
     ensures inside { IfOk result (λ s. is_outside s ≡ false) }
@@ -76,18 +107,24 @@ fn answer_words<D: Desk>(alloc: Global, words: &[Word], desk: &mut D) -> Result<
         (AreThere (names_read (words_of (map string_bytes words.now))) (D.told desk.old)) (IsErrOf result Failed) }
 {
     match read_words(alloc, words) {
-        Ok(words) => do_words(alloc, desk, &words),
+        Ok(words) => do_words(rt, alloc, desk, &words, gate),
         Err(WordsFault::Usage) => refuse_words(alloc, desk),
         Err(WordsFault::Memory) => Err(DeskFault::Memory),
     }
 }
 
 // Does what the words say.
-fn do_words<D: Desk>(alloc: Global, desk: &mut D, words: &Words) -> Result<Status, DeskFault>
-    requires { HasFewMappings words.now }
+fn do_words<R: Threads + Wait + Sync, D: Desk, G: Gate>(
+    rt: &R,
+    alloc: Global,
+    desk: &mut D,
+    words: &Words,
+    gate: &G,
+) -> Result<Status, DeskFault>
+    requires { AreWithinLimits words.now }
     ensures answer { IfOk result (λ s. IfSome (D.told desk.old) (λ w.
-        Gives (after_words w.files (Some words.now)) s (shown_of w) (shown (D.told desk.new)))) }
-    ensures front { OnErr result (IfSome (D.told desk.old) (λ w.
+        GivesAfter w.files (Some words.now) s (shown_of w) (shown (D.told desk.new)))) }
+    ensures front { has_workers (Some words.now) ≡ false → OnErr result (IfSome (D.told desk.old) (λ w.
         EndsFront (after_words w.files (Some words.now)) (part_after_words w.files (Some words.now))
         (shown_of w) (D.told desk.new))) }
     ensures form { IfOk result (λ s. IsTrue (is_of_form s)) }
@@ -100,15 +137,49 @@ fn do_words<D: Desk>(alloc: Global, desk: &mut D, words: &Words) -> Result<Statu
             settings,
             input,
             output,
-            ..
-        } => replay_capture(
-            alloc,
-            desk,
-            settings.as_str(),
-            input.as_str(),
-            output.as_str(),
-        ),
+            workers,
+            round,
+        } => {
+            let crew = Crew {
+                rt,
+                gate,
+                workers: u32::from(*workers),
+                round: usize::from(*round),
+            };
+            let (settings, input, output) = (settings.as_str(), input.as_str(), output.as_str());
+            replay_with(&crew, alloc, desk, settings, input, output)
+        }
         Words::Show { input } => show_capture(alloc, desk, input.as_str()),
         Words::Trial { n } => try_number(alloc, desk, *n),
+    }
+}
+
+// Replays the capture, with forwarders or without.
+fn replay_with<R: Threads + Wait + Sync, D: Desk, G: Gate>(
+    crew: &Crew<'_, R, G>,
+    alloc: Global,
+    desk: &mut D,
+    settings: &str,
+    input: &str,
+    output: &str,
+) -> Result<Status, DeskFault>
+    requires workers { crew.now.workers ≤ most_workers }
+    requires round { (1 ≤ crew.now.round) × (crew.now.round ≤ most_round_frames) }
+    ensures answer { IfOk result (λ s. IfSome (D.told desk.old) (λ w.
+        GivesFor crew.now.workers crew.now.round output.now (content input.now w.files) (content settings.now w.files)
+        s (shown_of w) (shown (D.told desk.new)))) }
+    ensures front { crew.now.workers ≡ 0 → OnErr result (IfSome (D.told desk.old) (λ w.
+        let file = content input.now w.files in
+        EndsFront (after_settings output.now file (settings_of (content settings.now w.files)))
+        (part_after_settings output.now file (settings_of (content settings.now w.files))) (shown_of w) (D.told desk.new))) }
+    ensures form { IfOk result (λ s. IsTrue (is_of_form s)) }
+    ensures cause { HasCause (D.faults desk.old) (D.faults desk.new) result }
+    ensures steady { StaysSteady (D.steady desk.old) (D.steady desk.new)
+        (IsThere settings.now (D.told desk.old) × IsThere input.now (D.told desk.old)) (IsErrOf result Failed) }
+{
+    if crew.workers == 0 {
+        replay_capture(alloc, desk, settings, input, output)
+    } else {
+        share_capture(crew, alloc, desk, settings, input, output)
     }
 }

@@ -1,5 +1,5 @@
 // The messages of a capture, shown.
-ghost use Rattle.std.specs.Prelude.{◌≡◌, IfOk, IfSome, IsErrOf, IsTrue, OnErr};
+ghost use Rattle.std.specs.Prelude.{◌≡◌, false, IfOk, IfSome, IsErrOf, IsTrue, OnErr};
 ghost use Rattle.octets.specs.Rules.{first_failing};
 ghost use Rattle.desk.specs.declared.fault.DeskFault.TheVariants.{Failed};
 ghost use Rattle.desk.specs.Causes.{HasCause, StaysSteady};
@@ -32,6 +32,8 @@ impl Machine for Show {
 
     ghost Does = { Determined showing };
 
+    ghost full = { λ _. false };
+
     ghost IsReady = { λ _ _ _. Unit {0} };
 
     fn tick(
@@ -50,17 +52,9 @@ impl Machine for Show {
         _progress: Progress,
         frame: Frame,
         output: &mut Output,
-    ) -> Result<(), NoMemory> {
-        push_shown(alloc, &frame, &mut output.lines)
-    }
-
-    fn close(
-        &mut self,
-        _alloc: Global,
-        _progress: Progress,
-        _output: &mut Output,
-    ) -> Result<(), NoMemory> {
-        Ok(())
+    ) -> Result<bool, NoMemory> {
+        push_shown(alloc, &frame, &mut output.lines)?;
+        Ok(false)
     }
 }
 

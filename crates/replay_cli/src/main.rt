@@ -2,17 +2,20 @@
 #![tactic(auto)]
 
 use desk::HostDesk;
-use replay::{Status, Word, run};
+use replay::{OpenGate, Status, Word, run};
 use std::env;
 use std::io::ErrorKind;
 use std::process::ExitCode;
+use std::sync::Wait;
+use std::thread::Threads;
 
-fn answer(rt: &HostRuntime) -> Status {
-    let Some(words) = words(rt) else {
+// The runtime may start threads and wait only in `main`, which hands it on once more as one that may.
+fn answer<R: Threads + Wait + Sync>(host: &HostRuntime, rt: &R) -> Status {
+    let Some(words) = words(host) else {
         return Status::Memory;
     };
-    let mut desk = HostDesk::new(rt, rt.alloc());
-    run(rt.alloc(), &words, &mut desk)
+    let mut desk = HostDesk::new(host, host.alloc());
+    run(rt, host.alloc(), &words, &mut desk, &OpenGate)
 }
 
 // The words after the program's name, unless memory is wanting. Where one is no text, none are
@@ -26,5 +29,5 @@ fn words(rt: &HostRuntime) -> Option<Vec<Word>> {
 }
 
 fn main(rt: HostRuntime) -> ExitCode {
-    ExitCode::from(answer(&rt) as u8)
+    ExitCode::from(answer(&rt, &rt) as u8)
 }

@@ -1,10 +1,12 @@
 // Runs over a desk in memory, and what they end with.
 use desk::{Calls, Desk, Files, MemoryDesk, NamedFile};
 use octets::{NoMemory, Octets};
-use replay::{Status, Word, run};
+use replay::{OpenGate, Status, Word, run};
 use std::alloc::Global;
 use std::str;
 use std::str::Utf8Error;
+use std::sync::Wait;
+use std::thread::Threads;
 
 /// The words of a replay.
 pub const REPLAY: [&str; 7] = [
@@ -48,22 +50,28 @@ pub fn desk_with(
 }
 
 /// Runs the words over the desk.
-pub fn run_words<D: Desk>(alloc: Global, words: &[&str], desk: &mut D) -> Result<Status, NoMemory> {
+pub fn run_words<R: Threads + Wait + Sync, D: Desk>(
+    rt: &R,
+    alloc: Global,
+    words: &[&str],
+    desk: &mut D,
+) -> Result<Status, NoMemory> {
     let mut owned: Vec<Word> = Vec::new(alloc);
     for word in words {
         owned.push(String::from_str(alloc, word)?)?;
     }
-    Ok(run(alloc, &owned, desk))
+    Ok(run(rt, alloc, &owned, desk, &OpenGate))
 }
 
 /// What a replay of the capture ends with, and its desk.
-pub fn replayed(
+pub fn replayed<R: Threads + Wait + Sync>(
+    rt: &R,
     alloc: Global,
     settings: &str,
     capture: Octets,
 ) -> Result<(Status, MemoryDesk), NoMemory> {
     let mut desk = desk_with(alloc, settings, capture, Calls::new(alloc))?;
-    let status = run_words(alloc, &REPLAY, &mut desk)?;
+    let status = run_words(rt, alloc, &REPLAY, &mut desk)?;
     Ok((status, desk))
 }
 

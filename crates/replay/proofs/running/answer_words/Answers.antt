@@ -1,4 +1,4 @@
-use Rattle.std.proofs.Common.{◌≡◌, refl, ap, sym, subst, map, Option, Some, None, Err, IsErrOf}
+use Rattle.std.proofs.Common.{◌≡◌, [], refl, ap, sym, subst, map, Option, Some, None, Err, IsErrOf}
 use Rattle.std.specs.Prelude.{codes, string_bytes}
 use Rattle.std.proofs.lemmas.Option.{IfSome_then}
 use Rattle.std.proofs.lemmas.Result.{IfOk-weaker}
@@ -7,49 +7,67 @@ use Rattle.command_words.specs.declared.words.Words.{Words}
 use Rattle.desk.specs.Causes.{StaysSteady}
 use Rattle.desk.specs.declared.fault.DeskFault.TheVariants.{Failed}
 use Rattle.desk.specs.World.{shown, shown_of}
-use Rattle.replay.specs.Answer.{Answer, answer, names_read, AreThere, Gives}
+use Rattle.replay.specs.Answer.{Answer, answer, names_read, AreThere}
+use Rattle.replay.specs.Shared.{GivesWith}
 use Rattle.replay.specs.declared.status.Status.{Status}
 use Rattle.replay.specs.declared.status.Status.TheVariants as status
 use Rattle.std.proofs.lemmas.Result.{on_err_weaker}
 use Rattle.replay.specs.Answer.{after_words}
 use Rattle.replay.specs.Front.{part, part_after_words}
 use Rattle.replay.proofs.FrontCases.{always, front_as, front_says, front_still, part-of, part-zero}
-use Rattle.replay.proofs.AnswerCases.{answer-of, gives_as, ok_both, said_line}
+use Rattle.replay.proofs.AnswerCases.{answer-of, ok_both, said_line}
+use Rattle.replay.proofs.SharedCases.{gives_with, shared-left, shared-status}
 use Rattle.replay.proofs.running.answer_words.Goals as goal
 
-pub returns-in-Ok-clause-answer : goal.returns-in-Ok-clause-answer
-returns-in-Ok-clause-answer g c =
+pub returns-in-Ok-clause-shared : goal.returns-in-Ok-clause-shared
+returns-in-Ok-clause-shared g c =
     let words = map string_bytes c.args.words.now in
     let new = shown (g.D.Desk.told c.do_words.new.desk) in
     IfOk-weaker c.do_words.result _ _ (λ s answered. IfSome_then (g.D.Desk.told c.args.desk.now) answered (λ w gives.
-    gives_as _ (answer words w.files) s (shown_of w) new (sym (answer-of words w.files (Some c.in-Ok.words) c.in-Ok.ensures.ok)) gives)) c.do_words.ensures.answer
+    gives_with words w.files (Some c.in-Ok.words) s (shown_of w) new c.in-Ok.ensures.ok gives)) c.do_words.ensures.answer
+
+pub returns-in-Ok-clause-status : goal.returns-in-Ok-clause-status
+returns-in-Ok-clause-status g c =
+    shared-status c.do_words.result (map string_bytes c.args.words.now) (g.D.Desk.told c.args.desk.now) (shown (g.D.Desk.told c.do_words.new.desk)) (returns-in-Ok-clause-shared g c)
+
+pub returns-in-Ok-clause-left : goal.returns-in-Ok-clause-left
+returns-in-Ok-clause-left g c = λ none.
+    shared-left c.do_words.result (map string_bytes c.args.words.now) (g.D.Desk.told c.args.desk.now) (shown (g.D.Desk.told c.do_words.new.desk)) none (returns-in-Ok-clause-shared g c)
 
 pub returns-in-Ok-clause-steady : goal.returns-in-Ok-clause-steady
 returns-in-Ok-clause-steady g c =
     let new = c.do_words.new.desk in
     subst (λ (o : Option Words). StaysSteady (g.D.Desk.steady c.args.desk.now) (g.D.Desk.steady new) (AreThere (names_read o) (g.D.Desk.told c.args.desk.now)) (IsErrOf c.do_words.result Failed)) (sym c.in-Ok.ensures.ok) c.do_words.ensures.steady
 
-pub returns-in-Err-Usage-clause-answer : goal.returns-in-Err-Usage-clause-answer
-returns-in-Err-Usage-clause-answer g c =
+pub returns-in-Err-Usage-clause-shared : goal.returns-in-Err-Usage-clause-shared
+returns-in-Err-Usage-clause-shared g c =
     let words = map string_bytes c.args.words.now in
     let old = g.D.Desk.told c.args.desk.now in
     let new = g.D.Desk.told c.refuse_words.new.desk in
     let none : words_of words ≡ None = c.in-Err-Usage.ensures.usage (ap Err c.in-Err-Usage.field-0-is) in
     ok_both c.refuse_words.result c.refuse_words.ensures.status c.refuse_words.ensures.told (λ s is said.
     IfSome_then old (said_line status.Usage (codes "usage\n") old new said) (λ w gives.
-    subst (λ (x : Status). Gives (answer words w.files) x (shown_of w) (shown new)) (sym is)
-    (gives_as _ (answer words w.files) status.Usage (shown_of w) (shown new) (sym (answer-of words w.files None none)) gives)))
+    subst (λ (x : Status). GivesWith words w.files x (shown_of w) (shown new)) (sym is)
+    (gives_with words w.files None status.Usage (shown_of w) (shown new) none (record { ns = []; lawful = refl; gives = gives }))))
+
+pub returns-in-Err-Usage-clause-status : goal.returns-in-Err-Usage-clause-status
+returns-in-Err-Usage-clause-status g c =
+    shared-status c.refuse_words.result (map string_bytes c.args.words.now) (g.D.Desk.told c.args.desk.now) (shown (g.D.Desk.told c.refuse_words.new.desk)) (returns-in-Err-Usage-clause-shared g c)
+
+pub returns-in-Err-Usage-clause-left : goal.returns-in-Err-Usage-clause-left
+returns-in-Err-Usage-clause-left g c = λ none.
+    shared-left c.refuse_words.result (map string_bytes c.args.words.now) (g.D.Desk.told c.args.desk.now) (shown (g.D.Desk.told c.refuse_words.new.desk)) none (returns-in-Err-Usage-clause-shared g c)
 
 pub returns-in-Ok-clause-front : goal.returns-in-Ok-clause-front
-returns-in-Ok-clause-front g c =
+returns-in-Ok-clause-front g c = λ none.
     let words = map string_bytes c.args.words.now in
     let new = g.D.Desk.told c.do_words.new.desk in
     on_err_weaker c.do_words.result (λ ends. IfSome_then (g.D.Desk.told c.args.desk.now) ends (λ w front.
     front_as (after_words w.files (Some c.in-Ok.words)) (answer words w.files) (part_after_words w.files (Some c.in-Ok.words)) (part words w.files) (shown_of w) new
-    (sym (answer-of words w.files (Some c.in-Ok.words) c.in-Ok.ensures.ok)) (sym (part-of words w.files (Some c.in-Ok.words) c.in-Ok.ensures.ok)) front)) c.do_words.ensures.front
+    (sym (answer-of words w.files (Some c.in-Ok.words) c.in-Ok.ensures.ok)) (sym (part-of words w.files (Some c.in-Ok.words) c.in-Ok.ensures.ok)) front)) (c.do_words.ensures.front (rw c.in-Ok.ensures.ok at none))
 
 pub returns-in-Err-Usage-clause-front : goal.returns-in-Err-Usage-clause-front
-returns-in-Err-Usage-clause-front g c =
+returns-in-Err-Usage-clause-front g c = λ plain.
     let words = map string_bytes c.args.words.now in
     let old = g.D.Desk.told c.args.desk.now in
     let none : words_of words ≡ None = c.in-Err-Usage.ensures.usage (ap Err c.in-Err-Usage.field-0-is) in
@@ -58,7 +76,7 @@ returns-in-Err-Usage-clause-front g c =
     (always old (λ w. ap (λ (a : Answer). a.said) (answer-of words w.files None none))) says) c.refuse_words.ensures.part
 
 pub returns-in-Err-Memory-clause-front : goal.returns-in-Err-Memory-clause-front
-returns-in-Err-Memory-clause-front g c =
+returns-in-Err-Memory-clause-front g c = λ plain.
     let words = map string_bytes c.args.words.now in
     let old = g.D.Desk.told c.args.desk.now in
     front_still (λ w. answer words w.files) (λ w. part words w.files) old old (λ w. part-zero words w.files) refl

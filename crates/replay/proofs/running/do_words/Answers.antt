@@ -1,15 +1,26 @@
-use Rattle.std.proofs.Common.{ap, Some, refl}
-use Rattle.std.proofs.lemmas.Result.{on_err_weaker}
+use Rattle.std.proofs.Common.{ap, sym, subst, Some, refl}
+use Rattle.std.proofs.lemmas.Option.{IfSome_then}
+use Rattle.std.proofs.lemmas.Result.{IfOk-weaker, on_err_weaker}
 use Rattle.command_words.specs.declared.words.Words.{Words}
+use Rattle.command_words.specs.declared.words.Words.TheVariants.{Show}
+use Rattle.desk.specs.World.{shown, shown_of}
 use Rattle.replay.specs.Answer.{after_words}
 use Rattle.replay.specs.Front.{part_after_words}
+use Rattle.replay.specs.Shared.{GivesAfter}
 use Rattle.replay.specs.Trial.{trial_text}
 use Rattle.replay.proofs.FrontCases.{always, front_says, words-zero}
+use Rattle.replay.proofs.SharedCases.{by_plain}
 use Rattle.replay.proofs.running.do_words.Goals as goal
 
 pub returns-in-Trial-clause-front : goal.returns-in-Trial-clause-front
-returns-in-Trial-clause-front g c =
+returns-in-Trial-clause-front g c = λ none.
     let old = g.D.Desk.told c.args.desk.now in
     on_err_weaker c.try_number.result (λ says.
     front_says (λ w. after_words w.files (Some c.args.words.now)) (λ w. part_after_words w.files (Some c.args.words.now)) (trial_text c.in-Trial.n) old old (g.D.Desk.told c.try_number.new.desk) (λ w. words-zero w.files (Some c.args.words.now)) refl
     (always old (λ w. ap (λ (words : Words). (after_words w.files (Some words)).said) c.in-Trial.is)) says) c.try_number.ensures.part
+
+pub returns-in-Show-clause-answer : goal.returns-in-Show-clause-answer
+returns-in-Show-clause-answer g c =
+    let new = shown (g.D.Desk.told c.show_capture.new.desk) in
+    IfOk-weaker c.show_capture.result _ _ (λ s answered. IfSome_then (g.D.Desk.told c.args.desk.now) answered (λ w gives.
+    subst (λ (words : Words). GivesAfter w.files (Some words) s (shown_of w) new) (sym c.in-Show.is) (by_plain w.files (Show c.in-Show.input) s (shown_of w) new (λ ns. refl) refl (rw c.as_str.ensures at gives)))) c.show_capture.ensures.answer

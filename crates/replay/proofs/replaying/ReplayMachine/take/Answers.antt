@@ -3,7 +3,7 @@ use Rattle.playback.specs.Events.{Arrival}
 use Rattle.router_model.specs.Parts.{table}
 use Rattle.router_model.specs.Plain.{after_event}
 use Rattle.replay.specs.Taking.{router_of}
-use Rattle.replay.proofs.ReplayLemmas.{gathers-determined, on_ok_three, on_ok_two, own-kept, packets-left, packets-more, ready-more, room-left}
+use Rattle.replay.proofs.ReplayLemmas.{gathers-determined, own-kept, packets-left, packets-more, ready-more, room-left}
 use Rattle.replay.proofs.replaying.ReplayMachine.take.Goals as goal
 
 pub take_frame-requires-clause-count : goal.take_frame-requires-clause-count
@@ -29,23 +29,23 @@ returns-clause-ready c =
     let earlier = unwrap_or c.args._progress.moment 0 in
     let number = c.args.frame.number in
     let moment = c.args.frame.moment in
-    on_ok_three c.take_frame.result c.take_frame.ensures.entered c.take_frame.ensures.state c.take_frame.ensures.gathers (λ entered state gathers. (
+    let took = c.in_ok-take_frame.ensures in (
       ready.0,
       (
-        own-kept c.args.self.now.settings.now c.args.self.now.table.parts c.take_frame.new.memory.parts (Arrival c.args.frame) ready.1.0 state,
+        own-kept c.args.self.now.settings.now c.args.self.now.table.parts c.take_frame.new.memory.parts (Arrival c.args.frame) ready.1.0 took.state,
         (
-          entered.now,
+          took.entered.now,
           (
-            ready-more frames number _ _ earlier moment c.requires.next c.requires.later ready.1.1.1.0 entered.count,
-            packets-more frames number c.args.output.now.written _ _ earlier moment c.requires.next c.requires.later ready.1.1.1.1 gathers.few gathers.gathers.written,
+            ready-more frames number _ _ earlier moment c.requires.next c.requires.later ready.1.1.1.0 took.entered.count,
+            packets-more frames number c.args.output.now.written _ _ earlier moment c.requires.next c.requires.later ready.1.1.1.1 took.gathers.few took.gathers.gathers.written,
           ),
         ),
       ),
-    ))
+    )
 
 pub returns-clause-gathers : goal.returns-clause-gathers
 returns-clause-gathers c =
     let settings = c.args.self.now.settings.now in
     let before = router_of settings c.args.self.now.table.parts in
-    on_ok_two c.take_frame.result c.take_frame.ensures.gathers c.take_frame.ensures.state (λ gathers state.
-    gathers-determined (after_event table) before (router_of settings c.take_frame.new.memory.parts) (Arrival c.args.frame) c.args.output.now c.take_frame.new.output gathers.gathers state)
+    let took = c.in_ok-take_frame.ensures in
+    gathers-determined (after_event table) before (router_of settings c.take_frame.new.memory.parts) (Arrival c.args.frame) c.args.output.now c.take_frame.new.output took.gathers.gathers took.state
