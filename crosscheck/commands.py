@@ -3,8 +3,7 @@ import re
 from typing import NamedTuple
 
 NUMBER = re.compile(r"0|[1-9][0-9]*")
-# More workers than none are of no form until the program has them.
-MOST_WORKERS, MOST_ROUND, MOST_MAPPINGS = 0, 4096, 50_000
+MOST_WORKERS, MOST_ROUND, MOST_MAPPINGS = 16, 4096, 50_000
 
 
 class Replay(NamedTuple):

@@ -8,8 +8,8 @@ other control messages, in both families and mostly in several instances, many o
 or ten behind the frame before; then such a capture that fits a router with workers, at times cut short, which the
 program replays with 1 to 16 of these and rounds of 1 to 4,096 frames; and then 40 settings files with spoiled values.
 Without workers the program must say and write what the plain router does, and with them what its own numbers make of
-that. Before these it replays worked frames with two workers, a hundred times. What has workers waits until the program
-has them (`MOST_WORKERS`). It ends with status 1 at the first difference.
+that. Before these it replays worked frames with two workers, a hundred times. It ends with status 1 at the first
+difference.
 """
 import os
 import random
@@ -23,7 +23,6 @@ import plain
 import rounds
 import settings as rules
 import worked_rounds
-from commands import MOST_WORKERS
 from makers import framed, packet, settings, spoiled_settings
 from sites import Site
 from talk import Talk
@@ -143,7 +142,7 @@ class Round:
         text = settings(r)
         write(self.settings, text)
         capture(r, text, self.capture)
-        return (self.same_replay() and self.same_show() and (not MOST_WORKERS or self.lawful_rounds(r, text))
+        return (self.same_replay() and self.same_show() and self.lawful_rounds(r, text)
                 and all(self.same_settings(r) for _ in range(40)))
 
 
@@ -160,7 +159,7 @@ def main(kind=Round):
     seed = int(sys.argv[3]) if len(sys.argv) > 3 else 1
     with tempfile.TemporaryDirectory() as folder:
         one = kind(sys.argv[1], folder)
-        if MOST_WORKERS and not one.worked():
+        if not one.worked():
             one.left("worked frames differ")
         for i in range(count):
             if not one.agrees(random.Random(f"{seed} {i}")):

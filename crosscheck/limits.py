@@ -5,7 +5,6 @@ Their packets are those of shared.toml with other octets.
 import struct
 
 from checksums import ip_summed, udp_summed
-from commands import MOST_WORKERS
 from nonces import nonce_at
 from row_runs import REPLAY, SECOND, SHARED, START, Row, Run, capture_of, octets_of, tables_of
 
@@ -205,4 +204,4 @@ def rounds_by_octets():
 
 def rows():
     return [open_requests(), live_mappings(), wanted_echoes(), solicited_peers(), started_echoes(),
-            *([*rounds_by_size(), *rounds_by_octets()] if MOST_WORKERS else [])]
+            *rounds_by_size(), *rounds_by_octets()]

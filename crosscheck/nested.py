@@ -11,7 +11,6 @@ frames with workers, as compare.py has them. It ends with status 1 at the first 
 """
 import struct
 
-from commands import MOST_WORKERS
 from compare import Round, capture, main, write
 from fitting import longer, randomly, record, shorter
 from journal import SECOND, Learned
@@ -207,7 +206,7 @@ class NestedRound(Round):
         count = PROBING if site.probe else FRAMES
         make = lambda r, _, link, unit, size=1: Nested(r, site, link, unit, eids, size).frames(count)
         capture(r, text, self.capture, make)
-        return self.same_replay() and (not MOST_WORKERS or self.lawful_rounds(r, text, make))
+        return self.same_replay() and self.lawful_rounds(r, text, make)
 
 
 if __name__ == "__main__":

@@ -30,11 +30,14 @@ def lawful():
     yield "replay --out o --in i --settings s".split(), WHOLE
     yield "replay --in i --settings s --out o".split(), WHOLE
     yield "replay --in i --out o --settings s".split(), WHOLE
-    yield replay("--workers", "0"), WHOLE
+    for count in 0, 1, 2, 9, 10, 15, 16:
+        yield replay("--workers", str(count)), WHOLE._replace(workers=count)
     for size in 1, 2, 9, 10, 256, 999, 4095, 4096:
         yield replay("--round", str(size)), WHOLE._replace(round=size)
     yield replay("--round", "7", "--workers", "0"), WHOLE._replace(round=7)
+    yield replay("--round", "4096", "--workers", "16"), WHOLE._replace(workers=16, round=4096)
     yield "replay --workers 0 --out o --round 10 --in i --settings s".split(), WHOLE._replace(round=10)
+    yield "replay --workers 3 --out o --round 10 --in i --settings s".split(), WHOLE._replace(workers=3, round=10)
     yield replay(settings="i"), Replay("i", "i", "o")
     yield replay(settings="./o", source="x y"), Replay("./o", "x y", "o")
     for output in "I", "S", "O", "./o", "./i", "i ", "ii", "s=s", "o--", "=", " ", "replay", "out", "0", "٣", "ö":
@@ -84,8 +87,8 @@ def of_no_replay():
 def of_no_number():
     for value in [*NO_NUMBERS, *TOO_LARGE, "0", "4097", "5000", "10000"]:
         yield replay("--round", value)
-    for value in [*NO_NUMBERS, *TOO_LARGE, *(str(int(value) - 1) for value in TOO_LARGE), "٠", "000", "1", "2", "15",
-                  "16", "17", "256"]:
+    for value in [*NO_NUMBERS, *TOO_LARGE, *(str(int(value) - 1) for value in TOO_LARGE), "٠", "000", "17", "18", "20",
+                  "100", "160", "256", "257"]:
         yield replay("--workers", value)
     for value in [*NO_NUMBERS, *TOO_LARGE, "0", "50001", "99999", "100000", "-", "--", "--in"]:
         yield ["trial", value]
@@ -138,7 +141,7 @@ def started(r):
     if kind < 0.35:
         return ["show", "--in", r.choice(VALUES)]
     found = [["--settings", "s"], ["--in", "i"], ["--out", r.choice("ooox")]]
-    found += [["--workers", "0"]] * (r.random() < 0.4)
+    found += [["--workers", str(r.choice([0, 1, 9, 10, 16, r.randint(0, 16)]))]] * (r.random() < 0.4)
     found += [["--round", str(r.choice([1, 9, 10, 256, 4096, r.randint(1, 4096)]))]] * (r.random() < 0.4)
     r.shuffle(found)
     return ["replay", *(word for pair in found for word in pair)]

@@ -19,17 +19,26 @@ use anyhow::{Context, Result, ensure};
 use std::alloc::Global;
 use std::env;
 use std::process::ExitCode;
+use std::sync::Wait;
+use std::thread::Threads;
 
-// Runs the rows of a file, says of each whether it differs and in what, and answers how many do.
-fn failures(rt: &impl Print, alloc: Global, file: &str, names: &Names<'_>) -> Result<usize> {
+// Runs the rows of a file, says of each whether it differs and in what, and answers how many do. The
+// runtime may print, and once more as one that may start threads and wait.
+fn failures<R: Threads + Wait + Sync>(
+    host: &impl Print,
+    rt: &R,
+    alloc: Global,
+    file: &str,
+    names: &Names<'_>,
+) -> Result<usize> {
     let mut failed = 0usize;
     for row in &names.own.rows {
         let (name, shows) = (row.name.as_str(), row.shows.as_str());
-        let found = differences(alloc, names, row).context(format_args!("{file}: {name}"))?;
+        let found = differences(rt, alloc, names, row).context(format_args!("{file}: {name}"))?;
         if found.is_empty() {
-            println!(rt; "{file}: ok: {name}")?;
+            println!(host; "{file}: ok: {name}")?;
         } else {
-            print!(rt; "{file}: FAILED: {name}\n  {shows}\n{found}")?;
+            print!(host; "{file}: FAILED: {name}\n  {shows}\n{found}")?;
             failed = failed.saturating_add(1);
         }
     }
@@ -55,7 +64,7 @@ fn main(rt: HostRuntime) -> Result<ExitCode> {
             own: &own,
             shared: &shared,
         };
-        failed = failed.saturating_add(failures(&rt, alloc, file.as_str(), &names)?);
+        failed = failed.saturating_add(failures(&rt, &rt, alloc, file.as_str(), &names)?);
         count = count.saturating_add(own.rows.len());
     }
     println!(rt; "{count} rows, {failed} failed")?;

@@ -5,22 +5,29 @@ use crate::rows::{DeskKind, Names, Row, Texts};
 use crate::wanted::{lines_of, output_of, report_of};
 use anyhow::{Result, ensure};
 use desk::{Files, MemoryDesk, SteadyDesk};
-use replay::{Status, Word, run};
+use replay::{OpenGate, Status, Word, run};
 use std::alloc::Global;
 use std::str;
+use std::sync::Wait;
+use std::thread::Threads;
 
 const REPLAY: &str = "replay --settings settings --in in --out out";
 
 /// In what the row's runs differ from what is wanted, as lines; none where they don't.
-pub fn differences(alloc: Global, names: &Names<'_>, row: &Row) -> Result<String> {
+pub fn differences<R: Threads + Wait + Sync>(
+    rt: &R,
+    alloc: Global,
+    names: &Names<'_>,
+    row: &Row,
+) -> Result<String> {
     let mut found = String::new(alloc);
     match &row.words {
-        None => push_each(alloc, names, row, REPLAY, &mut found)?,
-        Some(Texts::One(words)) => push_each(alloc, names, row, words.as_str(), &mut found)?,
+        None => push_each(rt, alloc, names, row, REPLAY, &mut found)?,
+        Some(Texts::One(words)) => push_each(rt, alloc, names, row, words.as_str(), &mut found)?,
         Some(Texts::Several(several)) => {
             ensure!(!several.is_empty(), "`words` has none: \"\" says so");
             for words in several {
-                push_each(alloc, names, row, words.as_str(), &mut found)?;
+                push_each(rt, alloc, names, row, words.as_str(), &mut found)?;
             }
         }
     }
@@ -28,7 +35,8 @@ pub fn differences(alloc: Global, names: &Names<'_>, row: &Row) -> Result<String
 }
 
 // Adds what differs in the runs of one list of words.
-fn push_each<'a>(
+fn push_each<'a, R: Threads + Wait + Sync>(
+    rt: &R,
     alloc: Global,
     names: &Names<'_>,
     row: &'a Row,
@@ -41,18 +49,24 @@ fn push_each<'a>(
             words,
             each: None,
         };
-        return push_run(alloc, names, case, found);
+        return push_run(rt, alloc, names, case, found);
     };
     ensure!(!several.is_empty(), "`each` has no frame");
     for (said, frame) in several {
         let each = Some((said.as_str(), frame));
-        push_run(alloc, names, Case { row, words, each }, found)?;
+        push_run(rt, alloc, names, Case { row, words, each }, found)?;
     }
     Ok(())
 }
 
-fn push_run(alloc: Global, names: &Names<'_>, case: Case<'_>, found: &mut String) -> Result<()> {
-    let text = run_of(alloc, names, case)?;
+fn push_run<R: Threads + Wait + Sync>(
+    rt: &R,
+    alloc: Global,
+    names: &Names<'_>,
+    case: Case<'_>,
+    found: &mut String,
+) -> Result<()> {
+    let text = run_of(rt, alloc, names, case)?;
     if !text.is_empty() {
         let words = case.words;
         let head = match case.each {
@@ -65,21 +79,27 @@ fn push_run(alloc: Global, names: &Names<'_>, case: Case<'_>, found: &mut String
     Ok(())
 }
 
-fn run_of(alloc: Global, names: &Names<'_>, case: Case<'_>) -> Result<String> {
+fn run_of<R: Threads + Wait + Sync>(
+    rt: &R,
+    alloc: Global,
+    names: &Names<'_>,
+    case: Case<'_>,
+) -> Result<String> {
     let words = words_of(alloc, case.words)?;
     let files = files_of(alloc, names, case)?;
     let calls = calls_of(alloc, case.row)?;
     match &case.row.desk {
-        Some(DeskKind::Steady) => over_steady(alloc, names, case, &words, files),
+        Some(DeskKind::Steady) => over_steady(rt, alloc, names, case, &words, files),
         _ => {
             let desk = MemoryDesk::new(alloc, files, calls);
-            over_memory(alloc, names, case, &words, desk)
+            over_memory(rt, alloc, names, case, &words, desk)
         }
     }
 }
 
 // A desk in each of two functions with one exit, since each exit lets all of it go.
-fn over_steady(
+fn over_steady<R: Threads + Wait + Sync>(
+    rt: &R,
     alloc: Global,
     names: &Names<'_>,
     case: Case<'_>,
@@ -87,18 +107,19 @@ fn over_steady(
     files: Files,
 ) -> Result<String> {
     let mut desk = SteadyDesk::new(alloc, files);
-    let status = run(alloc, words, &mut desk);
+    let status = run(rt, alloc, words, &mut desk, &OpenGate);
     compared(alloc, names, case, (status, desk.said(), desk.file("out")))
 }
 
-fn over_memory(
+fn over_memory<R: Threads + Wait + Sync>(
+    rt: &R,
     alloc: Global,
     names: &Names<'_>,
     case: Case<'_>,
     words: &[Word],
     mut desk: MemoryDesk,
 ) -> Result<String> {
-    let status = run(alloc, words, &mut desk);
+    let status = run(rt, alloc, words, &mut desk, &OpenGate);
     compared(alloc, names, case, (status, desk.said(), desk.file("out")))
 }
 

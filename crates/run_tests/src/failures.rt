@@ -9,14 +9,21 @@ use run_rows::packets::RAW;
 use run_rows::runs::{REPLAY, desk_with, run_words};
 use std::alloc::Global;
 use std::process::Abort;
+use std::sync::Wait;
 use std::test::Fail;
+use std::thread::Threads;
 
 // What the exchange ends with where that call fails, and its desk.
-fn failing_at(alloc: Global, capture: &[u8], call: u64) -> Result<(Status, MemoryDesk), NoMemory> {
+fn failing_at<R: Threads + Wait + Sync>(
+    rt: &R,
+    alloc: Global,
+    capture: &[u8],
+    call: u64,
+) -> Result<(Status, MemoryDesk), NoMemory> {
     let mut fails = Calls::new(alloc);
     fails.push(call)?;
     let mut desk = desk_with(alloc, TENANT, Octets::copied(alloc, capture)?, fails)?;
-    let status = run_words(alloc, &REPLAY, &mut desk)?;
+    let status = run_words(rt, alloc, &REPLAY, &mut desk)?;
     Ok((status, desk))
 }
 
@@ -38,13 +45,13 @@ fn whole_exchange(alloc: Global) -> Result<Whole, NoMemory> {
 }
 
 // With that call failed, a beginning of it was said and written.
-fn ends_within(
-    rt: &impl Abort,
+fn ends_within<R: Abort + Threads + Wait + Sync>(
+    rt: &R,
     alloc: Global,
     whole: &Whole,
     call: u64,
 ) -> Result<Status, NoMemory> {
-    let (status, desk) = failing_at(alloc, whole.capture.as_slice(), call)?;
+    let (status, desk) = failing_at(rt, alloc, whole.capture.as_slice(), call)?;
     assert!(rt; whole.report.as_str().as_bytes().starts_with(desk.said()));
     assert!(rt;
         whole

@@ -5,6 +5,8 @@
 #[cfg(test)]
 mod failures;
 #[cfg(test)]
+mod forwarding;
+#[cfg(test)]
 mod live_mappings;
 #[cfg(test)]
 mod open_requests;

@@ -7,7 +7,9 @@ use run_rows::packets::{PACKET, REPLY, WRITTEN};
 use run_rows::runs::replayed;
 use std::alloc::Global;
 use std::process::Abort;
+use std::sync::Wait;
 use std::test::Fail;
+use std::thread::Threads;
 
 // A miss and its reply where no mapping more may be live.
 const FULL: [Arrival<'static>; 2] = [
@@ -33,10 +35,13 @@ fn full_site(alloc: Global) -> Result<String, NoMemory> {
 }
 
 // What a replay at the full site ends with.
-fn replayed_in_full(alloc: Global) -> Result<(Status, MemoryDesk), NoMemory> {
+fn replayed_in_full<R: Threads + Wait + Sync>(
+    rt: &R,
+    alloc: Global,
+) -> Result<(Status, MemoryDesk), NoMemory> {
     let settings = full_site(alloc)?;
     let capture = capture_of(alloc, &WRITTEN, &FULL)?;
-    replayed(alloc, settings.as_str(), capture)
+    replayed(rt, alloc, settings.as_str(), capture)
 }
 
 fn assert_report(rt: &impl Abort, alloc: Global, desk: &MemoryDesk) -> Result<(), NoMemory> {
@@ -53,7 +58,7 @@ fn assert_output(rt: &impl Abort, alloc: Global, desk: &MemoryDesk) -> Result<()
 
 #[test]
 fn so_many_mappings_are_live_at_once(rt: HostRuntime) -> Result<(), Fail> {
-    let (status, desk) = replayed_in_full(rt.alloc())?;
+    let (status, desk) = replayed_in_full(&rt, rt.alloc())?;
     assert_eq!(rt; status, Status::Done);
     assert_report(&rt, rt.alloc(), &desk)?;
     assert_output(&rt, rt.alloc(), &desk)?;

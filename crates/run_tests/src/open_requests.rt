@@ -126,7 +126,7 @@ const LATE_ASKED: [(usize, u8); 18] = [
 #[test]
 fn so_many_requests_are_open_at_once(rt: HostRuntime) -> Result<(), Fail> {
     let capture = capture_of_misses(rt.alloc())?;
-    let (status, desk) = replayed(rt.alloc(), TENANT, capture)?;
+    let (status, desk) = replayed(&rt, rt.alloc(), TENANT, capture)?;
     assert_eq!(rt; status, Status::Done);
     assert_report(&rt, rt.alloc(), &desk)?;
     assert_requests(&rt, rt.alloc(), desk.file("out").unwrap_or(&[]))?;

@@ -6,7 +6,9 @@ use run_rows::packets::{RAW, changed, push_record};
 use run_rows::runs::{REPLAY, files_of, run_words};
 use std::alloc::Global;
 use std::process::Abort;
+use std::sync::Wait;
 use std::test::Fail;
+use std::thread::Threads;
 use trial_input::trial_capture;
 
 /// The most mappings of a trial.
@@ -66,7 +68,7 @@ fn hash_of(octets: &[u8]) -> u32 {
 #[test]
 fn the_largest_trial_says_one_line_and_makes_no_file(rt: HostRuntime) -> Result<(), Fail> {
     let mut desk = MemoryDesk::new(rt.alloc(), Files::new(rt.alloc()), Calls::new(rt.alloc()));
-    let status = run_words(rt.alloc(), &["trial", "50000"], &mut desk)?;
+    let status = run_words(&rt, rt.alloc(), &["trial", "50000"], &mut desk)?;
     assert_eq!(rt; status, Status::Done);
     assert_line_alone(&rt, &desk);
     Ok(())
@@ -80,14 +82,15 @@ fn assert_line_alone(rt: &impl Abort, desk: &MemoryDesk) {
 }
 
 // A desk with settings and a capture, on which they were replayed, and the status of that.
-fn replayed(
+fn replayed<R: Threads + Wait + Sync>(
+    rt: &R,
     alloc: Global,
     settings: &str,
     capture: &[u8],
 ) -> Result<(Status, SteadyDesk), NoMemory> {
     let files = files_of(alloc, &[("settings", settings.as_bytes()), ("in", capture)])?;
     let mut desk = SteadyDesk::new(alloc, files);
-    let status = run_words(alloc, &REPLAY, &mut desk)?;
+    let status = run_words(rt, alloc, &REPLAY, &mut desk)?;
     Ok((status, desk))
 }
 
@@ -117,7 +120,7 @@ fn assert_ended(rt: &impl Abort, desk: &SteadyDesk, end: &[u8], hash: u32) {
 #[test]
 fn the_hash_of_a_trial_is_that_of_the_output_of_its_replay(rt: HostRuntime) -> Result<(), Fail> {
     let capture = three_packets(rt.alloc())?;
-    let (status, desk) = replayed(rt.alloc(), THREE, capture.as_slice())?;
+    let (status, desk) = replayed(&rt, rt.alloc(), THREE, capture.as_slice())?;
     assert_eq!(rt; status, Status::Done);
     assert_ended(
         &rt,
@@ -143,15 +146,18 @@ fn most_settings(alloc: Global) -> Result<String, NoMemory> {
     Ok(text)
 }
 
-fn largest_replayed(alloc: Global) -> Result<(Status, SteadyDesk), NoMemory> {
+fn largest_replayed<R: Threads + Wait + Sync>(
+    rt: &R,
+    alloc: Global,
+) -> Result<(Status, SteadyDesk), NoMemory> {
     let settings = most_settings(alloc)?;
     let capture = trial_capture(alloc, MOST_MAPPINGS)?;
-    replayed(alloc, settings.as_str(), capture.as_slice())
+    replayed(rt, alloc, settings.as_str(), capture.as_slice())
 }
 
 #[test]
 fn the_largest_trial_is_replayed_from_its_files(rt: HostRuntime) -> Result<(), Fail> {
-    let (status, desk) = largest_replayed(rt.alloc())?;
+    let (status, desk) = largest_replayed(&rt, rt.alloc())?;
     assert_eq!(rt; status, Status::Done);
     assert_ended(
         &rt,

@@ -7,15 +7,21 @@ use run_rows::packets::RAW;
 use run_rows::runs::{files_of, run_words};
 use std::alloc::Global;
 use std::process::Abort;
+use std::sync::Wait;
 use std::test::Fail;
+use std::thread::Threads;
 
 // What a run of the words between the spaces of a text ends with, and its desk, on which were
 // settings and a capture, `s` and `i`.
-fn ran(alloc: Global, text: &str) -> Result<(Status, MemoryDesk), NoMemory> {
+fn ran<R: Threads + Wait + Sync>(
+    rt: &R,
+    alloc: Global,
+    text: &str,
+) -> Result<(Status, MemoryDesk), NoMemory> {
     let words: Vec<&str> = text.split(' ').collect(alloc)?;
     let files = files_of(alloc, &[("s", TENANT.as_bytes()), ("i", RAW.as_slice())])?;
     let mut desk = MemoryDesk::new(alloc, files, Calls::new(alloc));
-    let status = run_words(alloc, &words, &mut desk)?;
+    let status = run_words(rt, alloc, &words, &mut desk)?;
     Ok((status, desk))
 }
 
@@ -35,7 +41,7 @@ fn words_of_no_form_change_no_file(rt: HostRuntime) -> Result<(), Fail> {
         "replay --settings s --in i --out o --out i",
         "show --in i --out s",
     ] {
-        let (status, desk) = ran(rt.alloc(), text)?;
+        let (status, desk) = ran(&rt, rt.alloc(), text)?;
         assert_eq!(rt; status, Status::Usage, "{text}");
         assert_untouched(&rt, &desk);
     }
