@@ -4,17 +4,41 @@
 usage: measured.py NAME ITEMS OUT COMMAND..
 The command's output goes to the file OUT.
 """
-import resource
+import os
 import subprocess
 import sys
 import time
+from typing import NamedTuple
 
-name, items, out, *command = sys.argv[1:]
-start = time.time()
-with open(out, "wb") as file:
-    status = subprocess.call(command, stdout=file, stderr=subprocess.DEVNULL)
-took = time.time() - start
-used = resource.getrusage(resource.RUSAGE_CHILDREN)
-print(f"{name}: {int(items) / took:,.0f} a second, {took:.2f} s, "
-      f"user {used.ru_utime:.2f} s, system {used.ru_stime:.2f} s, "
-      f"at most {used.ru_maxrss / 1024:.1f} MiB, status {status}")
+
+class Run(NamedTuple):
+    """How long a run took, also in itself and in the system, in seconds; its memory in MiB; and its status."""
+    took: float
+    user: float
+    system: float
+    memory: float
+    status: int
+
+    def text(self, items):
+        return (f"{int(items) / self.took:,.0f} a second, {self.took:.2f} s, "
+                f"user {self.user:.2f} s, system {self.system:.2f} s, "
+                f"at most {self.memory:.1f} MiB, status {self.status}")
+
+
+def measured(out, command):
+    """Runs a command whose output goes to a file."""
+    start = time.time()
+    with open(out, "wb") as file:
+        process = subprocess.Popen(command, stdout=file, stderr=subprocess.DEVNULL)
+        _, status, used = os.wait4(process.pid, 0)
+    took = time.time() - start
+    return Run(took, used.ru_utime, used.ru_stime, used.ru_maxrss / 1024, os.waitstatus_to_exitcode(status))
+
+
+def main():
+    name, items, out, *command = sys.argv[1:]
+    print(f"{name}: {measured(out, command).text(items)}")
+
+
+if __name__ == "__main__":
+    main()
