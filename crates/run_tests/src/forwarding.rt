@@ -96,7 +96,7 @@ fn ran_through<R: Threads + Wait + Sync, G: Gate>(
 }
 
 #[test]
-fn forwarders_of_a_run_are_there_at_once(rt: HostRuntime) -> Result<(), Fail> {
+fn forwarders_run_side_by_side(rt: HostRuntime) -> Result<(), Fail> {
     let gate = Meeting {
         first: AtomicU64::new(0),
         second: AtomicU64::new(0),
