@@ -14,19 +14,19 @@ use Rattle.router_model.proofs.CutLemmas.{last-round-closes, round-closes, round
 use Rattle.sharing.specs.Gathering.{ClosesRound, Gathering, InRounds, RoundsAreGathered, WorksRound, is_due, none_gathered, round_worked}
 
 -- an outcome is that of these rounds from here on, by numbers that they may have
-record AreWorkedIn (g : Gathering) (cuts : List (List Frame)) (outcome : Outcome Gathering) : Type 0 where
-  ns : List (List ℕ)
-  lawful : AllLawful g.router g.previous cuts ns
-  lines : outcome.lines ≡ (rounds_from g.router g.previous cuts ns).lines
-  packets : outcome.packets ≡ (rounds_from g.router g.previous cuts ns).packets
-  router : outcome.after.router ≡ (rounds_from g.router g.previous cuts ns).after
+pub record AreWorkedIn (g : Gathering) (cuts : List (List Frame)) (outcome : Outcome Gathering) : Type 0 where
+  pub ns : List (List ℕ)
+  pub lawful : AllLawful g.router g.previous cuts ns
+  pub lines : outcome.lines ≡ (rounds_from g.router g.previous cuts ns).lines
+  pub packets : outcome.packets ≡ (rounds_from g.router g.previous cuts ns).packets
+  pub router : outcome.after.router ≡ (rounds_from g.router g.previous cuts ns).after
 
 -- of the rounds into which frames are cut
-abbrev AreWorked : Gathering → List Frame → Outcome Gathering → Type 0
+abbrev pub AreWorked : Gathering → List Frame → Outcome Gathering → Type 0
 AreWorked g frames outcome = AreWorkedIn g (cut g.size frames) outcome
 
 -- none are gathered, or the last of them came to a round that was open
-abbrev Opened : Gathering → Type 0
+abbrev pub Opened : Gathering → Type 0
 Opened g = (g.frames ≡ []) ⊎ ((before : List Frame) × (last : Frame) × (g.frames ≡ before ++ last ∷ []) × StaysOpen g.size empty before)
 
 -- then they are a round, if no frame is left
@@ -73,8 +73,18 @@ worked-round g round_frames others ns rest works same is whole cuts =
 none-due : (size : ℕ) → 1 ≤ size → is_full size (with_frames empty []) ≡ true → ⊥
 none-due size some due = grind (arith, nat_tests, some, due)
 
+-- frames that are due are a round, whatever comes behind them
+pub due-cuts : (g : Gathering) (others : List Frame) → 1 ≤ g.size → Opened g → is_due g ≡ true → cut g.size (g.frames ++ others) ≡ g.frames ∷ cut g.size others
+due-cuts g others some (inl none) due = absurd (none-due g.size some (ap (λ (l : List Frame). is_full g.size (with_frames empty l)) (sym none) ∙ due))
+due-cuts g others some (inr (before, last, is, stays)) due =
+    let full : is_full g.size (with_frame (with_frames empty before) last) ≡ true =
+    ap (is_full g.size) (sym (fold-append with_frame empty before (last ∷ []))) ∙ ap (λ (l : List Frame). is_full g.size (with_frames empty l)) (sym is) ∙ due in
+    let whole : before ++ last ∷ others ≡ g.frames ++ others = sym (append_assoc before (last ∷ []) others) ∙ ap (λ (l : List Frame). l ++ others) (sym is) in
+    subst (λ (l : List Frame). cut g.size l ≡ g.frames ∷ cut g.size others) whole
+    (subst (λ (l : List Frame). cut g.size (before ++ last ∷ others) ≡ l ∷ cut g.size others) (sym is) (round-closes g.size empty before last others stays full))
+
 -- a frame more leaves what was known, where no round is due
-opened-more : (g : Gathering) (frame : Frame) → Opened g → is_due g ≡ false → Opened (record g { frames = g.frames ++ frame ∷ [] })
+pub opened-more : (g : Gathering) (frame : Frame) → Opened g → is_due g ≡ false → Opened (record g { frames = g.frames ++ frame ∷ [] })
 opened-more g frame (inl none) due = inr (g.frames, frame, refl, subst (λ (l : List Frame). StaysOpen g.size empty l) (sym none) tt)
 opened-more g frame (inr (before, last, is, stays)) due =
     let still : is_full g.size (with_frame (with_frames empty before) last) ≡ false =
@@ -82,7 +92,7 @@ opened-more g frame (inr (before, last, is, stays)) due =
     inr (g.frames, frame, refl, subst (λ (l : List Frame). StaysOpen g.size empty l) (sym is) (round-stays-open g.size empty before last stays still))
 
 -- steps from here on, to the end
-gathered : (g : Gathering) (steps : List Step) (outcome : Outcome Gathering) → 1 ≤ g.size → All GoesOn steps → Opened g
+pub gathered : (g : Gathering) (steps : List Step) (outcome : Outcome Gathering) → 1 ≤ g.size → All GoesOn steps → Opened g
     → Played InRounds g (steps ++ End ∷ []) outcome → AreWorked g (g.frames ++ arrivals (happened steps)) outcome
 gathered g [] outcome some goes_on opened played =
     let same : outcome ≡ played.0 = played.4 ∙ ap (followed played.0) played.3 ∙ ap₂ (λ (l : List ℕ) (p : List Packet). record { lines = l; packets = p; after = played.0.after }) (append-nil played.0.lines) (append-nil played.0.packets) in
@@ -121,16 +131,7 @@ gathered g (Pause ∷ steps) outcome some goes_on opened played =
     let same : outcome ≡ followed done played.1 = played.4 ∙ ap (λ (o : Outcome Gathering). followed o played.1) works.is in
     subst (λ (o : Outcome Gathering). AreWorked g (g.frames ++ others) o) (sym same)
     (worked-round g g.frames others works.ns played.1 (record { ns = works.ns; lawful = works.lawful; is = refl }) refl
-    (gathered done.after steps played.1 some more (inl refl) goes) (g.frames ++ others) (by opened due others))
-  where
-    by : Opened g → is_due g ≡ true → (others : List Frame) → cut g.size (g.frames ++ others) ≡ g.frames ∷ cut g.size others
-    by (inl none) due others = absurd (none-due g.size some (ap (λ (l : List Frame). is_full g.size (with_frames empty l)) (sym none) ∙ due))
-    by (inr (before, last, is, stays)) due others =
-        let full : is_full g.size (with_frame (with_frames empty before) last) ≡ true =
-        ap (is_full g.size) (sym (fold-append with_frame empty before (last ∷ []))) ∙ ap (λ (l : List Frame). is_full g.size (with_frames empty l)) (sym is) ∙ due in
-        let whole : before ++ last ∷ others ≡ g.frames ++ others = sym (append_assoc before (last ∷ []) others) ∙ ap (λ (l : List Frame). l ++ others) (sym is) in
-        subst (λ (l : List Frame). cut g.size l ≡ g.frames ∷ cut g.size others) whole
-        (subst (λ (l : List Frame). cut g.size (before ++ last ∷ others) ≡ l ∷ cut g.size others) (sym is) (round-closes g.size empty before last others stays full))
+    (gathered done.after steps played.1 some more (inl refl) goes) (g.frames ++ others) (due-cuts g others some opened due))
 gathered g (End ∷ steps) outcome some goes_on opened played = absurd (All-head GoesOn End steps goes_on)
 
 pub rounds-are-gathered : RoundsAreGathered

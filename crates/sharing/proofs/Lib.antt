@@ -1,3 +1,4 @@
+pub mod FrontLemmas
 pub mod GatheringLemmas
 pub mod PlayLemmas
 pub mod RoundLemmas

@@ -1,5 +1,5 @@
 // A capture, played in rounds.
-ghost use Rattle.std.specs.Prelude.{◌≡◌, ◌≤◌, [], None, Some, IfOk, IfSome, IsErrOf};
+ghost use Rattle.std.specs.Prelude.{◌≡◌, ◌≤◌, [], None, Some, IfOk, IfSome, IsErrOf, OnErr};
 ghost use Rattle.command_words.specs.Limits.{most_round_frames, most_workers};
 ghost use Rattle.desk.specs.declared.fault.DeskFault.TheVariants.{Failed};
 ghost use Rattle.desk.specs.Causes.{HasCause, StaysSteady};
@@ -8,9 +8,10 @@ ghost use Rattle.capture_io.specs.Capture.{begin};
 ghost use Rattle.capture_io.specs.Frames.{read_on};
 ghost use Rattle.capture_io.specs.Reading.{beginning};
 ghost use Rattle.lisp_settings.specs.Lawful.{IsLawful};
+ghost use Rattle.playback.specs.Front.{CutRun};
 ghost use Rattle.playback.specs.Playing.{HasPlayed};
 ghost use Rattle.sharing.specs.Gathering.{InRounds, MayGather, gathering_of};
-ghost use Rattle.sharing.specs.Sharing.{HasShared};
+ghost use Rattle.sharing.specs.Sharing.{HasShared, HasSharedPart};
 
 use crate::crew::Crew;
 use crate::gathering::{Gathering, begun};
@@ -51,6 +52,11 @@ pub fn play_rounds<R: Threads + Wait + Sync, D: Desk, G: Gate>(
     ensures shared { IfOk result (λ ended. IfSome (D.told desk.old) (λ w.
         HasShared crew.now.round settings.now (Some file.number) (shown_of w)
         (read_on reader.format begin (left_of reader.id w)) ended (D.told desk.new))) }
+
+    // After a fault a beginning of what the rounds say and send by such numbers was said and written.
+    ensures front { OnErr result (IfSome (D.told desk.old) (λ w.
+        HasSharedPart crew.now.round settings.now (Some file.number) (shown_of w)
+        (read_on reader.format begin (left_of reader.id w)) (D.told desk.new))) }
     ensures cause { HasCause (D.faults desk.old) (D.faults desk.new) result }
     ensures steady { StaysSteady (D.steady desk.old) (D.steady desk.new)
         (IsGiven reader.id to_read (D.given desk.old) × IsGiven file.number to_write (D.given desk.old))
@@ -84,6 +90,10 @@ fn play_on<R: Threads + Wait + Sync, D: Desk, G: Gate>(
         (Some file.number) (shown_of w) (read_on reader.format begin (left_of reader.id w)) ending
         (gathering_of router.new.settings.now router.new.published.batches router.new.size router.new.previous router.new.frames.items)
         (D.told desk.new))) }
+    ensures cut { OnErr result (IfSome (D.told desk.old) (λ w.
+        CutRun InRounds
+        (gathering_of router.old.settings.now router.old.published.batches router.old.size router.old.previous router.old.frames.items)
+        (Some file.number) (shown_of w) (read_on reader.format begin (left_of reader.id w)) (D.told desk.new))) }
     ensures cause { HasCause (D.faults desk.old) (D.faults desk.new) result }
     ensures steady { StaysSteady (D.steady desk.old) (D.steady desk.new)
         (IsGiven reader.id to_read (D.given desk.old) × IsGiven file.number to_write (D.given desk.old))

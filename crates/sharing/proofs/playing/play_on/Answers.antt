@@ -1,14 +1,16 @@
 use Rattle.std.proofs.Common.{◌≡◌, ◌∙◌, Some, ap, refl, arith}
 use Rattle.capture_io.specs.Capture.{begin}
-use Rattle.capture_io.specs.Frames.{read_on}
+use Rattle.capture_io.specs.Frames.{Run, read_on}
 use Rattle.capture_io.specs.Reading.{Reading}
 use Rattle.desk.specs.World.{World, left_of}
 use Rattle.playback.specs.Events.{Pause}
 use Rattle.playback.specs.Passing.{file_of}
 use Rattle.playback.specs.declared.plays.Play.{Play}
-use Rattle.playback.proofs.PassingLemmas.{ends-played, passing-first, passing-pause}
+use Rattle.playback.proofs.FrontLemmas.{on_err_always}
+use Rattle.playback.proofs.PassingLemmas.{cut_reading, ends-cut, ends-played, passing-first, passing-pause}
 use Rattle.sharing.specs.Gathering.{Gathering, InRounds, WorksRound, gathering_of}
 use Rattle.sharing.specs.declared.gathering.Gathering.{Gathering as Router}
+use Rattle.sharing.proofs.FrontLemmas.{over-cut}
 use Rattle.sharing.proofs.RoundLemmas.{gathers-as, none-due}
 use Rattle.sharing.proofs.playing.play_on.Goals as goal
 
@@ -79,3 +81,49 @@ returns-in-Ended-clause-played g c =
     ends-played InRounds (Some c.args.file.number) start (λ (w : World). read_on c.args.reader.format begin (left_of c.args.reader.id w)) told mid.progress.frames c.in-Ended.fault
     (state_of c.on.new.machine) (state_of c.work_last.new.router) mid.output next.output (g.D.Desk.told c.on.new.desk) (g.D.Desk.told c.end.new.desk) c.end.result
     over c.in_ok-work_last-in-Ended.ensures.gathers (rw file at c.end.ensures.told) (rw progress at c.end.ensures.ending)
+
+-- the capture that is played
+abbrev run_of : Reading → World → Run
+run_of reader w = read_on reader.format begin (left_of reader.id w)
+
+pub returns-in_err-on-clause-cut : goal.returns-in_err-on-clause-cut
+returns-in_err-on-clause-cut g c =
+    let inv = c.loop-play.invariant in
+    on_err_always c.from_residual.result (rw (inv.id, inv.format, inv.file) at (c.in_err-on.ensures.passes (state_of c.args.router.now) (g.D.Desk.told c.args.desk.now) inv.passing))
+
+pub returns-in_err-work_round-in-Full-clause-cut : goal.returns-in_err-work_round-in-Full-clause-cut
+returns-in_err-work_round-in-Full-clause-cut g c =
+    let inv = c.loop-play.invariant in
+    let on = c.in_ok-on.ensures in
+    let same = rw c.in-Full.is at on.same in
+    let mid = c.on.new.self in
+    let start = state_of c.args.router.now in
+    let told = g.D.Desk.told c.args.desk.now in
+    let now = g.D.Desk.told c.on.new.desk in
+    let passing = rw c.in-Full.is at (on.passes start told inv.passing) in
+    let cut = cut_reading InRounds mid.reader.id (file_of mid) mid.reader.format start mid.reader.position (state_of c.on.new.machine) told now now mid.output passing refl in
+    on_err_always c.from_residual-in_err-work_round-in-Full.result (rw (same.id, same.format, same.file, inv.id, inv.format, inv.file) at cut)
+
+pub returns-in_err-work_last-in-Ended-clause-cut : goal.returns-in_err-work_last-in-Ended-clause-cut
+returns-in_err-work_last-in-Ended-clause-cut g c =
+    let inv = c.loop-play.invariant in
+    let start = state_of c.args.router.now in
+    let told = g.D.Desk.told c.args.desk.now in
+    let over = rw (inv.id, inv.format, inv.file) at (rw c.in-Ended.is at (c.in_ok-on.ensures.passes start told inv.passing)) in
+    let mid = c.on.new.self in
+    on_err_always c.from_residual-in_err-work_last-in-Ended.result
+    (over-cut (Some c.args.file.number) start (run_of c.args.reader) told mid.progress.frames c.in-Ended.fault (state_of c.on.new.machine) mid.output (g.D.Desk.told c.on.new.desk) over)
+
+pub returns-in-Ended-clause-cut : goal.returns-in-Ended-clause-cut
+returns-in-Ended-clause-cut g c =
+    let inv = c.loop-play.invariant in
+    let mid = c.on.new.self in
+    let next = c.work_last.new.play in
+    let is = c.work_last.ensures.play in
+    let start = state_of c.args.router.now in
+    let told = g.D.Desk.told c.args.desk.now in
+    let over = rw (inv.id, inv.format, inv.file) at (rw c.in-Ended.is at (c.in_ok-on.ensures.passes start told inv.passing)) in
+    let file : next.file ≡ Some c.args.file = ap (λ (p : Play). p.file) is ∙ c.on.ensures.file ∙ inv.file in
+    ends-cut InRounds (Some c.args.file.number) start (run_of c.args.reader) told mid.progress.frames c.in-Ended.fault
+    (state_of c.on.new.machine) (state_of c.work_last.new.router) mid.output next.output (g.D.Desk.told c.on.new.desk) (g.D.Desk.told c.end.new.desk) c.end.result
+    over c.in_ok-work_last-in-Ended.ensures.gathers (rw file at c.end.ensures.breaks)
