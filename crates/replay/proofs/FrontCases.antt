@@ -31,7 +31,7 @@ use Rattle.playback.specs.declared.plays.Ending.{Ending}
 use Rattle.playback.proofs.DeterminedLemmas.{cut-play, end-play}
 use Rattle.playback.proofs.OutputLemmas.{with_output-none}
 use Rattle.playback.proofs.FrontLemmas.{front-all, front-behind, front-front, front-lines, front-more, front-octets, front-same, front-take}
-use Rattle.router_model.specs.Journal.{statics}
+use Rattle.router_model.specs.Journal.{Journal, statics}
 use Rattle.router_model.specs.Lifting.{AreInOrder, event_moment, outcome_tabled}
 use Rattle.router_model.specs.Parts.{Parts, parts_in, table}
 use Rattle.router_model.specs.Plain.{Router, after_event, plain, started}
@@ -39,16 +39,16 @@ use Rattle.router_model.proofs.ReplayLemmas.{events-order, table-replays}
 use Rattle.router_model.proofs.RunLemmas.{count, in_order}
 use Rattle.router_model.proofs.StaticsLemmas.{length-statics}
 use Rattle.replay.proofs.CaptureAnswers.{capture_goes_on, capture_stops}
-use Rattle.replay.specs.Answer.{Answer, after_header, closing, made_files, messages_shown, replayed}
-use Rattle.replay.specs.Front.{AreFronts, EndsFront, MakesPart, Part, SaysPart, part, part_after_header, part_after_settings, part_after_words, replayed_part, shown_part}
+use Rattle.replay.specs.Answer.{Answer, after_header, answer_by, closing, made_files, messages_shown, replayed}
+use Rattle.replay.specs.Front.{AreFronts, EndsFront, MakesPart, Part, SaysPart, part, part_after_header, part_after_settings, part_after_words, part_by, replayed_part, shown_part}
 use Rattle.replay.specs.Lines.{count_line, end_line, fault_line}
-use Rattle.replay.specs.Readings.{replay_of, HasReplayed, HasReplayedFile}
+use Rattle.replay.specs.Readings.{replay_of, HasReplayed, HasReplayedBy, HasReplayedFile}
 use Rattle.replay.specs.Show.{showing}
 use Rattle.replay.specs.Taking.{router_of}
 use Rattle.replay.specs.declared.replaying.Counts.{Counts}
 
 -- before the first event nothing was said
-replayed-zero : (settings : Settings) (output : List ℕ) (run : Run) → (replayed_part settings output run 0).said ≡ []
+pub replayed-zero : (settings : Settings) (output : List ℕ) (run : Run) → (replayed_part settings output run 0).said ≡ []
 unfolding replayed_part
 replayed-zero settings output run = refl
 
@@ -56,7 +56,7 @@ shown-zero : (run : Run) → (shown_part run 0).said ≡ []
 unfolding shown_part
 shown-zero run = refl
 
-header-zero : (parts : Run → ℕ → Part) (file : List ℕ) (o : Option CaptureFault) → ((run : Run) → (parts run 0).said ≡ []) → (part_after_header parts file o 0).said ≡ []
+pub header-zero : (parts : Run → ℕ → Part) (file : List ℕ) (o : Option CaptureFault) → ((run : Run) → (parts run 0).said ≡ []) → (part_after_header parts file o 0).said ≡ []
 header-zero parts file None zeros = zeros (capture file)
 header-zero parts file (Some fault) zeros = refl
 
@@ -140,7 +140,7 @@ front-events : (frames all : List Frame) → IsFront frames all → IsFront (eve
 front-events frames all is = subst (λ (l : List Frame). IsFront (events frames) (events l)) is.1 (front-after None frames is.0)
 
 -- the first of them, by their number
-by-count : {X : Type 0} (first all : List X) → IsFront first all → take (length first) all ≡ first
+pub by-count : {X : Type 0} (first all : List X) → IsFront first all → take (length first) all ≡ first
 by-count {X} first all is = ap (λ (l : List X). take (length first) l) (sym is.1) ∙ take-append_seam first is.0
 
 -- the first events are in order
@@ -185,6 +185,30 @@ part-shown id name lines header octets w fresh =
 made-more : (id : ℕ) (file : NamedFile) (writers : List (ℕ × NamedFile)) → made_files (writers ++ (id, file) ∷ []) ≡ made_files writers ++ file ∷ []
 made-more id file writers = map-append (λ (x : ℕ × NamedFile). x.1) writers ((id, file) ∷ [])
 
+-- frames whose output was made, by what is said and written for them, and for so many of their parts
+pub frames_front : (outcome : Outcome (Router Journal)) (parts : ℕ → Outcome (Router Journal)) (count : ℕ) (name : List ℕ) (run : Run) (id : ℕ) (w : World) (new : Option World) (lines octets : List ℕ)
+    → found_at id w.writers ≡ None
+    → shown new ≡ Some (with_output (Some id) lines octets (shown_of (after_write id out_header (after_make id name w))))
+    → IsFront lines outcome.lines → IsFront octets (records_of outcome.packets)
+    → IsFront (parts count).lines lines → IsFront octets (records_of (parts count).packets)
+    → EndsFront (answer_by outcome name run) (λ k. part_by (parts k) name) (shown_of w) new
+frames_front outcome parts count name run id w new lines octets fresh is said sent reported written =
+    let file : NamedFile = record { name = name; octets = out_header ++ octets } in
+    let aim : Shown = record (shown_of w) { said = w.said ++ lines; writers = w.writers ++ (id, file) ∷ [] } in
+    let same : shown new ≡ Some aim = is ∙ ap Some (part-shown id name lines out_header octets w fresh) in
+    rw same (record {
+      lines = lines;
+      made = file ∷ [];
+      count = count;
+      files = refl;
+      said = refl;
+      wrote = made-more id file w.writers;
+      report = front-front lines outcome.lines _ said (front-more outcome.lines _);
+      output = (refl, (front-behind out_header octets (records_of outcome.packets) _ refl sent, tt));
+      reported = reported;
+      written = (refl, (front-behind out_header octets (records_of (parts count).packets) _ refl written, tt));
+    })
+
 -- a replay whose output was made, of so many events
 replay_front : (settings : Settings) (name : List ℕ) (run : Run) (id : ℕ) (w : World) (new : Option World) (first : List Event) (lines octets : List ℕ) → found_at id w.writers ≡ None
     → shown new ≡ Some (with_output (Some id) lines octets (shown_of (after_write id out_header (after_make id name w))))
@@ -194,24 +218,11 @@ replay_front : (settings : Settings) (name : List ℕ) (run : Run) (id : ℕ) (w
 unfolding replayed replayed_part
 replay_front settings name run id w new first lines octets fresh is within said reported written =
     let outcome = replay_of settings run in
-    let file : NamedFile = record { name = name; octets = out_header ++ octets } in
-    let aim : Shown = record (shown_of w) { said = w.said ++ lines; writers = w.writers ++ (id, file) ∷ [] } in
-    let same : shown new ≡ Some aim = is ∙ ap Some (part-shown id name lines out_header octets w fresh) in
     let named : take (length first) (events run.frames) ≡ first = by-count first (events run.frames) within in
     let packets = front-octets plain (started settings) first (events run.frames) within in
     let whole = front-front octets (records_of (played plain (started settings) first).packets) (records_of outcome.packets) written packets in
-    rw same (record {
-      lines = lines;
-      made = file ∷ [];
-      count = length first;
-      files = refl;
-      said = refl;
-      wrote = made-more id file w.writers;
-      report = front-front lines outcome.lines _ said (front-more outcome.lines _);
-      output = (refl, (front-behind out_header octets (records_of outcome.packets) _ refl whole, tt));
-      reported = rw named reported;
-      written = rw named (refl, (front-behind out_header octets (records_of (played plain (started settings) first).packets) _ refl written, tt));
-    })
+    frames_front outcome (λ k. played plain (started settings) (take k (events run.frames))) (length first) name run id w new lines octets fresh is said whole
+    (rw named reported) (rw named written)
 
 -- a play by the table that was cut short
 play_front : (settings : Settings) (name : List ℕ) (format : Format) (octets : List ℕ) (id : ℕ) (w : World) (new : Option World) (parts : Parts) → IsLawful settings → parts ≡ parts_in settings (statics settings)
@@ -254,11 +265,10 @@ header_front settings id reader format name (Some w) made fresh makes =
     replay_front settings name run id w made [] [] [] fresh same (events run.frames, refl) ((replay_of settings run).lines, refl) ([], refl) ([], refl)
 
 -- the output was made only in part, or not at all
-make_front : (settings : Settings) (name : List ℕ) (run : Run) (w : World) (new : Option World) → MakesPart name (Some w) new
-    → EndsFront (replayed settings name run) (replayed_part settings name run) (shown_of w) new
-unfolding replayed replayed_part
-make_front settings name run w new (inl same) = front_none _ _ w new refl (ap shown same)
-make_front settings name run w new (inr (id, k, fresh, is)) =
+pub make_front : (outcome : Outcome (Router Journal)) (parts : ℕ → Outcome (Router Journal)) (name : List ℕ) (run : Run) (w : World) (new : Option World) → (parts 0).lines ≡ [] → MakesPart name (Some w) new
+    → EndsFront (answer_by outcome name run) (λ k. part_by (parts k) name) (shown_of w) new
+make_front outcome parts name run w new zero (inl same) = front_none _ _ w new zero (ap shown same)
+make_front outcome parts name run w new zero (inr (id, k, fresh, is)) =
     let header = take k out_header in
     let file : NamedFile = record { name = name; octets = header } in
     let made = changed_at-more id (extended header) (record { name = name; octets = [] }) w.writers fresh in
@@ -274,14 +284,20 @@ make_front settings name run w new (inr (id, k, fresh, is)) =
       wrote = made-more id file w.writers;
       report = (_, refl);
       output = (refl, (front _, tt));
-      reported = ([], refl);
+      reported = front-same (parts 0).lines [] zero;
       written = (refl, (front _, tt));
     })
+
+plain_make : (settings : Settings) (name : List ℕ) (run : Run) (w : World) (new : Option World) → MakesPart name (Some w) new
+    → EndsFront (replayed settings name run) (replayed_part settings name run) (shown_of w) new
+unfolding replayed replayed_part
+plain_make settings name run w new makes =
+    make_front (replay_of settings run) (λ k. played plain (started settings) (take k (events run.frames))) name run w new refl makes
 
 pub output_front : (settings : Settings) (reader : ℕ) (format : Format) (name : List ℕ) (old new : Option World) → MakesPart name old new
     → IfSome old (λ w. EndsFront (replayed settings name (read_on format begin (left_of reader w))) (replayed_part settings name (read_on format begin (left_of reader w))) (shown_of w) new)
 output_front settings reader format name None new makes = tt
-output_front settings reader format name (Some w) new makes = make_front settings name (read_on format begin (left_of reader w)) w new makes
+output_front settings reader format name (Some w) new makes = plain_make settings name (read_on format begin (left_of reader w)) w new makes
 
 -- a file of that name was made, and then its header was written in part
 pub makes_part : (id : ℕ) (name header : List ℕ) (old made new : Option World) → header ≡ out_header → IfSome old (λ w. found_at id w.writers ≡ None)
@@ -316,30 +332,37 @@ pub front_says : (a : World → Answer) (parts : World → ℕ → Part) (line :
 front_says a parts line None mid new zeros same is says = tt
 front_says a parts line (Some w) mid new zeros same is says = front_line (a w) (parts w) line w mid new (zeros w) is same says
 
--- a part of the last line of a replay
-closing_front : (settings : Settings) (output : List ℕ) (run : Run) (counts : Counts) (w : World) (mid new : Option World) → HasReplayed settings output run counts (shown_of w) (shown mid)
-    → SaysPart (closing counts.fault (end_line counts.frames counts.written counts.entries)) mid new
-    → EndsFront (replayed settings output run) (replayed_part settings output run) (shown_of w) new
-unfolding replayed replayed_part
-closing_front settings output run counts w None new has says = absurd has.left
-closing_front settings output run counts w (Some v) new has says =
-    let outcome = replay_of settings run in
+-- a part of the last line of frames
+pub last_line_front : (outcome : Outcome (Router Journal)) (parts : ℕ → Outcome (Router Journal)) (count : ℕ) (output : List ℕ) (run : Run) (counts : Counts) (w : World) (mid new : Option World) → parts count ≡ outcome
+    → HasReplayedBy outcome output run counts (shown_of w) (shown mid) → SaysPart (closing counts.fault (end_line counts.frames counts.written counts.entries)) mid new
+    → EndsFront (answer_by outcome output run) (λ k. part_by (parts k) output) (shown_of w) new
+last_line_front outcome parts count output run counts w None new whole has says = absurd has.left
+last_line_front outcome parts count output run counts w (Some v) new whole has says =
     let last = closing counts.fault (end_line counts.frames counts.written counts.entries) in
     let line : last ≡ closing run.fault (end_line (length run.frames) (length outcome.packets) (length outcome.after.memory)) = rw (has.fault, has.frames, has.written, has.entries) refl in
-    let all = events run.frames in
-    let whole : take (length all) all ≡ all = by-count all all (front-all all) in
+    let file : NamedFile = record { name = output; octets = out_header ++ records_of outcome.packets } in
     rw says.1 (record {
       lines = outcome.lines ++ take says.0 last;
-      made = record { name = output; octets = out_header ++ records_of outcome.packets } ∷ [];
-      count = length all;
+      made = file ∷ [];
+      count = count;
       files = has.left.files;
       said = ap (λ (l : List ℕ). l ++ take says.0 last) has.left.said ∙ append_assoc w.said outcome.lines (take says.0 last);
       wrote = has.left.made;
       report = front-behind outcome.lines (take says.0 last) last _ (ap (λ (l : List ℕ). outcome.lines ++ l) line) (front-take says.0 last);
-      output = fronts-all (record { name = output; octets = out_header ++ records_of outcome.packets } ∷ []);
+      output = fronts-all (file ∷ []);
       reported = rw whole (front-more outcome.lines (take says.0 last));
-      written = rw whole (fronts-all (record { name = output; octets = out_header ++ records_of outcome.packets } ∷ []));
+      written = rw whole (fronts-all (file ∷ []));
     })
+
+-- of a replay
+closing_front : (settings : Settings) (output : List ℕ) (run : Run) (counts : Counts) (w : World) (mid new : Option World) → HasReplayed settings output run counts (shown_of w) (shown mid)
+    → SaysPart (closing counts.fault (end_line counts.frames counts.written counts.entries)) mid new
+    → EndsFront (replayed settings output run) (replayed_part settings output run) (shown_of w) new
+unfolding replayed replayed_part
+closing_front settings output run counts w mid new has says =
+    let all = events run.frames in
+    last_line_front (replay_of settings run) (λ k. played plain (started settings) (take k all)) (length all) output run counts w mid new
+    (ap (played plain (started settings)) (by-count all all (front-all all))) has says
 
 -- the same of a file
 pub file_front : (settings : Settings) (output input : List ℕ) (counts : Counts) (old mid new : Option World)

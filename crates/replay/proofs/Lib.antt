@@ -5,6 +5,7 @@ pub mod MessageLemmas
 pub mod PieceLemmas
 pub mod ReplayLemmas
 pub mod SharedCases
+pub mod SharedFrontCases
 pub mod ShowLemmas
 pub mod SteadyLemmas
 pub mod TrialLemmas

@@ -93,7 +93,7 @@ plain-header : (size : ℕ) (ns : List (List ℕ)) (output file : List ℕ) (set
 plain-header size ns output file settings None = refl
 plain-header size ns output file settings (Some fault) = refl
 
-plain-settings : (size : ℕ) (ns : List (List ℕ)) (output file : List ℕ) (r : Result Settings SettingsFault)
+pub plain-settings : (size : ℕ) (ns : List (List ℕ)) (output file : List ℕ) (r : Result Settings SettingsFault)
     → after_settings_by (frames_by zero size ns output) file r ≡ after_settings output file r
 plain-settings size ns output file (Err fault) = refl
 plain-settings size ns output file (Ok settings) = plain-header size ns output file settings (first_failing (header_rules file))
@@ -109,7 +109,7 @@ shared-header : (workers size : ℕ) (ns : List (List ℕ)) (output file : List 
 shared-header workers size ns output file settings None = refl
 shared-header workers size ns output file settings (Some fault) = refl
 
-shared-settings : (workers size : ℕ) (ns : List (List ℕ)) (output file : List ℕ) (r : Result Settings SettingsFault)
+pub shared-settings : (workers size : ℕ) (ns : List (List ℕ)) (output file : List ℕ) (r : Result Settings SettingsFault)
     → after_settings_by (shared output size ns) file r ≡ after_settings_by (frames_by (suc workers) size ns output) file r
 shared-settings workers size ns output file (Err fault) = refl
 shared-settings workers size ns output file (Ok settings) = shared-header workers size ns output file settings (first_failing (header_rules file))
@@ -157,7 +157,7 @@ unfolding answer answer_with
 status-with words files s old new gives = gives.gives.status ∙ same-words files gives.ns (words_of words)
 
 -- without forwarders the answer is that of the plain router
-plain-words : (files : List NamedFile) (ns : List (List ℕ)) (words : Option Words) → has_workers words ≡ false → after_words_by files ns words ≡ after_words files words
+pub plain-words : (files : List NamedFile) (ns : List (List ℕ)) (words : Option Words) → has_workers words ≡ false → after_words_by files ns words ≡ after_words files words
 plain-words files ns None none = refl
 plain-words files ns (Some (Replay settings input output zero round)) none = plain-settings round ns output (content input files) (settings_of (content settings files))
 plain-words files ns (Some (Replay settings input output (suc workers) round)) none = cc

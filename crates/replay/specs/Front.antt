@@ -13,9 +13,10 @@ use Rattle.capture_io.specs.declared.fault.CaptureFault.{CaptureFault}
 use Rattle.lisp_settings.specs.Settings.{settings_of}
 use Rattle.lisp_settings.specs.declared.fault.SettingsFault.{SettingsFault}
 use Rattle.lisp_settings.specs.declared.settings.Settings.{Settings}
-use Rattle.playback.specs.Events.{events, played, records_of}
+use Rattle.playback.specs.Events.{Outcome, events, played, records_of}
 use Rattle.playback.specs.Front.{IsFront}
-use Rattle.router_model.specs.Plain.{plain, started}
+use Rattle.router_model.specs.Journal.{Journal}
+use Rattle.router_model.specs.Plain.{Router, plain, started}
 use Rattle.replay.specs.Answer.{Answer, made_files}
 use Rattle.replay.specs.Show.{showing}
 
@@ -28,14 +29,17 @@ pub record Part : Type 0 where
 abbrev pub no_part : ℕ → Part
 no_part count = record { said = []; made = [] }
 
+-- lines, and a file with packets
+abbrev pub part_by : Outcome (Router Journal) → List ℕ → Part
+part_by outcome output = record {
+  said = outcome.lines;
+  made = record { name = output; octets = out_header ++ records_of outcome.packets } ∷ [];
+}
+
 -- for so many events of a capture that is replayed into a file: their lines, and the file with their packets
 unfoldable pub replayed_part : Settings → List ℕ → Run → ℕ → Part
 replayed_part settings output run count =
-    let outcome = played plain (started settings) (take count (events run.frames)) in
-    record {
-      said = outcome.lines;
-      made = record { name = output; octets = out_header ++ records_of outcome.packets } ∷ [];
-    }
+    part_by (played plain (started settings) (take count (events run.frames))) output
 
 -- for so many events of a capture that is shown
 unfoldable pub shown_part : Run → ℕ → Part

@@ -7,3 +7,4 @@ pub mod Shared
 pub mod Show
 pub mod Taking
 pub mod Trial
+pub mod SharedFront

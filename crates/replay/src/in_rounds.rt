@@ -1,5 +1,5 @@
 // A capture, replayed in rounds with forwarders.
-ghost use Rattle.std.specs.Prelude.{◌≡◌, ◌≤◌, IfOk, IfSome, IsErrOf, IsTrue};
+ghost use Rattle.std.specs.Prelude.{◌≡◌, ◌≤◌, IfOk, IfSome, IsErrOf, IsTrue, OnErr};
 ghost use Rattle.command_words.specs.Limits.{most_round_frames, most_workers};
 ghost use Rattle.desk.specs.declared.fault.DeskFault.TheVariants.{Failed};
 ghost use Rattle.desk.specs.Causes.{HasCause, StaysSteady};
@@ -11,6 +11,7 @@ ghost use Rattle.lisp_settings.specs.Lawful.{IsLawful};
 ghost use Rattle.replay.specs.Answer.{is_end, is_of_form};
 ghost use Rattle.replay.specs.Readings.{HasReplayedInRounds, HasReplayedFileInRounds};
 ghost use Rattle.replay.specs.Shared.{Shares, SharesFile};
+ghost use Rattle.replay.specs.SharedFront.{EndsFile, EndsInRounds, EndsRun};
 
 use crate::Status;
 use crate::last_lines::{close, end_line, refuse_capture, refuse_settings};
@@ -40,6 +41,9 @@ pub(crate) fn share_capture<R: Threads + Wait + Sync, D: Desk, G: Gate>(
         Shares crew.now.round output.now (content input.now w.files) (content settings.now w.files)
         s (shown_of w) (shown (D.told desk.new)))) }
     ensures form { IfOk result (λ s. IsTrue (is_of_form s)) }
+    ensures front { OnErr result (IfSome (D.told desk.old) (λ w.
+        EndsInRounds crew.now.round output.now (content input.now w.files) (content settings.now w.files)
+        (shown_of w) (D.told desk.new))) }
     ensures cause { HasCause (D.faults desk.old) (D.faults desk.new) result }
     ensures steady { StaysSteady (D.steady desk.old) (D.steady desk.new)
         (IsThere settings.now (D.told desk.old) × IsThere input.now (D.told desk.old)) (IsErrOf result Failed) }
@@ -65,6 +69,8 @@ fn share_by<R: Threads + Wait + Sync, D: Desk, G: Gate>(
         SharesFile crew.now.round settings.now output.now (content input.now w.files)
         s (shown_of w) (shown (D.told desk.new)))) }
     ensures end { IfOk result (λ s. IsTrue (is_end s)) }
+    ensures front { OnErr result (IfSome (D.told desk.old) (λ w.
+        EndsFile crew.now.round settings.now output.now (content input.now w.files) (shown_of w) (D.told desk.new))) }
     ensures cause { HasCause (D.faults desk.old) (D.faults desk.new) result }
     ensures steady { StaysSteady (D.steady desk.old) (D.steady desk.new)
         (IsThere input.now (D.told desk.old)) (IsErrOf result Failed) }
@@ -94,6 +100,8 @@ fn share_file<R: Threads + Wait + Sync, D: Desk, G: Gate>(
     ensures answer { IfOk result (λ counts. IfSome (D.told desk.old) (λ w.
         HasReplayedFileInRounds crew.now.round settings.now output.now (content input.now w.files) counts
         (shown_of w) (shown (D.told desk.new)))) }
+    ensures front { OnErr result (IfSome (D.told desk.old) (λ w.
+        EndsFile crew.now.round settings.now output.now (content input.now w.files) (shown_of w) (D.told desk.new))) }
     ensures cause { HasCause (D.faults desk.old) (D.faults desk.new) result }
     ensures steady { StaysSteady (D.steady desk.old) (D.steady desk.new)
         (IsThere input.now (D.told desk.old)) (IsErrOf result Failed) }
@@ -125,6 +133,9 @@ fn share_frames<R: Threads + Wait + Sync, D: Desk, G: Gate>(
         HasReplayedInRounds crew.now.round settings.now output.now
         (read_on reader.format begin (left_of reader.id w)) counts
         (shown_of w) (shown (D.told desk.new)))) }
+    ensures front { OnErr result (IfSome (D.told desk.old) (λ w.
+        EndsRun crew.now.round settings.now output.now (read_on reader.format begin (left_of reader.id w))
+        (shown_of w) (D.told desk.new))) }
     ensures cause { HasCause (D.faults desk.old) (D.faults desk.new) result }
     ensures steady { StaysSteady (D.steady desk.old) (D.steady desk.new)
         (IsGiven reader.id to_read (D.given desk.old)) (IsErrOf result Failed) }

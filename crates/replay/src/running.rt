@@ -5,12 +5,12 @@ ghost use Rattle.octets.specs.Causes.{Rose};
 ghost use Rattle.desk.specs.declared.fault.DeskFault.TheVariants.{Failed};
 ghost use Rattle.desk.specs.Causes.{HasCause, StaysSteady};
 ghost use Rattle.desk.specs.World.{content, shown, shown_of, IsThere};
-ghost use Rattle.lisp_settings.specs.Settings.{settings_of};
 ghost use Rattle.replay.specs.declared.status.Status.TheVariants.{Done, Usage, Host, Memory};
 ghost use Rattle.command_words.specs.Words.{words_of, AreWithinLimits};
-ghost use Rattle.replay.specs.Answer.{after_settings, after_words, answer, is_of_form, is_outside, names_read, AreThere, Leaves};
+ghost use Rattle.replay.specs.Answer.{answer, is_of_form, is_outside, names_read, AreThere, Leaves};
 ghost use Rattle.replay.specs.Shared.{has_workers, GivesAfter, GivesFor, GivesWith};
-ghost use Rattle.replay.specs.Front.{part, part_after_settings, part_after_words, EndsFront, LeavesFront};
+ghost use Rattle.replay.specs.Front.{part, EndsFront, LeavesFront};
+ghost use Rattle.replay.specs.SharedFront.{EndsAfter, EndsFor, EndsWith};
 
 use crate::in_rounds::share_capture;
 use crate::last_lines::refuse_words;
@@ -55,6 +55,11 @@ pub fn run<R: Threads + Wait + Sync, D: Desk, G: Gate>(
         (LeavesFront (answer (map string_bytes words.now) old.files)
         (part (map string_bytes words.now) old.files) old)) }
 
+    // With forwarders there are numbers for which it is so; then all lines of so many rounds were said, and
+    // no packet but theirs was written.
+    ensures shared_front { is_outside result ≡ true → IfSome (D.told desk.old) (λ w.
+        EndsWith (map string_bytes words.now) w.files (shown_of w) (D.told desk.new)) }
+
     // The causes, also where the desk tells nothing.
     ensures usage { is_outside result ≡ false
         → ((result ≡ Usage) ↔ (words_of (map string_bytes words.now) ≡ None)) }
@@ -95,6 +100,8 @@ fn answer_words<R: Threads + Wait + Sync, D: Desk, G: Gate>(
     ensures left { has_workers (words_of (map string_bytes words.now)) ≡ false
         → OnOk result (IfSome (D.told desk.old) (λ w.
         IsSomeAnd (shown (D.told desk.new)) (Leaves (answer (map string_bytes words.now) w.files) (shown_of w)))) }
+    ensures shared_front { OnErr result (IfSome (D.told desk.old) (λ w.
+        EndsWith (map string_bytes words.now) w.files (shown_of w) (D.told desk.new))) }
     ensures front { has_workers (words_of (map string_bytes words.now)) ≡ false
         → OnErr result (IfSome (D.told desk.old) (λ w.
         EndsFront (answer (map string_bytes words.now) w.files)
@@ -124,9 +131,8 @@ fn do_words<R: Threads + Wait + Sync, D: Desk, G: Gate>(
     requires { AreWithinLimits words.now }
     ensures answer { IfOk result (λ s. IfSome (D.told desk.old) (λ w.
         GivesAfter w.files (Some words.now) s (shown_of w) (shown (D.told desk.new)))) }
-    ensures front { has_workers (Some words.now) ≡ false → OnErr result (IfSome (D.told desk.old) (λ w.
-        EndsFront (after_words w.files (Some words.now)) (part_after_words w.files (Some words.now))
-        (shown_of w) (D.told desk.new))) }
+    ensures front { OnErr result (IfSome (D.told desk.old) (λ w.
+        EndsAfter w.files (Some words.now) (shown_of w) (D.told desk.new))) }
     ensures form { IfOk result (λ s. IsTrue (is_of_form s)) }
     ensures cause { HasCause (D.faults desk.old) (D.faults desk.new) result }
     ensures steady { StaysSteady (D.steady desk.old) (D.steady desk.new)
@@ -168,10 +174,9 @@ fn replay_with<R: Threads + Wait + Sync, D: Desk, G: Gate>(
     ensures answer { IfOk result (λ s. IfSome (D.told desk.old) (λ w.
         GivesFor crew.now.workers crew.now.round output.now (content input.now w.files) (content settings.now w.files)
         s (shown_of w) (shown (D.told desk.new)))) }
-    ensures front { crew.now.workers ≡ 0 → OnErr result (IfSome (D.told desk.old) (λ w.
-        let file = content input.now w.files in
-        EndsFront (after_settings output.now file (settings_of (content settings.now w.files)))
-        (part_after_settings output.now file (settings_of (content settings.now w.files))) (shown_of w) (D.told desk.new))) }
+    ensures front { OnErr result (IfSome (D.told desk.old) (λ w.
+        EndsFor crew.now.workers crew.now.round output.now (content input.now w.files) (content settings.now w.files)
+        (shown_of w) (D.told desk.new))) }
     ensures form { IfOk result (λ s. IsTrue (is_of_form s)) }
     ensures cause { HasCause (D.faults desk.old) (D.faults desk.new) result }
     ensures steady { StaysSteady (D.steady desk.old) (D.steady desk.new)

@@ -4,6 +4,13 @@ use Rattle.desk.specs.World.{after_say}
 use Rattle.replay.specs.Answer.{closing}
 use Rattle.replay.proofs.AnswerCases.{ok_both}
 use Rattle.replay.proofs.SharedCases.{shared_closed, shared_refused}
+use Rattle.std.proofs.Common.{subst}
+use Rattle.std.proofs.lemmas.Result.{on_err_weaker}
+use Rattle.playback.proofs.FrontLemmas.{on_err_always}
+use Rattle.replay.specs.Front.{SaysPart}
+use Rattle.replay.specs.Lines.{end_line}
+use Rattle.replay.proofs.FrontCases.{says_none}
+use Rattle.replay.proofs.SharedFrontCases.{shares_fault, shares_line}
 use Rattle.replay.proofs.in_rounds.share_by.Goals as goal
 
 pub returns-in_ok-line-in-Ok-clause-answer : goal.returns-in_ok-line-in-Ok-clause-answer
@@ -19,3 +26,25 @@ returns-in-Err-clause-answer g c =
     ok_both c.refuse_capture.result c.refuse_capture.ensures.status c.refuse_capture.ensures.told (λ s is said.
     shared_refused c.args.crew.now.round c.args.settings.now c.args.output.now c.args.input.now c.in-Err.fault (g.D.Desk.told c.args.desk.now) (g.D.Desk.told c.share_file.new.desk) (g.D.Desk.told c.refuse_capture.new.desk) s
     (rw c.in-Err.is at c.in_ok-counts.ensures.answer) said is)
+
+pub returns-in_err-line-in-Ok-clause-front : goal.returns-in_err-line-in-Ok-clause-front
+returns-in_err-line-in-Ok-clause-front g c =
+    let counts = c.in-Ok.counts in
+    let played = g.D.Desk.told c.share_file.new.desk in
+    on_err_always c.from_residual-in_err-line-in-Ok.result
+    (shares_line c.args.crew.now.round c.args.settings.now c.args.output.now c.args.input.now counts (g.D.Desk.told c.args.desk.now) played played (rw c.in-Ok.is at c.in_ok-counts.ensures.answer) (says_none (closing counts.fault (end_line counts.frames counts.written counts.entries)) played))
+
+pub returns-in_ok-line-in-Ok-clause-front : goal.returns-in_ok-line-in-Ok-clause-front
+returns-in_ok-line-in-Ok-clause-front g c =
+    let counts = c.in-Ok.counts in
+    let played = g.D.Desk.told c.share_file.new.desk in
+    let new = g.D.Desk.told c.close.new.desk in
+    on_err_weaker c.close.result (λ says.
+    shares_line c.args.crew.now.round c.args.settings.now c.args.output.now c.args.input.now counts (g.D.Desk.told c.args.desk.now) played new (rw c.in-Ok.is at c.in_ok-counts.ensures.answer)
+    (subst (λ (l : List ℕ). SaysPart (closing counts.fault l) played new) (c.as_slice.ensures ∙ c.in_ok-line-in-Ok.ensures) says)) c.close.ensures.part
+
+pub returns-in-Err-clause-front : goal.returns-in-Err-clause-front
+returns-in-Err-clause-front g c =
+    on_err_weaker c.refuse_capture.result (λ says.
+    shares_fault c.args.crew.now.round c.args.settings.now c.args.output.now c.args.input.now c.in-Err.fault (g.D.Desk.told c.args.desk.now) (g.D.Desk.told c.share_file.new.desk) (g.D.Desk.told c.refuse_capture.new.desk)
+    (rw c.in-Err.is at c.in_ok-counts.ensures.answer) says) c.refuse_capture.ensures.part

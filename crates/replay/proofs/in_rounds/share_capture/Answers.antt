@@ -9,6 +9,11 @@ use Rattle.replay.specs.declared.status.Status.{Status}
 use Rattle.replay.specs.declared.status.Status.TheVariants as status
 use Rattle.replay.proofs.AnswerCases.{ok_both, said_line, shown_stays}
 use Rattle.replay.proofs.SharedCases.{shares_by, shares_refused}
+use Rattle.std.proofs.lemmas.Option.{IfSome_then}
+use Rattle.std.proofs.lemmas.Result.{on_err_weaker}
+use Rattle.playback.proofs.FrontLemmas.{on_err_always}
+use Rattle.replay.specs.SharedFront.{EndsFile}
+use Rattle.replay.proofs.SharedFrontCases.{shares_settings, shares_settings_line, shares_unloaded}
 use Rattle.replay.proofs.in_rounds.share_capture.Goals as goal
 
 pub returns-in-Err-clause-answer : goal.returns-in-Err-clause-answer
@@ -35,3 +40,25 @@ returns-in-Ok-clause-answer g c =
     let gives = shown_stays (λ (o : Shown). SharesFile size c.in-Ok.settings c.args.output.now (content c.args.input.now o.files) s o (shown new)) old (g.D.Desk.told c.load_settings.new.desk) c.in_ok-settings.ensures.shown answered in
     IfSome_both old c.in_ok-settings.ensures.value gives (λ w value given.
     shares_by size c.in-Ok.settings c.args.output.now (content c.args.input.now w.files) (content c.args.settings.now w.files) s (shown_of w) (shown new) (sym c.in-Ok.is ∙ value) given)) c.share_by.ensures.answer
+
+pub returns-in_err-settings-clause-front : goal.returns-in_err-settings-clause-front
+returns-in_err-settings-clause-front g c =
+    on_err_always c.from_residual.result
+    (shares_unloaded c.args.crew.now.round c.args.output.now c.args.input.now c.args.settings.now (g.D.Desk.told c.args.desk.now) (g.D.Desk.told c.load_settings.new.desk) c.in_err-settings.ensures.shown)
+
+pub returns-in-Err-clause-front : goal.returns-in-Err-clause-front
+returns-in-Err-clause-front g c =
+    let old = g.D.Desk.told c.args.desk.now in
+    on_err_weaker c.refuse_settings.result (λ says.
+    shares_settings_line c.args.crew.now.round c.args.output.now c.args.input.now c.args.settings.now c.in-Err.fault old (g.D.Desk.told c.load_settings.new.desk) (g.D.Desk.told c.refuse_settings.new.desk) c.in_ok-settings.ensures.shown
+    (IfSome_then old c.in_ok-settings.ensures.value (λ w value. sym c.in-Err.is ∙ value)) says) c.refuse_settings.ensures.part
+
+pub returns-in-Ok-clause-front : goal.returns-in-Ok-clause-front
+returns-in-Ok-clause-front g c =
+    let old = g.D.Desk.told c.args.desk.now in
+    let new = g.D.Desk.told c.share_by.new.desk in
+    let size = c.args.crew.now.round in
+    on_err_weaker c.share_by.result (λ ends.
+    let moved = shown_stays (λ (o : Shown). EndsFile size c.in-Ok.settings c.args.output.now (content c.args.input.now o.files) o new) old (g.D.Desk.told c.load_settings.new.desk) c.in_ok-settings.ensures.shown ends in
+    IfSome_both old c.in_ok-settings.ensures.value moved (λ w value given.
+    shares_settings size c.in-Ok.settings c.args.output.now (content c.args.input.now w.files) (content c.args.settings.now w.files) (shown_of w) new (sym c.in-Ok.is ∙ value) given)) c.share_by.ensures.front

@@ -7,16 +7,17 @@ use Rattle.command_words.specs.declared.words.Words.{Words}
 use Rattle.desk.specs.Causes.{StaysSteady}
 use Rattle.desk.specs.declared.fault.DeskFault.TheVariants.{Failed}
 use Rattle.desk.specs.World.{shown, shown_of}
-use Rattle.replay.specs.Answer.{Answer, answer, names_read, AreThere}
+use Rattle.replay.specs.Answer.{names_read, AreThere}
 use Rattle.replay.specs.Shared.{GivesWith}
 use Rattle.replay.specs.declared.status.Status.{Status}
 use Rattle.replay.specs.declared.status.Status.TheVariants as status
 use Rattle.std.proofs.lemmas.Result.{on_err_weaker}
 use Rattle.replay.specs.Answer.{after_words}
-use Rattle.replay.specs.Front.{part, part_after_words}
-use Rattle.replay.proofs.FrontCases.{always, front_as, front_says, front_still, part-of, part-zero}
-use Rattle.replay.proofs.AnswerCases.{answer-of, ok_both, said_line}
+use Rattle.replay.specs.Front.{part_after_words}
+use Rattle.replay.proofs.FrontCases.{always, front_says, words-zero}
+use Rattle.replay.proofs.AnswerCases.{ok_both, said_line}
 use Rattle.replay.proofs.SharedCases.{gives_with, shared-left, shared-status}
+use Rattle.replay.proofs.SharedFrontCases.{ends_after, ends_still, ends_with, plain-ends}
 use Rattle.replay.proofs.running.answer_words.Goals as goal
 
 pub returns-in-Ok-clause-shared : goal.returns-in-Ok-clause-shared
@@ -58,25 +59,42 @@ pub returns-in-Err-Usage-clause-left : goal.returns-in-Err-Usage-clause-left
 returns-in-Err-Usage-clause-left g c = λ none.
     shared-left c.refuse_words.result (map string_bytes c.args.words.now) (g.D.Desk.told c.args.desk.now) (shown (g.D.Desk.told c.refuse_words.new.desk)) none (returns-in-Err-Usage-clause-shared g c)
 
+pub returns-in-Ok-clause-shared_front : goal.returns-in-Ok-clause-shared_front
+returns-in-Ok-clause-shared_front g c =
+    let words = map string_bytes c.args.words.now in
+    let new = g.D.Desk.told c.do_words.new.desk in
+    on_err_weaker c.do_words.result (λ ends. IfSome_then (g.D.Desk.told c.args.desk.now) ends (λ w front.
+    ends_with words w.files (Some c.in-Ok.words) (shown_of w) new c.in-Ok.ensures.ok front)) c.do_words.ensures.front
+
 pub returns-in-Ok-clause-front : goal.returns-in-Ok-clause-front
 returns-in-Ok-clause-front g c = λ none.
     let words = map string_bytes c.args.words.now in
     let new = g.D.Desk.told c.do_words.new.desk in
     on_err_weaker c.do_words.result (λ ends. IfSome_then (g.D.Desk.told c.args.desk.now) ends (λ w front.
-    front_as (after_words w.files (Some c.in-Ok.words)) (answer words w.files) (part_after_words w.files (Some c.in-Ok.words)) (part words w.files) (shown_of w) new
-    (sym (answer-of words w.files (Some c.in-Ok.words) c.in-Ok.ensures.ok)) (sym (part-of words w.files (Some c.in-Ok.words) c.in-Ok.ensures.ok)) front)) (c.do_words.ensures.front (rw c.in-Ok.ensures.ok at none))
+    plain-ends words w.files (shown_of w) new none front)) (returns-in-Ok-clause-shared_front g c)
+
+pub returns-in-Err-Usage-clause-shared_front : goal.returns-in-Err-Usage-clause-shared_front
+returns-in-Err-Usage-clause-shared_front g c =
+    let words = map string_bytes c.args.words.now in
+    let old = g.D.Desk.told c.args.desk.now in
+    let new = g.D.Desk.told c.refuse_words.new.desk in
+    let none : words_of words ≡ None = c.in-Err-Usage.ensures.usage (ap Err c.in-Err-Usage.field-0-is) in
+    on_err_weaker c.refuse_words.result (λ says. IfSome_then old (
+    front_says (λ w. after_words w.files None) (λ w. part_after_words w.files None) (codes "usage\n") old old new (λ w. words-zero w.files None) refl (always old (λ w. refl)) says) (λ w ends.
+    ends_with words w.files None (shown_of w) new none (ends_after w.files None (shown_of w) new refl refl ends))) c.refuse_words.ensures.part
 
 pub returns-in-Err-Usage-clause-front : goal.returns-in-Err-Usage-clause-front
 returns-in-Err-Usage-clause-front g c = λ plain.
     let words = map string_bytes c.args.words.now in
-    let old = g.D.Desk.told c.args.desk.now in
-    let none : words_of words ≡ None = c.in-Err-Usage.ensures.usage (ap Err c.in-Err-Usage.field-0-is) in
-    on_err_weaker c.refuse_words.result (λ says.
-    front_says (λ w. answer words w.files) (λ w. part words w.files) (codes "usage\n") old old (g.D.Desk.told c.refuse_words.new.desk) (λ w. part-zero words w.files) refl
-    (always old (λ w. ap (λ (a : Answer). a.said) (answer-of words w.files None none))) says) c.refuse_words.ensures.part
+    let new = g.D.Desk.told c.refuse_words.new.desk in
+    on_err_weaker c.refuse_words.result (λ ends. IfSome_then (g.D.Desk.told c.args.desk.now) ends (λ w front.
+    plain-ends words w.files (shown_of w) new plain front)) (returns-in-Err-Usage-clause-shared_front g c)
+
+pub returns-in-Err-Memory-clause-shared_front : goal.returns-in-Err-Memory-clause-shared_front
+returns-in-Err-Memory-clause-shared_front g c =
+    ends_still (map string_bytes c.args.words.now) (g.D.Desk.told c.args.desk.now) (g.D.Desk.told c.args.desk.now) refl
 
 pub returns-in-Err-Memory-clause-front : goal.returns-in-Err-Memory-clause-front
 returns-in-Err-Memory-clause-front g c = λ plain.
-    let words = map string_bytes c.args.words.now in
-    let old = g.D.Desk.told c.args.desk.now in
-    front_still (λ w. answer words w.files) (λ w. part words w.files) old old (λ w. part-zero words w.files) refl
+    IfSome_then (g.D.Desk.told c.args.desk.now) (returns-in-Err-Memory-clause-shared_front g c) (λ w front.
+    plain-ends (map string_bytes c.args.words.now) w.files (shown_of w) (g.D.Desk.told c.args.desk.now) plain front)

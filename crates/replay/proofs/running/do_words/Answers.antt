@@ -1,23 +1,33 @@
-use Rattle.std.proofs.Common.{ap, sym, subst, Some, refl}
+use Rattle.std.proofs.Common.{sym, subst, Some, refl}
 use Rattle.std.proofs.lemmas.Option.{IfSome_then}
 use Rattle.std.proofs.lemmas.Result.{IfOk-weaker, on_err_weaker}
 use Rattle.command_words.specs.declared.words.Words.{Words}
-use Rattle.command_words.specs.declared.words.Words.TheVariants.{Show}
+use Rattle.command_words.specs.declared.words.Words.TheVariants.{Show, Trial}
 use Rattle.desk.specs.World.{shown, shown_of}
 use Rattle.replay.specs.Answer.{after_words}
 use Rattle.replay.specs.Front.{part_after_words}
 use Rattle.replay.specs.Shared.{GivesAfter}
 use Rattle.replay.specs.Trial.{trial_text}
 use Rattle.replay.proofs.FrontCases.{always, front_says, words-zero}
+use Rattle.replay.specs.SharedFront.{EndsAfter}
 use Rattle.replay.proofs.SharedCases.{by_plain}
+use Rattle.replay.proofs.SharedFrontCases.{ends_after}
 use Rattle.replay.proofs.running.do_words.Goals as goal
 
 pub returns-in-Trial-clause-front : goal.returns-in-Trial-clause-front
-returns-in-Trial-clause-front g c = λ none.
+returns-in-Trial-clause-front g c =
     let old = g.D.Desk.told c.args.desk.now in
-    on_err_weaker c.try_number.result (λ says.
-    front_says (λ w. after_words w.files (Some c.args.words.now)) (λ w. part_after_words w.files (Some c.args.words.now)) (trial_text c.in-Trial.n) old old (g.D.Desk.told c.try_number.new.desk) (λ w. words-zero w.files (Some c.args.words.now)) refl
-    (always old (λ w. ap (λ (words : Words). (after_words w.files (Some words)).said) c.in-Trial.is)) says) c.try_number.ensures.part
+    let new = g.D.Desk.told c.try_number.new.desk in
+    on_err_weaker c.try_number.result (λ says. IfSome_then old (
+    front_says (λ w. after_words w.files (Some (Trial c.in-Trial.n))) (λ w. part_after_words w.files (Some (Trial c.in-Trial.n))) (trial_text c.in-Trial.n) old old new (λ w. words-zero w.files (Some (Trial c.in-Trial.n))) refl
+    (always old (λ w. refl)) says) (λ w ends.
+    subst (λ (words : Words). EndsAfter w.files (Some words) (shown_of w) new) (sym c.in-Trial.is) (ends_after w.files (Some (Trial c.in-Trial.n)) (shown_of w) new refl refl ends))) c.try_number.ensures.part
+
+pub returns-in-Show-clause-front : goal.returns-in-Show-clause-front
+returns-in-Show-clause-front g c =
+    let new = g.D.Desk.told c.show_capture.new.desk in
+    on_err_weaker c.show_capture.result (λ ends. IfSome_then (g.D.Desk.told c.args.desk.now) ends (λ w front.
+    subst (λ (words : Words). EndsAfter w.files (Some words) (shown_of w) new) (sym c.in-Show.is) (ends_after w.files (Some (Show c.in-Show.input)) (shown_of w) new refl refl (rw c.as_str.ensures at front)))) c.show_capture.ensures.front
 
 pub returns-in-Show-clause-answer : goal.returns-in-Show-clause-answer
 returns-in-Show-clause-answer g c =
