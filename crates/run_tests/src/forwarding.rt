@@ -14,7 +14,7 @@ use std::test::Fail;
 use std::thread::Threads;
 
 /// A site with one mapping.
-const SITE: &str = r#"
+pub(crate) const SITE: &str = r#"
 [[locator]]
 address = "192.0.2.1"
 [[attachment]]
@@ -39,10 +39,27 @@ const TURNS: u32 = 4_000_000_000;
 
 /// A gate that holds each of two workers until the other has come.
 #[derive(Drop)]
-struct Meeting {
+pub(crate) struct Meeting {
     first: AtomicU64,
     second: AtomicU64,
     missed: AtomicU64,
+}
+
+impl Meeting {
+    pub(crate) fn new() -> Meeting {
+        Meeting {
+            first: AtomicU64::new(0),
+            second: AtomicU64::new(0),
+            missed: AtomicU64::new(0),
+        }
+    }
+
+    /// Both workers came, and neither waited in vain.
+    pub(crate) fn was_kept(&self, rt: &impl Abort) {
+        assert_eq!(rt; self.first.load(Ordering::SeqCst), 1);
+        assert_eq!(rt; self.second.load(Ordering::SeqCst), 1);
+        assert_eq!(rt; self.missed.load(Ordering::SeqCst), 0);
+    }
 }
 
 impl Gate for Meeting {
@@ -97,16 +114,10 @@ fn ran_through<R: Threads + Wait + Sync, G: Gate>(
 
 #[test]
 fn forwarders_run_side_by_side(rt: HostRuntime) -> Result<(), Fail> {
-    let gate = Meeting {
-        first: AtomicU64::new(0),
-        second: AtomicU64::new(0),
-        missed: AtomicU64::new(0),
-    };
+    let gate = Meeting::new();
     let status = ran_through(&rt, rt.alloc(), &gate)?;
     assert_eq!(rt; status, Status::Done);
-    assert_eq!(rt; gate.first.load(Ordering::SeqCst), 1);
-    assert_eq!(rt; gate.second.load(Ordering::SeqCst), 1);
-    assert_eq!(rt; gate.missed.load(Ordering::SeqCst), 0);
+    gate.was_kept(&rt);
     Ok(())
 }
 

@@ -11,6 +11,8 @@ mod live_mappings;
 #[cfg(test)]
 mod open_requests;
 #[cfg(test)]
+mod rounds;
+#[cfg(test)]
 mod trials;
 #[cfg(test)]
 mod words;
