@@ -1,5 +1,5 @@
 /* Refuses one allocation of a program: the one whose number, from 1, is in the environment's REFUSE.
-   Says on standard error at the end how many there were. */
+   Says on standard error at the end how many there were, in all threads together. */
 #define _GNU_SOURCE
 #include <dlfcn.h>
 #include <errno.h>
@@ -15,7 +15,7 @@ static int refused(void)
         const char *text = getenv("REFUSE");
         number = text ? atol(text) : 0;
     }
-    return ++asked == number;
+    return __atomic_add_fetch(&asked, 1, __ATOMIC_SEQ_CST) == number;
 }
 
 void *malloc(size_t size)

@@ -1,0 +1,88 @@
+"""What a replay may leave that is cut short: a front of a lawful report, and no file or a front of the output to it.
+
+With workers the numbers of the whole lines are read first; a line that is cut may have any number that its frame may
+have, and what is behind it any.
+"""
+import os
+import struct
+import tempfile
+
+import plain
+import rounds
+from captures import CaptureFault, frames_of
+from wire import existing
+
+SECOND = 10**9
+
+
+def is_front(report, output, right):
+    """Whether a report and an output, or None, are fronts of those of a right end."""
+    return right[1].startswith(report) and (output is None or (right[2] or b"").startswith(output))
+
+
+def moments_of(capture):
+    """The moments of a capture's frames, those before its fault."""
+    moments = []
+    try:
+        moments += (moment for moment, _, _ in frames_of(capture))
+    except CaptureFault:
+        pass
+    return moments
+
+
+def written_at(output):
+    """The moments of the packets that an output has or begins with, as far as they are there."""
+    at = 24
+    while at + 8 <= len(output):
+        second, nanosecond = struct.unpack("<II", output[at:at + 8])
+        yield second * SECOND + nanosecond
+        at += 16 + int.from_bytes(output[at + 8:at + 12], "little")
+
+
+class Lawful:
+    """The ends that a replay of these files may have, with so many workers and frames a round."""
+
+    def __init__(self, settings, capture, workers=0, size=256):
+        self.settings, self.capture, self.size = settings, capture, size
+        self.moments = moments_of(capture)
+        self.one = None if workers else self.ended(plain.replay)
+
+    def ended(self, replay, *how):
+        with tempfile.TemporaryDirectory() as folder:
+            path = os.path.join(folder, "out")
+            return *plain.ended(replay, self.settings, self.capture, path, *how), existing(path)
+
+    def has_end(self, end):
+        """Whether a replay may end so where nothing is refused and nothing fails."""
+        if self.one:
+            return end == self.one
+        return not rounds.fault(self.settings, self.capture, self.size, end)
+
+    def has_front(self, report, output):
+        """Whether a replay that is cut short may have said and written so much."""
+        return any(is_front(report, output, right) for right in ([self.one] if self.one else self.continued(report)))
+
+    def has_reported(self, report, output):
+        """Whether no packet that was written is of a frame without a whole line; of seconds some may be behind that."""
+        said = min(report.count("\n"), len(self.moments))
+        seconds = [moment // SECOND * SECOND for moment in self.moments[said:said + 1]]
+        last = max(self.moments[said - 1:said] + seconds) if said else -1
+        return all(moment <= last for moment in written_at(output or b""))
+
+    def continued(self, report):
+        """The ends by the report's numbers, one for each number that the line may have that is cut."""
+        whole = report[:report.rfind("\n") + 1]
+        said, cut, choices, choice = rounds.reported(whole), whole.count("\n") + 1, {}, None
+
+        def choose(number, ends):
+            if number < cut:
+                return said(number, ends)
+            if number == cut:
+                choices.update(dict.fromkeys(ends))
+            return choice if number == cut and choice in ends else ends[0]
+        try:
+            yield self.ended(rounds.replay, self.size, choose)
+            for choice in list(choices):
+                yield self.ended(rounds.replay, self.size, choose)
+        except rounds.Unlawful:
+            return
