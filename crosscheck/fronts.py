@@ -1,14 +1,20 @@
+#!/usr/bin/env python3
 """What a replay may leave that is cut short: a front of a lawful report, and no file or a front of the output to it.
 
+usage: fronts.py
 With workers the numbers of the whole lines are read first; a line that is cut may have any number that its frame may
-have, and what is behind it any.
+have, and what is behind it any. As a program it has each front of the worked reports of worked_rounds.py judged, and
+each with another last octet, and sees that just those are taken that one of these reports begins with; and likewise
+outputs. It ends with status 1 where one isn't.
 """
 import os
 import struct
+import sys
 import tempfile
 
 import plain
 import rounds
+import worked_rounds
 from captures import CaptureFault, frames_of
 from wire import existing
 
@@ -86,3 +92,43 @@ class Lawful:
                 yield self.ended(rounds.replay, self.size, choose)
         except rounds.Unlawful:
             return
+
+
+# As a program.
+
+
+def spoiled(octets):
+    """The same with the last octet changed."""
+    return octets[:-1] + bytes([octets[-1] ^ 1]) if octets else octets
+
+
+def fronts_of(ends):
+    """Each front of a report, and the same spoiled; and behind whole reports fronts of the outputs, and spoiled ones."""
+    texts = {end[1][:size] for end in ends for size in range(len(end[1]) + 1)}
+    for text in sorted(texts):
+        yield text, None
+        yield spoiled(text.encode()).decode(), None
+    for _, report, output in ends:
+        for size in range(0, len(output) + 1, 7):
+            yield report, output[:size]
+            yield report, spoiled(output[:size])
+
+
+def main():
+    ends, count = worked_rounds.ends(), 0
+    with tempfile.TemporaryDirectory() as folder:
+        settings, capture = (os.path.join(folder, name) for name in ("settings", "in"))
+        with open(settings, "w") as file:
+            file.write(worked_rounds.SETTINGS)
+        with open(capture, "wb") as file:
+            file.write(worked_rounds.CAPTURE)
+        lawful = Lawful(settings, capture, worked_rounds.WORKERS, worked_rounds.SIZE)
+        for report, output in fronts_of(ends):
+            count += 1
+            if lawful.has_front(report, output) != any(is_front(report, output, end) for end in ends):
+                sys.exit(f"judged wrongly: {report!r} {output!r}")
+    print(f"{count} fronts judged")
+
+
+if __name__ == "__main__":
+    main()

@@ -25,6 +25,7 @@ import struct
 import subprocess
 import sys
 import tempfile
+import termios
 import threading
 import time
 
@@ -152,18 +153,22 @@ def full_report(outside):
 # A pipe that is closed, and one that brings the capture.
 
 
-def small_pipe(process):
-    fcntl.fcntl(process.stdout, fcntl.F_SETPIPE_SZ, PAGE)
+def piped(words):
+    """A run, and its report through a pipe that takes few octets."""
+    reader, writer = os.pipe()
+    fcntl.fcntl(writer, fcntl.F_SETPIPE_SZ, PAGE)
+    process = subprocess.Popen(words, stdout=writer, stderr=subprocess.DEVNULL)
+    os.close(writer)
+    return process, open(reader, "rb")
 
 
 def closed_pipe(outside):
     """What was said behind what was read is lost with the pipe, so that status 0 tells of its front alone."""
     kind = outside.kind("a report whose reader goes")
     for most in 0, 1, 70, 1000, 4096, 10000, 20000:
-        process = subprocess.Popen(outside.words(), stdout=subprocess.PIPE, stderr=subprocess.DEVNULL)
-        small_pipe(process)
-        report = process.stdout.read(most).decode(errors="replace")
-        process.stdout.close()
+        process, pipe = piped(outside.words())
+        with pipe:
+            report = pipe.read(most).decode(errors="replace")
         status = process.wait()
         is_front = outside.lawful.has_front(report, existing(outside.output))
         kind.judge(status in (0, HOST) and is_front, status, f"{most} octets")
@@ -205,11 +210,11 @@ def missing_files(outside):
     return kind
 
 
-def wait_until_stuck(process):
+def wait_until_stuck(process, pipe):
     """Waits until its report, which nobody reads, has stood still for a while, or it has ended."""
     before, same = -1, 0
     while process.poll() is None and same < 10:
-        waiting, = struct.unpack("i", fcntl.ioctl(process.stdout, 0x541B, bytes(4)))
+        waiting, = struct.unpack("i", fcntl.ioctl(pipe, termios.FIONREAD, bytes(4)))
         same = same + 1 if waiting == before and waiting > 1000 else 0
         before = waiting
         time.sleep(0.02)
@@ -220,11 +225,11 @@ def changed_capture(outside):
     for name, change in (("removed", os.remove), *(
             (f"cut at {size}", lambda path, size=size: os.truncate(path, size)) for size in (0, 100, 200_000, 400_000))):
         path = written(outside.path("changing"), outside.whole)
-        process = subprocess.Popen(outside.words(capture=path), stdout=subprocess.PIPE, stderr=subprocess.DEVNULL)
-        small_pipe(process)
-        wait_until_stuck(process)
+        process, pipe = piped(outside.words(capture=path))
+        wait_until_stuck(process, pipe)
         change(path)
-        report = process.stdout.read().decode(errors="replace")
+        with pipe:
+            report = pipe.read().decode(errors="replace")
         end = process.wait(), report, existing(outside.output)
         size = os.path.getsize(path) if os.path.exists(path) else len(outside.whole)
         kind.judge(may_end(outside, size, end), end[0], name)
