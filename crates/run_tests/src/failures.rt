@@ -3,9 +3,10 @@ use desk::{Calls, MemoryDesk};
 use octets::{NoMemory, Octets};
 use replay::Status;
 use run_rows::exchanges::{
-    ASKED, CARRIED, LEARNED, MISS, TENANT, USED, capture_of, output_of, report_of,
+    ASKED, Arrival, CARRIED, Departure, LEARNED, MISS, TENANT, USED, capture_of, output_of,
+    report_of,
 };
-use run_rows::packets::RAW;
+use run_rows::packets::{CONTROL, PACKET, RAW, REPLY, SENT};
 use run_rows::runs::{REPLAY, desk_with, run_words};
 use std::alloc::Global;
 use std::process::Abort;
@@ -13,72 +14,194 @@ use std::sync::Wait;
 use std::test::Fail;
 use std::thread::Threads;
 
-// What the exchange ends with where that call fails, and its desk.
+/// The words of a replay with two workers and rounds of two frames.
+const SHARED: [&str; 11] = [
+    "replay",
+    "--settings",
+    "settings",
+    "--in",
+    "in",
+    "--out",
+    "out",
+    "--workers",
+    "2",
+    "--round",
+    "2",
+];
+
+/// What a run says and writes.
+#[derive(Drop)]
+struct Whole {
+    report: String,
+    output: Octets,
+}
+
+fn whole_of(
+    alloc: Global,
+    frames: &[Arrival<'_>],
+    end: &str,
+    packets: &[Departure<'_>],
+) -> Result<Whole, NoMemory> {
+    Ok(Whole {
+        report: report_of(alloc, frames, end)?,
+        output: output_of(alloc, packets)?,
+    })
+}
+
+// What the words end with where that call fails, and their desk.
 fn failing_at<R: Threads + Wait + Sync>(
     rt: &R,
     alloc: Global,
+    words: &[&str],
     capture: &[u8],
     call: u64,
 ) -> Result<(Status, MemoryDesk), NoMemory> {
     let mut fails = Calls::new(alloc);
     fails.push(call)?;
     let mut desk = desk_with(alloc, TENANT, Octets::copied(alloc, capture)?, fails)?;
-    let status = run_words(rt, alloc, &REPLAY, &mut desk)?;
+    let status = run_words(rt, alloc, words, &mut desk)?;
     Ok((status, desk))
 }
 
-/// What the exchange says and writes.
-#[derive(Drop)]
-struct Whole {
-    capture: Octets,
-    report: String,
-    output: Octets,
-}
-
-fn whole_exchange(alloc: Global) -> Result<Whole, NoMemory> {
-    let frames = [MISS, LEARNED, USED];
-    Ok(Whole {
-        capture: capture_of(alloc, &RAW, &frames)?,
-        report: report_of(alloc, &frames, "end frames=3 written=2 entries=3")?,
-        output: output_of(alloc, &[ASKED, CARRIED])?,
-    })
-}
-
-// With that call failed, a beginning of it was said and written.
-fn ends_within<R: Abort + Threads + Wait + Sync>(
-    rt: &R,
-    alloc: Global,
-    whole: &Whole,
-    call: u64,
-) -> Result<Status, NoMemory> {
-    let (status, desk) = failing_at(rt, alloc, whole.capture.as_slice(), call)?;
-    assert!(rt; whole.report.as_str().as_bytes().starts_with(desk.said()));
-    assert!(rt;
-        whole
+// A beginning of that report was said, and no file was made, or one with a beginning of that output.
+fn is_within(desk: &MemoryDesk, whole: &Whole) -> bool {
+    whole.report.as_str().as_bytes().starts_with(desk.said())
+        && whole
             .output
             .as_slice()
             .starts_with(desk.file("out").unwrap_or(&[]))
-    );
+}
+
+fn is_whole(desk: &MemoryDesk, whole: &Whole) -> bool {
+    desk.said() == whole.report.as_str().as_bytes()
+        && desk.file("out") == Some(whole.output.as_slice())
+}
+
+// With that call failed a beginning of one of these was said and written, or all of it where the run didn't
+// come to that call.
+fn ends_within<R: Abort + Threads + Wait + Sync>(
+    rt: &R,
+    alloc: Global,
+    words: &[&str],
+    capture: &[u8],
+    ways: &[Whole],
+    call: u64,
+) -> Result<Status, NoMemory> {
+    let (status, desk) = failing_at(rt, alloc, words, capture, call)?;
     if status == Status::Done {
-        assert_eq!(rt; desk.said(), whole.report.as_str().as_bytes());
+        assert!(rt; ways.iter().any(|whole| is_whole(&desk, whole)));
+    } else {
+        assert_eq!(rt; status, Status::Host);
+        assert!(rt; ways.iter().any(|whole| is_within(&desk, whole)));
     }
     Ok(status)
 }
 
+// The first call, of those that may fail, that a run of the words doesn't come to.
+fn first_done<R: Abort + Threads + Wait + Sync>(
+    rt: &R,
+    alloc: Global,
+    words: &[&str],
+    capture: &[u8],
+    ways: &[Whole],
+) -> Result<u64, NoMemory> {
+    for call in 1..100_u64 {
+        if ends_within(rt, alloc, words, capture, ways, call)? == Status::Done {
+            return Ok(call);
+        }
+    }
+    Ok(0)
+}
+
+fn exchange_fails<R: Abort + Threads + Wait + Sync>(
+    rt: &R,
+    alloc: Global,
+) -> Result<u64, NoMemory> {
+    let frames = [MISS, LEARNED, USED];
+    let capture = capture_of(alloc, &RAW, &frames)?;
+    let end = "end frames=3 written=2 entries=3";
+    let whole = whole_of(alloc, &frames, end, &[ASKED, CARRIED])?;
+    first_done(rt, alloc, &REPLAY, capture.as_slice(), &[whole])
+}
+
 #[test]
 fn where_a_call_fails_what_was_said_and_sent_is_a_beginning(rt: HostRuntime) -> Result<(), Fail> {
-    let whole = whole_exchange(rt.alloc())?;
-    // A call past those that the run makes fails nothing.
-    let mut first_done = 0_u64;
-    for call in 1..100_u64 {
-        let status = ends_within(&rt, rt.alloc(), &whole, call)?;
-        if status == Status::Done {
-            first_done = call;
-            break;
-        }
-        assert_eq!(rt; status, Status::Host);
-    }
-    assert!(rt; first_done > 8);
+    assert!(rt; exchange_fails(&rt, rt.alloc())? > 8);
+    Ok(())
+}
+
+// Two misses are a round. In the next one a packet comes behind the reply, and is decided before or after it.
+const SECOND_MISS: Arrival<'static> = (
+    0,
+    100_000,
+    &PACKET,
+    "2 1700000000.100000000 n=0 drop 13 miss",
+);
+
+const REPLIED: Arrival<'static> = (
+    0,
+    200_000,
+    &REPLY,
+    "3 1700000000.200000000 n=1 control reply learned=1 passed=0",
+);
+
+const BEFORE: Arrival<'static> = (
+    0,
+    300_000,
+    &PACKET,
+    "4 1700000000.300000000 n=1 drop 13 miss",
+);
+
+const AFTER: Arrival<'static> = (
+    0,
+    300_000,
+    &PACKET,
+    "4 1700000000.300000000 n=3 encapsulated 192.0.2.1 198.51.100.7 64519",
+);
+
+const LAST: Arrival<'static> = (
+    0,
+    400_000,
+    &PACKET,
+    "5 1700000000.400000000 n=3 encapsulated 192.0.2.1 198.51.100.7 64519",
+);
+
+/// The request goes out with the last frame of its round.
+const ASKED_LATE: Departure<'static> = (0, 100_000_000, &CONTROL, &[]);
+
+const CARRIED_AFTER: Departure<'static> = (0, 300_000_000, &SENT, &[(28, 0x48), (34, 0x64)]);
+
+const CARRIED_LAST: Departure<'static> = (0, 400_000_000, &SENT, &[(28, 0x48), (34, 0x64)]);
+
+// Both ways in which that may go.
+fn both_ways(alloc: Global) -> Result<[Whole; 2], NoMemory> {
+    let before = whole_of(
+        alloc,
+        &[MISS, SECOND_MISS, REPLIED, BEFORE, LAST],
+        "end frames=5 written=2 entries=3",
+        &[ASKED_LATE, CARRIED_LAST],
+    )?;
+    let after = whole_of(
+        alloc,
+        &[MISS, SECOND_MISS, REPLIED, AFTER, LAST],
+        "end frames=5 written=3 entries=3",
+        &[ASKED_LATE, CARRIED_AFTER, CARRIED_LAST],
+    )?;
+    Ok([before, after])
+}
+
+fn shared_exchange_fails<R: Abort + Threads + Wait + Sync>(
+    rt: &R,
+    alloc: Global,
+) -> Result<u64, NoMemory> {
+    let capture = capture_of(alloc, &RAW, &[MISS, SECOND_MISS, REPLIED, AFTER, LAST])?;
+    let ways = both_ways(alloc)?;
+    first_done(rt, alloc, &SHARED, capture.as_slice(), &ways)
+}
+
+#[test]
+fn with_workers_too_what_was_said_and_sent_is_a_beginning(rt: HostRuntime) -> Result<(), Fail> {
+    assert!(rt; shared_exchange_fails(&rt, rt.alloc())? > 8);
     Ok(())
 }
 
