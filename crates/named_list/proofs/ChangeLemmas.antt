@@ -1,5 +1,5 @@
 -- A list of names over a store that changes at one name.
-use Rattle.std.proofs.Common.{◌≡◌, ◌≢◌, ℕ, zero, suc, ◌+◌, ◌<◌, ◌≤◌, ◌==◌, true, List, [], ◌∷◌, ◌++◌, length, get_or, take, drop, slice_set, Option, Some, None, is_some, All, inl, inr, sym, ap, ◌∙◌, arith, subst}
+use Rattle.std.proofs.Common.{◌≡◌, ◌≢◌, ℕ, zero, suc, ◌+◌, ◌/◌, ◌<◌, ◌≤◌, ◌==◌, true, List, [], ◌∷◌, ◌++◌, length, get_or, take, drop, slice_set, Option, Some, None, is_some, All, inl, inr, sym, ap, ◌∙◌, arith, subst}
 use Rattle.std.specs.List.{insert, remove}
 use Rattle.std.proofs.lemmas.Bool.{cases_eq, eq-eqb, ne_eqb}
 use Rattle.std.proofs.lemmas.List.{length-set, set_split, get_or-set_same, get_or-set_other}
@@ -7,6 +7,7 @@ use Rattle.std.proofs.lemmas.List.Edits.{length-insert, length-remove}
 use Rattle.std.proofs.lemmas.List.Elements.{All-append, All-take, All-drop, All-cons, All-weaker}
 use Rattle.node_store.specs.Store.{Store, node_at, IsLive, Changes, SameNodes, with_node}
 use Rattle.named_list.specs.Named.{Named, before, items_at, times, named_of, IsNamedList}
+use Rattle.named_list.specs.Rings.{ring_names}
 use Rattle.named_list.specs.Lends.{with_item}
 use Rattle.named_list.proofs.ItemsLemmas.{length-items_at, take-items_at, drop-items_at, items_at-append, items_at-same}
 use Rattle.named_list.proofs.NamesLemmas.{one_if, none_times, names_split, times-insert, times-remove, front_differs, behind_differs, others_differ}
@@ -134,5 +135,5 @@ module _ {T : Type 0} where
 
     pub named_of-with_node : (capacity : ℕ) → IsNamedList store names capacity → i < length names → name ≡ get_or names i name → named_of (with_node store name item) names capacity ≡ with_item (named_of store names capacity) i item
     named_of-with_node capacity is within read =
-        ap (λ slots. made (items_at (with_node store name item) names) (slots + (store.rooms + length names)) capacity) (length-set store.slots name (Some item))
-        ∙ ap (λ items. made items (length store.slots + (store.rooms + length names)) capacity) (items_edit capacity is within read)
+        ap (λ slots. made (items_at (with_node store name item) names) (slots + (store.rooms + (length names + (length names + store.rooms) / ring_names))) capacity) (length-set store.slots name (Some item))
+        ∙ ap (λ items. made items (length store.slots + (store.rooms + (length names + (length names + store.rooms) / ring_names))) capacity) (items_edit capacity is within read)

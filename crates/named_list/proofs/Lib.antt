@@ -2,3 +2,4 @@ pub mod ItemsLemmas
 pub mod NamesLemmas
 pub mod ChangeLemmas
 pub mod PlaceLemmas
+pub mod RingsLemmas

@@ -1,2 +1,3 @@
 pub mod Named
 pub mod Lends
+pub mod Rings

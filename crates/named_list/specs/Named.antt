@@ -1,6 +1,7 @@
 -- A list whose items have names.
-use Rattle.std.specs.Prelude.{◌≡◌, ◌+◌, ◌≤◌, ◌==◌, ℕ, List, [], ◌∷◌, length, All, Option, None, Some, count_by, if◌then◌else◌}
+use Rattle.std.specs.Prelude.{◌≡◌, ◌+◌, ◌/◌, ◌≤◌, ◌==◌, ℕ, List, [], ◌∷◌, length, All, Option, None, Some, count_by, if◌then◌else◌}
 use Rattle.node_store.specs.Store.{Store, node_at, IsLive}
+use Rattle.named_list.specs.Rings.{ring_names}
 
 -- the items in order, their names in the same order, for how many more there is room, how many items
 -- its vectors have in all, and for how many names there is place
@@ -33,13 +34,14 @@ items_at store (name ∷ names) = before (node_at store name) (items_at store na
 abbrev pub times : ℕ → List ℕ → ℕ
 times name names = count_by (λ n. n == name) names
 
--- what a contract sees of a store and names in order, for so many of which there is place
+-- what a contract sees of a store and names in order, for so many of which there is place. Each ring has a
+-- head, also one that there is room for
 abbrev pub named_of : {T : Type 0} → Store T → List ℕ → ℕ → Named T
 named_of store names capacity = record {
   items = items_at store names;
   names = names;
   spare = store.rooms;
-  kept = length store.slots + (store.rooms + length names);
+  kept = length store.slots + (store.rooms + (length names + (length names + store.rooms) / ring_names));
   places = capacity;
 }
 

@@ -2,6 +2,8 @@
 #![tactic(auto)]
 
 mod list;
+mod names;
+mod rings;
 
 pub use list::NamedList;
 pub use octets::NoMemory;

@@ -1,51 +1,36 @@
 // The list: nodes in a store, and their names in order.
-ghost use Rattle.std.specs.Prelude.{◌≡◌, ◌≤◌, ◌<◌, ◌+◌, ◌-◌, ◌*◌, ◌^◌, [], true, false, length, max, slice_get, IfOk, IfSome, IsSome, IsOk, OnOk, OnErr, None, Some, vec_len, vec_capacity};
+ghost use Rattle.std.specs.Prelude.{◌≡◌, ◌≤◌, ◌<◌, ◌+◌, ◌-◌, ◌*◌, ◌/◌, ◌^◌, [], true, false, length, max, slice_get, IfOk, IfSome, IsSome, IsOk, OnOk, OnErr, None, Some};
 ghost use Rattle.std.specs.Borrow.{sem};
 ghost use Rattle.std.specs.Fn.{FnReturnsAt};
 ghost use Rattle.std.specs.List.{insert, remove};
 ghost use Rattle.std.specs.Option.{option_copied};
 ghost use Rattle.node_store.specs.Copies.{MakesCopies};
 ghost use Rattle.named_list.specs.Named.{item_named};
+ghost use Rattle.named_list.specs.Rings.{ring_names};
 
-use node_store::{NoMemory, NodeStore, Reads, copied};
+use crate::names::Names;
+use node_store::{NoMemory, NodeStore, Reads};
 use std::alloc::Global;
 use std::marker::Model;
 
 /// A list of items, each under a name that it keeps while it is in the list. What comes into the
-/// middle of the list moves the names behind it, of four octets each, and no items.
+/// middle of the list moves names and no items: those of one ring, of four octets each, and one of each
+/// ring behind it. A ring has 512 names.
 #[derive(Drop)]
 pub struct NamedList<T> {
     store: NodeStore<T>,
     // The names in the order of the list.
-    order: Vec<u32>,
+    order: Names,
 }
 
 impl<T> Model for NamedList<T> {
-    ghost use Rattle.std.specs.Prelude.{vec_capacity};
     ghost use Rattle.named_list.specs.Named.{Named, named_of, IsNamedList};
 
     ghost Value = { Named T };
 
-    ghost view = { λ list. named_of list.store list.order.items
-        (vec_capacity list.order) };
+    ghost view = { λ list. named_of list.store list.order.names list.order.places };
 
-    ghost invariant = { λ list. IsNamedList list.store list.order.items (vec_capacity list.order) };
-}
-
-// Makes place for `n` further names. Where there isn't, what is made is at least as much as there are,
-// so that names are seldom moved.
-fn make_place(names: &mut Vec<u32>, n: usize) -> Result<(), NoMemory>
-    ensures items { names.new.items ≡ names.old.items }
-    ensures ok { OnOk result (vec_len names.old + n ≤ vec_capacity names.new) }
-    ensures capacity { vec_capacity names.old ≤ vec_capacity names.new }
-    ensures at_most { vec_capacity names.new
-        ≤ max (vec_capacity names.old) (2 * (vec_len names.old + n)) }
-{
-    let len = names.len();
-    if names.capacity() - len < n {
-        names.reserve_exact(n.max(len))?;
-    }
-    Ok(())
+    ghost invariant = { λ list. IsNamedList list.store list.order.names list.order.places };
 }
 
 impl<T> NamedList<T> {
@@ -59,7 +44,7 @@ impl<T> NamedList<T> {
     {
         NamedList {
             store: NodeStore::new(alloc),
-            order: Vec::new(alloc),
+            order: Names::new(alloc),
         }
     }
 
@@ -76,7 +61,7 @@ impl<T> NamedList<T> {
     {
         let rooms = self.store.rooms();
         if n > rooms {
-            make_place(&mut self.order, n as usize)?;
+            self.order.reserve(n)?;
             self.store.make_room(n)?;
         }
         Ok(())
@@ -93,7 +78,8 @@ impl<T> NamedList<T> {
     pub fn len(&self) -> usize
         ensures len { result ≡ length self.now.items }
         ensures names { result ≡ length self.now.names }
-        ensures kept { self.now.kept ≡ 2 * (result + self.now.spare) }
+        ensures kept { self.now.kept ≡ 2 * (result + self.now.spare)
+            + (result + self.now.spare) / ring_names }
     {
         let _ = self.store.rooms();
         self.order.len()
@@ -104,7 +90,7 @@ impl<T> NamedList<T> {
         ensures { option_copied result ≡ slice_get self.now.items index }
     {
         if index < self.order.len() {
-            Some(self.store.read(self.order[index], &mut Reads::new()))
+            Some(self.store.read(self.order.get(index), &mut Reads::new()))
         } else {
             None
         }
@@ -134,7 +120,7 @@ impl<T> NamedList<T> {
         let mut high = self.order.len();
         while low < high {
             let middle = low + (high - low) / 2;
-            if is_below(self.store.read(self.order[middle], &mut Reads::new())) {
+            if is_below(self.store.read(self.order.get(middle), &mut Reads::new())) {
                 low = middle + 1;
             } else {
                 high = middle;
@@ -155,7 +141,7 @@ impl<T> NamedList<T> {
         ensures places { self.new.places ≡ self.old.places }
     {
         let name = self.store.put(item);
-        let _ = self.order.insert(index, name);
+        self.order.insert(index, name);
         name
     }
 
@@ -178,7 +164,7 @@ impl<T> NamedList<T> {
         ensures* writes_back { sem 𝓛 (lends_item T.row self.entry index result) }
         ensures item { slice_get self.old.items index ≡ Some result.now }
     {
-        self.store.edit(self.order[index])
+        self.store.edit(self.order.get(index))
     }
 }
 
@@ -191,7 +177,7 @@ impl<T: Drop> NamedList<T> {
         ensures { IfOk result (λ copy. copy ≡ self.now) }
     {
         let store = self.store.copy(each, &mut Reads::new())?;
-        let order = copied(&self.order)?;
+        let order = self.order.copy()?;
         Ok(NamedList { store, order })
     }
 }

@@ -4,5 +4,5 @@ use Rattle.named_list.proofs.list.NamedList.len.Goals as goal
 
 pub returns-clause-len : goal.returns-clause-len
 returns-clause-len g c =
-    let len = length-items_at c.self.inside.store c.self.inside.order.items c.self.invariant.each in
-    rw (← c.self.view_is) (omega (arith, len, c.len.ensures, c.self.inside.order.ok.0))
+    let len = length-items_at c.self.inside.store c.self.inside.order.names c.self.invariant.each in
+    rw (← c.self.view_is) (omega (arith, len, c.len.ensures))

@@ -1,0 +1,9 @@
+use Rattle.named_list.specs.Rings.{ring_names}
+use Rattle.named_list.proofs.RingsLemmas.{Pulled}
+use Rattle.named_list.proofs.rings.pull_back.Given as goal
+
+abbrev pub invariant-loop-ring : goal.invariant-loop-ring
+invariant-loop-ring l = Pulled ring_names l.initial.heads l.initial.slots l.heads l.slots l.fn.name l.carried l.ring
+
+abbrev pub decreases-loop-ring : goal.decreases-loop-ring
+decreases-loop-ring l = l.ring

@@ -1,0 +1,195 @@
+// Names in order: full rings, and fewer names behind them, as they lie.
+ghost use Rattle.std.specs.Prelude.{◌≡◌, ◌≤◌, ◌<◌, ◌+◌, ◌*◌, [], length, max, slice_index_or, IfOk, OnOk, vec_len, vec_capacity};
+ghost use Rattle.std.specs.List.{insert, remove};
+ghost use Rattle.named_list.specs.Rings.{AreHeads, IsOrder, joined, ring_names};
+
+use crate::rings::{RING, insert_below, remove_below, straighten, turned};
+use node_store::{NoMemory, copied};
+use std::alloc::Global;
+use std::marker::Model;
+
+// Names in order. What comes in among many moves those of one ring, of four octets each, and one of each
+// ring behind it.
+#[derive(Drop)]
+pub(crate) struct Names {
+    slots: Vec<u32>,
+    // Where each full ring begins.
+    heads: Vec<usize>,
+}
+
+impl Model for Names {
+    ghost use Rattle.std.specs.Prelude.{vec_capacity};
+    ghost use Rattle.named_list.specs.Rings.{IsOrder, Order, joined, ring_names};
+
+    ghost Value = { Order };
+
+    ghost view = { λ order. record {
+      names = joined ring_names order.heads.items order.slots.items;
+      places = vec_capacity order.slots;
+    } };
+
+    ghost invariant = { λ order. IsOrder order.heads.items order.slots.items
+        (vec_capacity order.slots) (vec_capacity order.heads) };
+}
+
+// Where as many names lie behind the rings as a ring has, they are one.
+fn close_last(slots: &Vec<u32>, heads: &mut Vec<usize>)
+    requires { IsOrder heads.old.items slots.now.items (vec_capacity slots.now)
+        (vec_capacity heads.old) }
+    ensures names { joined ring_names heads.new.items slots.now.items
+        ≡ joined ring_names heads.old.items slots.now.items }
+    ensures order { IsOrder heads.new.items slots.now.items (vec_capacity slots.now)
+        (vec_capacity heads.new) }
+    ensures last { length slots.now.items < length heads.new.items * ring_names + ring_names }
+{
+    if slots.len() == heads.len() * RING + RING {
+        heads.push_reserved(0);
+    }
+}
+
+// Where no names lie behind the rings, those of the last ring do then.
+fn open_last(slots: &mut Vec<u32>, heads: &mut Vec<usize>)
+    requires order { IsOrder heads.old.items slots.old.items (vec_capacity slots.old)
+        (vec_capacity heads.old) }
+    requires some { 0 < length slots.old.items }
+    ensures names { joined ring_names heads.new.items slots.new.items
+        ≡ joined ring_names heads.old.items slots.old.items }
+    ensures order { IsOrder heads.new.items slots.new.items (vec_capacity slots.new)
+        (vec_capacity heads.new) }
+    ensures last { length heads.new.items * ring_names < length slots.new.items }
+    ensures len { length slots.new.items ≡ length slots.old.items }
+    ensures places { vec_capacity slots.new ≡ vec_capacity slots.old }
+{
+    if slots.len() == heads.len() * RING {
+        if let Some(head) = heads.pop() {
+            straighten(&mut slots[heads.len() * RING..], head);
+        }
+    }
+}
+
+// Puts a name at a place, where there is place for one behind the rings.
+fn insert_name(slots: &mut Vec<u32>, heads: &mut [usize], index: usize, name: u32)
+    requires each { AreHeads heads.old }
+    requires full { length heads.old * ring_names ≤ length slots.old.items }
+    requires index { index ≤ length slots.old.items }
+    requires room { vec_len slots.old < vec_capacity slots.old }
+    ensures names { joined ring_names heads.new slots.new.items
+        ≡ insert (joined ring_names heads.old slots.old.items) index name }
+    ensures each { AreHeads heads.new }
+    ensures heads_len { length heads.new ≡ length heads.old }
+    ensures len { length slots.new.items ≡ length slots.old.items + 1 }
+    ensures places { vec_capacity slots.new ≡ vec_capacity slots.old }
+{
+    let full = heads.len() * RING;
+    if index >= full {
+        let _ = slots.insert(index, name);
+        return;
+    }
+    let carried = insert_below(&mut slots[0..full], heads, index, name);
+    let _ = slots.insert(full, carried);
+}
+
+// Takes the name at a place out, where one lies behind the rings.
+fn remove_name(slots: &mut Vec<u32>, heads: &mut [usize], index: usize) -> u32
+    requires each { AreHeads heads.old }
+    requires full { length heads.old * ring_names < length slots.old.items }
+    requires index { index < length slots.old.items }
+    ensures name { result
+        ≡ slice_index_or (joined ring_names heads.old slots.old.items) index result }
+    ensures names { joined ring_names heads.new slots.new.items
+        ≡ remove (joined ring_names heads.old slots.old.items) index }
+    ensures each { AreHeads heads.new }
+    ensures heads_len { length heads.new ≡ length heads.old }
+    ensures len { length slots.new.items + 1 ≡ length slots.old.items }
+    ensures places { vec_capacity slots.new ≡ vec_capacity slots.old }
+{
+    let full = heads.len() * RING;
+    if index >= full {
+        return slots.remove(index);
+    }
+    let carried = slots.remove(full);
+    remove_below(&mut slots[0..full], heads, index, carried)
+}
+
+impl Names {
+    // No names, with no place. Takes no memory.
+    pub(crate) fn new(alloc: Global) -> Names
+        ensures { result.names ≡ [] }
+    {
+        Names {
+            slots: Vec::new(alloc),
+            heads: Vec::new(alloc),
+        }
+    }
+
+    // Makes place for `n` further names. Where there isn't, what is made is at least as much as there
+    // are, so that all names are seldom moved.
+    pub(crate) fn reserve(&mut self, n: u32) -> Result<(), NoMemory>
+        ensures names { self.new.names ≡ self.old.names }
+        ensures ok { OnOk result (length self.old.names + n ≤ self.new.places) }
+        ensures places { self.old.places ≤ self.new.places }
+        ensures at_most { self.new.places
+            ≤ max self.old.places (2 * (length self.old.names + n)) }
+    {
+        let len = self.slots.len();
+        let n = n as usize;
+        if self.slots.capacity() - len < n {
+            let more = n.max(len);
+            self.heads.reserve((len + more) / RING - self.heads.len())?;
+            self.slots.reserve_exact(more)?;
+        }
+        Ok(())
+    }
+
+    // The number of names.
+    pub(crate) fn len(&self) -> usize
+        ensures len { result ≡ length self.now.names }
+        ensures places { result ≤ self.now.places }
+    {
+        self.slots.len()
+    }
+
+    // The name at a place.
+    pub(crate) fn get(&self, index: usize) -> u32
+        requires { index < length self.now.names }
+        ensures { result ≡ slice_index_or self.now.names index result }
+    {
+        let ring = index / RING;
+        if ring >= self.heads.len() {
+            return self.slots[index];
+        }
+        let place = turned(self.heads[ring], index % RING);
+        self.slots[ring * RING + place]
+    }
+
+    // Puts a name at a place, before the one that stands there. Takes no memory.
+    pub(crate) fn insert(&mut self, index: usize, name: u32)
+        requires place { index ≤ length self.old.names }
+        requires room { length self.old.names < self.old.places }
+        ensures names { self.new.names ≡ insert self.old.names index name }
+        ensures places { self.new.places ≡ self.old.places }
+    {
+        close_last(&self.slots, &mut self.heads);
+        insert_name(&mut self.slots, &mut self.heads, index, name);
+    }
+
+    // Takes the name at a place out.
+    pub(crate) fn remove(&mut self, index: usize) -> u32
+        requires { index < length self.old.names }
+        ensures name { result ≡ slice_index_or self.old.names index result }
+        ensures names { self.new.names ≡ remove self.old.names index }
+        ensures places { self.new.places ≡ self.old.places }
+    {
+        open_last(&mut self.slots, &mut self.heads);
+        remove_name(&mut self.slots, &mut self.heads, index)
+    }
+
+    // The same of their own, with as much place.
+    pub(crate) fn copy(&self) -> Result<Names, NoMemory>
+        ensures { IfOk result (λ copy. copy ≡ self.now) }
+    {
+        let slots = copied(&self.slots)?;
+        let heads = copied(&self.heads)?;
+        Ok(Names { slots, heads })
+    }
+}

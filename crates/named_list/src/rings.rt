@@ -1,0 +1,166 @@
+// Full rings of names, each with a head. A name that comes in at one end of a ring lets one out at the
+// other, and moves none.
+ghost use Rattle.std.specs.Prelude.{◌≡◌, ◌≤◌, ◌<◌, ◌+◌, ◌*◌, ℕ, List, [], ◌∷◌, ◌++◌, length, slice_index_or};
+ghost use Rattle.std.specs.List.{insert, remove};
+ghost use Rattle.named_list.specs.Rings.{AreHeads, joined, ring_names, rolled};
+
+use std::mem;
+
+// So many names has a ring.
+pub(crate) const RING: usize = 512;
+
+// The place in a ring of the one that stands at a place from its head on.
+pub(crate) fn turned(head: usize, place: usize) -> usize
+    requires head { head ≤ ring_names }
+    requires place { place < ring_names }
+    ensures within { result < ring_names }
+    ensures names { (ring : List ℕ) (name : ℕ) → length ring ≡ ring_names
+        → slice_index_or (rolled head ring) place name ≡ slice_index_or ring result name }
+{
+    let turned = head + place;
+    if turned < RING { turned } else { turned - RING }
+}
+
+// Puts a name before those of a ring. The last of them goes.
+fn roll_on(ring: &mut [u32], head: &mut usize, name: u32) -> u32
+    requires full { length ring.old ≡ ring_names }
+    requires head { head.old ≤ ring_names }
+    ensures names { name ∷ rolled head.old ring.old ≡ rolled head.new ring.new ++ result ∷ [] }
+    ensures len { length ring.new ≡ ring_names }
+    ensures head { head.new ≤ ring_names }
+{
+    let end = if *head == 0 { RING } else { *head };
+    let last = end - 1;
+    *head = last;
+    mem::replace(&mut ring[last], name)
+}
+
+// Puts a name behind those of a ring. The first of them goes.
+fn roll_back(ring: &mut [u32], head: &mut usize, name: u32) -> u32
+    requires full { length ring.old ≡ ring_names }
+    requires head { head.old ≤ ring_names }
+    ensures names { result ∷ rolled head.new ring.new ≡ rolled head.old ring.old ++ name ∷ [] }
+    ensures len { length ring.new ≡ ring_names }
+    ensures head { head.new ≤ ring_names }
+{
+    let first = if *head == RING { 0 } else { *head };
+    *head = first + 1;
+    mem::replace(&mut ring[first], name)
+}
+
+// Puts a name before those of all rings. The last of them goes.
+fn push_on(slots: &mut [u32], heads: &mut [usize], name: u32) -> u32
+    requires full { length slots.old ≡ length heads.old * ring_names }
+    requires heads { AreHeads heads.old }
+    ensures names { name ∷ joined ring_names heads.old slots.old
+        ≡ joined ring_names heads.new slots.new ++ result ∷ [] }
+    ensures len { length slots.new ≡ length slots.old }
+    ensures heads_len { length heads.new ≡ length heads.old }
+    ensures heads { AreHeads heads.new }
+{
+    let mut carried = name;
+    let mut ring = 0;
+    while ring < heads.len() {
+        let start = ring * RING;
+        carried = roll_on(&mut slots[start..start + RING], &mut heads[ring], carried);
+        ring += 1;
+    }
+    carried
+}
+
+// Puts a name behind those of all rings. The first of them goes.
+fn pull_back(slots: &mut [u32], heads: &mut [usize], name: u32) -> u32
+    requires full { length slots.old ≡ length heads.old * ring_names }
+    requires heads { AreHeads heads.old }
+    ensures names { result ∷ joined ring_names heads.new slots.new
+        ≡ joined ring_names heads.old slots.old ++ name ∷ [] }
+    ensures len { length slots.new ≡ length slots.old }
+    ensures heads_len { length heads.new ≡ length heads.old }
+    ensures heads { AreHeads heads.new }
+{
+    let mut carried = name;
+    let mut ring = heads.len();
+    while 0 < ring {
+        ring -= 1;
+        let start = ring * RING;
+        carried = roll_back(&mut slots[start..start + RING], &mut heads[ring], carried);
+    }
+    carried
+}
+
+// Lays a ring out from its first place on.
+pub(crate) fn straighten(ring: &mut [u32], head: usize)
+    requires head { head ≤ length ring.old }
+    ensures names { ring.new ≡ rolled head ring.old }
+    ensures len { length ring.new ≡ length ring.old }
+{
+    ring.rotate_left(head);
+}
+
+// Puts a name at a place of a ring, which is laid out anew. The last name goes.
+fn put_in(ring: &mut [u32], head: usize, place: usize, name: u32) -> u32
+    requires place { place < length ring.old }
+    requires head { head ≤ length ring.old }
+    ensures names { insert (rolled head ring.old) place name ≡ ring.new ++ result ∷ [] }
+    ensures len { length ring.new ≡ length ring.old }
+{
+    straighten(ring, head);
+    let part = &mut ring[place..];
+    part.rotate_right(1);
+    mem::replace(&mut part[0], name)
+}
+
+// Takes the name at a place out of a ring, which is laid out anew, with a name put behind the others.
+fn take_out(ring: &mut [u32], head: usize, place: usize, name: u32) -> u32
+    requires place { place < length ring.old }
+    requires head { head ≤ length ring.old }
+    ensures name { result ≡ slice_index_or (rolled head ring.old) place result }
+    ensures names { ring.new ≡ remove (rolled head ring.old) place ++ name ∷ [] }
+    ensures len { length ring.new ≡ length ring.old }
+{
+    straighten(ring, head);
+    let last = ring.len() - 1;
+    ring[place..].rotate_left(1);
+    mem::replace(&mut ring[last], name)
+}
+
+// Puts a name at a place of the rings. The last name of all goes.
+pub(crate) fn insert_below(slots: &mut [u32], heads: &mut [usize], index: usize, name: u32) -> u32
+    requires full { length slots.old ≡ length heads.old * ring_names }
+    requires heads { AreHeads heads.old }
+    requires index { index < length slots.old }
+    ensures names { insert (joined ring_names heads.old slots.old) index name
+        ≡ joined ring_names heads.new slots.new ++ result ∷ [] }
+    ensures len { length slots.new ≡ length slots.old }
+    ensures heads_len { length heads.new ≡ length heads.old }
+    ensures heads { AreHeads heads.new }
+{
+    let ring = index / RING;
+    let start = ring * RING;
+    let end = start + RING;
+    let head = heads[ring];
+    heads[ring] = 0;
+    let carried = put_in(&mut slots[start..end], head, index - start, name);
+    push_on(&mut slots[end..], &mut heads[ring + 1..], carried)
+}
+
+// Takes the name at a place out of the rings, with a name put behind those of all.
+pub(crate) fn remove_below(slots: &mut [u32], heads: &mut [usize], index: usize, name: u32) -> u32
+    requires full { length slots.old ≡ length heads.old * ring_names }
+    requires heads { AreHeads heads.old }
+    requires index { index < length slots.old }
+    ensures name { result ≡ slice_index_or (joined ring_names heads.old slots.old) index result }
+    ensures names { joined ring_names heads.new slots.new
+        ≡ remove (joined ring_names heads.old slots.old) index ++ name ∷ [] }
+    ensures len { length slots.new ≡ length slots.old }
+    ensures heads_len { length heads.new ≡ length heads.old }
+    ensures heads { AreHeads heads.new }
+{
+    let ring = index / RING;
+    let start = ring * RING;
+    let end = start + RING;
+    let head = heads[ring];
+    heads[ring] = 0;
+    let carried = pull_back(&mut slots[end..], &mut heads[ring + 1..], name);
+    take_out(&mut slots[start..end], head, index - start, carried)
+}
