@@ -1,10 +1,10 @@
 // The list: numbered items, their keys and their ages.
-ghost use Rattle.std.specs.Prelude.{◌≡◌, ◌≤◌, ◌<◌, ◌+◌, ◌*◌, ◌^◌, [], ◌∷◌, ◌++◌, Bool, not, count_by, filter, length, map, max, slice_get, Some, false, is_some, true, IsOk, OnOk, OnErr, IfOk, IfSome, ◌&&◌};
+ghost use Rattle.std.specs.Prelude.{◌≡◌, ◌≤◌, ◌<◌, ◌+◌, ◌*◌, ◌/◌, ◌^◌, [], ◌∷◌, ◌++◌, Bool, not, count_by, filter, length, map, max, slice_get, Some, false, is_some, true, IsOk, OnOk, OnErr, IfOk, IfSome, ◌&&◌};
 ghost use Rattle.std.specs.List.{list_all, remove};
 ghost use Rattle.std.specs.Fn.{FnReturnsAt};
 ghost use Rattle.std.specs.Option.{option_copied};
 ghost use Rattle.keyed_list.specs.Keyed.{changed_with, is_key, is_young, item_at, latest};
-ghost use Rattle.keyed_list.specs.Limits.{most_items};
+ghost use Rattle.keyed_list.specs.Limits.{most_items, ring_names};
 ghost use Rattle.keyed_list.specs.Lists.{last_where};
 
 use crate::ages::{add_age, drop_age};
@@ -102,7 +102,7 @@ impl<T: Keyed> KeyedList<T> {
         ensures len { result ≡ length self.now.items }
         ensures few { result + self.now.room ≤ most_items }
         ensures tied { 2 * (result + self.now.room) ≤ self.now.places }
-        ensures kept { self.now.kept ≤ 4 * self.now.places }
+        ensures kept { self.now.kept ≤ 4 * self.now.places + 2 * self.now.places / ring_names }
     {
         // The lengths say how much is kept.
         let _ = (self.index.len(), self.ages.len());

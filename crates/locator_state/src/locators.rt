@@ -1,5 +1,6 @@
 // What is known of locators.
-ghost use Rattle.std.specs.Prelude.{◌≡◌, ◌≤◌, ◌<◌, ◌+◌, ◌*◌, length, max, nat_lt, [], IfOk, OnOk, OnErr};
+ghost use Rattle.std.specs.Prelude.{◌≡◌, ◌≤◌, ◌<◌, ◌+◌, ◌*◌, ◌/◌, length, max, nat_lt, [], IfOk, OnOk, OnErr};
+ghost use Rattle.keyed_list.specs.Limits.{ring_names};
 ghost use Rattle.locator_state.specs.Echoes.{data_due, data_from, echo_heard, echo_on, echo_out, echo_started, may_start, may_want, wanted};
 ghost use Rattle.locator_state.specs.Limits.{most_probes, most_reserved};
 ghost use Rattle.locator_state.specs.Observed.{HasNoRoom, HasPlaces, HasRoom, UsesRoom, is_up, longest, recent, with_probes, with_solicits, with_starts, with_wishes};
@@ -91,12 +92,12 @@ impl LocatorState {
     }
 
     /// How many items are kept in all. What all lists have in all is at most 16 for each key for which
-    /// the one with the most has place.
+    /// the one with the most has place, and one for each ring of names.
     pub fn len(&self) -> usize
         ensures len { result ≡ (length self.now.observed.probes + length self.now.observed.starts)
             + (length self.now.observed.wishes + length self.now.observed.solicits) }
         ensures tied { HasPlaces self.now }
-        ensures kept { self.now.kept ≤ 16 * self.now.places }
+        ensures kept { self.now.kept ≤ 16 * self.now.places + 8 * self.now.places / ring_names }
     {
         self.probes.len() + self.starts.len() + (self.wishes.len() + self.solicits.len())
     }

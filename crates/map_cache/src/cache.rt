@@ -1,7 +1,8 @@
 // A map-cache: what was learned, and the moment until which it was purged.
-ghost use Rattle.std.specs.Prelude.{◌≡◌, ◌≤◌, ◌<◌, ◌+◌, ◌*◌, ◌^◌, ◌↔◌, ◌≢◌, ◌||◌, nat_lt, is_some, Some, IfOk, IfSome, IsTrue, IsFalse, IsOk, [], length, max, slice_get, Err, OnOk, OnErr};
+ghost use Rattle.std.specs.Prelude.{◌≡◌, ◌≤◌, ◌<◌, ◌+◌, ◌*◌, ◌/◌, ◌^◌, ◌↔◌, ◌≢◌, ◌||◌, nat_lt, is_some, Some, IfOk, IfSome, IsTrue, IsFalse, IsOk, [], length, max, slice_get, Err, OnOk, OnErr};
 ghost use Rattle.std.specs.Option.{option_copied};
 ghost use Rattle.prefix_table.specs.Limits.{most_nodes};
+ghost use Rattle.named_list.specs.Rings.{ring_names};
 ghost use Rattle.map_cache.specs.Cache.{bits_told, exact, has_room, in_force, lasting, learned};
 ghost use Rattle.map_cache.specs.Limits.{all_locators, most_locators, most_mappings};
 ghost use Rattle.map_cache.specs.Lists.{IsFew};
@@ -82,14 +83,15 @@ impl MapCache {
     }
 
     /// How many mappings are kept. What all lists have in all is at most 43 items for each mapping and 2
-    /// for each locator for which there is place.
+    /// for each locator for which there is place, and one for each ring of names.
     pub fn len(&self) -> usize
         ensures len { result ≡ length self.entry.now.mappings }
         ensures most { result ≤ most_mappings }
         ensures tied { result + self.entry.now.spare ≤ self.entry.now.mapping_places }
         ensures locators_tied { self.entry.now.locator_spare ≤ self.entry.now.locator_places }
         ensures kept { self.entry.now.kept
-            ≤ 43 * self.entry.now.mapping_places + 2 * self.entry.now.locator_places }
+            ≤ 43 * self.entry.now.mapping_places + 2 * self.entry.now.locator_places
+            + (2 * self.entry.now.mapping_places + self.entry.now.locator_places) / ring_names }
     {
         self.indexed.len_kept()
     }

@@ -1,8 +1,9 @@
 // Mappings in order of EID, and what finds them.
-ghost use Rattle.std.specs.Prelude.{◌≡◌, ◌≤◌, ◌<◌, ◌+◌, ◌*◌, ◌^◌, [], false, length, max, slice_get, Some, is_some, IfOk, IfSome, OnOk, IsOk};
+ghost use Rattle.std.specs.Prelude.{◌≡◌, ◌≤◌, ◌<◌, ◌+◌, ◌*◌, ◌/◌, ◌^◌, [], false, length, max, slice_get, Some, is_some, IfOk, IfSome, OnOk, IsOk};
 ghost use Rattle.std.specs.Option.{option_copied};
 ghost use Rattle.mapping_records.specs.Orders.{eid_order, put_in_order};
 ghost use Rattle.prefix_table.specs.Limits.{most_nodes};
+ghost use Rattle.named_list.specs.Rings.{ring_names};
 ghost use Rattle.map_cache.specs.Cache.{bits_told, exact, in_force, lasting, without_eid};
 ghost use Rattle.map_cache.specs.Limits.{all_locators, most_locators, most_mappings};
 ghost use Rattle.map_cache.specs.Lists.{AllFew, IsAscending, IsPlace};
@@ -140,7 +141,8 @@ impl Indexed {
         ensures tied { result + self.now.spare ≤ self.now.mapping_places }
         ensures locators_tied { self.now.locator_spare ≤ self.now.locator_places }
         ensures kept { self.now.kept
-            ≤ 43 * self.now.mapping_places + 2 * self.now.locator_places }
+            ≤ 43 * self.now.mapping_places + 2 * self.now.locator_places
+            + (2 * self.now.mapping_places + self.now.locator_places) / ring_names }
     {
         // The lengths say how much is kept.
         let _ = (self.by_eid.len(), self.endings.len(), self.naming.len());

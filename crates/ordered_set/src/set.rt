@@ -1,8 +1,9 @@
 // The set: a list of keys in order.
-ghost use Rattle.std.specs.Prelude.{◌≡◌, ◌≤◌, ◌<◌, ◌+◌, ◌-◌, ◌*◌, ◌^◌, ◌&&◌, ◌||◌, not, [], true, false, length, max, slice_get, IfOk, IfSome, IsOk, OnOk, OnErr, if◌then◌else◌};
+ghost use Rattle.std.specs.Prelude.{◌≡◌, ◌≤◌, ◌<◌, ◌+◌, ◌-◌, ◌*◌, ◌/◌, ◌^◌, ◌&&◌, ◌||◌, not, [], true, false, length, max, slice_get, IfOk, IfSome, IsOk, OnOk, OnErr, if◌then◌else◌};
 ghost use Rattle.std.specs.Fn.{FnReturnsAt};
 ghost use Rattle.std.specs.Option.{option_copied};
 ghost use Rattle.std.specs.Ordering.{is_eq};
+ghost use Rattle.named_list.specs.Rings.{ring_names};
 ghost use Rattle.ordered_set.specs.Keys.{Ascends, IsPlace, has, ties};
 
 use crate::{NoMemory, Ordered};
@@ -66,7 +67,8 @@ impl<K: Ordered> OrderedSet<K> {
     pub fn len(&self) -> usize
         ensures len { result ≡ length self.now.keys }
         ensures ascends { Ascends K.order self.now.keys }
-        ensures kept { self.now.kept ≡ 2 * (result + self.now.spare) }
+        ensures kept { self.now.kept ≡ 2 * (result + self.now.spare)
+            + (result + self.now.spare) / ring_names }
     {
         self.list.len()
     }
