@@ -1,28 +1,27 @@
 // Copies of tables: what was put in is there, and a change of the copy leaves the original.
 ghost use Rattle.std.specs.Prelude.{◌≡◌, length};
 
-use crate::rows::{eid, locator, record, record_to};
+use crate::rows::{eid, locator, on_locators, record, record_to};
 use ip_headers::Addr;
 use locator_state::LocatorState;
-use map_cache::MapCache;
+use map_cache::{LearnFault, MapCache};
 use mapping_records::{Eid, Record};
-use node_store::Reads;
+use node_store::{NoMemory, Reads};
 use prefix_table::PrefixTable;
-use request_queue::RequestQueue;
+use request_queue::{AskFault, RequestQueue};
 use std::alloc::Global;
 use std::process::Abort;
-use std::test::Fail;
 
 const FIRST: Addr = Addr::V4(0xc633_6401);
 
 #[test]
-fn a_copied_table_has_its_own_pairs(rt: HostRuntime) -> Result<(), Fail> {
+fn a_copied_table_has_its_own_pairs(rt: HostRuntime) -> Result<(), NoMemory> {
     let mut table = PrefixTable::new(rt.alloc());
     table.reserve(1)?;
-    own_pairs(&rt, eid(0x0a00_0000, 8)?, &mut table)
+    own_pairs(&rt, eid(&rt, 0x0a00_0000, 8), &mut table)
 }
 
-fn own_pairs(rt: &impl Abort, net: Eid, table: &mut PrefixTable<u32>) -> Result<(), Fail>
+fn own_pairs(rt: &impl Abort, net: Eid, table: &mut PrefixTable<u32>) -> Result<(), NoMemory>
     requires { table.old.spare ≡ 1 }
 {
     table.insert(net, 8);
@@ -33,15 +32,15 @@ fn own_pairs(rt: &impl Abort, net: Eid, table: &mut PrefixTable<u32>) -> Result<
 }
 
 #[test]
-fn a_copied_cache_has_its_own_mappings(rt: HostRuntime) -> Result<(), Fail> {
+fn a_copied_cache_has_its_own_mappings(rt: HostRuntime) -> Result<(), LearnFault> {
     let mut cache = MapCache::new(rt.alloc());
     own_mappings(&rt, rt.alloc(), &mut cache)
 }
 
-fn own_mappings(rt: &impl Abort, alloc: Global, cache: &mut MapCache) -> Result<(), Fail>
+fn own_mappings(rt: &impl Abort, alloc: Global, cache: &mut MapCache) -> Result<(), LearnFault>
     requires { cache.old.now ≡ 0 }
 {
-    let net = eid(0x0a02_0000, 16)?;
+    let net = eid(rt, 0x0a02_0000, 16);
     cache.learn(0, record_to(alloc, net, 1, &[locator(FIRST, 1)])?, false)?;
     let mut copy = cache.copy()?;
     unlearn_in_copy(rt, record(alloc, net, 0), cache, &mut copy)
@@ -52,7 +51,7 @@ fn unlearn_in_copy(
     unlearned: Record,
     cache: &MapCache,
     copy: &mut MapCache,
-) -> Result<(), Fail>
+) -> Result<(), LearnFault>
     requires now { cache.now.now ≡ 0 }
     requires copy_now { copy.old.now ≡ 0 }
     requires locators { length unlearned.locators ≡ 0 }
@@ -66,49 +65,40 @@ fn unlearn_in_copy(
 }
 
 #[test]
-fn a_copied_queue_has_its_own_requests(rt: HostRuntime) -> Result<(), Fail> {
+fn a_copied_queue_has_its_own_requests(rt: HostRuntime) -> Result<(), AskFault> {
     let mut queue = RequestQueue::new(rt.alloc());
     own_requests(&rt, &mut queue)
 }
 
-fn own_requests(rt: &impl Abort, queue: &mut RequestQueue) -> Result<(), Fail> {
-    queue.ask(0, eid(0x0a02_0000, 16)?, None, false, 42)?;
+fn own_requests(rt: &impl Abort, queue: &mut RequestQueue) -> Result<(), AskFault> {
+    queue.ask(0, eid(rt, 0x0a02_0000, 16), None, false, 42)?;
     let mut copy = queue.copy()?;
-    take_from_copy(rt, queue, &mut copy)
+    take_from_copy(rt, queue, &mut copy);
+    Ok(())
 }
 
-fn take_from_copy(
-    rt: &impl Abort,
-    queue: &RequestQueue,
-    copy: &mut RequestQueue,
-) -> Result<(), Fail> {
+fn take_from_copy(rt: &impl Abort, queue: &RequestQueue, copy: &mut RequestQueue) {
     assert_eq!(rt; copy.open_count(0), 1);
     copy.answer(42);
     assert_eq!(rt; copy.open_count(0), 0);
     assert_eq!(rt; queue.open_count(0), 1);
-    Ok(())
 }
 
 #[test]
-fn copied_locators_have_their_own_probes(rt: HostRuntime) -> Result<(), Fail> {
-    let mut state = LocatorState::new(rt.alloc());
-    own_probes(&rt, &mut state)
+fn copied_locators_have_their_own_probes(rt: HostRuntime) -> Result<(), NoMemory> {
+    on_locators(rt.alloc(), |state| own_probes(&rt, state))
 }
 
-fn own_probes(rt: &impl Abort, state: &mut LocatorState) -> Result<(), Fail> {
+fn own_probes(rt: &impl Abort, state: &mut LocatorState) -> Result<(), NoMemory> {
     state.probed(0, FIRST, 42)?;
     let mut copy = state.copy()?;
-    answer_in_copy(rt, state, &mut copy)
+    answer_in_copy(rt, state, &mut copy);
+    Ok(())
 }
 
-fn answer_in_copy(
-    rt: &impl Abort,
-    state: &LocatorState,
-    copy: &mut LocatorState,
-) -> Result<(), Fail> {
+fn answer_in_copy(rt: &impl Abort, state: &LocatorState, copy: &mut LocatorState) {
     assert_eq!(rt; copy.probe_open(0, 42), Some(FIRST));
     copy.probe_answered(0, 42);
     assert_eq!(rt; copy.probe_open(0, 42), None);
     assert_eq!(rt; state.probe_open(0, 42), Some(FIRST));
-    Ok(())
 }

@@ -1,9 +1,8 @@
 // Times and limits of echoes and solicitations, by hand.
-use crate::rows::{SECOND, eid};
+use crate::rows::{SECOND, eid, on_locators};
 use ip_headers::Addr;
-use locator_state::{EchoOut, Eid, LocatorState};
+use locator_state::{EchoOut, Eid, LocatorState, NoMemory};
 use std::process::Abort;
-use std::test::Fail;
 
 const FIRST: Addr = Addr::V4(0xc633_6401);
 
@@ -14,12 +13,11 @@ const THIRD: Addr = Addr::V6(0xc633_6401);
 #[test]
 fn only_where_packets_came_without_the_echo_is_a_locator_down_from_10_to_60_seconds(
     rt: HostRuntime,
-) -> Result<(), Fail> {
-    let mut state = LocatorState::new(rt.alloc());
-    deaf_from_10_to_60_seconds(&rt, &mut state)
+) -> Result<(), NoMemory> {
+    on_locators(rt.alloc(), |state| deaf_from_10_to_60_seconds(&rt, state))
 }
 
-fn deaf_from_10_to_60_seconds(rt: &impl Abort, state: &mut LocatorState) -> Result<(), Fail> {
+fn deaf_from_10_to_60_seconds(rt: &impl Abort, state: &mut LocatorState) -> Result<(), NoMemory> {
     state.echo_started(0, FIRST, 9)?;
     state.echo_started(0, OTHER, 10)?;
     state.echo_started(0, THIRD, 11)?;
@@ -45,13 +43,12 @@ fn deaf_from_10_to_60_seconds(rt: &impl Abort, state: &mut LocatorState) -> Resu
 }
 
 #[test]
-fn within_its_room_nothing_is_refused(rt: HostRuntime) -> Result<(), Fail> {
-    let mut state = LocatorState::new(rt.alloc());
-    nothing_is_refused(&rt, &mut state)
+fn within_its_room_nothing_is_refused(rt: HostRuntime) -> Result<(), NoMemory> {
+    on_locators(rt.alloc(), |state| nothing_is_refused(&rt, state))
 }
 
-fn nothing_is_refused(rt: &impl Abort, state: &mut LocatorState) -> Result<(), Fail> {
-    let net = eid(0x0a01_0000, 16)?;
+fn nothing_is_refused(rt: &impl Abort, state: &mut LocatorState) -> Result<(), NoMemory> {
+    let net = eid(rt, 0x0a01_0000, 16);
     state.reserve(1, 2)?;
     assert!(rt; state.echo_started(0, FIRST, 9).is_ok());
     assert!(rt; state.echo_wanted(0, FIRST, 7).is_ok());
@@ -64,7 +61,7 @@ fn nothing_is_refused(rt: &impl Abort, state: &mut LocatorState) -> Result<(), F
 }
 
 // So many of each kind but probes.
-fn fill(state: &mut LocatorState, moment: u64, each: usize, eid: Eid) -> Result<(), Fail> {
+fn fill(state: &mut LocatorState, moment: u64, each: usize, eid: Eid) -> Result<(), NoMemory> {
     for _ in 0..each {
         state.echo_started(moment, FIRST, 9)?;
         state.echo_wanted(moment, FIRST, 7)?;
@@ -74,13 +71,12 @@ fn fill(state: &mut LocatorState, moment: u64, each: usize, eid: Eid) -> Result<
 }
 
 #[test]
-fn there_are_at_most_4096_of_each_kind(rt: HostRuntime) -> Result<(), Fail> {
-    let mut state = LocatorState::new(rt.alloc());
-    full_twice(&rt, &mut state)
+fn there_are_at_most_4096_of_each_kind(rt: HostRuntime) -> Result<(), NoMemory> {
+    on_locators(rt.alloc(), |state| full_twice(&rt, state))
 }
 
-fn full_twice(rt: &impl Abort, state: &mut LocatorState) -> Result<(), Fail> {
-    let net = eid(0x0a01_0000, 16)?;
+fn full_twice(rt: &impl Abort, state: &mut LocatorState) -> Result<(), NoMemory> {
+    let net = eid(rt, 0x0a01_0000, 16);
     for moment in [0, 60 * SECOND] {
         fill(state, moment, 4095, net)?;
         assert!(rt; state.may_start(moment, &OTHER));

@@ -8,7 +8,6 @@ use mapping_records::Eid;
 use node_store::Reads;
 use std::alloc::Global;
 use std::process::Abort;
-use std::test::Fail;
 
 const MINUTE: u64 = 60 * SECOND;
 
@@ -24,7 +23,7 @@ fn bits(cache: &MapCache, moment: u64, eid: &Eid) -> Option<(u32, u32)>
 #[test]
 fn status_bits_are_known_until_the_mapping_is_replaced_or_ends(
     rt: HostRuntime,
-) -> Result<(), Fail> {
+) -> Result<(), LearnFault> {
     let mut cache = MapCache::new(rt.alloc());
     bits_until_it_is_replaced_or_ends(&rt, rt.alloc(), &mut cache)
 }
@@ -33,10 +32,10 @@ fn bits_until_it_is_replaced_or_ends(
     rt: &impl Abort,
     alloc: Global,
     cache: &mut MapCache,
-) -> Result<(), Fail>
+) -> Result<(), LearnFault>
     requires { cache.old.now ≡ 0 }
 {
-    let tenant = eid(0x0a02_0000, 16)?;
+    let tenant = eid(rt, 0x0a02_0000, 16);
     cache.learn(0, record(alloc, tenant, 1), false)?;
     cache.set_bits(&tenant, 0b101, 8);
     assert_eq!(rt; bits(cache, 0, &tenant), Some((0xff, 0b101)));
@@ -56,16 +55,18 @@ fn bits_until_it_is_replaced_or_ends(
 }
 
 #[test]
-fn a_fixed_mapping_has_no_end_and_a_ttl_of_0_takes_it_away(rt: HostRuntime) -> Result<(), Fail> {
+fn a_fixed_mapping_has_no_end_and_a_ttl_of_0_takes_it_away(
+    rt: HostRuntime,
+) -> Result<(), LearnFault> {
     let mut cache = MapCache::new(rt.alloc());
     fixed_without_end(&rt, rt.alloc(), &mut cache)
 }
 
-fn fixed_without_end(rt: &impl Abort, alloc: Global, cache: &mut MapCache) -> Result<(), Fail>
+fn fixed_without_end(rt: &impl Abort, alloc: Global, cache: &mut MapCache) -> Result<(), LearnFault>
     requires { cache.old.now ≡ 0 }
 {
     cache.reserve(1, 32)?;
-    let tenant = eid(0x0a02_0000, 16)?;
+    let tenant = eid(rt, 0x0a02_0000, 16);
     cache.learn(0, record(alloc, tenant, 1), true)?;
     cache.purge(MINUTE);
     assert_eq!(rt; cache.now(), MINUTE);
@@ -83,15 +84,17 @@ fn next(cache: &MapCache, moment: u64, after: Option<Addr>) -> Option<(Addr, Eid
 }
 
 #[test]
-fn locators_come_in_order_of_address_and_of_one_the_least_eid(rt: HostRuntime) -> Result<(), Fail> {
+fn locators_come_in_order_of_address_and_of_one_the_least_eid(
+    rt: HostRuntime,
+) -> Result<(), LearnFault> {
     let mut cache = MapCache::new(rt.alloc());
     locators_in_order(&rt, rt.alloc(), &mut cache)
 }
 
-fn locators_in_order(rt: &impl Abort, alloc: Global, cache: &mut MapCache) -> Result<(), Fail>
+fn locators_in_order(rt: &impl Abort, alloc: Global, cache: &mut MapCache) -> Result<(), LearnFault>
     requires { cache.old.now ≡ 0 }
 {
-    let (low, high) = (eid(0x0a02_0000, 16)?, eid(0x0a03_0000, 16)?);
+    let (low, high) = (eid(rt, 0x0a02_0000, 16), eid(rt, 0x0a03_0000, 16));
     let locators = [
         locator(Addr::V4(12), 254),
         locator(Addr::V4(4), 255),
@@ -114,7 +117,7 @@ fn locators_in_order(rt: &impl Abort, alloc: Global, cache: &mut MapCache) -> Re
 }
 
 // Learns so many hosts for a minute, from the first address on.
-fn fill(alloc: Global, cache: &mut MapCache, moment: u64, hosts: u32) -> Result<(), Fail>
+fn fill(alloc: Global, cache: &mut MapCache, moment: u64, hosts: u32) -> Result<(), LearnFault>
     requires { cache.old.now ≤ moment }
     ensures { cache.new.now ≤ moment }
 {
@@ -126,53 +129,61 @@ fn fill(alloc: Global, cache: &mut MapCache, moment: u64, hosts: u32) -> Result<
 }
 
 #[test]
-fn a_full_cache_takes_no_other_eid_until_time_has_emptied_it(rt: HostRuntime) -> Result<(), Fail> {
+fn a_full_cache_takes_no_other_eid_until_time_has_emptied_it(
+    rt: HostRuntime,
+) -> Result<(), LearnFault> {
     let mut cache = MapCache::new(rt.alloc());
     full_twice(&rt, rt.alloc(), &mut cache)
 }
 
-fn full_twice(rt: &impl Abort, alloc: Global, cache: &mut MapCache) -> Result<(), Fail>
+fn full_twice(rt: &impl Abort, alloc: Global, cache: &mut MapCache) -> Result<(), LearnFault>
     requires { cache.old.now ≡ 0 }
 {
     full_at(rt, alloc, cache, 0)?;
     full_at(rt, alloc, cache, MINUTE)
 }
 
-fn full_at(rt: &impl Abort, alloc: Global, cache: &mut MapCache, moment: u64) -> Result<(), Fail>
+fn full_at(
+    rt: &impl Abort,
+    alloc: Global,
+    cache: &mut MapCache,
+    moment: u64,
+) -> Result<(), LearnFault>
     requires { cache.old.now ≤ moment }
     ensures { cache.new.now ≤ moment }
 {
     fill(alloc, cache, moment, 65_536)?;
-    let full = cache.learn(moment, record(alloc, eid(0x0a02_0000, 16)?, 1), false);
+    let full = cache.learn(moment, record(alloc, eid(rt, 0x0a02_0000, 16), 1), false);
     assert_eq!(rt; full, Err(LearnFault::CacheFull));
-    cache.learn(moment, record(alloc, eid(65_535, 32)?, 1), false)?;
+    cache.learn(moment, record(alloc, eid(rt, 65_535, 32), 1), false)?;
     assert_eq!(rt; cache.live_count(moment), 65_536);
     Ok(())
 }
 
 // Learns all prefixes of the last IPv6 address but the shortest, in each of 512 instances: those of
 // even length for a minute, the others for two.
-fn nest(alloc: Global, cache: &mut MapCache) -> Result<(), Fail>
+fn nest(alloc: Global, cache: &mut MapCache) -> Result<(), LearnFault>
     requires { cache.old.now ≡ 0 }
     ensures { cache.new.now ≡ 0 }
 {
     for iid in 0..512_u32 {
         for len in 1..=128_u8 {
-            let prefix = Prefix::new(Addr::V6(u128::MAX), len).ok_or("no such prefix")?;
-            let ttl = 1 + u32::from(len) % 2;
-            cache.learn(0, record(alloc, Eid { iid, prefix }, ttl), false)?;
+            if let Some(prefix) = Prefix::new(Addr::V6(u128::MAX), len) {
+                let ttl = 1 + u32::from(len) % 2;
+                cache.learn(0, record(alloc, Eid { iid, prefix }, ttl), false)?;
+            }
         }
     }
     Ok(())
 }
 
 #[test]
-fn among_65_536_nested_mappings_the_longest_is_found(rt: HostRuntime) -> Result<(), Fail> {
+fn among_65_536_nested_mappings_the_longest_is_found(rt: HostRuntime) -> Result<(), LearnFault> {
     let mut cache = MapCache::new(rt.alloc());
     longest_of_nested(&rt, rt.alloc(), &mut cache)
 }
 
-fn longest_of_nested(rt: &impl Abort, alloc: Global, cache: &mut MapCache) -> Result<(), Fail>
+fn longest_of_nested(rt: &impl Abort, alloc: Global, cache: &mut MapCache) -> Result<(), LearnFault>
     requires { cache.old.now ≡ 0 }
 {
     nest(alloc, cache)?;

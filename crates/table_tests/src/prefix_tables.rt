@@ -2,22 +2,20 @@
 use mapping_records::{Addr, Eid, Prefix};
 use node_store::{NoMemory, NodeStore, Reads};
 use prefix_table::PrefixTable;
-use std::test::Fail;
+use std::process::Abort;
 
 // 10.0.0.0, as a number.
 const TEN: u32 = 0x0a00_0000;
 
 // An EID of instance 0.
-fn eid(addr: Addr, len: u8) -> Option<Eid> {
-    Some(Eid {
-        iid: 0,
-        prefix: Prefix::new(addr, len)?,
-    })
+fn eid(rt: &impl Abort, addr: Addr, len: u8) -> Eid {
+    let prefix = Prefix::new(addr, len).expect(rt, "no longer than the address");
+    Eid { iid: 0, prefix }
 }
 
 // A prefix of IPv4 in instance 0.
-fn v4(addr: u32, len: u8) -> Result<Eid, Fail> {
-    Ok(eid(Addr::V4(addr), len).ok_or("no such prefix")?)
+fn v4(rt: &impl Abort, addr: u32, len: u8) -> Eid {
+    eid(rt, Addr::V4(addr), len)
 }
 
 // Puts a pair, with room made for it.
@@ -30,7 +28,7 @@ fn put(table: &mut PrefixTable<u32>, eid: Eid, value: u32) -> Result<Option<u32>
 }
 
 #[test]
-fn a_node_is_read_written_and_dropped_under_its_name(rt: HostRuntime) -> Result<(), Fail> {
+fn a_node_is_read_written_and_dropped_under_its_name(rt: HostRuntime) -> Result<(), NoMemory> {
     let mut store = NodeStore::new(rt.alloc());
     store.make_room(2)?;
     assert_eq!(rt; store.rooms(), 2);
@@ -50,16 +48,23 @@ fn a_node_is_read_written_and_dropped_under_its_name(rt: HostRuntime) -> Result<
 }
 
 #[test]
-fn a_pair_is_put_replaced_and_taken_out(rt: HostRuntime) -> Result<(), Fail> {
+fn a_pair_is_put_replaced_and_taken_out(rt: HostRuntime) -> Result<(), NoMemory> {
     let mut table = PrefixTable::new(rt.alloc());
+    put_replaced_and_taken_out(&rt, &mut table)
+}
+
+fn put_replaced_and_taken_out(
+    rt: &impl Abort,
+    table: &mut PrefixTable<u32>,
+) -> Result<(), NoMemory> {
     let mut reads = Reads::new();
-    let net = v4(TEN, 8)?;
-    let below = v4(TEN, 16)?;
-    let beside = v4(TEN + 0x0080_0000, 9)?;
+    let net = v4(rt, TEN, 8);
+    let below = v4(rt, TEN, 16);
+    let beside = v4(rt, TEN + 0x0080_0000, 9);
     for (key, value) in [(net, 1), (below, 2), (beside, 3)] {
-        assert_eq!(rt; put(&mut table, key, value)?, None);
+        assert_eq!(rt; put(table, key, value)?, None);
     }
-    assert_eq!(rt; put(&mut table, net, 4)?, Some(1));
+    assert_eq!(rt; put(table, net, 4)?, Some(1));
     assert_eq!(rt; table.len(), 3);
     assert_eq!(rt; table.get(&net, &mut reads), Some(&4));
     assert_eq!(rt; table.remove(&net), Some(4));
@@ -69,18 +74,28 @@ fn a_pair_is_put_replaced_and_taken_out(rt: HostRuntime) -> Result<(), Fail> {
 }
 
 #[test]
-fn the_longest_that_covers_and_passes_is_found(rt: HostRuntime) -> Result<(), Fail> {
+fn the_longest_that_covers_and_passes_is_found(rt: HostRuntime) -> Result<(), NoMemory> {
     let mut table = PrefixTable::new(rt.alloc());
+    longest_that_passes(&rt, &mut table)
+}
+
+// Nets within each other, one of another instance, and one of IPv6.
+fn put_nets(rt: &impl Abort, table: &mut PrefixTable<u32>) -> Result<(), NoMemory> {
     let other = Eid {
         iid: 8,
-        prefix: v4(TEN + 0x0001_0200, 24)?.prefix,
+        prefix: v4(rt, TEN + 0x0001_0200, 24).prefix,
     };
-    let six = eid(Addr::V6(0x0a01_0203 << 96), 8).ok_or("no such prefix")?;
-    put(&mut table, v4(0, 0)?, 0)?;
-    put(&mut table, v4(TEN, 8)?, 8)?;
-    put(&mut table, v4(TEN + 0x0001_0000, 16)?, 16)?;
-    put(&mut table, other, 24)?;
-    put(&mut table, six, 6)?;
+    let six = eid(rt, Addr::V6(0x0a01_0203 << 96), 8);
+    put(table, v4(rt, 0, 0), 0)?;
+    put(table, v4(rt, TEN, 8), 8)?;
+    put(table, v4(rt, TEN + 0x0001_0000, 16), 16)?;
+    put(table, other, 24)?;
+    put(table, six, 6)?;
+    Ok(())
+}
+
+fn longest_that_passes(rt: &impl Abort, table: &mut PrefixTable<u32>) -> Result<(), NoMemory> {
+    put_nets(rt, table)?;
     for (addr, most, found) in [
         (TEN + 0x0001_0203, 99, Some((16, 16))),
         (TEN + 0x0001_0203, 15, Some((8, 8))),
@@ -89,7 +104,7 @@ fn the_longest_that_covers_and_passes_is_found(rt: HostRuntime) -> Result<(), Fa
         (0xc000_0201, 99, Some((0, 0))),
     ] {
         let mut reads = Reads::new();
-        let answer = table.longest_where(&v4(addr, 32)?, |value| *value <= most, &mut reads);
+        let answer = table.longest_where(&v4(rt, addr, 32), |value| *value <= most, &mut reads);
         assert_eq!(rt;
             answer.map(|(key, value)| (key.prefix.len, *value)),
             found,
@@ -101,19 +116,30 @@ fn the_longest_that_covers_and_passes_is_found(rt: HostRuntime) -> Result<(), Fa
 }
 
 #[test]
-fn no_host_prefix_is_read_that_is_not_on_the_way(rt: HostRuntime) -> Result<(), Fail> {
+fn no_host_prefix_is_read_that_is_not_on_the_way(rt: HostRuntime) -> Result<(), NoMemory> {
     let mut table = PrefixTable::new(rt.alloc());
-    put(&mut table, v4(0, 0)?, 0)?;
-    put(&mut table, v4(TEN, 8)?, 8)?;
+    put_hosts(&rt, &mut table)?;
+    none_but_on_the_way(&rt, &table);
+    Ok(())
+}
+
+// All hosts of a net, in it, and it in the net of all.
+fn put_hosts(rt: &impl Abort, table: &mut PrefixTable<u32>) -> Result<(), NoMemory> {
+    put(table, v4(rt, 0, 0), 0)?;
+    put(table, v4(rt, TEN, 8), 8)?;
     for host in 1..=65_534_u32 {
-        put(&mut table, v4(TEN + host, 32)?, 32)?;
+        put(table, v4(rt, TEN + host, 32), 32)?;
     }
+    Ok(())
+}
+
+fn none_but_on_the_way(rt: &impl Abort, table: &PrefixTable<u32>) {
     assert_eq!(rt; table.len(), 65_536);
     let mut reads = Reads::new();
-    let found = table.longest_where(&v4(TEN + 0x8001, 32)?, |value| *value != 32, &mut reads);
-    let (key, value) = found.ok_or("nothing covers it")?;
-    assert_eq!(rt; *key, v4(TEN, 8)?);
+    let host = v4(rt, TEN + 0x8001, 32);
+    let found = table.longest_where(&host, |value| *value != 32, &mut reads);
+    let (key, value) = found.expect(rt, "something covers it");
+    assert_eq!(rt; *key, v4(rt, TEN, 8));
     assert_eq!(rt; *value, 8);
     assert!(rt; reads.count() <= 129);
-    Ok(())
 }

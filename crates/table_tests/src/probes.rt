@@ -1,9 +1,8 @@
 // Times and limits of probes, by hand.
-use crate::rows::SECOND;
+use crate::rows::{SECOND, on_locators};
 use ip_headers::Addr;
-use locator_state::{LocatorState, MOST_PROBES};
+use locator_state::{LocatorState, MOST_PROBES, NoMemory};
 use std::process::Abort;
-use std::test::Fail;
 
 const FIRST: Addr = Addr::V4(0xc633_6401);
 
@@ -12,12 +11,11 @@ const OTHER: Addr = Addr::V4(0xc633_6402);
 const THIRD: Addr = Addr::V6(0xc633_6402);
 
 #[test]
-fn an_answered_probe_is_closed_and_its_locator_up(rt: HostRuntime) -> Result<(), Fail> {
-    let mut state = LocatorState::new(rt.alloc());
-    answered_is_closed(&rt, &mut state)
+fn an_answered_probe_is_closed_and_its_locator_up(rt: HostRuntime) -> Result<(), NoMemory> {
+    on_locators(rt.alloc(), |state| answered_is_closed(&rt, state))
 }
 
-fn answered_is_closed(rt: &impl Abort, state: &mut LocatorState) -> Result<(), Fail> {
+fn answered_is_closed(rt: &impl Abort, state: &mut LocatorState) -> Result<(), NoMemory> {
     state.probed(0, FIRST, 42)?;
     state.probed(0, OTHER, 43)?;
     assert_eq!(rt; state.probe_open(2 * SECOND, 42), Some(FIRST));
@@ -37,7 +35,7 @@ fn answered_is_closed(rt: &impl Abort, state: &mut LocatorState) -> Result<(), F
 }
 
 // So many probes with the nonces from 0 on.
-fn fill(state: &mut LocatorState, moment: u64, probes: u64) -> Result<(), Fail> {
+fn fill(state: &mut LocatorState, moment: u64, probes: u64) -> Result<(), NoMemory> {
     for nonce in 0..probes {
         state.probed(moment, FIRST, nonce)?;
     }
@@ -47,12 +45,11 @@ fn fill(state: &mut LocatorState, moment: u64, probes: u64) -> Result<(), Fail> 
 #[test]
 fn after_9600_probes_none_may_be_made_until_600_seconds_are_over(
     rt: HostRuntime,
-) -> Result<(), Fail> {
-    let mut state = LocatorState::new(rt.alloc());
-    full_twice(&rt, &mut state)
+) -> Result<(), NoMemory> {
+    on_locators(rt.alloc(), |state| full_twice(&rt, state))
 }
 
-fn full_twice(rt: &impl Abort, state: &mut LocatorState) -> Result<(), Fail> {
+fn full_twice(rt: &impl Abort, state: &mut LocatorState) -> Result<(), NoMemory> {
     for moment in [0, 600 * SECOND] {
         fill(state, moment, 9599)?;
         assert!(rt; state.may_probe(moment));

@@ -5,7 +5,6 @@ use mapping_records::Eid;
 use node_store::Reads;
 use request_queue::{AskFault, RequestQueue};
 use std::process::Abort;
-use std::test::Fail;
 
 const LATE: u64 = 7 * SECOND;
 
@@ -15,19 +14,21 @@ fn is_open(queue: &RequestQueue, moment: u64, eid: &Eid) -> bool {
 }
 
 #[test]
-fn a_request_waits_for_seven_seconds_or_until_it_is_answered(rt: HostRuntime) -> Result<(), Fail> {
+fn a_request_waits_for_seven_seconds_or_until_it_is_answered(
+    rt: HostRuntime,
+) -> Result<(), AskFault> {
     let mut queue = RequestQueue::new(rt.alloc());
     waits_until_it_is_answered(&rt, &mut queue)
 }
 
-fn waits_until_it_is_answered(rt: &impl Abort, queue: &mut RequestQueue) -> Result<(), Fail> {
+fn waits_until_it_is_answered(rt: &impl Abort, queue: &mut RequestQueue) -> Result<(), AskFault> {
     queue.reserve(1)?;
     let source = Some(Addr::V4(0x0a01_0005));
-    queue.ask(0, eid(0x0a03_0000, 16)?, None, true, 41)?;
-    queue.ask(0, eid(0x0a02_0000, 16)?, source, false, 42)?;
+    queue.ask(0, eid(rt, 0x0a03_0000, 16), None, true, 41)?;
+    queue.ask(0, eid(rt, 0x0a02_0000, 16), source, false, 42)?;
     queue.answer(41);
     assert!(rt; queue.find(0, 41).is_none());
-    let host = eid(0x0a02_0009, 32)?;
+    let host = eid(rt, 0x0a02_0009, 32);
     for (moment, count, open) in [(0, 1, true), (LATE - 1, 1, true), (LATE, 0, false)] {
         assert_eq!(rt; queue.open_count(moment), count);
         assert_eq!(rt; queue.find(moment, 42).is_some(), open);
@@ -53,14 +54,14 @@ fn next_due(queue: &RequestQueue, moment: u64, after: Option<u64>) -> Option<u64
 }
 
 #[test]
-fn requests_are_sent_again_in_asking_order(rt: HostRuntime) -> Result<(), Fail> {
+fn requests_are_sent_again_in_asking_order(rt: HostRuntime) -> Result<(), AskFault> {
     let mut queue = RequestQueue::new(rt.alloc());
     again_in_asking_order(&rt, &mut queue)
 }
 
-fn again_in_asking_order(rt: &impl Abort, queue: &mut RequestQueue) -> Result<(), Fail> {
+fn again_in_asking_order(rt: &impl Abort, queue: &mut RequestQueue) -> Result<(), AskFault> {
     for (moment, nonce) in [(0, 7), (0, 3), (1, 9), (0, 5)] {
-        queue.ask(moment, eid(0x0a02_0000, 16)?, None, false, nonce)?;
+        queue.ask(moment, eid(rt, 0x0a02_0000, 16), None, false, nonce)?;
     }
     let rows = [
         (None, Some(7)),
@@ -89,24 +90,31 @@ fn again_in_asking_order(rt: &impl Abort, queue: &mut RequestQueue) -> Result<()
 }
 
 // Asks for so many networks, with the nonces from 0 on.
-fn fill(queue: &mut RequestQueue, moment: u64, requests: u32) -> Result<(), Fail> {
+fn fill(
+    rt: &impl Abort,
+    queue: &mut RequestQueue,
+    moment: u64,
+    requests: u32,
+) -> Result<(), AskFault> {
     for nonce in 0..requests {
-        let net = eid(nonce % 65_536 * 256, 24)?;
+        let net = eid(rt, nonce % 65_536 * 256, 24);
         queue.ask(moment, net, None, false, u64::from(nonce))?;
     }
     Ok(())
 }
 
 #[test]
-fn a_full_queue_takes_no_request_until_time_has_emptied_it(rt: HostRuntime) -> Result<(), Fail> {
+fn a_full_queue_takes_no_request_until_time_has_emptied_it(
+    rt: HostRuntime,
+) -> Result<(), AskFault> {
     let mut queue = RequestQueue::new(rt.alloc());
     full_twice(&rt, &mut queue)
 }
 
-fn full_twice(rt: &impl Abort, queue: &mut RequestQueue) -> Result<(), Fail> {
-    let other = eid(0x0a03_0000, 16)?;
+fn full_twice(rt: &impl Abort, queue: &mut RequestQueue) -> Result<(), AskFault> {
+    let other = eid(rt, 0x0a03_0000, 16);
     for moment in [0, LATE] {
-        fill(queue, moment, 1024)?;
+        fill(rt, queue, moment, 1024)?;
         for nonce in [0, 1024] {
             let full = queue.ask(moment + LATE - 1, other, None, false, nonce);
             assert_eq!(rt; full, Err(AskFault::QueueFull));
@@ -117,11 +125,11 @@ fn full_twice(rt: &impl Abort, queue: &mut RequestQueue) -> Result<(), Fail> {
             (0x0003_ff01, true),
             (0x0004_0001, false),
         ] {
-            assert_eq!(rt; is_open(queue, moment, &eid(host, 32)?), open);
+            assert_eq!(rt; is_open(queue, moment, &eid(rt, host, 32)), open);
         }
     }
     queue.ask(2 * LATE, other, None, false, 1024)?;
     assert_eq!(rt; queue.open_count(2 * LATE), 1);
-    assert!(rt; !is_open(queue, 2 * LATE, &eid(0x0000_0001, 32)?));
+    assert!(rt; !is_open(queue, 2 * LATE, &eid(rt, 0x0000_0001, 32)));
     Ok(())
 }

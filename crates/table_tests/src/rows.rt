@@ -2,17 +2,18 @@
 ghost use Rattle.std.specs.Prelude.{◌≡◌, IfOk, length};
 
 use ip_headers::{Addr, Prefix};
-use mapping_records::{Eid, Locator, Locators, Record};
+use locator_state::LocatorState;
+use mapping_records::{Eid, Locator, Locators, NoMemory, Record};
 use std::alloc::Global;
-use std::test::Fail;
+use std::process::Abort;
 
 /// In nanoseconds.
 pub const SECOND: u64 = 1_000_000_000;
 
 /// A prefix of an IPv4 address, of instance 100.
-pub fn eid(address: u32, len: u8) -> Result<Eid, Fail> {
-    let prefix = Prefix::new(Addr::V4(address), len).ok_or("at most 32 bits")?;
-    Ok(Eid { iid: 100, prefix })
+pub fn eid(rt: &impl Abort, address: u32, len: u8) -> Eid {
+    let prefix = Prefix::new(Addr::V4(address), len).expect(rt, "at most 32 bits");
+    Eid { iid: 100, prefix }
 }
 
 /// The record of a mapping of so many minutes, without locators.
@@ -20,13 +21,20 @@ pub fn record(alloc: Global, eid: Eid, ttl: u32) -> Record
     ensures ttl { result.ttl ≡ ttl }
     ensures locators { length result.locators ≡ 0 }
 {
+    record_with(eid, ttl, Locators::new(alloc))
+}
+
+fn record_with(eid: Eid, ttl: u32, locators: Locators) -> Record
+    ensures ttl { result.ttl ≡ ttl }
+    ensures locators { result.locators ≡ locators }
+{
     Record {
         ttl,
         action: 0,
         authoritative: true,
         version: 0,
         eid,
-        locators: Locators::new(alloc),
+        locators,
     }
 }
 
@@ -45,11 +53,25 @@ pub fn locator(addr: Addr, priority: u8) -> Locator {
 }
 
 /// The record of a mapping of so many minutes to locators.
-pub fn record_to(alloc: Global, eid: Eid, ttl: u32, locators: &[Locator]) -> Result<Record, Fail>
+pub fn record_to(
+    alloc: Global,
+    eid: Eid,
+    ttl: u32,
+    locators: &[Locator],
+) -> Result<Record, NoMemory>
     ensures ttl { IfOk result (λ mapping. mapping.ttl ≡ ttl) }
     ensures locators { IfOk result (λ mapping. mapping.locators ≡ locators.now) }
 {
-    let mut mapping = record(alloc, eid, ttl);
-    mapping.locators = Locators::from_vec(Vec::from_slice(alloc, locators)?);
-    Ok(mapping)
+    let locators = Vec::from_slice(alloc, locators)?;
+    Ok(record_with(eid, ttl, Locators::from_vec(locators)))
+}
+
+/// Runs a test on what is known of locators, which is nothing at first. It alone drops that.
+pub fn on_locators<F>(alloc: Global, test: F) -> Result<(), NoMemory>
+where
+    F: FnOnce(&mut LocatorState) -> Result<(), NoMemory>,
+    requires { F.IsAlwaysCallable test }
+{
+    let mut state = LocatorState::new(alloc);
+    test(&mut state)
 }
