@@ -96,26 +96,28 @@ impl Table {
         ensures { IfOk result (λ table. table.parts
             ≡ parts_in settings.now (statics settings.now)) }
     {
-        let mut table = Table::empty(alloc, settings)?;
+        let own = copied_own(alloc, settings.locators.as_slice())?;
+        let mut table = Table::empty(alloc, own);
         table.begin(settings)?;
         Ok(table)
     }
 
     // For a journal without entries.
-    fn empty(alloc: Global, settings: &Settings) -> Result<Table, NoMemory>
-        requires { IsLawful settings.now }
-        ensures { IfOk result (λ table. table.parts ≡ parts_in settings.now []) }
+    fn empty(alloc: Global, own: OwnLocators) -> Table
+        requires { length own ≤ most_locators }
+        ensures { (settings : SettingsValue) → own ≡ settings.locators
+            → result.parts ≡ parts_in settings [] }
     {
-        Ok(Table {
+        Table {
             alloc,
-            own: copied_own(alloc, settings.locators.as_slice())?,
+            own,
             count: 0,
             drawn: 0,
             cache: MapCache::new(alloc),
             queue: RequestQueue::new(alloc),
             locators: LocatorState::new(alloc),
             rest: 0,
-        })
+        }
     }
 
     // Makes room for so many static mappings, with so many locators in all, where there is none yet.
