@@ -3,3 +3,6 @@ pub mod NamesLemmas
 pub mod ChangeLemmas
 pub mod PlaceLemmas
 pub mod RingsLemmas
+pub mod ChainLemmas
+pub mod RingChangeLemmas
+pub mod BehindLemmas

@@ -1,6 +1,6 @@
 use Rattle.std.proofs.Common.{arith, ap, ◌∙◌}
 use Rattle.named_list.specs.Rings.{joined, ring_names}
-use Rattle.named_list.proofs.RingsLemmas.{joined_closed}
+use Rattle.named_list.proofs.BehindLemmas.{joined_closed}
 use Rattle.named_list.proofs.names.close_last.Goals as goal
 
 pub returns-then-len-clause-names : goal.returns-then-len-clause-names

@@ -2,7 +2,7 @@ use Rattle.std.proofs.Common.{ℕ, List, arith, ap, sym, ◌≡◌, ◌∙◌, �
 use Rattle.std.proofs.lemmas.List.{length-take-le}
 use Rattle.std.specs.List.{insert}
 use Rattle.named_list.specs.Rings.{joined, ring_names}
-use Rattle.named_list.proofs.RingsLemmas.{insert_behind, insert_before, front_written}
+use Rattle.named_list.proofs.BehindLemmas.{insert_behind, insert_before, front_written}
 use Rattle.named_list.proofs.names.insert_name.Goals as goal
 
 pub returns-then-index-full-clause-names : goal.returns-then-index-full-clause-names

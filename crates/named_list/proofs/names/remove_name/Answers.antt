@@ -2,7 +2,7 @@ use Rattle.std.proofs.Common.{ℕ, suc, List, arith, ap, sym, ◌≡◌, ◌∙�
 use Rattle.std.proofs.lemmas.List.{length-take-le, take_at, drop_at}
 use Rattle.std.specs.List.{remove}
 use Rattle.named_list.specs.Rings.{joined, ring_names}
-use Rattle.named_list.proofs.RingsLemmas.{remove_behind, get_or_behind, remove_before, get_or_before, front_written}
+use Rattle.named_list.proofs.BehindLemmas.{remove_behind, get_or_behind, remove_before, get_or_before, front_written}
 use Rattle.named_list.proofs.names.remove_name.Goals as goal
 
 pub returns-then-index-full-clause-names : goal.returns-then-index-full-clause-names

@@ -1,5 +1,5 @@
 use Rattle.named_list.specs.Rings.{ring_names}
-use Rattle.named_list.proofs.RingsLemmas.{Pulled}
+use Rattle.named_list.proofs.ChainLemmas.{Pulled}
 use Rattle.named_list.proofs.rings.pull_back.Given as goal
 
 abbrev pub invariant-loop-ring : goal.invariant-loop-ring

@@ -1,6 +1,6 @@
 use Rattle.std.proofs.Common.{◌-◌, length}
 use Rattle.named_list.specs.Rings.{ring_names}
-use Rattle.named_list.proofs.RingsLemmas.{Pushed}
+use Rattle.named_list.proofs.ChainLemmas.{Pushed}
 use Rattle.named_list.proofs.rings.push_on.Given as goal
 
 abbrev pub invariant-loop-ring : goal.invariant-loop-ring

@@ -1,7 +1,7 @@
 use Rattle.std.proofs.Common.{arith, refl, ap, ◌∙◌, ◌++◌, ◌∷◌, [], length, set, ◌-◌}
 use Rattle.std.specs.List.{remove}
 use borrow.Rule.Slice.PartMut.{put_mid}
-use Rattle.named_list.proofs.RingsLemmas.{taken_out}
+use Rattle.named_list.proofs.RingChangeLemmas.{taken_out}
 use Rattle.named_list.proofs.rings.take_out.Goals as goal
 
 pub returns-clause-names : goal.returns-clause-names
