@@ -10,14 +10,14 @@ within 1.7 s; hostile.pcap has in their place frames that ask for more than the 
 wanted, old versions, and replies that nobody asked for. quiet.toml has the 60,000 mappings alone, and quiet.pcap the
 packets alone.
 
-due.toml has 65,536 mappings, the 9,920 locators are probed, and due.pcap has behind 600 s so many times 1,024 misses, a
-second in which all of their requests and 16 probes are due, and a reply to each; in calm.pcap the replies come before
-that second, and calm.toml probes nothing. turns.toml has 50,000 mappings, and turns.pcap 100,000 misses, each with its
+due.toml has 65,536 mappings, and probes the 9,920 locators. due.pcap has behind 600 s so many times 1,024 misses, a
+second in which all of their requests and 16 probes are due, and a reply to each; in early.pcap the replies come before
+that second, and probes.pcap has as many seconds with probes alone. turns.toml has 50,000 mappings, and turns.pcap 100,000 misses, each with its
 reply, of a mapping that lasts a minute, so that 15,000 live at a time and each that is learned meets one that ends;
 records.pcap has the same in replies of 250 records. A capture whose name ends in 0 is the front of another, whose time
 is taken off that one's.
 
-Else it replays them, each the best of some runs that go by turns.
+Else it replays them, each the best of some runs that go by turns, by the time that they take of a processor.
 """
 import os
 import random
@@ -184,23 +184,23 @@ def write_limits(folder, count, seed):
 
 
 def rounds(is_due):
-    """Misses half a second behind a second, and a reply to each, 0.9 s later or behind the next second but one."""
-    probes = AT_ONCE if is_due else 0
-    used_up = GAP * probes
+    """Misses half a second behind a second, and a reply to each, 1 s later or behind the next second but one."""
+    used_up = GAP * AT_ONCE
     for i in range(ROUNDS):
-        second = GAP + STEP * i
-        yield from ((second * SECOND + SECOND // 2, packet(number((10, 6), j))) for j in range(MOST_OPEN))
-        moment = second * SECOND + (5 if is_due else 3) * SECOND // 2
+        start = (GAP + STEP * i) * SECOND + SECOND // 2
+        yield from ((start, packet(number((10, 6), j))) for j in range(MOST_OPEN))
+        moment = start + (2 if is_due else 1) * SECOND
         yield from ((moment, reply(drawn(used_up + j), (number((10, 6), j), 32, 0))) for j in range(MOST_OPEN))
-        used_up += MOST_OPEN + STEP * probes
+        used_up += MOST_OPEN + STEP * AT_ONCE
 
 
 def write_due(folder):
-    for name, front in ("due", "probe = true\n"), ("calm", ""):
-        gap = [(0, packet(HOST)), (GAP * SECOND, packet(HOST))]
-        write_text(f"{folder}/{name}.toml", [site(front), *mappings(MOST_LIVE)])
-        write(f"{folder}/{name}0.pcap", gap)
-        write(f"{folder}/{name}.pcap", gap, rounds(name == "due"))
+    gap, end = [(0, packet(HOST)), (GAP * SECOND, packet(HOST))], [((GAP + STEP * ROUNDS) * SECOND, packet(HOST))]
+    write_text(f"{folder}/due.toml", [site("probe = true\n"), *mappings(MOST_LIVE)])
+    write(f"{folder}/due0.pcap", gap)
+    write(f"{folder}/probes.pcap", gap, end)
+    write(f"{folder}/early.pcap", gap, rounds(False), end)
+    write(f"{folder}/due.pcap", gap, rounds(True), end)
 
 
 # Mappings that are learned and end in turn.
@@ -229,12 +229,12 @@ def write_turns(folder, seed):
 
 
 PAIRS = [("limits", "flood0"), ("limits", "behind"), ("limits", "hostile"), ("quiet", "quiet0"), ("quiet", "quiet"),
-         ("due", "due0"), ("due", "due"), ("calm", "calm0"), ("calm", "calm"),
+         ("due", "due0"), ("due", "probes"), ("due", "early"), ("due", "due"),
          ("turns", "turns0"), ("turns", "turns"), ("turns", "records")]
 
 
 class Runs:
-    """The best times of replays, and the frames, packets and entries of their last lines."""
+    """The least times of replays, of a processor, and the frames, packets and entries of their last lines."""
 
     def __init__(self, program, folder, count):
         self.program, self.folder, self.took, self.ends = program, folder, {}, {}
@@ -246,7 +246,8 @@ class Runs:
         words = ["replay", "--settings", f"{self.folder}/{settings}.toml", "--in", f"{self.folder}/{capture}.pcap",
                  "--out", f"{self.folder}/out.pcap"]
         run = measured(f"{self.folder}/report", [self.program, *words])
-        self.took[capture] = min(run.took, self.took.get(capture, run.took))
+        took = run.user + run.system
+        self.took[capture] = min(took, self.took.get(capture, took))
         self.ends[capture] = numbers(f"{self.folder}/report")
 
     def behind(self, capture, front):
@@ -272,8 +273,8 @@ def check_all(runs):
     check(runs, "flood0", full)
     for capture in "behind", "hostile":
         check(runs, capture, full + MOST_OPEN + 2 * AT_ONCE)
-    check(runs, "due", MOST_LIVE + AT_ONCE * (GAP + STEP * ROUNDS - 1) + ROUNDS * 4 * MOST_OPEN)
-    check(runs, "calm", MOST_LIVE + ROUNDS * 3 * MOST_OPEN)
+    for capture, entries in ("probes", 0), ("early", 3), ("due", 4):
+        check(runs, capture, MOST_LIVE + AT_ONCE * (GAP + STEP * ROUNDS) + ROUNDS * entries * MOST_OPEN)
     check(runs, "turns", BESIDE + 3 * TURNS)
     check(runs, "records", BESIDE + TURNS + 3 * TURNS // IN_ONE)
 
@@ -297,8 +298,9 @@ def main():
     for capture, name in ("behind", "the same at the limits"), ("hostile", "frames that ask for more at the limits"):
         took = runs.behind(capture, "flood0")
         tell(name, f"{count / took:,.0f} a second, {quiet / took:.2f} of that")
-    due = (runs.behind("due", "due0") - runs.behind("calm", "calm0")) / ROUNDS
-    tell("a second with 1,024 requests and 16 probes", f"{1000 * due:.2f} ms")
+    probes, requests = runs.behind("probes", "due0") / (STEP * ROUNDS), runs.behind("due", "early") / ROUNDS
+    tell("a second in which 16 probes are due", f"{1000 * probes:.2f} ms")
+    tell("one with 1,024 requests too", f"{1000 * (probes + requests):.2f} ms")
     for capture, name in ("turns", "learned and ended, each asked for"), ("records", "the same, 250 in a reply"):
         tell(name, f"{TURNS / runs.behind(capture, 'turns0'):,.0f} mappings a second")
 

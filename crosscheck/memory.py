@@ -2,11 +2,13 @@
 """Refuses each allocation of the program once, in runs over the examples and a trial, with a C compiler's help.
 
 usage: memory.py PROGRAM
-A run must end with status 5, and what it said and wrote must be a front of the right report and file; or it must answer
-as if nothing had been refused. Replays are run without workers, which are held against what the program says where
-nothing is refused, and with two in rounds of four frames, which are held against their own numbers: of an allocation
-that a forwarder is refused nothing may be seen but these. It ends with status 1 where a run is wrong.
+A run must end with status 5, and what it said and wrote must be a front of the right report and file, with no packet
+whose frame wasn't said; or it must answer as if nothing had been refused. Replays are held against the plain router,
+without workers, and with two in rounds of four frames by the numbers that they say: of an allocation that a forwarder is
+refused nothing may be seen but these. Other commands are held against what the program says where nothing is refused.
+It ends with status 1 where a run is wrong.
 """
+import itertools
 import os
 import subprocess
 import sys
@@ -17,7 +19,7 @@ from wire import existing
 
 HERE = os.path.dirname(os.path.abspath(__file__))
 EXAMPLES = os.path.join(os.path.dirname(HERE), "examples")
-MEMORY, WORKERS, SIZE = 5, 2, 4
+MEMORY, SIZE = 5, 4
 
 
 class Same:
@@ -39,10 +41,9 @@ class Same:
 class Refusals:
     """A command of the program, its output, and what judges its ends: what it ends with itself, if nothing is given."""
 
-    def __init__(self, shim, program, words, output, lawful=None):
-        self.shim, self.command, self.output = shim, [program, *words], output
-        *end, self.asked = self.run(0)
-        self.lawful = lawful or Same(tuple(end))
+    def __init__(self, name, shim, command, output, lawful=None):
+        self.name, self.shim, self.command, self.output = name, shim, command, output
+        self.lawful = lawful or Same(self.run(0)[0])
 
     def run(self, number):
         if os.path.exists(self.output):
@@ -50,7 +51,7 @@ class Refusals:
         environment = dict(os.environ, LD_PRELOAD=self.shim, REFUSE=str(number))
         done = subprocess.run(self.command, env=environment, capture_output=True)
         report = done.stdout.decode(errors="replace")
-        return done.returncode, report, existing(self.output), int(done.stderr.split()[-1])
+        return (done.returncode, report, existing(self.output)), bool(done.stderr)
 
     def is_right(self, status, report, file):
         if status == MEMORY:
@@ -58,39 +59,35 @@ class Refusals:
         return self.lawful.has_end((status, report, file))
 
     def refuse_each(self):
-        """With workers as many are asked for as come in a run, so that the end is one in which none was refused."""
-        number = passed = 0
-        while True:
-            number += 1
-            status, report, file, asked = self.run(number)
-            if not self.is_right(status, report, file):
-                print(f"allocation {number} refused: {' '.join(self.command[1:])} ended with status {status}")
-                sys.exit(1)
-            if status != MEMORY and number > asked:
-                print(f"{' '.join(self.command[1:])}: each of {asked} allocations refused once, {passed} without effect",
-                      flush=True)
+        """Refuses one after another, until a run has fewer."""
+        passed = 0
+        for number in itertools.count(1):
+            end, was_refused = self.run(number)
+            if not self.is_right(*end):
+                sys.exit(f"{self.name}: allocation {number} refused, and wrong behind status {end[0]}")
+            if not was_refused:
+                print(f"{self.name}: each of {number - 1} allocations refused once, {passed} without effect", flush=True)
                 return
-            passed += status != MEMORY
+            passed += end[0] != MEMORY
 
 
-def examples(folder):
+def refusals(program, folder):
+    shim, output = os.path.join(folder, "refuse.so"), os.path.join(folder, "out.pcap")
+    subprocess.run(["cc", "-shared", "-fPIC", "-o", shim, os.path.join(HERE, "refuse.c"), "-ldl"], check=True)
     for name in "site", "cache", "ticks", "echoes":
-        yield tuple(os.path.join(folder, name, file) for file in ("settings.toml", "capture.pcap"))
+        settings, capture = (os.path.join(EXAMPLES, name, file) for file in ("settings.toml", "capture.pcap"))
+        replay = [program, "replay", "--settings", settings, "--in", capture, "--out", output]
+        shared = [*replay, "--workers", "2", "--round", str(SIZE)]
+        yield Refusals(f"replay of {name}", shim, replay, output, Lawful(settings, capture))
+        yield Refusals("the same with 2 workers", shim, shared, output, Lawful(settings, capture, 2, SIZE))
+        yield Refusals(f"show of {name}", shim, [program, "show", "--in", capture], output)
+    yield Refusals("trial 3", shim, [program, "trial", "3"], output)
 
 
 def main():
-    program = os.path.abspath(sys.argv[1])
     with tempfile.TemporaryDirectory() as folder:
-        shim, output = os.path.join(folder, "refuse.so"), os.path.join(folder, "out.pcap")
-        subprocess.run(["cc", "-shared", "-fPIC", "-o", shim, os.path.join(HERE, "refuse.c"), "-ldl"], check=True)
-        for settings, capture in examples(EXAMPLES):
-            words = ["replay", "--settings", settings, "--in", capture, "--out", output]
-            more = ["--workers", str(WORKERS), "--round", str(SIZE)]
-            lawful = Lawful(settings, capture, WORKERS, SIZE)
-            Refusals(shim, program, words, output).refuse_each()
-            Refusals(shim, program, words + more, output, lawful).refuse_each()
-            Refusals(shim, program, ["show", "--in", capture], output).refuse_each()
-        Refusals(shim, program, ["trial", "3"], output).refuse_each()
+        for one in refusals(os.path.abspath(sys.argv[1]), folder):
+            one.refuse_each()
 
 
 if __name__ == "__main__":

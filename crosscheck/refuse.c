@@ -1,21 +1,22 @@
-/* Refuses one allocation of a program: the one whose number, from 1, is in the environment's REFUSE.
-   Says on standard error at the end how many there were, in all threads together. */
+/* Refuses one allocation of a program: the one whose number, from 1 over all threads, is in the environment's REFUSE.
+   Says so on standard error. */
 #define _GNU_SOURCE
 #include <dlfcn.h>
 #include <errno.h>
-#include <stdio.h>
 #include <stdlib.h>
-
-static long asked;
+#include <unistd.h>
 
 static int refused(void)
 {
-    static long number = -1;
+    static const char said[] = "refused\n";
+    static long asked, number = -1;
     if (number < 0) {
         const char *text = getenv("REFUSE");
         number = text ? atol(text) : 0;
     }
-    return __atomic_add_fetch(&asked, 1, __ATOMIC_SEQ_CST) == number;
+    if (__atomic_add_fetch(&asked, 1, __ATOMIC_SEQ_CST) != number)
+        return 0;
+    return write(2, said, sizeof said - 1) != 0;
 }
 
 void *malloc(size_t size)
@@ -48,9 +49,4 @@ void *aligned_alloc(size_t alignment, size_t size)
     if (!real)
         real = dlsym(RTLD_NEXT, "aligned_alloc");
     return refused() ? NULL : real(alignment, size);
-}
-
-__attribute__((destructor)) static void told(void)
-{
-    dprintf(2, "%ld\n", asked);
 }
