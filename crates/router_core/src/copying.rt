@@ -3,7 +3,10 @@ ghost use Rattle.std.specs.Prelude.{◌≡◌, IfOk};
 
 use crate::Table;
 use crate::copies::copied_own;
+use locator_state::LocatorState;
+use map_cache::MapCache;
 use octets::NoMemory;
+use request_queue::RequestQueue;
 
 impl Table {
     /// A table of its own that is seen as the same, and stands for the same journals. The two share
@@ -12,9 +15,7 @@ impl Table {
         ensures { IfOk result (λ copy. copy ≡ self.now) }
     {
         let own = copied_own(self.alloc, self.own.as_slice())?;
-        let cache = self.cache.copy()?;
-        let queue = self.queue.copy()?;
-        let locators = self.locators.copy()?;
+        let (cache, queue, locators) = all_copied(&self.cache, &self.queue, &self.locators)?;
         Ok(Table {
             alloc: self.alloc,
             own,
@@ -26,4 +27,30 @@ impl Table {
             rest: self.rest,
         })
     }
+}
+
+// Copies, each made where least has to be dropped if the next one fails.
+fn all_copied(
+    cache: &MapCache,
+    queue: &RequestQueue,
+    locators: &LocatorState,
+) -> Result<(MapCache, RequestQueue, LocatorState), NoMemory>
+    ensures cache { IfOk result (λ copies. copies.0 ≡ cache.entry.now) }
+    ensures queue { IfOk result (λ copies. copies.1 ≡ queue.now) }
+    ensures locators { IfOk result (λ copies. copies.2 ≡ locators.now) }
+{
+    let cache = cache.copy()?;
+    let (queue, locators) = both_copied(queue, locators)?;
+    Ok((cache, queue, locators))
+}
+
+fn both_copied(
+    queue: &RequestQueue,
+    locators: &LocatorState,
+) -> Result<(RequestQueue, LocatorState), NoMemory>
+    ensures queue { IfOk result (λ copies. copies.0 ≡ queue.now) }
+    ensures locators { IfOk result (λ copies. copies.1 ≡ locators.now) }
+{
+    let queue = queue.copy()?;
+    Ok((queue, locators.copy()?))
 }
