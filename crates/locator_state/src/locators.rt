@@ -17,7 +17,7 @@ use crate::probing::{
 };
 use crate::soliciting::{drop_solicits, few_solicits, is_solicited};
 use crate::{Addr, EchoOut, EchoStart, EchoWish, Eid, NoMemory, Probe, ProbeState, Solicitation};
-use keyed_list::KeyedList;
+use keyed_list::{Keyed, KeyedList};
 use std::alloc::Global;
 use std::marker::Model;
 
@@ -79,10 +79,8 @@ impl LocatorState {
     pub fn copy(&self) -> Result<LocatorState, NoMemory>
         ensures { IfOk result (λ copy. copy ≡ self.now) }
     {
-        let probes = self.probes.copy()?;
-        let starts = self.starts.copy()?;
-        let wishes = self.wishes.copy()?;
-        let solicits = self.solicits.copy()?;
+        let (probes, starts) = copies(&self.probes, &self.starts)?;
+        let (wishes, solicits) = copies(&self.wishes, &self.solicits)?;
         Ok(LocatorState {
             probes,
             starts,
@@ -348,4 +346,15 @@ impl LocatorState {
     {
         up_by(m, last_judged(m, rloc, &self.probes)) && echo_up(m, rloc, &self.starts)
     }
+}
+
+// Copies of two lists.
+fn copies<T: Keyed + Copy, U: Keyed + Copy>(
+    first: &KeyedList<T>,
+    second: &KeyedList<U>,
+) -> Result<(KeyedList<T>, KeyedList<U>), NoMemory>
+    ensures { IfOk result (λ both. both ≡ (first.now, second.now)) }
+{
+    let copy = first.copy()?;
+    Ok((copy, second.copy()?))
 }
