@@ -1,11 +1,9 @@
 // A round of a replay by itself: its lines hold the looks by which packets were decided.
-ghost use Rattle.std.specs.Prelude.{◌≡◌, ◌≤◌, ◌∷◌, [], All, IfOk};
+ghost use Rattle.std.specs.Prelude.{◌≡◌, ◌≤◌, ◌<◌, ◌^◌, length, IfOk};
 ghost use Rattle.lisp_settings.specs.Lawful.{IsLawful};
 ghost use Rattle.router_model.specs.Journal.{statics};
 ghost use Rattle.router_model.specs.Lifting.{AreOctets};
 ghost use Rattle.router_model.specs.Parts.{Stands, parts_in};
-ghost use Rattle.router_model.specs.Lifting.{FramesInOrder};
-ghost use Rattle.forwarders.specs.Rounding.{begun_at};
 
 use crate::forwarding::{Meeting, SITE};
 use capture_io::{Frame, Link};
@@ -21,9 +19,10 @@ use std::thread::Threads;
 
 const MOMENT: u64 = 1_700_000_000_000_000_000;
 
-// The packet, as a frame of that number.
-fn frame(alloc: Global, number: u32) -> Result<Frame, NoMemory>
-    requires { 1 ≤ number }
+// A packet, as a frame of that number.
+fn frame(alloc: Global, number: u32, packet: &[u8]) -> Result<Frame, NoMemory>
+    requires number { 1 ≤ number }
+    requires size { length packet.now < 2 ^ 32 }
     ensures moment { IfOk result (λ frame. frame.moment ≡ 1700000000000000000) }
     ensures octets { IfOk result (λ frame. AreOctets frame.octets) }
 {
@@ -31,7 +30,7 @@ fn frame(alloc: Global, number: u32) -> Result<Frame, NoMemory>
         number,
         moment: MOMENT,
         link: Link::Raw,
-        octets: Octets::copied(alloc, &PACKET)?,
+        octets: Octets::copied(alloc, packet)?,
     })
 }
 
@@ -88,8 +87,8 @@ fn looks_of_two<R: Threads + Wait + Sync, G: Gate>(
     let Ok(settings) = read_settings(alloc, SITE.as_bytes()) else {
         return Err(NoMemory);
     };
-    let first = frame(alloc, 1)?;
-    let second = frame(alloc, 2)?;
+    let first = frame(alloc, 1, &PACKET)?;
+    let second = frame(alloc, 2, &PACKET)?;
     let mut table = Table::new(alloc, &settings)?;
     looks_of_round(rt, alloc, &settings, &mut table, first, second, gate)
 }
