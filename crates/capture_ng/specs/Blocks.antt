@@ -1,0 +1,76 @@
+-- Blocks of a pcapng file: a type, a total length, a body, and the total length again.
+use Rattle.std.specs.Prelude.{ℕ, ◌%◌, ◌==◌, ◌&&◌, ◌||◌, nat_le, Bool, true, false, List, unwrap_or, if◌then◌else◌}
+use Rattle.octets.specs.Numbers.{little, big}
+use Rattle.capture_ng.specs.Numbers.{number}
+use Rattle.capture_ng.specs.Position.{Position}
+use Rattle.capture_ng.specs.declared.order.Order.{Order}
+use Rattle.capture_ng.specs.declared.order.Order.TheVariants.{Little, Big}
+use Rattle.capture_ng.specs.declared.head.Kind.{Kind}
+use Rattle.capture_ng.specs.declared.head.Kind.TheVariants.{SectionHeader, Interface, OldPacket, SimplePacket, EnhancedPacket, Other}
+use Rattle.capture_ng.specs.declared.head.Head.{Head}
+
+-- the kind of a block, by its type
+abbrev pub kind_of : ℕ → Kind
+kind_of type =
+    if type == 0x0a0d0d0a then SectionHeader
+    else if type == 1 then Interface
+    else if type == 2 then OldPacket
+    else if type == 3 then SimplePacket
+    else if type == 6 then EnhancedPacket
+    else Other
+
+-- it keeps a packet that becomes a frame
+abbrev pub is_packet : Kind → Bool
+is_packet SimplePacket = true
+is_packet EnhancedPacket = true
+is_packet _ = false
+
+-- it is one of the four kinds whose body is read; any other is passed over
+abbrev pub is_read : Kind → Bool
+is_read SectionHeader = true
+is_read Interface = true
+is_read OldPacket = false
+is_read SimplePacket = true
+is_read EnhancedPacket = true
+is_read Other = false
+
+-- the least total length of its kind
+abbrev pub least_length : Kind → ℕ
+least_length SectionHeader = 28
+least_length Interface = 20
+least_length OldPacket = 12
+least_length SimplePacket = 16
+least_length EnhancedPacket = 32
+least_length Other = 12
+
+-- a total length that a block of the kind may have
+abbrev pub is_length : Kind → ℕ → Bool
+is_length kind total = total % 4 == 0 && nat_le (least_length kind) total
+
+-- the octets begin with a section header's type, which reads the same in both orders
+abbrev pub begins_section : List ℕ → Bool
+begins_section left = little 4 left 0 == 0x0a0d0d0a
+
+-- the byte-order magic of a section header
+abbrev pub is_magic : ℕ → Bool
+is_magic m = m == 0x1a2b3c4d
+
+-- the order that makes it right, or else the other one
+abbrev pub magic_order : List ℕ → Order
+magic_order left = if is_magic (little 4 left 8) then Little else Big
+
+-- the order of a block's numbers: that of its magic, or that of the section around it
+abbrev pub order_of : Position → List ℕ → Order
+order_of at left = if begins_section left then magic_order left else unwrap_or at.order Little
+
+-- what the first octets of a block say, in that order
+abbrev pub head_in : Order → List ℕ → Head
+head_in order left = record {
+  kind = kind_of (number order 4 left 0);
+  order = order;
+  length = number order 4 left 4;
+}
+
+-- the head of the block that is next
+abbrev pub head_of : Position → List ℕ → Head
+head_of at left = head_in (order_of at left) left

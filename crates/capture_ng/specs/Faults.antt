@@ -1,0 +1,108 @@
+-- The rules of a block, in the order in which they are judged, each with its fault.
+use Rattle.std.specs.Prelude.{ℕ, ◌+◌, ◌-◌, ◌==◌, ◌&&◌, ◌||◌, not, nat_le, nat_lt, Bool, true, false, List, [], ◌∷◌, ◌++◌, length, Option, Some, None, is_some, unwrap_or}
+use Rattle.octets.specs.Rules.{first_failing}
+use Rattle.capture_io.specs.Capture.{in_span}
+use Rattle.capture_io.specs.Limits.{most_frame_octets, most_records}
+use Rattle.capture_ng.specs.Blocks.{begins_section, head_of, is_length, is_magic, is_packet, is_read, kind_of, order_of}
+use Rattle.capture_ng.specs.Interfaces.{are_options}
+use Rattle.capture_ng.specs.Limits.{most_block_octets, most_blocks, most_interfaces}
+use Rattle.capture_ng.specs.Numbers.{number}
+use Rattle.capture_ng.specs.Packets.{interface_of, is_moment, kept, moment, packet_room}
+use Rattle.capture_ng.specs.Position.{Position}
+use Rattle.capture_ng.specs.declared.head.Kind.TheVariants as kind
+use Rattle.capture_ng.specs.declared.head.Kind.{Kind}
+use Rattle.capture_ng.specs.declared.head.Head.{Head}
+use Rattle.capture_ng.specs.declared.interface.Interface.{Interface}
+use Rattle.capture_ng.specs.declared.fault.NgFault.{NgFault}
+use Rattle.capture_ng.specs.declared.fault.NgFault.TheVariants.{TooManyRecords, CutBlock, BadMagic, BadLength, TooLong, OldPacket, BadVersion, BadOption, TooManyInterfaces, BadInterface, BadLinkType, BadMoment, SpanTooLong}
+
+-- a packet block begins: its type is there
+abbrev pub begins_packet : Position → List ℕ → Bool
+begins_packet at left =
+    nat_le 4 (length left) && is_packet (kind_of (number (order_of at left) 4 left 0))
+
+-- there may be one block more, and where it is of a packet, one frame more
+abbrev pub has_room : Position → List ℕ → Bool
+has_room at left =
+    nat_lt at.blocks most_blocks && (not (begins_packet at left) || nat_lt at.count most_records)
+
+-- the rules of a block's first octets
+abbrev pub begin_rules : Position → List ℕ → List (Bool × NgFault)
+begin_rules at left =
+    (has_room at left, TooManyRecords)
+    ∷ (nat_le 8 (length left), CutBlock at.place)
+    ∷ (begins_section left || is_some at.order, BadMagic)
+    ∷ (not (begins_section left) || nat_le 12 (length left), CutBlock at.place)
+    ∷ (not (begins_section left) || is_magic (number (order_of at left) 4 left 8), BadMagic)
+    ∷ []
+
+-- the rules of its total length
+abbrev pub length_rules : Position → Head → List (Bool × NgFault)
+length_rules at head =
+    (is_length head.kind head.length, BadLength at.place)
+    ∷ (not (is_read head.kind) || nat_le head.length most_block_octets, TooLong at.place head.length)
+    ∷ []
+
+-- a block is no obsolete packet block
+abbrev pub is_current : Kind → Bool
+is_current k = elim k [ kind.OldPacket ↦ false | _ ↦ true ]
+
+-- the rules of the whole block: it is there, with its second length, and isn't obsolete
+abbrev pub whole_rules : Position → Head → List ℕ → List (Bool × NgFault)
+whole_rules at head left =
+    (nat_le head.length (length left), CutBlock at.place)
+    ∷ (number head.order 4 left (head.length - 4) == head.length, BadLength at.place)
+    ∷ (is_current head.kind, OldPacket at.place)
+    ∷ []
+
+-- the rules of a section header
+abbrev pub section_rules : Position → Head → List ℕ → List (Bool × NgFault)
+section_rules at head left = (number head.order 2 left 12 == 1, BadVersion at.place) ∷ []
+
+-- the rules of an interface
+abbrev pub interface_rules : Position → Head → List ℕ → List (Bool × NgFault)
+interface_rules at head left =
+    (are_options head left, BadOption at.place)
+    ∷ (nat_lt (length at.interfaces) most_interfaces, TooManyInterfaces at.place)
+    ∷ []
+
+-- the rules of a packet of an interface
+abbrev pub seen_rules : Position → Head → List ℕ → Interface → List (Bool × NgFault)
+seen_rules at head left interface =
+    (is_some interface.link, BadLinkType at.place)
+    ∷ (nat_le (kept head interface left) (packet_room head), BadLength at.place)
+    ∷ (nat_le (kept head interface left) most_frame_octets, TooLong at.place (kept head interface left))
+    ∷ (is_moment (moment at head interface left), BadMoment at.place)
+    ∷ (in_span at.greatest (unwrap_or (moment at head interface left) 0), SpanTooLong (at.count + 1))
+    ∷ []
+
+-- the rules of a packet
+abbrev pub packet_rules : Position → Head → List ℕ → List (Bool × NgFault)
+packet_rules at head left = elim (interface_of at head left) [
+  None ↦ (false, BadInterface at.place) ∷ [] | Some interface ↦ seen_rules at head left interface
+]
+
+-- the rules of what a block holds
+abbrev pub body_rules : Position → Head → List ℕ → List (Bool × NgFault)
+body_rules at head left = elim head.kind [
+  kind.SectionHeader ↦ section_rules at head left
+  | kind.Interface ↦ interface_rules at head left
+  | kind.SimplePacket ↦ packet_rules at head left
+  | kind.EnhancedPacket ↦ packet_rules at head left
+  | _ ↦ []
+]
+
+-- all rules of the block that is next
+abbrev pub block_rules : Position → List ℕ → List (Bool × NgFault)
+block_rules at left =
+    begin_rules at left
+    ++ (length_rules at (head_of at left)
+    ++ (whole_rules at (head_of at left) left ++ body_rules at (head_of at left) left))
+
+-- the fault of the block that is next, if it has one
+abbrev pub block_fault : Position → List ℕ → Option NgFault
+block_fault at left = first_failing (block_rules at left)
+
+-- the fault at the end of the octets: the empty file is cut
+abbrev pub end_fault : Position → Option NgFault
+end_fault at = elim at.order [ None ↦ Some (CutBlock at.place) | Some order ↦ None ]

@@ -1,0 +1,57 @@
+-- What a reader finds next in the octets that are left: blocks up to a frame, the end or a fault.
+use Rattle.std.specs.Prelude.{ℕ, zero, suc, ◌+◌, Bool, List, [], ◌∷◌, length, Option, Some, None, Result, Ok, Err}
+use Rattle.capture_io.specs.Frame.{Frame}
+use Rattle.capture_ng.specs.Blocks.{head_of}
+use Rattle.capture_ng.specs.Faults.{block_fault, end_fault}
+use Rattle.capture_ng.specs.Frames.{NgRun, advanced, before, block_frame, ended, rest}
+use Rattle.capture_ng.specs.Position.{Position}
+use Rattle.capture_ng.specs.declared.fault.NgFault.{NgFault}
+
+-- the answer, where the reader stands then, and how many octets it took
+pub record Found : Type 0 where
+  pub answer : Result (Option Frame) NgFault
+  pub position : Position
+  pub taken : ℕ
+
+-- the answer at the end: no frame, or a fault
+abbrev pub ending : Option NgFault → Result (Option Frame) NgFault
+ending None = Ok None
+ending (Some fault) = Err fault
+
+-- the reader stops where it stands
+abbrev pub stopped : Option NgFault → Position → Found
+stopped fault at = record { answer = ending fault; position = at; taken = 0 }
+
+-- the same behind so many octets
+abbrev pub further : ℕ → Found → Found
+further size found = record found { taken = size + found.taken }
+
+-- behind a block: its frame, or what is found behind it
+abbrev pub behind_block : Option Frame → Position → ℕ → Found → Found
+behind_block None next size found = further size found
+behind_block (Some f) next size found =
+    record { answer = Ok (Some f); position = next; taken = size }
+
+-- a block: its fault, or what is behind it
+abbrev pub at_block : Option NgFault → Option Frame → Position → Position → ℕ → Found → Found
+at_block None frame at next size found = behind_block frame next size found
+at_block (Some fault) frame at next size found = stopped (Some fault) at
+
+-- what is found in at most n blocks
+unfoldable pub found_within : ℕ → Bool → Position → List ℕ → Found
+found_within zero vlans at left = stopped (end_fault at) at
+found_within (suc n) vlans at [] = stopped (end_fault at) at
+found_within (suc n) vlans at (x ∷ left) =
+    at_block (block_fault at (x ∷ left)) (block_frame vlans at (x ∷ left)) at
+    (advanced at (x ∷ left)) (head_of at (x ∷ left)).length
+    (found_within n vlans (advanced at (x ∷ left)) (rest at (x ∷ left)))
+
+-- what is found: no more blocks than octets
+unfoldable pub found : Bool → Position → List ℕ → Found
+found vlans at left = found_within (length left) vlans at left
+
+-- the run of an answer and of what comes behind it
+abbrev pub then_run : Result (Option Frame) NgFault → NgRun → NgRun
+then_run (Ok None) run = ended None
+then_run (Ok (Some f)) run = before f run
+then_run (Err fault) run = ended (Some fault)

@@ -1,0 +1,84 @@
+-- All frames of a pcapng capture, and the fault at its end: block by block.
+use Rattle.std.specs.Prelude.{ℕ, zero, suc, ◌+◌, Bool, false, List, [], ◌∷◌, ◌++◌, length, drop, Option, Some, None, option_map}
+use Rattle.capture_io.specs.Frame.{Frame}
+use Rattle.capture_ng.specs.Blocks.{head_of}
+use Rattle.capture_ng.specs.Faults.{block_fault, end_fault}
+use Rattle.capture_ng.specs.Interfaces.{interface_in}
+use Rattle.capture_ng.specs.Packets.{Packet, frame_of, packet_in}
+use Rattle.capture_ng.specs.Position.{Position, begin}
+use Rattle.capture_ng.specs.declared.head.Kind.TheVariants as kind
+use Rattle.capture_ng.specs.declared.head.Head.{Head}
+use Rattle.capture_ng.specs.declared.fault.NgFault.{NgFault}
+
+-- the frames before the end or the first fault, and that fault
+pub record NgRun : Type 0 where
+  pub frames : List Frame
+  pub fault : Option NgFault
+
+-- a run that ends at once
+abbrev pub ended : Option NgFault → NgRun
+ended fault = record { frames = []; fault = fault }
+
+-- the run with a frame before it
+abbrev pub before : Frame → NgRun → NgRun
+before f run = record { frames = f ∷ run.frames; fault = run.fault }
+
+-- the run behind a block, with the block's frame before it where it has one
+abbrev pub behind : Option Frame → NgRun → NgRun
+behind None run = run
+behind (Some f) run = before f run
+
+-- the run of a block and of what comes behind it, unless the block has a fault
+abbrev pub of_block : Option NgFault → Option Frame → NgRun → NgRun
+of_block None frame run = behind frame run
+of_block (Some fault) frame run = ended (Some fault)
+
+-- the frame of the block that is next, where it has one
+abbrev pub block_frame : Bool → Position → List ℕ → Option Frame
+block_frame vlans at left = option_map (frame_of vlans) (packet_in at (head_of at left) left)
+
+-- one block further
+abbrev pub passed : Position → Head → Position
+passed at head = record at { place = at.place + head.length; blocks = at.blocks + 1 }
+
+-- one frame further
+abbrev pub counted : Position → Option Packet → Position
+counted at None = at
+counted at (Some packet) =
+    record at { count = packet.frame.number; greatest = Some packet.frame.moment }
+
+-- behind a block: a section header begins a section without interfaces, an interface is one more
+abbrev pub after_block : Position → Head → List ℕ → Position
+after_block at head left = elim head.kind [
+  kind.SectionHeader ↦ record (passed at head) { order = Some head.order; interfaces = [] }
+  | kind.Interface ↦ record (passed at head) { interfaces = at.interfaces ++ interface_in head left ∷ [] }
+  | _ ↦ counted (passed at head) (packet_in at head left)
+]
+
+-- where the file is read from behind the block that is next
+abbrev pub advanced : Position → List ℕ → Position
+advanced at left = after_block at (head_of at left) left
+
+-- what is left behind it
+abbrev pub rest : Position → List ℕ → List ℕ
+rest at left = drop (head_of at left).length left
+
+-- the blocks that are left, at most n
+unfoldable pub blocks_within : ℕ → Bool → Position → List ℕ → NgRun
+blocks_within zero vlans at left = ended (end_fault at)
+blocks_within (suc n) vlans at [] = ended (end_fault at)
+blocks_within (suc n) vlans at (x ∷ left) =
+    of_block (block_fault at (x ∷ left)) (block_frame vlans at (x ∷ left))
+    (blocks_within n vlans (advanced at (x ∷ left)) (rest at (x ∷ left)))
+
+-- the blocks that are left: no more than octets
+unfoldable pub read_on : Bool → Position → List ℕ → NgRun
+read_on vlans at left = blocks_within (length left) vlans at left
+
+-- the frames of a file
+abbrev pub ng_frames : List ℕ → Bool → List Frame
+ng_frames file vlans = (read_on vlans begin file).frames
+
+-- its first fault, or none
+abbrev pub ng_fault : List ℕ → Option NgFault
+ng_fault file = (read_on false begin file).fault

@@ -1,0 +1,11 @@
+pub mod Blocks
+pub mod Examples
+pub mod Faults
+pub mod Found
+pub mod Frames
+pub mod Interfaces
+pub mod Limits
+pub mod Numbers
+pub mod Packets
+pub mod Position
+pub mod Spelling

@@ -1,0 +1,116 @@
+-- Packet blocks: their interface, moment and octets, and the frames that they become.
+use Rattle.std.specs.Prelude.{ℕ, ◌+◌, ◌-◌, ◌*◌, ◌/◌, ◌^◌, ◌==◌, ◌&&◌, not, nat_le, nat_lt, min, max, Bool, true, false, List, ◌++◌, length, take, drop, slice_get, Option, Some, None, option_map, option_and_then, unwrap_or, if◌then◌else◌}
+use Rattle.octets.specs.Numbers.{big_octets}
+use Rattle.capture_io.specs.Frame.{Frame}
+use Rattle.capture_io.specs.Link.{is_tagged}
+use Rattle.capture_io.specs.declared.link.Link.{Link}
+use Rattle.capture_io.specs.declared.link.Link.TheVariants.{Ethernet, Raw}
+use Rattle.capture_ng.specs.Limits.{end_of_moments}
+use Rattle.capture_ng.specs.Numbers.{number}
+use Rattle.capture_ng.specs.Position.{Position}
+use Rattle.capture_ng.specs.declared.head.Kind.TheVariants as kind
+use Rattle.capture_ng.specs.declared.head.Head.{Head}
+use Rattle.capture_ng.specs.declared.interface.Added.{Added}
+use Rattle.capture_ng.specs.declared.interface.Added.TheVariants.{Later, Earlier}
+use Rattle.capture_ng.specs.declared.interface.Interface.{Interface}
+
+-- the number of a packet's interface: a simple packet has that of the section's first one
+abbrev pub interface_number : Head → List ℕ → ℕ
+interface_number head left =
+    elim head.kind [ kind.EnhancedPacket ↦ number head.order 4 left 8 | _ ↦ 0 ]
+
+-- its interface, where the section has it
+abbrev pub interface_of : Position → Head → List ℕ → Option Interface
+interface_of at head left = slice_get at.interfaces (interface_number head left)
+
+-- where the packet's octets begin in the block
+abbrev pub packet_place : Head → ℕ
+packet_place head = elim head.kind [ kind.EnhancedPacket ↦ 28 | _ ↦ 12 ]
+
+-- the octets of the block between there and its second length
+abbrev pub packet_room : Head → ℕ
+packet_room head = head.length - (packet_place head + 4)
+
+-- the lesser of a packet's length and a snap length other than 0
+abbrev pub snapped : ℕ → ℕ → ℕ
+snapped snap size = if snap == 0 then size else min snap size
+
+-- how many octets of its packet the block keeps
+abbrev pub kept : Head → Interface → List ℕ → ℕ
+kept head interface left = elim head.kind [
+  kind.EnhancedPacket ↦ number head.order 4 left 20 | _ ↦ snapped interface.snap (number head.order 4 left 8)
+]
+
+-- a time in an interface's units, in nanoseconds, rounded down
+abbrev pub nanoseconds : Interface → ℕ → ℕ
+nanoseconds interface time = time * 1000000000 / interface.units
+
+-- nanoseconds moved by whole seconds; none where that is before 1970
+abbrev pub moved : Added → ℕ → Option ℕ
+moved (Later seconds) m = Some (m + seconds * 1000000000)
+moved (Earlier seconds) m =
+    if nat_le (seconds * 1000000000) m then Some (m - seconds * 1000000000) else None
+
+-- the time of an enhanced packet, in its interface's units
+abbrev pub time : Head → List ℕ → ℕ
+time head left = number head.order 4 left 12 * 2 ^ 32 + number head.order 4 left 16
+
+-- the moment that a packet names; a simple one has the greatest so far, 0 without one
+abbrev pub moment : Position → Head → Interface → List ℕ → Option ℕ
+moment at head interface left = elim head.kind [
+  kind.EnhancedPacket ↦ moved interface.added (nanoseconds interface (time head left))
+  | _ ↦ Some (unwrap_or at.greatest 0)
+]
+
+-- a moment that a frame may have: not before 1970, and before 2^32 seconds
+abbrev pub is_moment : Option ℕ → Bool
+is_moment None = false
+is_moment (Some m) = nat_lt m end_of_moments
+
+-- a packet that a block keeps: the number of its interface, and its frame
+pub record Packet : Type 0 where
+  pub interface : ℕ
+  pub frame : Frame
+
+-- the frame of a packet of that link and moment, which is no earlier than those before it
+abbrev pub frame_at : Position → Head → Interface → List ℕ → Link → ℕ → Frame
+frame_at at head interface left link m = record {
+  number = at.count + 1;
+  moment = max (unwrap_or at.greatest 0) m;
+  link = link;
+  octets = take (kept head interface left) (drop (packet_place head) left);
+}
+
+-- the packet of an interface in a packet block, where it has a link that is read and a moment
+abbrev pub packet_of : Position → Head → List ℕ → Interface → Option Packet
+packet_of at head left interface =
+    option_and_then (λ link.
+    option_map (λ m.
+    record { interface = interface_number head left; frame = frame_at at head interface left link m })
+    (moment at head interface left)) interface.link
+
+-- the packet in a block, where it keeps one
+abbrev pub packet_in : Position → Head → List ℕ → Option Packet
+packet_in at head left = elim head.kind [
+  kind.EnhancedPacket ↦ option_and_then (packet_of at head left) (interface_of at head left)
+  | kind.SimplePacket ↦ option_and_then (packet_of at head left) (interface_of at head left)
+  | _ ↦ None
+]
+
+-- an Ethernet header without a tag
+abbrev pub is_untagged : Link → List ℕ → Bool
+is_untagged Ethernet octets = nat_le 14 (length octets) && not (is_tagged octets)
+is_untagged Raw octets = false
+
+-- with a VLAN tag of that number put in before the type
+abbrev pub tagged : ℕ → List ℕ → List ℕ
+tagged vlan octets =
+    take 12 octets ++ (big_octets 2 0x8100 ++ (big_octets 2 vlan ++ drop 12 octets))
+
+-- the packet's frame; where interfaces are VLANs, each but the first one's untagged frames get
+-- its number as their tag
+abbrev pub frame_of : Bool → Packet → Frame
+frame_of vlans packet =
+    if vlans && (nat_lt 0 packet.interface && is_untagged packet.frame.link packet.frame.octets)
+    then record packet.frame { octets = tagged packet.interface packet.frame.octets }
+    else packet.frame

@@ -1,0 +1,32 @@
+// The limits of pcapng captures.
+ghost use Rattle.std.specs.Prelude.{◌≡◌};
+ghost use Rattle.capture_ng.specs.Limits.{end_of_moments, most_binary, most_block_octets, most_blocks, most_decimal, most_interfaces};
+ghost use Rattle.capture_ng.specs.declared.limits.TheConstants.{END_OF_MOMENTS, MOST_BINARY, MOST_BLOCKS, MOST_BLOCK_OCTETS, MOST_DECIMAL, MOST_INTERFACES};
+
+/// The most octets of a section header, an interface or a packet block.
+pub const MOST_BLOCK_OCTETS: u32 = 1_048_576;
+
+/// The most interfaces of a section.
+pub const MOST_INTERFACES: usize = 4095;
+
+/// The most blocks of a file.
+pub const MOST_BLOCKS: u32 = 4_000_000_000;
+
+/// The most digits of a decimal unit of time.
+pub const MOST_DECIMAL: u8 = 19;
+
+/// The most bits of a binary one.
+pub const MOST_BINARY: u8 = 63;
+
+/// The nanoseconds since 1970 at which a frame comes too late.
+pub const END_OF_MOMENTS: u64 = 4_294_967_296_000_000_000;
+
+/// The limits are the defined ones.
+pub fn limits_are()
+    ensures block { MOST_BLOCK_OCTETS ≡ most_block_octets }
+    ensures interfaces { MOST_INTERFACES ≡ most_interfaces }
+    ensures blocks { MOST_BLOCKS ≡ most_blocks }
+    ensures decimal { MOST_DECIMAL ≡ most_decimal }
+    ensures binary { MOST_BINARY ≡ most_binary }
+    ensures moments { END_OF_MOMENTS ≡ end_of_moments }
+{}
