@@ -1,2 +1,4 @@
+pub mod ClassicLemmas
 pub mod OnLiterals
+pub mod OrderLemmas
 pub mod Runs

@@ -10,7 +10,7 @@ use Rattle.capture_ng.specs.Found.{Found, at_block, behind_block, found, found_w
 use Rattle.capture_ng.specs.Frames.{NgRun, advanced, before, behind, block_frame, blocks_within, ended, of_block, read_on, rest}
 use Rattle.capture_ng.specs.Position.{Position}
 use Rattle.capture_ng.specs.declared.head.Kind.{Kind}
-use Rattle.capture_ng.specs.declared.head.Kind.TheVariants.{SectionHeader, Interface, OldPacket, SimplePacket, EnhancedPacket, Other}
+use Rattle.capture_ng.specs.declared.head.Kind.TheVariants.{SectionHeader, InterfaceDescription, ObsoletePacket, SimplePacket, EnhancedPacket, Other}
 use Rattle.capture_ng.specs.declared.fault.NgFault.{NgFault}
 
 -- the second of two tests
@@ -21,8 +21,8 @@ second false b e = cc
 -- each kind of block has at least twelve octets
 least : (kind : Kind) (total : ℕ) → is_length kind total ≡ true → 12 ≤ total
 least SectionHeader total e = let long = leb-true 28 total (second (total % 4 == 0) _ e) in omega (arith, long)
-least Interface total e = let long = leb-true 20 total (second (total % 4 == 0) _ e) in omega (arith, long)
-least OldPacket total e = leb-true 12 total (second (total % 4 == 0) _ e)
+least InterfaceDescription total e = let long = leb-true 20 total (second (total % 4 == 0) _ e) in omega (arith, long)
+least ObsoletePacket total e = leb-true 12 total (second (total % 4 == 0) _ e)
 least SimplePacket total e = let long = leb-true 16 total (second (total % 4 == 0) _ e) in omega (arith, long)
 least EnhancedPacket total e = let long = leb-true 32 total (second (total % 4 == 0) _ e) in omega (arith, long)
 least Other total e = leb-true 12 total (second (total % 4 == 0) _ e)

@@ -6,15 +6,15 @@ use Rattle.capture_ng.specs.Position.{Position}
 use Rattle.capture_ng.specs.declared.order.Order.{Order}
 use Rattle.capture_ng.specs.declared.order.Order.TheVariants.{Little, Big}
 use Rattle.capture_ng.specs.declared.head.Kind.{Kind}
-use Rattle.capture_ng.specs.declared.head.Kind.TheVariants.{SectionHeader, Interface, OldPacket, SimplePacket, EnhancedPacket, Other}
+use Rattle.capture_ng.specs.declared.head.Kind.TheVariants.{SectionHeader, InterfaceDescription, ObsoletePacket, SimplePacket, EnhancedPacket, Other}
 use Rattle.capture_ng.specs.declared.head.Head.{Head}
 
 -- the kind of a block, by its type
 abbrev pub kind_of : ℕ → Kind
 kind_of type =
     if type == 0x0a0d0d0a then SectionHeader
-    else if type == 1 then Interface
-    else if type == 2 then OldPacket
+    else if type == 1 then InterfaceDescription
+    else if type == 2 then ObsoletePacket
     else if type == 3 then SimplePacket
     else if type == 6 then EnhancedPacket
     else Other
@@ -28,8 +28,8 @@ is_packet _ = false
 -- it is one of the four kinds whose body is read; any other is passed over
 abbrev pub is_read : Kind → Bool
 is_read SectionHeader = true
-is_read Interface = true
-is_read OldPacket = false
+is_read InterfaceDescription = true
+is_read ObsoletePacket = false
 is_read SimplePacket = true
 is_read EnhancedPacket = true
 is_read Other = false
@@ -37,8 +37,8 @@ is_read Other = false
 -- the least total length of its kind
 abbrev pub least_length : Kind → ℕ
 least_length SectionHeader = 28
-least_length Interface = 20
-least_length OldPacket = 12
+least_length InterfaceDescription = 20
+least_length ObsoletePacket = 12
 least_length SimplePacket = 16
 least_length EnhancedPacket = 32
 least_length Other = 12

@@ -1,6 +1,13 @@
 -- Worked captures.
-use Rattle.std.specs.Prelude.{ℕ, List, [], ◌∷◌, ◌++◌, take}
+use Rattle.std.specs.Prelude.{ℕ, ◌+◌, ◌-◌, ◌*◌, ◌^◌, Bool, true, false, List, [], ◌∷◌, ◌++◌, map, replicate, take, Option, Some, None}
 use Rattle.capture_io.specs.Frame.{Frame}
+use Rattle.octets.specs.Numbers.{big_octets, little_octets}
+use Rattle.capture_ng.specs.Frames.{ng_fault, ng_frames}
+use Rattle.capture_ng.specs.Position.{Position, begin}
+use Rattle.capture_ng.specs.Faults.{block_fault}
+use Rattle.capture_ng.specs.Spelling.{block, filled, interface_block, option, packet_block, packet_fields, section_block, simple_block}
+use Rattle.capture_ng.specs.declared.order.Order.TheVariants.{Little}
+use Rattle.capture_ng.specs.declared.fault.NgFault.{NgFault}
 use Rattle.capture_io.specs.declared.link.Link.TheVariants.{Raw}
 
 -- a section header, little-endian
@@ -37,3 +44,58 @@ cut_packet = take 104 one_packet
 -- the packet's frame
 abbrev pub packet_frame : Frame
 packet_frame = record { number = 1; moment = 1700000000000000000; link = Raw; octets = packet }
+
+-- the moments of a file's frames
+abbrev pub moments : List ℕ → List ℕ
+moments file = map (λ f. f.moment) (ng_frames file false)
+
+-- a file with an interface of these options, on which one octet was seen at a time
+abbrev pub at_time : List ℕ → ℕ → List ℕ
+at_time options time =
+    section_block ++ (interface_block 101 0 options ++ packet_block 0 time (69 ∷ []))
+
+-- the option of a unit of time, and that of added seconds
+abbrev pub unit : ℕ → List ℕ
+unit x = option 9 (x ∷ [])
+
+abbrev pub added : ℕ → List ℕ
+added x = option 14 (little_octets 8 x)
+
+-- the fault of a file behind a section header
+abbrev pub fault_behind : List ℕ → Option NgFault
+fault_behind blocks = ng_fault (section_block ++ blocks)
+
+-- the fault behind an interface of raw IP besides, whose snap length is 4
+abbrev pub fault_seen : List ℕ → Option NgFault
+fault_seen blocks = fault_behind (interface_block 101 4 [] ++ blocks)
+
+-- a place far on in a file
+abbrev pub far : ℕ → ℕ → Position
+far blocks count = record begin { blocks = blocks; count = count; order = Some Little }
+
+-- a big-endian section with an interface of Ethernet, which tells nanoseconds, and a packet of it
+abbrev pub big_section : List ℕ
+big_section =
+    0x0a ∷ 0x0d ∷ 0x0d ∷ 0x0a ∷ (big_octets 4 28 ++ (big_octets 4 0x1a2b3c4d ++ (big_octets 2 1 ++ (big_octets 2 0
+    ++ (big_octets 8 (2 ^ 64 - 1) ++ (big_octets 4 28
+    ++ (big_octets 4 1 ++ (big_octets 4 28 ++ (big_octets 2 1 ++ (big_octets 2 0 ++ (big_octets 4 0
+    ++ (big_octets 2 9 ++ (big_octets 2 1 ++ (9 ∷ 0 ∷ 0 ∷ 0 ∷ [] ++ (big_octets 4 28
+    ++ (big_octets 4 6 ++ (big_octets 4 36 ++ (big_octets 4 0 ++ (big_octets 4 0 ++ (big_octets 4 7
+    ++ (big_octets 4 1 ++ (big_octets 4 1 ++ (69 ∷ 0 ∷ 0 ∷ 0 ∷ [] ++ big_octets 4 36)))))))))))))))))))))))
+
+-- an Ethernet header without a tag, and with one
+abbrev pub untagged : List ℕ
+untagged = replicate 12 2 ++ (8 ∷ 0 ∷ [])
+
+abbrev pub tagged_already : List ℕ
+tagged_already = replicate 12 2 ++ (0x81 ∷ 0 ∷ 0 ∷ 7 ∷ 8 ∷ 0 ∷ [])
+
+-- two interfaces of Ethernet and one of raw IP, and a frame that was seen on one of them
+abbrev pub seen_on : ℕ → List ℕ → List ℕ
+seen_on interface octets =
+    section_block ++ (interface_block 1 0 [] ++ (interface_block 1 0 [] ++ (interface_block 101 0 []
+    ++ packet_block interface 0 octets)))
+
+-- what is read of that frame where interfaces are VLANs
+abbrev pub seen_as : ℕ → List ℕ → List (List ℕ)
+seen_as interface octets = map (λ f. f.octets) (ng_frames (seen_on interface octets) true)

@@ -9,7 +9,7 @@ use Rattle.capture_ng.specs.Limits.{most_block_octets, most_blocks, most_interfa
 use Rattle.capture_ng.specs.Numbers.{number}
 use Rattle.capture_ng.specs.Packets.{interface_of, is_moment, kept, moment, packet_room}
 use Rattle.capture_ng.specs.Position.{Position}
-use Rattle.capture_ng.specs.declared.head.Kind.TheVariants as kind
+use Rattle.capture_ng.specs.declared.head.Kind.TheVariants.{SectionHeader, InterfaceDescription, ObsoletePacket, SimplePacket, EnhancedPacket, Other}
 use Rattle.capture_ng.specs.declared.head.Kind.{Kind}
 use Rattle.capture_ng.specs.declared.head.Head.{Head}
 use Rattle.capture_ng.specs.declared.interface.Interface.{Interface}
@@ -45,7 +45,8 @@ length_rules at head =
 
 -- a block is no obsolete packet block
 abbrev pub is_current : Kind → Bool
-is_current k = elim k [ kind.OldPacket ↦ false | _ ↦ true ]
+is_current ObsoletePacket = false
+is_current _ = true
 
 -- the rules of the whole block: it is there, with its second length, and isn't obsolete
 abbrev pub whole_rules : Position → Head → List ℕ → List (Bool × NgFault)
@@ -82,22 +83,22 @@ packet_rules at head left = elim (interface_of at head left) [
   None ↦ (false, BadInterface at.place) ∷ [] | Some interface ↦ seen_rules at head left interface
 ]
 
--- the rules of what a block holds
-abbrev pub body_rules : Position → Head → List ℕ → List (Bool × NgFault)
-body_rules at head left = elim head.kind [
-  kind.SectionHeader ↦ section_rules at head left
-  | kind.Interface ↦ interface_rules at head left
-  | kind.SimplePacket ↦ packet_rules at head left
-  | kind.EnhancedPacket ↦ packet_rules at head left
-  | _ ↦ []
-]
+-- the rules of what a block of a kind holds
+abbrev pub body_rules : Kind → Position → Head → List ℕ → List (Bool × NgFault)
+body_rules SectionHeader at head left = section_rules at head left
+body_rules InterfaceDescription at head left = interface_rules at head left
+body_rules SimplePacket at head left = packet_rules at head left
+body_rules EnhancedPacket at head left = packet_rules at head left
+body_rules ObsoletePacket at head left = []
+body_rules Other at head left = []
 
 -- all rules of the block that is next
 abbrev pub block_rules : Position → List ℕ → List (Bool × NgFault)
 block_rules at left =
     begin_rules at left
     ++ (length_rules at (head_of at left)
-    ++ (whole_rules at (head_of at left) left ++ body_rules at (head_of at left) left))
+    ++ (whole_rules at (head_of at left) left
+    ++ body_rules (head_of at left).kind at (head_of at left) left))
 
 -- the fault of the block that is next, if it has one
 abbrev pub block_fault : Position → List ℕ → Option NgFault

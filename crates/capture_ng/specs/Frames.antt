@@ -4,9 +4,10 @@ use Rattle.capture_io.specs.Frame.{Frame}
 use Rattle.capture_ng.specs.Blocks.{head_of}
 use Rattle.capture_ng.specs.Faults.{block_fault, end_fault}
 use Rattle.capture_ng.specs.Interfaces.{interface_in}
-use Rattle.capture_ng.specs.Packets.{Packet, frame_of, packet_in}
+use Rattle.capture_ng.specs.Packets.{Packet, frame_of, packet_in, packet_in_kind}
 use Rattle.capture_ng.specs.Position.{Position, begin}
-use Rattle.capture_ng.specs.declared.head.Kind.TheVariants as kind
+use Rattle.capture_ng.specs.declared.head.Kind.{Kind}
+use Rattle.capture_ng.specs.declared.head.Kind.TheVariants.{SectionHeader, InterfaceDescription, ObsoletePacket, SimplePacket, EnhancedPacket, Other}
 use Rattle.capture_ng.specs.declared.head.Head.{Head}
 use Rattle.capture_ng.specs.declared.fault.NgFault.{NgFault}
 
@@ -47,17 +48,23 @@ counted at None = at
 counted at (Some packet) =
     record at { count = packet.frame.number; greatest = Some packet.frame.moment }
 
--- behind a block: a section header begins a section without interfaces, an interface is one more
-abbrev pub after_block : Position → Head → List ℕ → Position
-after_block at head left = elim head.kind [
-  kind.SectionHeader ↦ record (passed at head) { order = Some head.order; interfaces = [] }
-  | kind.Interface ↦ record (passed at head) { interfaces = at.interfaces ++ interface_in head left ∷ [] }
-  | _ ↦ counted (passed at head) (packet_in at head left)
-]
+-- behind a block of a kind: a section header begins a section without interfaces, an interface is
+-- one more
+abbrev pub after_block : Kind → Position → Head → List ℕ → Position
+after_block SectionHeader at head left =
+    record (passed at head) { order = Some head.order; interfaces = [] }
+after_block InterfaceDescription at head left =
+    record (passed at head) { interfaces = at.interfaces ++ interface_in head left ∷ [] }
+after_block SimplePacket at head left =
+    counted (passed at head) (packet_in_kind SimplePacket at head left)
+after_block EnhancedPacket at head left =
+    counted (passed at head) (packet_in_kind EnhancedPacket at head left)
+after_block ObsoletePacket at head left = passed at head
+after_block Other at head left = passed at head
 
 -- where the file is read from behind the block that is next
 abbrev pub advanced : Position → List ℕ → Position
-advanced at left = after_block at (head_of at left) left
+advanced at left = after_block (head_of at left).kind at (head_of at left) left
 
 -- what is left behind it
 abbrev pub rest : Position → List ℕ → List ℕ

@@ -1,4 +1,5 @@
 pub mod Blocks
+pub mod Classic
 pub mod Examples
 pub mod Faults
 pub mod Found

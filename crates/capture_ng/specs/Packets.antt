@@ -8,7 +8,8 @@ use Rattle.capture_io.specs.declared.link.Link.TheVariants.{Ethernet, Raw}
 use Rattle.capture_ng.specs.Limits.{end_of_moments}
 use Rattle.capture_ng.specs.Numbers.{number}
 use Rattle.capture_ng.specs.Position.{Position}
-use Rattle.capture_ng.specs.declared.head.Kind.TheVariants as kind
+use Rattle.capture_ng.specs.declared.head.Kind.{Kind}
+use Rattle.capture_ng.specs.declared.head.Kind.TheVariants.{SimplePacket, EnhancedPacket}
 use Rattle.capture_ng.specs.declared.head.Head.{Head}
 use Rattle.capture_ng.specs.declared.interface.Added.{Added}
 use Rattle.capture_ng.specs.declared.interface.Added.TheVariants.{Later, Earlier}
@@ -17,7 +18,7 @@ use Rattle.capture_ng.specs.declared.interface.Interface.{Interface}
 -- the number of a packet's interface: a simple packet has that of the section's first one
 abbrev pub interface_number : Head → List ℕ → ℕ
 interface_number head left =
-    elim head.kind [ kind.EnhancedPacket ↦ number head.order 4 left 8 | _ ↦ 0 ]
+    elim head.kind [ EnhancedPacket ↦ number head.order 4 left 8 | _ ↦ 0 ]
 
 -- its interface, where the section has it
 abbrev pub interface_of : Position → Head → List ℕ → Option Interface
@@ -25,7 +26,7 @@ interface_of at head left = slice_get at.interfaces (interface_number head left)
 
 -- where the packet's octets begin in the block
 abbrev pub packet_place : Head → ℕ
-packet_place head = elim head.kind [ kind.EnhancedPacket ↦ 28 | _ ↦ 12 ]
+packet_place head = elim head.kind [ EnhancedPacket ↦ 28 | _ ↦ 12 ]
 
 -- the octets of the block between there and its second length
 abbrev pub packet_room : Head → ℕ
@@ -38,7 +39,7 @@ snapped snap size = if snap == 0 then size else min snap size
 -- how many octets of its packet the block keeps
 abbrev pub kept : Head → Interface → List ℕ → ℕ
 kept head interface left = elim head.kind [
-  kind.EnhancedPacket ↦ number head.order 4 left 20 | _ ↦ snapped interface.snap (number head.order 4 left 8)
+  EnhancedPacket ↦ number head.order 4 left 20 | _ ↦ snapped interface.snap (number head.order 4 left 8)
 ]
 
 -- a time in an interface's units, in nanoseconds, rounded down
@@ -58,7 +59,7 @@ time head left = number head.order 4 left 12 * 2 ^ 32 + number head.order 4 left
 -- the moment that a packet names; a simple one has the greatest so far, 0 without one
 abbrev pub moment : Position → Head → Interface → List ℕ → Option ℕ
 moment at head interface left = elim head.kind [
-  kind.EnhancedPacket ↦ moved interface.added (nanoseconds interface (time head left))
+  EnhancedPacket ↦ moved interface.added (nanoseconds interface (time head left))
   | _ ↦ Some (unwrap_or at.greatest 0)
 ]
 
@@ -89,13 +90,17 @@ packet_of at head left interface =
     record { interface = interface_number head left; frame = frame_at at head interface left link m })
     (moment at head interface left)) interface.link
 
+-- the packet in a block of a kind, where it keeps one
+abbrev pub packet_in_kind : Kind → Position → Head → List ℕ → Option Packet
+packet_in_kind EnhancedPacket at head left =
+    option_and_then (packet_of at head left) (interface_of at head left)
+packet_in_kind SimplePacket at head left =
+    option_and_then (packet_of at head left) (interface_of at head left)
+packet_in_kind _ at head left = None
+
 -- the packet in a block, where it keeps one
 abbrev pub packet_in : Position → Head → List ℕ → Option Packet
-packet_in at head left = elim head.kind [
-  kind.EnhancedPacket ↦ option_and_then (packet_of at head left) (interface_of at head left)
-  | kind.SimplePacket ↦ option_and_then (packet_of at head left) (interface_of at head left)
-  | _ ↦ None
-]
+packet_in at head left = packet_in_kind head.kind at head left
 
 -- an Ethernet header without a tag
 abbrev pub is_untagged : Link → List ℕ → Bool

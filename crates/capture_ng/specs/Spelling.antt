@@ -22,17 +22,25 @@ section_block =
 abbrev pub option : ℕ → List ℕ → List ℕ
 option code value = little_octets 2 code ++ (little_octets 2 (length value) ++ filled value)
 
+-- the end of options, which may be left out
+abbrev pub options_end : List ℕ
+options_end = option 0 []
+
 -- an interface of a link type and a snap length
 abbrev pub interface_block : ℕ → ℕ → List ℕ → List ℕ
 interface_block link snap options =
     block 1 (little_octets 2 link ++ (little_octets 2 0 ++ (little_octets 4 snap ++ options)))
 
--- a packet of an interface at a time in its units
-abbrev pub packet_block : ℕ → ℕ → List ℕ → List ℕ
-packet_block interface time octets =
+-- a packet block with any fields: what it says that it keeps, and its octets
+abbrev pub packet_fields : ℕ → ℕ → ℕ → List ℕ → List ℕ
+packet_fields interface time kept octets =
     block 6 (little_octets 4 interface
     ++ (little_octets 4 (time / 2 ^ 32) ++ (little_octets 4 (time % 2 ^ 32)
-    ++ (little_octets 4 (length octets) ++ (little_octets 4 (length octets) ++ filled octets)))))
+    ++ (little_octets 4 kept ++ (little_octets 4 kept ++ filled octets)))))
+
+-- a packet of an interface at a time in its units
+abbrev pub packet_block : ℕ → ℕ → List ℕ → List ℕ
+packet_block interface time octets = packet_fields interface time (length octets) octets
 
 -- a packet without a time, of so many octets
 abbrev pub simple_block : ℕ → List ℕ → List ℕ

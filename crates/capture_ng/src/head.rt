@@ -7,9 +7,9 @@ pub enum Kind {
     /// The header of a section (0x0a0d0d0a).
     SectionHeader,
     /// An interface of the section (1).
-    Interface,
+    InterfaceDescription,
     /// An obsolete packet block (2), which is refused.
-    OldPacket,
+    ObsoletePacket,
     /// A packet without a time, of the section's first interface (3).
     SimplePacket,
     /// A packet with its interface and its time (6).

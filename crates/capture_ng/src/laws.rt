@@ -1,7 +1,12 @@
 // The laws of a whole capture. Each function only states its law.
-ghost use Rattle.std.specs.Prelude.{◌≡◌, ℕ, List, Bool, drop};
+ghost use Rattle.std.specs.Prelude.{◌≡◌, ℕ, List, Bool, false, None, drop};
+ghost use Rattle.std.specs.List.{All};
+ghost use Rattle.capture_io.specs.Frame.{Frame};
+ghost use Rattle.capture_io.specs.Frames.{capture};
+ghost use Rattle.capture_io.specs.declared.link.Link.{Link};
+ghost use Rattle.capture_ng.specs.Classic.{classic};
 ghost use Rattle.capture_ng.specs.Found.{found, then_run};
-ghost use Rattle.capture_ng.specs.Frames.{ng_fault, read_on};
+ghost use Rattle.capture_ng.specs.Frames.{ng_fault, ng_frames, read_on};
 ghost use Rattle.capture_ng.specs.Position.{Position, begin};
 
 /// The frames that are left to read are the one that is found, and then those that are left behind it;
@@ -12,4 +17,13 @@ pub fn blocks_are_read_one_by_one()
         (read_on vlans (found vlans at left).position (drop (found vlans at left).taken left)) }
     ensures fault { (vlans : Bool) (file : List ℕ) →
         (read_on vlans begin file).fault ≡ ng_fault file }
+{}
+
+/// Where all frames of a file have one link type, and interfaces are no VLANs, the classic capture with
+/// nanoseconds that holds them has the same frames, and no fault.
+pub fn a_classic_capture_has_the_same_frames()
+    ensures { (file : List ℕ) (link : Link) →
+        All (λ (f : Frame). f.link ≡ link) (ng_frames file false) →
+        capture (classic link (ng_frames file false))
+        ≡ record { frames = ng_frames file false; fault = None } }
 {}

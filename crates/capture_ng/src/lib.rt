@@ -9,9 +9,12 @@ mod laws;
 mod limits;
 mod order;
 
-pub use examples::a_capture_is_worked;
+pub use examples::{
+    a_block_is_judged, a_capture_is_worked, a_packet_is_judged, a_section_is_judged,
+    interfaces_are_vlans, sections_begin_anew, times_are_read_in_units,
+};
 pub use fault::NgFault;
-pub use laws::blocks_are_read_one_by_one;
+pub use laws::{a_classic_capture_has_the_same_frames, blocks_are_read_one_by_one};
 pub use limits::{
     END_OF_MOMENTS, MOST_BINARY, MOST_BLOCK_OCTETS, MOST_BLOCKS, MOST_DECIMAL, MOST_INTERFACES,
     limits_are,
