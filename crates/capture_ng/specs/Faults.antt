@@ -4,7 +4,7 @@ use Rattle.octets.specs.Rules.{first_failing}
 use Rattle.capture_io.specs.Capture.{in_span}
 use Rattle.capture_io.specs.Limits.{most_frame_octets, most_records}
 use Rattle.capture_ng.specs.Blocks.{begins_section, head_of, is_length, is_magic, is_packet, is_read, kind_of, order_of}
-use Rattle.capture_ng.specs.Interfaces.{are_options}
+use Rattle.capture_ng.specs.Interfaces.{are_options, option_octets}
 use Rattle.capture_ng.specs.Limits.{most_block_octets, most_blocks, most_interfaces}
 use Rattle.capture_ng.specs.Numbers.{number}
 use Rattle.capture_ng.specs.Packets.{interface_of, is_moment, kept, moment, packet_room}
@@ -63,7 +63,7 @@ section_rules at head left = (number head.order 2 left 12 == 1, BadVersion at.pl
 -- the rules of an interface
 abbrev pub interface_rules : Position → Head → List ℕ → List (Bool × NgFault)
 interface_rules at head left =
-    (are_options head left, BadOption at.place)
+    (are_options head.order (option_octets head left), BadOption at.place)
     ∷ (nat_lt (length at.interfaces) most_interfaces, TooManyInterfaces at.place)
     ∷ []
 

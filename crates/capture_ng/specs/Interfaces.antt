@@ -1,5 +1,5 @@
 -- Interfaces: link type, snap length and options, which say how a packet's time is read.
-use Rattle.std.specs.Prelude.{ℕ, zero, suc, ◌+◌, ◌-◌, ◌*◌, ◌/◌, ◌^◌, ◌==◌, ◌&&◌, ◌||◌, nat_le, nat_lt, Bool, true, List, [], ◌∷◌, length, take, drop, slice_index, Option, Some, None, option_map, unwrap_or, if◌then◌else◌}
+use Rattle.std.specs.Prelude.{ℕ, zero, suc, ◌+◌, ◌-◌, ◌*◌, ◌/◌, ◌^◌, ◌==◌, ◌&&◌, ◌||◌, nat_le, nat_lt, Bool, true, List, [], ◌∷◌, length, take, drop, slice_index, Option, Some, None, if◌then◌else◌}
 use Rattle.std.specs.List.{list_all}
 use Rattle.capture_io.specs.declared.link.Link.{Link}
 use Rattle.capture_io.specs.declared.link.Link.TheVariants.{Ethernet, Raw}
@@ -9,6 +9,7 @@ use Rattle.capture_ng.specs.declared.order.Order.{Order}
 use Rattle.capture_ng.specs.declared.head.Head.{Head}
 use Rattle.capture_ng.specs.declared.interface.Added.{Added}
 use Rattle.capture_ng.specs.declared.interface.Added.TheVariants.{Later, Earlier}
+use Rattle.capture_ng.specs.declared.interface.Clock.{Clock}
 use Rattle.capture_ng.specs.declared.interface.Interface.{Interface}
 
 -- an option: its code and its value
@@ -80,25 +81,35 @@ is_proper order option =
     else if option.code == 14 then length option.value == 8
     else true
 
--- the value of the last option with a code, if one has it
-abbrev pub last_value : ℕ → Option (List ℕ) → List NgOption → Option (List ℕ)
-last_value code so_far [] = so_far
-last_value code so_far (option ∷ options) =
-    last_value code (if option.code == code then Some option.value else so_far) options
-
--- the units of a second that the options name; microseconds where none does
-abbrev pub units_in : List NgOption → ℕ
-units_in options =
-    unwrap_or (option_map (λ value. per_second (slice_index value 0)) (last_value 9 None options)) 1000000
-
 -- a signed number of 64 bits as seconds, from its bits
 abbrev pub added_of : ℕ → Added
 added_of x = if nat_lt x (2 ^ 63) then Later x else Earlier (2 ^ 64 - x)
 
--- the seconds that the options add to each time; none where no option does
-abbrev pub added_in : Order → List NgOption → Added
-added_in order options =
-    unwrap_or (option_map (λ value. added_of (number order 8 value 0)) (last_value 14 None options)) (Later 0)
+-- the clock of an interface without options: microseconds, to which nothing is added
+abbrev pub plain_clock : Clock
+plain_clock = record { units = 1000000; added = Later 0 }
+
+-- the clock with what an option says of it
+abbrev pub set_by : Order → NgOption → Clock → Clock
+set_by order option clock =
+    if option.code == 9 then record clock { units = per_second (slice_index option.value 0) }
+    else if option.code == 14 then record clock { added = added_of (number order 8 option.value 0) }
+    else clock
+
+-- the clock after options, of which the last of a code counts
+abbrev pub clock_after : Order → Clock → List NgOption → Clock
+clock_after order clock [] = clock
+clock_after order clock (option ∷ options) = clock_after order (set_by order option clock) options
+
+-- the options in octets fit, and each is proper
+abbrev pub are_options : Order → List ℕ → Bool
+are_options order octets =
+    options_fit order octets && list_all (is_proper order) (options_in order octets)
+
+-- the clock after the options in octets, where they are such
+abbrev pub clock_on : Order → Clock → List ℕ → Option Clock
+clock_on order clock octets =
+    if are_options order octets then Some (clock_after order clock (options_in order octets)) else None
 
 -- what frames of a link type begin with, where it is one of the two that are read
 abbrev pub link_of : ℕ → Option Link
@@ -108,17 +119,10 @@ link_of type = if type == 1 then Some Ethernet else if type == 101 then Some Raw
 abbrev pub option_octets : Head → List ℕ → List ℕ
 option_octets head left = take (head.length - 20) (drop 16 left)
 
--- the options of an interface fit, and each is proper
-abbrev pub are_options : Head → List ℕ → Bool
-are_options head left =
-    options_fit head.order (option_octets head left)
-    && list_all (is_proper head.order) (options_in head.order (option_octets head left))
-
 -- the interface in a block
 abbrev pub interface_in : Head → List ℕ → Interface
 interface_in head left = record {
   link = link_of (number head.order 2 left 8);
   snap = number head.order 4 left 12;
-  units = units_in (options_in head.order (option_octets head left));
-  added = added_in head.order (options_in head.order (option_octets head left));
+  clock = clock_after head.order plain_clock (options_in head.order (option_octets head left));
 }

@@ -44,7 +44,7 @@ kept head interface left = elim head.kind [
 
 -- a time in an interface's units, in nanoseconds, rounded down
 abbrev pub nanoseconds : Interface → ℕ → ℕ
-nanoseconds interface time = time * 1000000000 / interface.units
+nanoseconds interface time = time * 1000000000 / interface.clock.units
 
 -- nanoseconds moved by whole seconds; none where that is before 1970
 abbrev pub moved : Added → ℕ → Option ℕ
@@ -59,7 +59,7 @@ time head left = number head.order 4 left 12 * 2 ^ 32 + number head.order 4 left
 -- the moment that a packet names; a simple one has the greatest so far, 0 without one
 abbrev pub moment : Position → Head → Interface → List ℕ → Option ℕ
 moment at head interface left = elim head.kind [
-  EnhancedPacket ↦ moved interface.added (nanoseconds interface (time head left))
+  EnhancedPacket ↦ moved interface.clock.added (nanoseconds interface (time head left))
   | _ ↦ Some (unwrap_or at.greatest 0)
 ]
 

@@ -8,6 +8,14 @@ pub enum Added {
     Earlier(u64),
 }
 
+/// How times of an interface are read.
+#[derive(Clone, Copy, Debug, PartialEq, Eq)]
+pub struct Clock {
+    /// How many of its unit of time make a second.
+    pub units: u64,
+    pub added: Added,
+}
+
 /// An interface on which packets were seen.
 #[derive(Clone, Copy, Debug, PartialEq, Eq)]
 pub struct Interface {
@@ -15,7 +23,5 @@ pub struct Interface {
     pub link: Option<Link>,
     /// How many octets of a simple packet it keeps at most; 0 for all.
     pub snap: u32,
-    /// How many of its unit of time make a second.
-    pub units: u64,
-    pub added: Added,
+    pub clock: Clock,
 }

@@ -7,6 +7,7 @@ mod head;
 mod interface;
 mod laws;
 mod limits;
+mod options;
 mod order;
 
 pub use examples::{
