@@ -13,6 +13,7 @@ use Rattle.capture_ng.specs.declared.head.Kind.TheVariants.{SimplePacket, Enhanc
 use Rattle.capture_ng.specs.declared.head.Head.{Head}
 use Rattle.capture_ng.specs.declared.interface.Added.{Added}
 use Rattle.capture_ng.specs.declared.interface.Added.TheVariants.{Later, Earlier}
+use Rattle.capture_ng.specs.declared.interface.Clock.{Clock}
 use Rattle.capture_ng.specs.declared.interface.Interface.{Interface}
 
 -- the number of a packet's interface: a simple packet has that of the section's first one
@@ -42,9 +43,9 @@ kept head interface left = elim head.kind [
   EnhancedPacket ↦ number head.order 4 left 20 | _ ↦ snapped interface.snap (number head.order 4 left 8)
 ]
 
--- a time in an interface's units, in nanoseconds, rounded down
-abbrev pub nanoseconds : Interface → ℕ → ℕ
-nanoseconds interface time = time * 1000000000 / interface.clock.units
+-- a time in a clock's units, in nanoseconds, rounded down
+abbrev pub nanoseconds : Clock → ℕ → ℕ
+nanoseconds clock time = time * 1000000000 / clock.units
 
 -- nanoseconds moved by whole seconds; none where that is before 1970
 abbrev pub moved : Added → ℕ → Option ℕ
@@ -59,7 +60,7 @@ time head left = number head.order 4 left 12 * 2 ^ 32 + number head.order 4 left
 -- the moment that a packet names; a simple one has the greatest so far, 0 without one
 abbrev pub moment : Position → Head → Interface → List ℕ → Option ℕ
 moment at head interface left = elim head.kind [
-  EnhancedPacket ↦ moved interface.clock.added (nanoseconds interface (time head left))
+  EnhancedPacket ↦ moved interface.clock.added (nanoseconds interface.clock (time head left))
   | _ ↦ Some (unwrap_or at.greatest 0)
 ]
 
@@ -67,6 +68,10 @@ moment at head interface left = elim head.kind [
 abbrev pub is_moment : Option ℕ → Bool
 is_moment None = false
 is_moment (Some m) = nat_lt m end_of_moments
+
+-- the moment, where it is early enough
+abbrev pub early : ℕ → Option ℕ
+early m = if nat_lt m end_of_moments then Some m else None
 
 -- a packet that a block keeps: the number of its interface, and its frame
 pub record Packet : Type 0 where
@@ -110,7 +115,7 @@ is_untagged Raw octets = false
 -- with a VLAN tag of that number put in before the type
 abbrev pub tagged : ℕ → List ℕ → List ℕ
 tagged vlan octets =
-    take 12 octets ++ (big_octets 2 0x8100 ++ (big_octets 2 vlan ++ drop 12 octets))
+    take 12 octets ++ ((big_octets 2 0x8100 ++ big_octets 2 vlan) ++ drop 12 octets)
 
 -- the packet's frame; where interfaces are VLANs, each but the first one's untagged frames get
 -- its number as their tag

@@ -4,11 +4,15 @@
 mod examples;
 mod fault;
 mod head;
+mod heads;
 mod interface;
+mod interfaces;
 mod laws;
 mod limits;
 mod options;
 mod order;
+mod packets;
+mod position;
 
 pub use examples::{
     a_block_is_judged, a_capture_is_worked, a_packet_is_judged, a_section_is_judged,
