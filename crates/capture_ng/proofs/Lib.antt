@@ -1,4 +1,5 @@
 pub mod ClassicLemmas
+pub mod ComingLemmas
 pub mod OnLiterals
 pub mod OptionLemmas
 pub mod OrderLemmas

@@ -1,8 +1,8 @@
 -- Options, read one by one.
-use Rattle.std.proofs.Common.{◌≡◌, ◌≤◌, ◌<◌, ◌+◌, ◌&&◌, ◌||◌, nat_le, ℕ, zero, suc, Bool, true, false, List, [], ◌∷◌, drop, length, Option, Some, None, if◌then◌else◌, refl, sym, ap, ◌∙◌, arith}
+use Rattle.std.proofs.Common.{◌≡◌, ◌≤◌, ◌<◌, ◌+◌, ◌&&◌, ◌||◌, nat_le, ℕ, zero, suc, Bool, true, false, List, [], ◌∷◌, length, Option, Some, None, if◌then◌else◌, refl, sym, ap, ◌∙◌, arith}
 use Rattle.std.specs.List.{list_all}
 use Rattle.std.proofs.lemmas.List.{length-drop}
-use Rattle.capture_ng.specs.Interfaces.{NgOption, are_options, behind_option, clock_after, clock_on, ends_options, first_option, fit_within, is_proper, options_fit, options_in, options_within, padded, set_by, size_in}
+use Rattle.capture_ng.specs.Interfaces.{NgOption, behind_option, clock_after, clock_on, ends_options, first_option, fit_within, is_proper, options_fit, options_in, options_within, padded, set_by, size_in}
 use Rattle.capture_ng.specs.declared.interface.Clock.{Clock}
 use Rattle.capture_ng.specs.declared.order.Order.{Order}
 
@@ -96,7 +96,7 @@ pub clock_on-sets : (order : Order) (clock next : Clock) (option : NgOption) (oc
 clock_on-sets order clock next option octets behind some fits is rest sets_it =
     let one = first_option order octets in
     let of_one : Some next ≡ (if is_proper order one then Some (set_by order one clock) else None) =
-        sets_it ∙ ap (λ (o : NgOption). if is_proper order o then Some (set_by order o clock) else None) is in
+    sets_it ∙ ap (λ (o : NgOption). if is_proper order o then Some (set_by order o clock) else None) is in
     clock_on-step order clock octets some fits
     ∙ sets (is_proper order one) (set_by order one clock) next (λ c. clock_on order c (behind_option order octets)) of_one
     ∙ ap (clock_on order next) (sym rest)
@@ -113,7 +113,7 @@ pub clock_on-refuses : (order : Order) (clock : Clock) (option : NgOption) (octe
 clock_on-refuses order clock option octets some fits is refused =
     let one = first_option order octets in
     let of_one : None ≡ (if is_proper order one then Some (set_by order one clock) else None) =
-        refused ∙ ap (λ (o : NgOption). if is_proper order o then Some (set_by order o clock) else None) is in
+    refused ∙ ap (λ (o : NgOption). if is_proper order o then Some (set_by order o clock) else None) is in
     clock_on-step order clock octets some fits
     ∙ refuses (is_proper order one) (set_by order one clock) (clock_on order (set_by order one clock) (behind_option order octets)) of_one
 

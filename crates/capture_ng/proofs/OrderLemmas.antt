@@ -1,11 +1,10 @@
 -- The frames of a file come in order: numbered, no earlier than those before, within all limits.
-use Rattle.std.proofs.Common.{◌≡◌, ◌≤◌, ◌<◌, ◌+◌, ◌&&◌, ◌||◌, not, nat_lt, nat_le, max, ℕ, zero, suc, Bool, true, false, IsTrue, List, [], ◌∷◌, ◌++◌, take, drop, length, Option, Some, None, unwrap_or, refl, sym, ap, subst, ◌∙◌, arith}
+use Rattle.std.proofs.Common.{◌≡◌, ◌≤◌, ◌<◌, ◌+◌, ◌&&◌, ◌||◌, not, nat_lt, nat_le, max, ℕ, zero, suc, Bool, true, false, IsTrue, List, [], ◌∷◌, drop, length, Option, Some, None, unwrap_or, refl, sym, ap, subst, ◌∙◌, arith}
 use Rattle.std.specs.Option.{option_map, option_and_then}
 use Rattle.std.specs.List.{All}
-use Rattle.std.proofs.lemmas.Bool.{leb-true, le-leb, ltb-true, lt-ltb}
+use Rattle.std.proofs.lemmas.Bool.{leb-true, le-leb, ltb-true}
 use Rattle.std.proofs.lemmas.List.{length-take}
 use Rattle.std.proofs.lemmas.List.Elements.{All-head, All-tail}
-use Rattle.octets.specs.Rules.{first_failing}
 use Rattle.octets.proofs.RuleLemmas.{AllHold, all_hold}
 use Rattle.capture_io.specs.Capture.{in_span}
 use Rattle.capture_io.specs.Frame.{Frame}
@@ -13,9 +12,9 @@ use Rattle.capture_io.specs.Frames.{capture}
 use Rattle.capture_io.specs.Limits.{longest_span, most_frame_octets, most_records}
 use Rattle.capture_io.specs.declared.link.Link.{Link}
 use Rattle.capture_ng.specs.Classic.{classic}
-use Rattle.capture_ng.specs.Blocks.{head_of, is_packet, kind_of}
-use Rattle.capture_ng.specs.Faults.{begins_packet, block_fault, block_rules, body_rules, end_fault, packet_rules, seen_rules}
-use Rattle.capture_ng.specs.Frames.{NgRun, advanced, after_block, before, behind, block_frame, blocks_within, counted, ended, ng_frames, of_block, passed, read_on, rest}
+use Rattle.capture_ng.specs.Blocks.{head_of, is_packet}
+use Rattle.capture_ng.specs.Faults.{block_fault, block_rules, body_rules, packet_rules, seen_rules}
+use Rattle.capture_ng.specs.Frames.{NgRun, advanced, after_block, blocks_within, ng_frames, of_block, read_on, rest}
 use Rattle.capture_ng.specs.Limits.{end_of_moments, most_blocks}
 use Rattle.capture_ng.specs.Packets.{Packet, frame_at, frame_of, interface_number, interface_of, is_moment, kept, moment, packet_in, packet_in_kind, packet_of, packet_place}
 use Rattle.capture_ng.specs.Position.{Position, begin}
@@ -25,7 +24,7 @@ use Rattle.capture_ng.specs.declared.head.Head.{Head}
 use Rattle.capture_ng.specs.declared.head.Kind.{Kind}
 use Rattle.capture_ng.specs.declared.head.Kind.TheVariants.{SectionHeader, InterfaceDescription, ObsoletePacket, SimplePacket, EnhancedPacket, Other}
 use Rattle.capture_ng.specs.declared.interface.Interface.{Interface}
-use Rattle.capture_ng.proofs.ClassicLemmas.{AreInOrder, MayFollow, capture-classic}
+use Rattle.capture_ng.proofs.ClassicLemmas.{AreInOrder, capture-classic}
 
 -- the packet of an interface has a link and a moment
 pub packet_made : (link : Option Link) (m : Option ℕ) (make : Link → ℕ → Packet) (p : Packet) → Some p ≡ option_and_then (λ l. option_map (make l) m) link
@@ -149,9 +148,10 @@ order_step link at next None None run seen other more early are =
     rw (sym stays.0, sym stays.1) (more refl before_end are)
 order_step link at next None (Some p) run seen other more early are =
     let is = seen refl p refl in
-    let before_end : unwrap_or next.greatest 0 < end_of_moments = rw is.1.1 is.0.1.moment in
-    (record { number = is.0.1.number; room = is.0.0; later = is.0.1.later; span = is.0.1.span; moment = is.0.1.moment; seen = All-head (λ (f : Frame). f.link ≡ link) p.frame run.frames are; size = is.0.1.size },
-     rw (sym is.1.0, sym is.1.1) (more refl before_end (All-tail (λ (f : Frame). f.link ≡ link) p.frame run.frames are)))
+    let before_end : unwrap_or next.greatest 0 < end_of_moments = rw is.1.1 is.0.1.moment in (
+      record { number = is.0.1.number; room = is.0.0; later = is.0.1.later; span = is.0.1.span; moment = is.0.1.moment; seen = All-head (λ (f : Frame). f.link ≡ link) p.frame run.frames are; size = is.0.1.size },
+      rw (sym is.1.0, sym is.1.1) (more refl before_end (All-tail (λ (f : Frame). f.link ≡ link) p.frame run.frames are)),
+    )
 
 in_order : (n : ℕ) (link : Link) (at : Position) (left : List ℕ) → unwrap_or at.greatest 0 < end_of_moments
     → AreOf link (blocks_within n false at left).frames → AreInOrder link at.count at.greatest (blocks_within n false at left).frames

@@ -1,13 +1,13 @@
 -- The blocks of a file, one by one, and what a reader finds of them.
-use Rattle.std.proofs.Common.{◌≡◌, ◌≤◌, ◌<◌, ◌+◌, ◌==◌, ◌%◌, ◌&&◌, ℕ, zero, suc, Bool, true, false, List, [], ◌∷◌, drop, length, Option, Some, None, Result, Ok, Err, refl, sym, ap, ◌∙◌, arith}
+use Rattle.std.proofs.Common.{◌≡◌, ◌≤◌, ◌==◌, ◌%◌, ◌&&◌, ℕ, zero, suc, Bool, true, false, List, [], ◌∷◌, drop, length, Option, Some, None, refl, sym, ap, ◌∙◌, arith}
 use Rattle.std.proofs.lemmas.Bool.{leb-true}
 use Rattle.std.proofs.lemmas.List.{length-drop, drop-drop}
 use Rattle.octets.proofs.RuleLemmas.{all_hold}
 use Rattle.capture_io.specs.Frame.{Frame}
-use Rattle.capture_ng.specs.Blocks.{head_of, is_length, least_length}
+use Rattle.capture_ng.specs.Blocks.{head_of, is_length}
 use Rattle.capture_ng.specs.Faults.{block_fault, block_rules, end_fault}
-use Rattle.capture_ng.specs.Found.{Found, at_block, behind_block, found, found_within, further, stopped, then_run}
-use Rattle.capture_ng.specs.Frames.{NgRun, advanced, before, behind, block_frame, blocks_within, ended, of_block, read_on, rest}
+use Rattle.capture_ng.specs.Found.{Found, at_block, behind_block, found, found_within, stopped, then_run}
+use Rattle.capture_ng.specs.Frames.{NgRun, advanced, behind, block_frame, blocks_within, ended, of_block, read_on, rest}
 use Rattle.capture_ng.specs.Position.{Position}
 use Rattle.capture_ng.specs.declared.head.Kind.{Kind}
 use Rattle.capture_ng.specs.declared.head.Kind.TheVariants.{SectionHeader, InterfaceDescription, ObsoletePacket, SimplePacket, EnhancedPacket, Other}
@@ -129,8 +129,8 @@ first_within (suc n) vlans at (x ∷ left) short =
     let l = x ∷ left in
     read_on-step vlans at x left
     ∙ run_of-block (block_fault at l) (block_frame vlans at l) vlans at (advanced at l) (head_of at l).length l (found vlans (advanced at l) (rest at l)) (λ none.
-      let least = block_least at l none in
-      first_within n vlans (advanced at l) (rest at l) (omega (arith, least, length-drop (head_of at l).length l)))
+    let least = block_least at l none in
+    first_within n vlans (advanced at l) (rest at l) (omega (arith, least, length-drop (head_of at l).length l)))
     ∙ ap (λ (f : Found). run_of vlans f l) (sym (found-step vlans at x left))
 
 -- the frames that are left are the one that is found, and then the rest

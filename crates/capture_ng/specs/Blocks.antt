@@ -1,6 +1,6 @@
 -- Blocks of a pcapng file: a type, a total length, a body, and the total length again.
-use Rattle.std.specs.Prelude.{ℕ, ◌%◌, ◌==◌, ◌&&◌, ◌||◌, nat_le, Bool, true, false, List, unwrap_or, if◌then◌else◌}
-use Rattle.octets.specs.Numbers.{little, big}
+use Rattle.std.specs.Prelude.{ℕ, ◌%◌, ◌==◌, ◌&&◌, nat_le, Bool, true, false, List, unwrap_or, if◌then◌else◌}
+use Rattle.octets.specs.Numbers.{little}
 use Rattle.capture_ng.specs.Numbers.{number}
 use Rattle.capture_ng.specs.Position.{Position}
 use Rattle.capture_ng.specs.declared.order.Order.{Order}
@@ -9,14 +9,13 @@ use Rattle.capture_ng.specs.declared.head.Kind.{Kind}
 use Rattle.capture_ng.specs.declared.head.Kind.TheVariants.{SectionHeader, InterfaceDescription, ObsoletePacket, SimplePacket, EnhancedPacket, Other}
 use Rattle.capture_ng.specs.declared.head.Head.{Head}
 
--- the kind of a block, by its type
+-- the kind of a block other than a section header, by its type
 abbrev pub kind_of : ℕ → Kind
-kind_of type =
-    if type == 0x0a0d0d0a then SectionHeader
-    else if type == 1 then InterfaceDescription
-    else if type == 2 then ObsoletePacket
-    else if type == 3 then SimplePacket
-    else if type == 6 then EnhancedPacket
+kind_of code =
+    if code == 1 then InterfaceDescription
+    else if code == 2 then ObsoletePacket
+    else if code == 3 then SimplePacket
+    else if code == 6 then EnhancedPacket
     else Other
 
 -- it keeps a packet that becomes a frame
@@ -63,14 +62,16 @@ magic_order left = if is_magic (little 4 left 8) then Little else Big
 abbrev pub order_of : Position → List ℕ → Order
 order_of at left = if begins_section left then magic_order left else unwrap_or at.order Little
 
--- what the first octets of a block say, in that order
-abbrev pub head_in : Order → List ℕ → Head
-head_in order left = record {
-  kind = kind_of (number order 4 left 0);
-  order = order;
-  length = number order 4 left 4;
-}
+-- the kind of the block that is next
+abbrev pub kind_at : Position → List ℕ → Kind
+kind_at at left =
+    if begins_section left then SectionHeader
+    else kind_of (number (unwrap_or at.order Little) 4 left 0)
 
--- the head of the block that is next
+-- what its first octets say
 abbrev pub head_of : Position → List ℕ → Head
-head_of at left = head_in (order_of at left) left
+head_of at left = record {
+  kind = kind_at at left;
+  order = order_of at left;
+  length = number (order_of at left) 4 left 4;
+}

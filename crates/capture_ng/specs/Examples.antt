@@ -1,11 +1,10 @@
 -- Worked captures.
-use Rattle.std.specs.Prelude.{ℕ, ◌+◌, ◌-◌, ◌*◌, ◌^◌, Bool, true, false, List, [], ◌∷◌, ◌++◌, map, replicate, take, Option, Some, None}
+use Rattle.std.specs.Prelude.{ℕ, ◌-◌, ◌^◌, true, false, List, [], ◌∷◌, ◌++◌, map, replicate, take, Option, Some}
 use Rattle.capture_io.specs.Frame.{Frame}
 use Rattle.octets.specs.Numbers.{big_octets, little_octets}
 use Rattle.capture_ng.specs.Frames.{ng_fault, ng_frames}
 use Rattle.capture_ng.specs.Position.{Position, begin}
-use Rattle.capture_ng.specs.Faults.{block_fault}
-use Rattle.capture_ng.specs.Spelling.{block, filled, interface_block, option, packet_block, packet_fields, section_block, simple_block}
+use Rattle.capture_ng.specs.Spelling.{interface_block, option, packet_block, section_block}
 use Rattle.capture_ng.specs.declared.order.Order.TheVariants.{Little}
 use Rattle.capture_ng.specs.declared.fault.NgFault.{NgFault}
 use Rattle.capture_io.specs.declared.link.Link.TheVariants.{Raw}

@@ -3,7 +3,7 @@ use Rattle.std.specs.Prelude.{ℕ, ◌+◌, ◌-◌, ◌==◌, ◌&&◌, ◌||�
 use Rattle.octets.specs.Rules.{first_failing}
 use Rattle.capture_io.specs.Capture.{in_span}
 use Rattle.capture_io.specs.Limits.{most_frame_octets, most_records}
-use Rattle.capture_ng.specs.Blocks.{begins_section, head_of, is_length, is_magic, is_packet, is_read, kind_of, order_of}
+use Rattle.capture_ng.specs.Blocks.{begins_section, head_of, is_length, is_magic, is_packet, is_read, kind_at, order_of}
 use Rattle.capture_ng.specs.Interfaces.{are_options, option_octets}
 use Rattle.capture_ng.specs.Limits.{most_block_octets, most_blocks, most_interfaces}
 use Rattle.capture_ng.specs.Numbers.{number}
@@ -18,8 +18,7 @@ use Rattle.capture_ng.specs.declared.fault.NgFault.TheVariants.{TooManyRecords, 
 
 -- a packet block begins: its type is there
 abbrev pub begins_packet : Position → List ℕ → Bool
-begins_packet at left =
-    nat_le 4 (length left) && is_packet (kind_of (number (order_of at left) 4 left 0))
+begins_packet at left = nat_le 4 (length left) && is_packet (kind_at at left)
 
 -- there may be one block more, and where it is of a packet, one frame more
 abbrev pub has_room : Position → List ℕ → Bool
@@ -80,7 +79,8 @@ seen_rules at head left interface =
 -- the rules of a packet
 abbrev pub packet_rules : Position → Head → List ℕ → List (Bool × NgFault)
 packet_rules at head left = elim (interface_of at head left) [
-  None ↦ (false, BadInterface at.place) ∷ [] | Some interface ↦ seen_rules at head left interface
+  | None ↦ (false, BadInterface at.place) ∷ []
+  | Some interface ↦ seen_rules at head left interface
 ]
 
 -- the rules of what a block of a kind holds

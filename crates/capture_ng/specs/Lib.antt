@@ -1,5 +1,6 @@
 pub mod Blocks
 pub mod Classic
+pub mod Coming
 pub mod Examples
 pub mod Faults
 pub mod Found

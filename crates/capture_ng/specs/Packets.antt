@@ -1,5 +1,5 @@
 -- Packet blocks: their interface, moment and octets, and the frames that they become.
-use Rattle.std.specs.Prelude.{ℕ, ◌+◌, ◌-◌, ◌*◌, ◌/◌, ◌^◌, ◌==◌, ◌&&◌, not, nat_le, nat_lt, min, max, Bool, true, false, List, ◌++◌, length, take, drop, slice_get, Option, Some, None, option_map, option_and_then, unwrap_or, if◌then◌else◌}
+use Rattle.std.specs.Prelude.{ℕ, ◌+◌, ◌-◌, ◌*◌, ◌/◌, ◌^◌, ◌==◌, ◌&&◌, not, nat_le, nat_lt, min, max, Bool, false, List, ◌++◌, length, take, drop, slice_get, Option, Some, None, option_map, option_and_then, unwrap_or, if◌then◌else◌}
 use Rattle.octets.specs.Numbers.{big_octets}
 use Rattle.capture_io.specs.Frame.{Frame}
 use Rattle.capture_io.specs.Link.{is_tagged}
@@ -40,7 +40,8 @@ snapped snap size = if snap == 0 then size else min snap size
 -- how many octets of its packet the block keeps
 abbrev pub kept : Head → Interface → List ℕ → ℕ
 kept head interface left = elim head.kind [
-  EnhancedPacket ↦ number head.order 4 left 20 | _ ↦ snapped interface.snap (number head.order 4 left 8)
+  | EnhancedPacket ↦ number head.order 4 left 20
+  | _ ↦ snapped interface.snap (number head.order 4 left 8)
 ]
 
 -- a time in a clock's units, in nanoseconds, rounded down
@@ -60,7 +61,7 @@ time head left = number head.order 4 left 12 * 2 ^ 32 + number head.order 4 left
 -- the moment that a packet names; a simple one has the greatest so far, 0 without one
 abbrev pub moment : Position → Head → Interface → List ℕ → Option ℕ
 moment at head interface left = elim head.kind [
-  EnhancedPacket ↦ moved interface.clock.added (nanoseconds interface.clock (time head left))
+  | EnhancedPacket ↦ moved interface.clock.added (nanoseconds interface.clock (time head left))
   | _ ↦ Some (unwrap_or at.greatest 0)
 ]
 

@@ -1,5 +1,5 @@
 -- How blocks are spelled: those of a little-endian section, for worked examples.
-use Rattle.std.specs.Prelude.{ℕ, ◌+◌, ◌-◌, ◌*◌, ◌/◌, ◌%◌, ◌^◌, List, [], ◌∷◌, ◌++◌, length, replicate}
+use Rattle.std.specs.Prelude.{ℕ, ◌+◌, ◌-◌, ◌/◌, ◌%◌, ◌^◌, List, [], ◌++◌, length, replicate}
 use Rattle.octets.specs.Numbers.{little_octets}
 
 -- with zeros up to the next place of four octets

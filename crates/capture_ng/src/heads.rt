@@ -1,8 +1,10 @@
 // The rules of a block's first octets, and of its length.
-ghost use Rattle.std.specs.Prelude.{◌≡◌, ◌≤◌, length};
+ghost use Rattle.std.specs.Prelude.{◌≡◌, ◌≤◌, [], ◌∷◌, length, nat_le, IsTrue};
 ghost use Rattle.octets.specs.Rules.{first_failing};
-ghost use Rattle.capture_ng.specs.Blocks.{begins_section, head_in, is_length, is_magic, is_packet, is_read, kind_of, least_length, order_of};
-ghost use Rattle.capture_ng.specs.Faults.{begin_rules, begins_packet, has_room, length_rules};
+ghost use Rattle.capture_ng.specs.Blocks.{begins_section, head_of, is_magic, is_packet, is_read, kind_at, kind_of, least_length, order_of};
+ghost use Rattle.capture_ng.specs.Faults.{begin_rules, has_room, length_rules};
+ghost use Rattle.capture_ng.specs.Numbers.{number};
+ghost use Rattle.capture_ng.specs.declared.fault.NgFault.TheVariants.{BadMagic, CutBlock};
 
 use crate::head::{Head, Kind};
 use crate::order::Order;
@@ -20,7 +22,6 @@ fn kind_of(number: u32) -> Kind
     ensures { result ≡ kind_of number }
 {
     match number {
-        SECTION_HEADER => Kind::SectionHeader,
         1 => Kind::InterfaceDescription,
         2 => Kind::ObsoletePacket,
         3 => Kind::SimplePacket,
@@ -53,18 +54,6 @@ fn least_length(kind: Kind) -> u32
     }
 }
 
-/// What a block's first octets say, in that order.
-pub fn head_in(order: Order, octets: &[u8]) -> Head
-    requires { 8 ≤ length octets.now }
-    ensures { result ≡ head_in order octets.now }
-{
-    Head {
-        kind: kind_of(order.number_32(octets, 0)),
-        order,
-        length: order.number_32(octets, 4),
-    }
-}
-
 fn begins_section(octets: &[u8]) -> bool
     requires { 4 ≤ length octets.now }
     ensures { result ≡ begins_section octets.now }
@@ -72,9 +61,20 @@ fn begins_section(octets: &[u8]) -> bool
     little_32(octets, 0) == SECTION_HEADER
 }
 
-/// The order of a block's numbers.
-pub fn order_of(at: &Position, octets: &[u8]) -> Order
-    requires { 12 ≤ length octets.now }
+fn kind_at(at: &Position, octets: &[u8]) -> Kind
+    requires { 4 ≤ length octets.now }
+    ensures { result ≡ kind_at at.now octets.now }
+{
+    if begins_section(octets) {
+        Kind::SectionHeader
+    } else {
+        kind_of(at.order.unwrap_or(Order::Little).number_32(octets, 0))
+    }
+}
+
+fn order_of(at: &Position, octets: &[u8]) -> Order
+    requires some { 4 ≤ length octets.now }
+    requires section { IsTrue (begins_section octets.now) → 12 ≤ length octets.now }
     ensures { result ≡ order_of at.now octets.now }
 {
     if !begins_section(octets) {
@@ -84,6 +84,66 @@ pub fn order_of(at: &Position, octets: &[u8]) -> Order
     } else {
         Order::Big
     }
+}
+
+/// What a block's first octets say: eight, or twelve of a section header.
+pub fn head_of(at: &Position, octets: &[u8]) -> Head
+    requires some { 8 ≤ length octets.now }
+    requires section { IsTrue (begins_section octets.now) → 12 ≤ length octets.now }
+    ensures { result ≡ head_of at.now octets.now }
+{
+    let order = order_of(at, octets);
+    Head {
+        kind: kind_at(at, octets),
+        order,
+        length: order.number_32(octets, 4),
+    }
+}
+
+// One block more may be read, and where it is of a packet, one frame more.
+fn has_room(at: &Position, octets: &[u8]) -> bool
+    ensures { result ≡ has_room at.now octets.now }
+{
+    if at.blocks >= MOST_BLOCKS {
+        return false;
+    }
+    octets.len() < 4 || !is_packet(kind_at(at, octets)) || at.count < MOST_RECORDS
+}
+
+/// The first rule that a block's first octets break, as far as these came: twelve of a section header,
+/// or eight.
+pub fn begin_fault(at: &Position, octets: &[u8]) -> Option<NgFault>
+    ensures { result ≡ first_failing (begin_rules at.now octets.now) }
+{
+    if !has_room(at, octets) {
+        return Some(NgFault::TooManyRecords);
+    }
+    if octets.len() < 8 {
+        return Some(NgFault::CutBlock(at.place));
+    }
+    if begins_section(octets) {
+        return magic_fault(at, octets);
+    }
+    if at.order.is_none() {
+        return Some(NgFault::BadMagic);
+    }
+    None
+}
+
+// The first rule that a section header's magic breaks.
+fn magic_fault(at: &Position, octets: &[u8]) -> Option<NgFault>
+    requires some { 8 ≤ length octets.now }
+    requires section { IsTrue (begins_section octets.now) }
+    ensures { result ≡ first_failing ((nat_le 12 (length octets.now), CutBlock at.now.place)
+        ∷ (is_magic (number (order_of at.now octets.now) 4 octets.now 8), BadMagic) ∷ []) }
+{
+    if octets.len() < 12 {
+        return Some(NgFault::CutBlock(at.place));
+    }
+    if order_of(at, octets).number_32(octets, 8) != MAGIC {
+        return Some(NgFault::BadMagic);
+    }
+    None
 }
 
 /// The first rule that a block's length breaks.

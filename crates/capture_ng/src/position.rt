@@ -31,8 +31,13 @@ impl Model for Position {
     ghost Value = { Position };
 
     ghost view = { λ p. record {
-        place = p.place; blocks = p.blocks; order = p.order; interfaces = p.interfaces;
-        count = p.count; greatest = p.greatest } };
+      place = p.place;
+      blocks = p.blocks;
+      order = p.order;
+      interfaces = p.interfaces;
+      count = p.count;
+      greatest = p.greatest;
+    } };
 
     ghost invariant = { λ p. (p.blocks ≤ most_blocks) × ((p.place ≤ 2 ^ 32 * p.blocks)
         × ((p.count ≤ most_records) × ((unwrap_or p.greatest 0 < end_of_moments)

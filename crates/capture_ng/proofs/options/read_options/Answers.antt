@@ -1,4 +1,4 @@
-use Rattle.std.proofs.Common.{◌≡◌, ◌∙◌, sym, refl}
+use Rattle.std.proofs.Common.{◌∙◌, sym}
 use Rattle.capture_ng.proofs.OptionLemmas.{behind-less, clock_on-end, clock_on-refuses, clock_on-sets, clock_on-unfit}
 use Rattle.capture_ng.proofs.options.read_options.Goals as goal
 
@@ -6,7 +6,7 @@ pub loop-rest-preserved : goal.loop-rest-preserved
 loop-rest-preserved c =
     c.loop-rest.invariant
     ∙ clock_on-sets c.args.order c.loop-rest.clock c.in_ok-clock.clock (record { code = c.in_ok-code.code; value = c.in_ok-code.value.now }) c.loop-rest.rest.now c.in_ok-code.behind.now
-      (sym c.ends_options.ensures ∙ c.loop-rest-test.true) (sym c.in_ok-code.ensures.fits) c.in_ok-code.ensures.option c.in_ok-code.ensures.behind c.in_ok-clock.ensures
+    (sym c.ends_options.ensures ∙ c.loop-rest-test.true) (sym c.in_ok-code.ensures.fits) c.in_ok-code.ensures.option c.in_ok-code.ensures.behind c.in_ok-clock.ensures
 
 pub loop-rest-smaller : goal.loop-rest-smaller
 loop-rest-smaller c = behind-less c.args.order c.loop-rest.rest.now c.in_ok-code.behind.now (sym c.ends_options.ensures ∙ c.loop-rest-test.true) c.in_ok-code.ensures.behind
@@ -23,4 +23,4 @@ pub returns-in_err-clock : goal.returns-in_err-clock
 returns-in_err-clock c =
     c.from_residual-in_err-clock.ensures
     ∙ sym (c.loop-rest.invariant ∙ clock_on-refuses c.args.order c.loop-rest.clock (record { code = c.in_ok-code.code; value = c.in_ok-code.value.now }) c.loop-rest.rest.now
-      (sym c.ends_options.ensures ∙ c.loop-rest-test.true) (sym c.in_ok-code.ensures.fits) c.in_ok-code.ensures.option c.in_err-clock.ensures)
+    (sym c.ends_options.ensures ∙ c.loop-rest-test.true) (sym c.in_ok-code.ensures.fits) c.in_ok-code.ensures.option c.in_err-clock.ensures)
