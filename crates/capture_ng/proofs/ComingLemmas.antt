@@ -1,9 +1,15 @@
 -- Octets that come piece by piece.
-use Rattle.std.proofs.Common.{◌≡◌, ◌≤◌, ◌+◌, ℕ, length, Option, Some, None, subst, arith}
+use Rattle.std.proofs.Common.{◌≡◌, ◌≤◌, ◌<◌, ◌+◌, ◌-◌, ℕ, List, drop, take, length, min, Option, Some, None, refl, subst, sym, ap, ◌∙◌, arith}
 use Rattle.std.specs.Option.{option_map, IfSome}
-use Rattle.std.proofs.lemmas.List.{length-drop}
-use Rattle.desk.specs.World.{World, after_read, left_of}
+use Rattle.std.proofs.lemmas.Bool.{le-leb, lt-leb}
+use Rattle.std.proofs.lemmas.List.{length-drop, take_all}
+use Rattle.desk.specs.World.{World, after_read, left_of, Fills}
 use Rattle.desk.proofs.Reading.{IfSome_both, left_on, read_nothing, reads_on}
+use Rattle.capture_ng.proofs.Fronts.{number-take}
+use Rattle.capture_ng.specs.Blocks.{last_number}
+use Rattle.capture_ng.specs.Numbers.{number}
+use Rattle.capture_ng.specs.declared.order.Order.{Order}
+use Rattle.capture_ng.specs.declared.order.Order.TheVariants.{Little, Big}
 use Rattle.capture_ng.specs.Coming.{HasCome, IsComing}
 
 some_within : (id : ℕ) (told : Option World) → IfSome told (λ w. 0 ≤ length (left_of id w))
@@ -43,3 +49,48 @@ none_came id size passed n start now new within none so_far told count =
       count = IfSome_both start so_far.within (left_on id passed start now (λ left. (n ≤ length left) × (n ≡ 0 → length left ≡ 0)) so_far.told count) (λ w was gave.
           omega (arith, was, gave.1 none, length-drop passed (left_of id w)));
     }
+
+-- a number is read of what is left as of the rest
+number-drop : (order : Order) (s : ℕ) (left : List ℕ) → number order 4 (drop s left) 0 ≡ number order 4 left s
+number-drop Little s left = refl
+number-drop Big s left = refl
+
+-- what was passed, and what came behind it, are all
+last_came : (order : Order) (size s n : ℕ) (left buf : List ℕ) → 4 ≤ size → length buf ≡ 4 → s ≡ size - 4 → n ≡ 4 → s ≡ min (size - 4) (length left) → Fills (drop s left) n buf
+    → Some (number order 4 buf 0) ≡ last_number order size left
+last_came order size s n left buf some len all whole passed fills =
+    let long : size ≤ length left = omega (arith, fills.count, length-drop s left) in
+    let front : buf ≡ take 4 (drop s left) = sym (take_all n buf (omega arith)) ∙ fills.octets ∙ ap (λ (k : ℕ). take k (drop s left)) whole in
+    let is : number order 4 buf 0 ≡ number order 4 left (size - 4) =
+        ap (λ (l : List ℕ). number order 4 l 0) front ∙ number-take order 4 0 4 (drop s left) (omega arith) ∙ number-drop order s left ∙ ap (number order 4 left) all in
+    rw (le-leb size (length left) long, is) refl
+
+-- octets are missing
+none_last : (order : Order) (size : ℕ) (left : List ℕ) → length left < size → None ≡ last_number order size left
+none_last order size left cut = rw (lt-leb size (length left) cut) refl
+
+last_cut : (order : Order) (size s n : ℕ) (left buf : List ℕ) → 4 ≤ size → length buf ≡ 4 → s + n < size → s ≡ min (size - 4) (length left) → Fills (drop s left) n buf
+    → None ≡ last_number order size left
+last_cut order size s n left buf some len cut passed fills = none_last order size left (omega (arith, cut, passed, fills.count, length-drop s left))
+
+-- the same over a desk that may tell its octets
+pub last_read : (id : ℕ) (order : Order) (size s n x : ℕ) (start mid : Option World) (buf : List ℕ) → 4 ≤ size → length buf ≡ 4 → s ≡ size - 4 → n ≡ 4
+    → x ≡ number order 4 buf 0
+    → HasCome id (size - 4) s start mid → IfSome mid (λ w. Fills (left_of id w) n buf)
+    → IfSome start (λ w. Some x ≡ last_number order size (left_of id w))
+last_read id order size s n x start mid buf some len all whole is come fills =
+    IfSome_both start come.count (left_on id s start mid (λ left. Fills left n buf) come.told fills) (λ w passed filled.
+    ap Some is ∙ last_came order size s n (left_of id w) buf some len all whole passed filled)
+
+pub last_missing : (id : ℕ) (order : Order) (size s n : ℕ) (start mid : Option World) (buf : List ℕ) → 4 ≤ size → length buf ≡ 4 → s + n < size
+    → HasCome id (size - 4) s start mid → IfSome mid (λ w. Fills (left_of id w) n buf)
+    → IfSome start (λ w. None ≡ last_number order size (left_of id w))
+last_missing id order size s n start mid buf some len cut come fills =
+    IfSome_both start come.count (left_on id s start mid (λ left. Fills left n buf) come.told fills) (λ w passed filled.
+    last_cut order size s n (left_of id w) buf some len cut passed filled)
+
+pub last_told : (id size s n : ℕ) (start mid new : Option World) → 4 ≤ size → s ≡ size - 4 → n ≡ 4 → mid ≡ option_map (after_read id s) start → new ≡ option_map (after_read id n) mid
+    → new ≡ option_map (after_read id size) start
+last_told id size s n start mid new some all whole first second =
+    let sum : s + n ≡ size = omega arith in
+    subst (λ (k : ℕ). new ≡ option_map (after_read id k) start) sum (reads_on id s n start mid new first second)

@@ -1,5 +1,6 @@
 pub mod ClassicLemmas
 pub mod ComingLemmas
+pub mod Fronts
 pub mod OnLiterals
 pub mod OptionLemmas
 pub mod OrderLemmas

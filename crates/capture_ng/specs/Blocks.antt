@@ -1,5 +1,5 @@
 -- Blocks of a pcapng file: a type, a total length, a body, and the total length again.
-use Rattle.std.specs.Prelude.{ℕ, ◌%◌, ◌==◌, ◌&&◌, nat_le, Bool, true, false, List, unwrap_or, if◌then◌else◌}
+use Rattle.std.specs.Prelude.{ℕ, ◌-◌, ◌%◌, ◌==◌, ◌&&◌, nat_le, Bool, true, false, List, length, Option, Some, None, unwrap_or, if◌then◌else◌}
 use Rattle.octets.specs.Numbers.{little}
 use Rattle.capture_ng.specs.Numbers.{number}
 use Rattle.capture_ng.specs.Position.{Position}
@@ -75,3 +75,12 @@ head_of at left = record {
   order = order_of at left;
   length = number (order_of at left) 4 left 4;
 }
+
+-- how many of a block's octets are its first ones: to the magic of a section header, or to the length
+abbrev pub first_size : List ℕ → ℕ
+first_size left = if begins_section left then 12 else 8
+
+-- the number in the last four of so many octets, where these are left
+abbrev pub last_number : Order → ℕ → List ℕ → Option ℕ
+last_number order size left =
+    if nat_le size (length left) then Some (number order 4 left (size - 4)) else None

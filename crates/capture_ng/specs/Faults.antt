@@ -42,6 +42,10 @@ length_rules at head =
     ∷ (not (is_read head.kind) || nat_le head.length most_block_octets, TooLong at.place head.length)
     ∷ []
 
+-- the rules of the head of the block that is next
+abbrev pub head_rules : Position → List ℕ → List (Bool × NgFault)
+head_rules at left = begin_rules at left ++ length_rules at (head_of at left)
+
 -- a block is no obsolete packet block
 abbrev pub is_current : Kind → Bool
 is_current ObsoletePacket = false
@@ -52,6 +56,14 @@ abbrev pub whole_rules : Position → Head → List ℕ → List (Bool × NgFaul
 whole_rules at head left =
     (nat_le head.length (length left), CutBlock at.place)
     ∷ (number head.order 4 left (head.length - 4) == head.length, BadLength at.place)
+    ∷ (is_current head.kind, OldPacket at.place)
+    ∷ []
+
+-- the same rules by the number in the block's last four octets, where all of it came
+abbrev pub ended_rules : Position → Head → Option ℕ → List (Bool × NgFault)
+ended_rules at head last =
+    (is_some last, CutBlock at.place)
+    ∷ (unwrap_or last 0 == head.length, BadLength at.place)
     ∷ (is_current head.kind, OldPacket at.place)
     ∷ []
 

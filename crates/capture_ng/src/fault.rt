@@ -1,3 +1,10 @@
+// Why a pcapng capture can't be read on.
+ghost use Rattle.std.specs.Prelude.{◌≡◌};
+ghost use Rattle.capture_ng.specs.declared.fault.NgFault.TheVariants.{Memory};
+
+use desk::DeskFault;
+use octets::NoMemory;
+
 /// The first fault of a pcapng capture. Places are offsets of octets in the file; that of a block is
 /// where its type begins. Frames are numbered from 1.
 #[derive(Clone, Copy, Debug, PartialEq, Eq)]
@@ -35,4 +42,25 @@ pub enum NgFault {
     Host,
     /// An allocation was refused.
     Memory,
+}
+
+impl From<NoMemory> for NgFault {
+    ghost from_gives = { λ _ fault. fault ≡ Memory };
+
+    fn from(_: NoMemory) -> Self {
+        NgFault::Memory
+    }
+}
+
+impl From<DeskFault> for NgFault {
+    ghost use Rattle.capture_ng.specs.Answers.{fault_of};
+
+    ghost from_gives = { λ fault gives. gives ≡ fault_of fault };
+
+    fn from(fault: DeskFault) -> Self {
+        match fault {
+            DeskFault::Failed => NgFault::Host,
+            DeskFault::Memory => NgFault::Memory,
+        }
+    }
 }

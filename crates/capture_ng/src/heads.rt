@@ -2,7 +2,8 @@
 ghost use Rattle.std.specs.Prelude.{◌≡◌, ◌≤◌, [], ◌∷◌, length, nat_le, IsTrue};
 ghost use Rattle.octets.specs.Rules.{first_failing};
 ghost use Rattle.capture_ng.specs.Blocks.{begins_section, head_of, is_magic, is_packet, is_read, kind_at, kind_of, least_length, order_of};
-ghost use Rattle.capture_ng.specs.Faults.{begin_rules, has_room, length_rules};
+ghost use Rattle.capture_ng.specs.Faults.{begin_rules, has_room, head_rules, length_rules};
+ghost use Rattle.capture_ng.specs.Answers.{unless};
 ghost use Rattle.capture_ng.specs.Numbers.{number};
 ghost use Rattle.capture_ng.specs.declared.fault.NgFault.TheVariants.{BadMagic, CutBlock};
 
@@ -54,7 +55,8 @@ fn least_length(kind: Kind) -> u32
     }
 }
 
-fn begins_section(octets: &[u8]) -> bool
+/// The octets begin with a section header's type.
+pub fn begins_section(octets: &[u8]) -> bool
     requires { 4 ≤ length octets.now }
     ensures { result ≡ begins_section octets.now }
 {
@@ -86,8 +88,8 @@ fn order_of(at: &Position, octets: &[u8]) -> Order
     }
 }
 
-/// What a block's first octets say: eight, or twelve of a section header.
-pub fn head_of(at: &Position, octets: &[u8]) -> Head
+// What a block's first octets say: eight, or twelve of a section header.
+fn head_of(at: &Position, octets: &[u8]) -> Head
     requires some { 8 ≤ length octets.now }
     requires section { IsTrue (begins_section octets.now) → 12 ≤ length octets.now }
     ensures { result ≡ head_of at.now octets.now }
@@ -110,9 +112,9 @@ fn has_room(at: &Position, octets: &[u8]) -> bool
     octets.len() < 4 || !is_packet(kind_at(at, octets)) || at.count < MOST_RECORDS
 }
 
-/// The first rule that a block's first octets break, as far as these came: twelve of a section header,
-/// or eight.
-pub fn begin_fault(at: &Position, octets: &[u8]) -> Option<NgFault>
+// The first rule that a block's first octets break, as far as these came: twelve of a section header,
+// or eight.
+fn begin_fault(at: &Position, octets: &[u8]) -> Option<NgFault>
     ensures { result ≡ first_failing (begin_rules at.now octets.now) }
 {
     if !has_room(at, octets) {
@@ -146,8 +148,8 @@ fn magic_fault(at: &Position, octets: &[u8]) -> Option<NgFault>
     None
 }
 
-/// The first rule that a block's length breaks.
-pub fn length_fault(at: &Position, head: Head) -> Option<NgFault>
+// The first rule that a block's length breaks.
+fn length_fault(at: &Position, head: Head) -> Option<NgFault>
     ensures { result ≡ first_failing (length_rules at.now head) }
 {
     if head.length % 4 != 0 || head.length < least_length(head.kind) {
@@ -157,4 +159,19 @@ pub fn length_fault(at: &Position, head: Head) -> Option<NgFault>
         return Some(NgFault::TooLong(at.place, head.length));
     }
     None
+}
+
+/// The head of a block, or the first rule that it breaks, by the block's first octets as far as these came:
+/// twelve of a section header, eight of any other.
+pub fn read_head(at: &Position, octets: &[u8]) -> Result<Head, NgFault>
+    ensures { result ≡ unless (first_failing (head_rules at.now octets.now)) (head_of at.now octets.now) }
+{
+    if let Some(fault) = begin_fault(at, octets) {
+        return Err(fault);
+    }
+    let head = head_of(at, octets);
+    if let Some(fault) = length_fault(at, head) {
+        return Err(fault);
+    }
+    Ok(head)
 }

@@ -1,6 +1,7 @@
 //! Captures in the pcapng format: frames read block by block through a desk.
 #![tactic(auto)]
 
+mod bodies;
 mod coming;
 mod examples;
 mod fault;

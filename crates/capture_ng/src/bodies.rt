@@ -1,0 +1,144 @@
+// The rules of a whole block, and of the packet in it.
+ghost use Rattle.std.specs.Prelude.{◌≡◌, ◌≤◌, ◌<◌, ◌+◌, length, option_and_then};
+ghost use Rattle.octets.specs.Rules.{first_failing};
+ghost use Rattle.capture_io.specs.Capture.{in_span};
+ghost use Rattle.capture_io.specs.Limits.{most_records};
+ghost use Rattle.capture_ng.specs.Faults.{ended_rules, section_rules, seen_rules};
+ghost use Rattle.capture_ng.specs.Packets.{early, interface_number, kept, moment, packet_place, packet_room, time};
+
+use crate::head::{Head, Kind};
+use crate::interface::Interface;
+use crate::packets::{moment_of, snapped};
+use crate::position::Position;
+use crate::NgFault;
+use capture_io::{LONGEST_SPAN, MOST_FRAME_OCTETS};
+
+/// The first rule that a whole block breaks, by the number in its last four octets; none where it is cut.
+pub fn whole_fault(at: &Position, head: Head, last: Option<u32>) -> Option<NgFault>
+    ensures { result ≡ first_failing (ended_rules at.now head last) }
+{
+    let Some(length) = last else {
+        return Some(NgFault::CutBlock(at.place));
+    };
+    if length != head.length {
+        return Some(NgFault::BadLength(at.place));
+    }
+    if head.kind == Kind::ObsoletePacket {
+        return Some(NgFault::OldPacket(at.place));
+    }
+    None
+}
+
+/// The rule that a section header breaks, if it does.
+pub fn section_fault(at: &Position, head: Head, octets: &[u8]) -> Option<NgFault>
+    requires { 14 ≤ length octets.now }
+    ensures { result ≡ first_failing (section_rules at.now head octets.now) }
+{
+    if head.order.number_16(octets, 12) != 1 {
+        return Some(NgFault::BadVersion(at.place));
+    }
+    None
+}
+
+/// The number of a packet's interface.
+pub fn interface_number(head: Head, octets: &[u8]) -> u32
+    requires { packet_place head ≤ length octets.now }
+    ensures { result ≡ interface_number head octets.now }
+{
+    if head.kind == Kind::EnhancedPacket {
+        head.order.number_32(octets, 8)
+    } else {
+        0
+    }
+}
+
+/// How many octets of its packet a block keeps.
+pub fn kept(head: Head, interface: Interface, octets: &[u8]) -> u32
+    requires { packet_place head ≤ length octets.now }
+    ensures { result ≡ kept head interface octets.now }
+{
+    if head.kind == Kind::EnhancedPacket {
+        head.order.number_32(octets, 20)
+    } else {
+        snapped(interface.snap, head.order.number_32(octets, 8))
+    }
+}
+
+// The time of an enhanced packet.
+fn time(head: Head, octets: &[u8]) -> u64
+    requires { 20 ≤ length octets.now }
+    ensures { result ≡ time head octets.now }
+{
+    let high = u64::from(head.order.number_32(octets, 12));
+    let low = u64::from(head.order.number_32(octets, 16));
+    high * 0x1_0000_0000 + low
+}
+
+/// The moment that a packet names, where a frame may have it.
+pub fn moment(at: &Position, head: Head, interface: Interface, octets: &[u8]) -> Option<u64>
+    requires fields { packet_place head ≤ length octets.now }
+    requires units { 0 < interface.clock.units }
+    ensures { result ≡ option_and_then early (moment at.now head interface octets.now) }
+{
+    if head.kind == Kind::EnhancedPacket {
+        moment_of(interface.clock, time(head, octets))
+    } else {
+        Some(at.greatest.unwrap_or(0))
+    }
+}
+
+// Where the packet's octets begin in the block.
+fn packet_place(head: Head) -> u32
+    ensures { result ≡ packet_place head }
+{
+    if head.kind == Kind::EnhancedPacket {
+        28
+    } else {
+        12
+    }
+}
+
+// The octets of the block from there on to its second length.
+fn packet_room(head: Head) -> u32
+    requires { packet_place head + 4 ≤ head.length }
+    ensures { result ≡ packet_room head }
+{
+    head.length - (packet_place(head) + 4)
+}
+
+// Whether the moment lies within 1,000,000 seconds after the greatest so far.
+fn is_in_span(at: &Position, moment: u64) -> bool
+    ensures { result ≡ in_span at.now.greatest moment }
+{
+    match at.greatest {
+        Some(greatest) => moment <= greatest + LONGEST_SPAN,
+        None => true,
+    }
+}
+
+/// The first rule that a packet of an interface breaks.
+pub fn seen_fault(at: &Position, head: Head, interface: Interface, octets: &[u8]) -> Option<NgFault>
+    requires fields { packet_place head ≤ length octets.now }
+    requires room { packet_place head + 4 ≤ head.length }
+    requires units { 0 < interface.clock.units }
+    requires count { at.now.count < most_records }
+    ensures { result ≡ first_failing (seen_rules at.now head octets.now interface) }
+{
+    if interface.link.is_none() {
+        return Some(NgFault::BadLinkType(at.place));
+    }
+    let kept = kept(head, interface, octets);
+    if kept > packet_room(head) {
+        return Some(NgFault::BadLength(at.place));
+    }
+    if kept as usize > MOST_FRAME_OCTETS {
+        return Some(NgFault::TooLong(at.place, kept));
+    }
+    let Some(moment) = moment(at, head, interface, octets) else {
+        return Some(NgFault::BadMoment(at.place));
+    };
+    if !is_in_span(at, moment) {
+        return Some(NgFault::SpanTooLong(at.count + 1));
+    }
+    None
+}
