@@ -62,7 +62,7 @@ last_came order size s n left buf some len all whole passed fills =
     let long : size ≤ length left = omega (arith, fills.count, length-drop s left) in
     let front : buf ≡ take 4 (drop s left) = sym (take_all n buf (omega arith)) ∙ fills.octets ∙ ap (λ (k : ℕ). take k (drop s left)) whole in
     let is : number order 4 buf 0 ≡ number order 4 left (size - 4) =
-        ap (λ (l : List ℕ). number order 4 l 0) front ∙ number-take order 4 0 4 (drop s left) (omega arith) ∙ number-drop order s left ∙ ap (number order 4 left) all in
+    ap (λ (l : List ℕ). number order 4 l 0) front ∙ number-take order 4 0 4 (drop s left) (omega arith) ∙ number-drop order s left ∙ ap (number order 4 left) all in
     rw (le-leb size (length left) long, is) refl
 
 -- octets are missing

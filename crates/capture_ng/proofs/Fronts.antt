@@ -31,7 +31,7 @@ kind_at-take at size left long =
 pub order_of-take : (at : Position) (size : ℕ) (left : List ℕ) → first_size left ≤ size → order_of at (take size left) ≡ order_of at left
 order_of-take at size left long =
     elim (cases_Bool (begins_section left)) [
-      inl yes_section ↦ (let whole : 12 ≤ size = (rw yes_section at long) in rw (section-take size left (omega arith), yes_section, little-take 4 8 size left (omega arith)) refl)
+      | inl yes_section ↦ (let whole : 12 ≤ size = (rw yes_section at long) in rw (section-take size left (omega arith), yes_section, little-take 4 8 size left (omega arith)) refl)
       | inr none_section ↦ (let part : 8 ≤ size = (rw none_section at long) in rw (section-take size left (omega arith), none_section) refl)
     ]
 
@@ -51,9 +51,9 @@ neither a false e is = cc
 first_short : (left : List ℕ) → (nat_le 8 (length (take 8 left)) && begins_section (take 8 left)) ≡ false → take 8 left ≡ take (first_size left) left
 first_short left test =
     elim (cases_Bool (begins_section left)) [
-      inl yes_section ↦
-        (let cut = leb-false 8 (length (take 8 left)) (neither (nat_le 8 (length (take 8 left))) (begins_section (take 8 left)) test (section-take 8 left (omega arith) ∙ yes_section)) in
-        rw yes_section (take_all 8 left (omega (arith, cut, length-take 8 left)) ∙ sym (take_all 12 left (omega (arith, cut, length-take 8 left)))))
+      | inl yes_section ↦
+          (let cut = leb-false 8 (length (take 8 left)) (neither (nat_le 8 (length (take 8 left))) (begins_section (take 8 left)) test (section-take 8 left (omega arith) ∙ yes_section)) in
+          rw yes_section (take_all 8 left (omega (arith, cut, length-take 8 left)) ∙ sym (take_all 12 left (omega (arith, cut, length-take 8 left)))))
       | inr none_section ↦ rw none_section refl
     ]
 

@@ -1,5 +1,6 @@
 -- Options, read one by one.
-use Rattle.std.proofs.Common.{◌≡◌, ◌≤◌, ◌<◌, ◌+◌, ◌&&◌, ◌||◌, nat_le, ℕ, zero, suc, Bool, true, false, List, [], ◌∷◌, length, Option, Some, None, if◌then◌else◌, refl, sym, ap, ◌∙◌, arith}
+use Rattle.std.proofs.Common.{◌≡◌, ◌≤◌, ◌<◌, ◌+◌, ◌&&◌, ◌||◌, nat_le, ℕ, zero, suc, Bool, true, false, List, [], ◌∷◌, length, Option, Some, None, if◌then◌else◌, refl, sym, ap, ◌∙◌, arith, ◌^◌}
+use Rattle.std.proofs.Math.Nat.{pow-suc, pow-zero}
 use Rattle.std.specs.List.{list_all}
 use Rattle.std.proofs.lemmas.List.{length-drop}
 use Rattle.capture_ng.specs.Interfaces.{NgOption, behind_option, clock_after, clock_on, ends_options, first_option, fit_within, is_proper, options_fit, options_in, options_within, padded, set_by, size_in}
@@ -123,3 +124,8 @@ behind-less order [] behind some is = cc
 behind-less order (x ∷ octets) behind some is =
     let less = length-drop (4 + padded (size_in order (x ∷ octets))) (x ∷ octets) in
     omega (arith, less, ap (λ (l : List ℕ). length l) is)
+
+-- a power of ten is some number
+pub ten_some : (k : ℕ) → 0 < 10 ^ k
+ten_some zero = omega (arith, pow-zero 10)
+ten_some (suc k) = let fewer = ten_some k in omega (arith, fewer, pow-suc 10 k)

@@ -6,11 +6,11 @@ ghost use Rattle.capture_io.specs.Limits.{most_records};
 ghost use Rattle.capture_ng.specs.Faults.{ended_rules, section_rules, seen_rules};
 ghost use Rattle.capture_ng.specs.Packets.{early, interface_number, kept, moment, packet_place, packet_room, time};
 
+use crate::NgFault;
 use crate::head::{Head, Kind};
 use crate::interface::Interface;
 use crate::packets::{moment_of, snapped};
 use crate::position::Position;
-use crate::NgFault;
 use capture_io::{LONGEST_SPAN, MOST_FRAME_OCTETS};
 
 /// The first rule that a whole block breaks, by the number in its last four octets; none where it is cut.

@@ -9,7 +9,8 @@ use crate::{MOST_BINARY, MOST_DECIMAL};
 
 /// The clock that options set, or none where one doesn't fit or isn't proper.
 pub fn read_options(order: Order, octets: &[u8]) -> Option<Clock>
-    ensures { result ≡ clock_on order plain_clock octets.now }
+    ensures value { result ≡ clock_on order plain_clock octets.now }
+    ensures units { IfSome result (λ clock. 0 < clock.units) }
 {
     let mut clock = Clock {
         units: 1_000_000,
@@ -60,8 +61,10 @@ fn padded(size: usize) -> usize
 
 // The clock with what a proper option says of it.
 fn set_by(order: Order, code: u16, value: &[u8], clock: Clock) -> Option<Clock>
-    ensures { result ≡ (if is_proper order (record { code = code; value = value.now })
+    requires { 0 < clock.units }
+    ensures value { result ≡ (if is_proper order (record { code = code; value = value.now })
         then Some (set_by order (record { code = code; value = value.now }) clock) else None) }
+    ensures units { IfSome result (λ set. 0 < set.units) }
 {
     match code {
         9 => with_units(value, clock),
@@ -72,8 +75,9 @@ fn set_by(order: Order, code: u16, value: &[u8], clock: Clock) -> Option<Clock>
 
 // The clock with a unit of time, where the value is one.
 fn with_units(value: &[u8], clock: Clock) -> Option<Clock>
-    ensures { result ≡ (if length value.now == 1 && is_unit (slice_index value.now 0)
+    ensures value { result ≡ (if length value.now == 1 && is_unit (slice_index value.now 0)
         then Some (record clock { units = per_second (slice_index value.now 0) }) else None) }
+    ensures units { IfSome result (λ set. 0 < set.units) }
 {
     if value.len() != 1 || !is_unit(value[0]) {
         return None;
@@ -84,8 +88,10 @@ fn with_units(value: &[u8], clock: Clock) -> Option<Clock>
 
 // The clock with added seconds, where the value is a number of 64 bits.
 fn with_added(order: Order, value: &[u8], clock: Clock) -> Option<Clock>
-    ensures { result ≡ (if length value.now == 8
+    requires { 0 < clock.units }
+    ensures value { result ≡ (if length value.now == 8
         then Some (record clock { added = added_of (number order 8 value.now 0) }) else None) }
+    ensures units { IfSome result (λ set. 0 < set.units) }
 {
     if value.len() != 8 {
         return None;
@@ -107,7 +113,8 @@ fn is_unit(x: u8) -> bool
 // How many of the unit make a second.
 fn per_second(x: u8) -> u64
     requires { IsTrue (is_unit x) }
-    ensures { result ≡ per_second x }
+    ensures value { result ≡ per_second x }
+    ensures some { 0 < result }
 {
     if x < 128 {
         10u64.pow(u32::from(x))

@@ -12,8 +12,8 @@ returns-then-not-is_longer_head-clause-octets g c =
     let start = g.D.Desk.told c.args.desk.now in
     let test = sym (rw c.as_slice.ensures at c.is_longer_head.ensures) ∙ c.if-not-is_longer_head.true in
     let is : IfSome start (λ w. first ≡ take (first_size (left_of c.args.id.number w)) (left_of c.args.id.number w)) =
-        IfSome_both start c.in_ok-read_more.ensures.octets c.in_ok-read_more.ensures.octets (λ w came same.
-        short_came (left_of c.args.id.number w) first (came ∙ ap (λ (l : List ℕ). l ++ take 8 (left_of c.args.id.number w)) c.new-first.ensures) test) in
+    IfSome_both start c.in_ok-read_more.ensures.octets c.in_ok-read_more.ensures.octets (λ w came same.
+    short_came (left_of c.args.id.number w) first (came ∙ ap (λ (l : List ℕ). l ++ take 8 (left_of c.args.id.number w)) c.new-first.ensures) test) in
     is
 
 pub returns-clause-octets : goal.returns-clause-octets
