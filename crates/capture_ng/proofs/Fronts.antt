@@ -1,15 +1,12 @@
 -- What the rules of a block's head read is the block's first octets.
-use Rattle.std.proofs.Common.{◌≡◌, ◌<◌, ◌≤◌, ◌+◌, ◌&&◌, ◌++◌, nat_le, ℕ, Bool, true, false, List, take, drop, length, unwrap_or, refl, sym, ap, subst, ◌∙◌, arith, inl, inr}
+use Rattle.std.proofs.Common.{◌≡◌, ◌≤◌, ◌+◌, ◌&&◌, ◌++◌, nat_le, ℕ, Bool, true, false, List, take, drop, length, unwrap_or, refl, sym, ap, subst, ◌∙◌, arith, inl, inr}
 use Rattle.std.proofs.lemmas.Bool.{cases_Bool, leb-false, leb-true}
 use Rattle.std.proofs.lemmas.List.{length-take, take_all}
 use Rattle.std.proofs.Math.Seq.{take-add}
 use Rattle.octets.proofs.Fronts.{little-take, big-take}
-use Rattle.octets.specs.Rules.{first_failing}
-use Rattle.capture_ng.specs.Blocks.{begins_section, first_size, head_of, kind_at, order_of}
-use Rattle.capture_ng.specs.Faults.{head_rules}
+use Rattle.capture_ng.specs.Blocks.{begins_section, first_size, kind_at, order_of}
 use Rattle.capture_ng.specs.Numbers.{number}
 use Rattle.capture_ng.specs.Position.{Position}
-use Rattle.capture_ng.specs.declared.head.Head.{Head}
 use Rattle.capture_ng.specs.declared.order.Order.{Order}
 use Rattle.capture_ng.specs.declared.order.Order.TheVariants.{Little, Big}
 

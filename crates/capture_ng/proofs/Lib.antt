@@ -1,5 +1,6 @@
 pub mod ClassicLemmas
 pub mod ComingLemmas
+pub mod EndLemmas
 pub mod Fronts
 pub mod OnLiterals
 pub mod OptionLemmas

@@ -1,4 +1,4 @@
-use Rattle.std.proofs.Common.{◌≡◌, ◌∙◌, ◌++◌, ◌+◌, ◌-◌, List, [], ℕ, drop, length, take, option_map, subst, sym, ap, arith}
+use Rattle.std.proofs.Common.{◌≡◌, ◌∙◌, ◌++◌, ◌+◌, ◌-◌, List, ℕ, length, take, option_map, subst, sym, ap, arith}
 use Rattle.std.specs.Option.{IfSome}
 use Rattle.desk.specs.World.{after_read, left_of}
 use Rattle.desk.proofs.Reading.{IfSome_both, left_on, reads_on}
