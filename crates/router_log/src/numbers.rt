@@ -45,11 +45,17 @@ pub fn push_nine_digits(number: u32, out: &mut Octets) -> Result<(), NoMemory>
 }
 
 /// Appends sixteen hexadecimal digits, with leading zeros.
-#[tactic(auto, unfolding(crate::specs::Numbers::hex_16))]
 pub fn push_hex(number: u64, out: &mut Octets) -> Result<(), NoMemory>
     ensures { OnOk result (out.new ≡ out.old ++ hex_16 number) }
 {
-    let digits = [
+    out.append(&hex_digits(number))
+}
+
+#[tactic(auto, unfolding(crate::specs::Numbers::hex_16))]
+fn hex_digits(number: u64) -> [u8; 16]
+    ensures { result ≡ hex_16 number }
+{
+    [
         hex_digit(number / 0x1000_0000_0000_0000),
         hex_digit(number / 0x100_0000_0000_0000),
         hex_digit(number / 0x10_0000_0000_0000),
@@ -66,8 +72,7 @@ pub fn push_hex(number: u64, out: &mut Octets) -> Result<(), NoMemory>
         hex_digit(number / 0x100),
         hex_digit(number / 0x10),
         hex_digit(number),
-    ];
-    out.append(&digits)
+    ]
 }
 
 /// Appends two hexadecimal digits for each octet.
