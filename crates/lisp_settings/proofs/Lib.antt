@@ -10,6 +10,7 @@ pub mod LawfulLemmas
 pub mod ListLemmas
 pub mod NonceLemmas
 pub mod PrefixLemmas
+pub mod ReadingFaults
 pub mod ReadingLemmas
 pub mod TableLemmas
 pub mod TextLemmas

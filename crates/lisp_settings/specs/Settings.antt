@@ -1,10 +1,11 @@
 -- The settings file, a TOML document: its keys, each in its turn, and the first fault.
-use Rattle.std.specs.Prelude.{◌^◌, ℕ, true, false, nat_le, nat_lt, codes, List, [], ◌∷◌, length, replicate, Option, Some, None, Result, Ok, Err, if◌then◌else◌}
+use Rattle.std.specs.Prelude.{◌^◌, ℕ, Bool, true, false, nat_le, nat_lt, codes, List, [], ◌∷◌, length, replicate, Option, Some, None, Result, Ok, Err, if◌then◌else◌}
 use Rattle.std.specs.Ordering.{nat_cmp}
 use Rattle.std.specs.Str.{is_utf8}
 use Rattle.std.proofs.lemmas.Bool.{ltb-true}
 use Rattle.toml.specs.Data.{Members, as_bool}
 use Rattle.toml.specs.Parse.{parse_document}
+use Rattle.ip_headers.specs.declared.addr.Addr.{Addr}
 use Rattle.ip_headers.specs.declared.prefix.Prefix.{Prefix}
 use Rattle.mapping_records.specs.declared.eid.Eid.{Eid}
 use Rattle.mapping_records.specs.declared.record.Locator.{Locator}
@@ -134,6 +135,31 @@ abbrev pub top_keys : List (List ℕ)
 top_keys =
     codes "seed" ∷ codes "nonces" ∷ codes "resolver" ∷ codes "ttl" ∷ codes "probe" ∷ codes "echo"
     ∷ codes "locator" ∷ codes "attachment" ∷ codes "database" ∷ codes "mapping" ∷ []
+
+-- the minutes for which the site's mappings stay, at the key `ttl`
+abbrev pub ttl_in : Members → Result ℕ SettingsFault
+ttl_in top = optional (codes "ttl") (number 1 4294967294) default_minutes top
+
+-- what comes next, where no key of the top table is at fault but lists
+abbrev pub choices_then : (Option Addr → ℕ → Bool → Bool → Result Settings SettingsFault) → Members
+    → Result Settings SettingsFault
+choices_then next top = do
+  resolver ← resolver_in top
+  ttl ← ttl_in top
+  probe ← optional (codes "probe") as_bool false top
+  echo ← optional (codes "echo") as_bool false top
+  next resolver ttl probe echo
+
+-- what comes next, where no list of the top table is at fault
+abbrev pub lists_then :
+    (List OwnLocator → List Attachment → List Database → List Record → Result Settings SettingsFault)
+    → Members → Result Settings SettingsFault
+lists_then next top = do
+  locators ← own_locators top
+  attachments ← attachments top
+  databases ← databases top
+  mappings ← mappings top
+  next locators attachments databases mappings
 
 -- the settings in the top table
 abbrev pub settings_in : Members → Result Settings SettingsFault

@@ -1,10 +1,12 @@
 // The settings in a text.
-ghost use Rattle.std.specs.Prelude.{◌≡◌, ◌≢◌, ◌≤◌, IfOk, IfErr, Ok, Err, codes, length, replicate};
+ghost use Rattle.std.specs.Prelude.{◌≡◌, ◌≢◌, ◌≤◌, IfOk, IfErr, Ok, Err, codes, false, length, replicate};
+ghost use Rattle.toml.specs.Data.{as_bool};
 ghost use Rattle.toml.specs.View.{table_view};
 ghost use Rattle.lisp_settings.specs.Fields.{optional};
 ghost use Rattle.lisp_settings.specs.Lawful.{IsLawful};
 ghost use Rattle.lisp_settings.specs.Limits.{most_nonces};
-ghost use Rattle.lisp_settings.specs.Settings.{own_locators, settings_in, settings_of};
+ghost use Rattle.lisp_settings.specs.Resolver.{resolver_in};
+ghost use Rattle.lisp_settings.specs.Settings.{attachments, choices_then, databases, lists_then, mappings, own_locators, settings_in, settings_of, ttl_in};
 ghost use Rattle.lisp_settings.specs.Values.{seed};
 ghost use Rattle.lisp_settings.specs.declared.fault.SettingsFault.TheVariants as fault;
 
@@ -14,8 +16,9 @@ use crate::limits::{MOST_ATTACHMENTS, MOST_DATABASES, MOST_TEXT_OCTETS};
 use crate::lists::{any_ascending, ascending, one_or_more};
 use crate::nonces::nonces_at;
 use crate::resolver::{only_reachable, resolver_at};
-use crate::settings::{OwnLocator, OwnLocators, Settings};
+use crate::settings::{Attachments, Databases, OwnLocator, OwnLocators, Records, Settings};
 use crate::values;
+use ip_headers::Addr;
 use mapping_records::{DEFAULT_MINUTES, MOST_LOCATORS, MOST_MAPPINGS};
 use std::alloc::Global;
 use toml::Table;
@@ -54,20 +57,60 @@ fn read_top(alloc: Global, top: &Table) -> Result<Settings, SettingsFault>
         "mapping",
     ];
     only_keys(alloc, top, &known)?;
-    let settings = Settings {
-        seed: seed_at(alloc, top)?,
-        nonces: nonces_at(alloc, top)?,
-        resolver: resolver_at(alloc, top)?,
-        ttl: number_or(alloc, top, "ttl", (1, 4_294_967_294), DEFAULT_MINUTES)?,
-        probe: flag_or(alloc, top, "probe", false)?,
-        echo: flag_or(alloc, top, "echo", false)?,
-        locators: own_locators(alloc, top)?,
-        attachments: any_ascending(alloc, top, "attachment", MOST_ATTACHMENTS)?,
-        databases: any_ascending(alloc, top, "database", MOST_DATABASES)?,
-        mappings: any_ascending(alloc, top, "mapping", MOST_MAPPINGS)?,
-    };
-    only_reachable(alloc, settings.locators.as_slice(), settings.resolver)?;
-    Ok(settings)
+    let seed = seed_at(alloc, top)?;
+    let nonces = nonces_at(alloc, top)?;
+    let (resolver, ttl, probe, echo) = choices_at(alloc, top)?;
+    let (locators, attachments, databases, mappings) = lists_at(alloc, top)?;
+    only_reachable(alloc, locators.as_slice(), resolver)?;
+    Ok(Settings {
+        seed,
+        nonces,
+        resolver,
+        ttl,
+        probe,
+        echo,
+        locators,
+        attachments,
+        databases,
+        mappings,
+    })
+}
+
+// The keys that aren't lists.
+fn choices_at(alloc: Global, top: &Table) -> Result<(Option<Addr>, u32, bool, bool), SettingsFault>
+    ensures resolver { IfOk result (λ read. resolver_in (table_view top.now) ≡ Ok read.0) }
+    ensures ttl { IfOk result (λ read. ttl_in (table_view top.now) ≡ Ok read.1) }
+    ensures probe { IfOk result (λ read.
+        optional (codes "probe") as_bool false (table_view top.now) ≡ Ok read.2) }
+    ensures echo { IfOk result (λ read.
+        optional (codes "echo") as_bool false (table_view top.now) ≡ Ok read.3) }
+    ensures err { IfErr result (λ e. e ≢ fault.Memory
+        → (next : _) → choices_then next (table_view top.now) ≡ Err e) }
+{
+    let resolver = resolver_at(alloc, top)?;
+    let ttl = number_or(alloc, top, "ttl", (1, 4_294_967_294), DEFAULT_MINUTES)?;
+    let probe = flag_or(alloc, top, "probe", false)?;
+    let echo = flag_or(alloc, top, "echo", false)?;
+    Ok((resolver, ttl, probe, echo))
+}
+
+// The lists.
+fn lists_at(
+    alloc: Global,
+    top: &Table,
+) -> Result<(OwnLocators, Attachments, Databases, Records), SettingsFault>
+    ensures locators { IfOk result (λ read. own_locators (table_view top.now) ≡ Ok read.0) }
+    ensures attachments { IfOk result (λ read. attachments (table_view top.now) ≡ Ok read.1) }
+    ensures databases { IfOk result (λ read. databases (table_view top.now) ≡ Ok read.2) }
+    ensures mappings { IfOk result (λ read. mappings (table_view top.now) ≡ Ok read.3) }
+    ensures err { IfErr result (λ e. e ≢ fault.Memory
+        → (next : _) → lists_then next (table_view top.now) ≡ Err e) }
+{
+    let locators = own_locators(alloc, top)?;
+    let attachments = any_ascending(alloc, top, "attachment", MOST_ATTACHMENTS)?;
+    let databases = any_ascending(alloc, top, "database", MOST_DATABASES)?;
+    let mappings = any_ascending(alloc, top, "mapping", MOST_MAPPINGS)?;
+    Ok((locators, attachments, databases, mappings))
 }
 
 fn seed_at(alloc: Global, top: &Table) -> Result<[u8; 32], SettingsFault>
