@@ -125,13 +125,30 @@ fn read_replay(alloc: Global, words: &[Word]) -> Result<Words, WordsFault>
     if output == input || output == settings {
         return Err(WordsFault::Usage);
     }
+    let (settings, input, output) = all_copied(alloc, settings, input, output)?;
     Ok(Words::Replay {
-        settings: Text::copied(alloc, settings)?,
-        input: Text::copied(alloc, input)?,
-        output: Text::copied(alloc, output)?,
+        settings,
+        input,
+        output,
         workers: workers as u8,
         round: round as u16,
     })
+}
+
+// Copies of three words.
+fn all_copied(
+    alloc: Global,
+    settings: &str,
+    input: &str,
+    output: &str,
+) -> Result<(Text, Text, Text), AllocError>
+    ensures settings { IfOk result (λ copies. copies.0 ≡ settings.now) }
+    ensures input { IfOk result (λ copies. copies.1 ≡ input.now) }
+    ensures output { IfOk result (λ copies. copies.2 ≡ output.now) }
+{
+    let settings = Text::copied(alloc, settings)?;
+    let input = Text::copied(alloc, input)?;
+    Ok((settings, input, Text::copied(alloc, output)?))
 }
 
 fn read_show(alloc: Global, words: &[Word]) -> Result<Words, WordsFault>
