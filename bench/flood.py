@@ -10,12 +10,12 @@ within 1.7 s; hostile.pcap has in their place frames that ask for more than the 
 wanted, old versions, and replies that nobody asked for. quiet.toml has the 60,000 mappings alone, and quiet.pcap the
 packets alone.
 
-due.toml has 65,536 mappings, and probes the 9,920 locators. due.pcap has behind 600 s so many times 1,024 misses, a
-second in which all of their requests and 16 probes are due, and a reply to each; in early.pcap the replies come before
-that second, and probes.pcap has as many seconds with probes alone. turns.toml has 50,000 mappings, and turns.pcap 100,000 misses, each with its
-reply, of a mapping that lasts a minute, so that 15,000 live at a time and each that is learned meets one that ends;
-records.pcap has the same in replies of 250 records. A capture whose name ends in 0 is the front of another, whose time
-is taken off that one's.
+full.toml has 65,536 mappings. due.pcap has so many times 1,024 misses, a second in which all of their requests are due,
+and a reply to each; in early.pcap the replies come before that second. probing.toml has the same mappings and probes
+the 9,920 locators; probes.pcap has 600 seconds behind the first 600, in each of which 16 are probed. turns.toml has
+50,000 mappings, and turns.pcap 100,000 misses, each with its reply, of a mapping that lasts a minute, so that 15,000
+live at a time and each that is learned meets one that ends; records.pcap has the same in replies of 250 records. A
+capture whose name ends in 0 is the front of another, whose time is taken off that one's.
 
 Else it replays them, each the best of some runs that go by turns, by the time that they take of a processor.
 """
@@ -185,22 +185,21 @@ def write_limits(folder, count, seed):
 
 def rounds(is_due):
     """Misses half a second behind a second, and a reply to each, 1 s later or behind the next second but one."""
-    used_up = GAP * AT_ONCE
     for i in range(ROUNDS):
-        start = (GAP + STEP * i) * SECOND + SECOND // 2
+        start = STEP * i * SECOND + SECOND // 2
         yield from ((start, packet(number((10, 6), j))) for j in range(MOST_OPEN))
         moment = start + (2 if is_due else 1) * SECOND
-        yield from ((moment, reply(drawn(used_up + j), (number((10, 6), j), 32, 0))) for j in range(MOST_OPEN))
-        used_up += MOST_OPEN + STEP * AT_ONCE
+        yield from ((moment, reply(drawn(MOST_OPEN * i + j), (number((10, 6), j), 32, 0))) for j in range(MOST_OPEN))
 
 
 def write_due(folder):
-    gap, end = [(0, packet(HOST)), (GAP * SECOND, packet(HOST))], [((GAP + STEP * ROUNDS) * SECOND, packet(HOST))]
-    write_text(f"{folder}/due.toml", [site("probe = true\n"), *mappings(MOST_LIVE)])
-    write(f"{folder}/due0.pcap", gap)
-    write(f"{folder}/probes.pcap", gap, end)
-    write(f"{folder}/early.pcap", gap, rounds(False), end)
-    write(f"{folder}/due.pcap", gap, rounds(True), end)
+    write_text(f"{folder}/full.toml", [site(), *mappings(MOST_LIVE)])
+    write_text(f"{folder}/probing.toml", [site("probe = true\n"), *mappings(MOST_LIVE)])
+    write(f"{folder}/early.pcap", rounds(False))
+    write(f"{folder}/due.pcap", rounds(True))
+    gap = [(0, packet(HOST)), (GAP * SECOND, packet(HOST))]
+    write(f"{folder}/probes0.pcap", gap)
+    write(f"{folder}/probes.pcap", gap, [(2 * GAP * SECOND, packet(HOST))])
 
 
 # Mappings that are learned and end in turn.
@@ -229,7 +228,7 @@ def write_turns(folder, seed):
 
 
 PAIRS = [("limits", "flood0"), ("limits", "behind"), ("limits", "hostile"), ("quiet", "quiet0"), ("quiet", "quiet"),
-         ("due", "due0"), ("due", "probes"), ("due", "early"), ("due", "due"),
+         ("full", "early"), ("full", "due"), ("probing", "probes0"), ("probing", "probes"),
          ("turns", "turns0"), ("turns", "turns"), ("turns", "records")]
 
 
@@ -273,8 +272,9 @@ def check_all(runs):
     check(runs, "flood0", full)
     for capture in "behind", "hostile":
         check(runs, capture, full + MOST_OPEN + 2 * AT_ONCE)
-    for capture, entries in ("probes", 0), ("early", 3), ("due", 4):
-        check(runs, capture, MOST_LIVE + AT_ONCE * (GAP + STEP * ROUNDS) + ROUNDS * entries * MOST_OPEN)
+    for capture, entries in ("early", 3), ("due", 4):
+        check(runs, capture, MOST_LIVE + ROUNDS * entries * MOST_OPEN)
+    check(runs, "probes", MOST_LIVE + 2 * GAP * AT_ONCE)
     check(runs, "turns", BESIDE + 3 * TURNS)
     check(runs, "records", BESIDE + TURNS + 3 * TURNS // IN_ONE)
 
@@ -298,9 +298,9 @@ def main():
     for capture, name in ("behind", "the same at the limits"), ("hostile", "frames that ask for more at the limits"):
         took = runs.behind(capture, "flood0")
         tell(name, f"{count / took:,.0f} a second, {quiet / took:.2f} of that")
-    probes, requests = runs.behind("probes", "due0") / (STEP * ROUNDS), runs.behind("due", "early") / ROUNDS
-    tell("a second in which 16 probes are due", f"{1000 * probes:.2f} ms")
-    tell("one with 1,024 requests too", f"{1000 * (probes + requests):.2f} ms")
+    requests, probes = runs.behind("due", "early") / ROUNDS, runs.behind("probes", "probes0") / GAP
+    tell("1,024 requests that are due at a second", f"{1000 * requests:.2f} ms")
+    tell("16 probes that are", f"{1000 * probes:.2f} ms")
     for capture, name in ("turns", "learned and ended, each asked for"), ("records", "the same, 250 in a reply"):
         tell(name, f"{TURNS / runs.behind(capture, 'turns0'):,.0f} mappings a second")
 
