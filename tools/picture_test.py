@@ -2,12 +2,12 @@
 """Holds the pages of `picture` against their reports, in a headless Chromium.
 
 usage: picture_test.py PROGRAM [FOLDER [FRAMES [LINES]]]
-PROGRAM is the built router. It makes reports: of the examples, of a capture of so many frames (100,000) without workers
-and with some, one with each kind of frame, one of so many lines (1,000,000), one that is cut short, and some without
-frames. `picture` may take 256 MiB of memory for each. Each is counted
-here by other code than that of `picture`. Its page is loaded in Chromium, without a network, and asked for its counts and
-for what its tables show; it is sorted and filtered by clicks. Some pages are drawn in both schemes into FOLDER, or a
-folder that goes at the end. Inputs that are no reports must be refused. It prints one line a page, and ends with status 1
+PROGRAM is the built router. It makes reports: of the examples; of a capture of so many frames (100,000) without workers
+and with some; one with each kind of frame; one of so many lines (1,000,000); one whose capture has a fault; one that is
+cut short; and some without frames. For each `picture` may take 256 MiB of memory. The report is counted here by other
+code than that of `picture`, and its page is loaded in Chromium without a network, and asked for its counts and for what
+its tables show behind clicks that sort and filter. Some pages are drawn in both schemes into FOLDER, or into a folder
+that goes at the end. Inputs that are no reports must be refused. It prints one line a page, and ends with status 1
 where something differs, and with 2 where there is no Chromium.
 """
 import base64
@@ -38,17 +38,20 @@ drop 23 foreign|drop 24 no-reply-path|drop 25 unexpected""".replace("\n", "|").s
 FIRST = f"1 {START}.000000000 n=0 local\n"
 REFUSED = {
     "no line": "hello\n", "an unknown verdict": f"1 {START}.000000000 n=0 lost\n",
-    "a wrong word": f"1 {START}.000000000 n=0 drop 13 mist\n", "a wrong number": f"1 {START}.000000000 n=0 drop 26 miss\n",
+    "a wrong word": f"1 {START}.000000000 n=0 drop 13 mist\n",
+    "a wrong number": f"1 {START}.000000000 n=0 drop 26 miss\n",
     "a frame left out": FIRST + f"3 {START}.000000000 n=0 local\n", "a first frame of 2": FIRST.replace("1", "2", 1),
-    "time that goes back": FIRST + f"2 {START - 1}.999999999 n=0 local\n", "a short fraction": f"1 {START}.0 n=0 local\n",
-    "another count": FIRST + "end frames=2 written=0 entries=0\n", "two last lines": 2 * "end frames=0 written=0 entries=0\n",
-    "a frame behind the end": "end frames=0 written=0 entries=0\n" + FIRST, "the report of show": "1 other\nend frames=1\n",
+    "time that goes back": FIRST + f"2 {START - 1}.999999999 n=0 local\n",
+    "a short fraction": f"1 {START}.0 n=0 local\n", "another count": FIRST + "end frames=2 written=0 entries=0\n",
+    "two last lines": 2 * "end frames=0 written=0 entries=0\n",
+    "a frame behind the end": "end frames=0 written=0 entries=0\n" + FIRST,
+    "the report of show": "1 other\nend frames=1\n",
     "a trial": "trial 3 frames=4 written=3 entries=3 hash=8e6dbc18\n", "an empty line": "\n",
     "a long number": f"1 {START}.000000000 n={'9' * 5000} local\n", "no text": b"\xff\xfe\n"}
 WITHOUT_FRAMES = {
     "": "empty", "usage\n": "of no form", "settings bad-value mapping.3.prefix\n": "mapping.3.prefix",
-    "settings not-toml\n": "no TOML", "capture cut-header 7\n": "7 octets", "end frames=0 written=0 entries=4\n": "journal: 4",
-    "1 17000": "isn't counted"}
+    "settings not-toml\n": "no TOML", "capture cut-header 7\n": "7 octets",
+    "end frames=0 written=0 entries=4\n": "journal: 4", "1 17000": "isn't counted"}
 
 
 # Reports.
@@ -297,8 +300,10 @@ def list_faults(browser, report, counts):
 
 def page_faults(browser, report, counts):
     shown = browser.value("window.reportCounts")
-    faults = [f"{name}: {shown.get(name)} instead of {right}" for name, right in counts.items() if shown.get(name) != right]
-    faults += [] if json.loads(browser.value("document.getElementById('report-counts').textContent")) == shown else ["mirror"]
+    faults = [f"{name}: {shown.get(name)} instead of {right}" for name, right in counts.items()
+              if shown.get(name) != right]
+    mirror = json.loads(browser.value("document.getElementById('report-counts').textContent"))
+    faults += [] if mirror == shown else ["the counts in the page's text"]
     faults += [f"asks for {url}" for url in browser.requests if not url.startswith("file:")]
     if counts["frames"]:
         faults += drop_faults(browser, counts) + list_faults(browser, report, counts)
@@ -323,7 +328,8 @@ def picture(report, folder, name):
         file.write(report if isinstance(report, bytes) else report.encode())
     start = time.time()
     with open(page, "wb") as file:
-        done = subprocess.run([sys.executable, PICTURE, path], stdout=file, stderr=subprocess.PIPE, preexec_fn=limit_memory)
+        done = subprocess.run([sys.executable, PICTURE, path], stdout=file, stderr=subprocess.PIPE,
+                              preexec_fn=limit_memory)
     return page, done.returncode, done.stderr.decode(), time.time() - start
 
 
