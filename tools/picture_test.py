@@ -262,6 +262,22 @@ def text_of(number):
     return f"{number:,}"
 
 
+def sum_faults(browser, counts):
+    """Where the tables of verdicts and of locators don't have the counts, both with their most frames first."""
+    verdicts = collections.Counter()
+    for kind, count in counts["kinds"].items():
+        verdicts["drop" if kind.startswith("drop ") else kind] += count
+    locators = {" ".join(reversed(pair.split(" "))): count for pair, count in counts["locators"].items()}
+    found = []
+    for table, names, right in (("verdict-table", 1, verdicts), ("locator-table", 2, locators)):
+        rows = browser.value(f"{ROWS}('{table}')")
+        shown = {" ".join(row[:names]): int(row[names].replace(",", "")) for row in rows}
+        most = sorted(right.values(), reverse=True)[:MOST_ROWS]
+        is_right = shown.items() <= right.items() and list(shown.values()) == most
+        found += [] if is_right else [f"{table}: {shown} instead of {dict(right)}"]
+    return found
+
+
 def drop_faults(browser, counts):
     """Where the table of drops, sorted by its number falling, then rising, then by frames, isn't that of the counts."""
     drops = sorted((int(kind.split(" ")[1]), kind.split(" ")[2], count, counts["first"][kind], counts["last"][kind])
@@ -306,7 +322,7 @@ def page_faults(browser, report, counts):
     faults += [] if mirror == shown else ["the counts in the page's text"]
     faults += [f"asks for {url}" for url in browser.requests if not url.startswith("file:")]
     if counts["frames"]:
-        faults += drop_faults(browser, counts) + list_faults(browser, report, counts)
+        faults += sum_faults(browser, counts) + drop_faults(browser, counts) + list_faults(browser, report, counts)
         bars = browser.value("document.querySelectorAll('#verdict-chart rect:not(.under)').length")
         faults += [] if bool(bars) == (counts["frames"] > 1) else [f"{bars} bars"]
         wide = browser.value("document.documentElement.scrollWidth > innerWidth")
