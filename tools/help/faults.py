@@ -1,0 +1,101 @@
+"""A plain sentence for each word of a fault, and the last line of a run that has one."""
+import os
+import re
+import stat
+import subprocess
+import threading
+
+from words import value_of
+
+REPORT, TAIL, SECONDS = 1, 65_536, 3
+# The sentences, with the numbers that stand behind the word. A key may have one of its own.
+SENTENCES = {
+    "settings": {
+        "not-toml": "the file isn't TOML",
+        "too-long": "the file has more than 16,777,216 octets",
+        "unknown-key": "this key isn't one that its table may have",
+        "missing": "this key must be there, and isn't",
+        "bad-value": "the value of this key isn't one that it takes",
+        "bad-value resolver": "it takes an address, of whose family an own locator is up",
+        "duplicate": "an earlier item of the list has the same address, VLAN, or instance and prefix",
+        "too-many": "the list at this key has more items than it may have",
+    },
+    "capture": {
+        "bad-magic": "the file doesn't begin as a capture in the pcap format does; pcapng isn't read",
+        "bad-version": "the capture is of another version of pcap than 2.4",
+        "bad-link": "the frames of the capture are neither Ethernet nor raw IP",
+        "cut-header": "the file has {} octets, fewer than the header of a capture",
+        "cut-record": "the file ends within the record that begins at octet {}",
+        "bad-fraction": "the record that begins at octet {} has a moment whose fraction is a whole second or more",
+        "too-long": "the record that begins at octet {} has {} octets, more than 262,144",
+        "span-too-long": "record {} is more than 1,000,000 s past all before it",
+        "too-many-records": "the capture has more than 1,000,000,000 records",
+    },
+}
+LINE = re.compile(rb"(?:^|\n)((?:settings|capture) [^\n]*)\n$")
+# A file that is no folder, under which none can be made.
+EMPTY, NOWHERE = "/dev/null", "/dev/null/lispr"
+
+
+def sentence(line):
+    """The plain sentence for a last line, or None."""
+    kind, _, rest = line.partition(" ")
+    word, *others = rest.split(" ")
+    known = SENTENCES[kind]
+    try:
+        return known.get(rest, known.get(word, "")).format(*others) or None
+    except IndexError:
+        return None
+
+
+def line_of_report():
+    """The last line of the report, where that is a file that can be read."""
+    if not stat.S_ISREG(os.fstat(REPORT).st_mode):
+        return None
+    end = os.lseek(REPORT, 0, os.SEEK_CUR)
+    with open(f"/proc/self/fd/{REPORT}", "rb") as file:
+        file.seek(max(0, end - TAIL))
+        found = LINE.search(file.read(min(end, TAIL)))
+    return found.group(1) if found else None
+
+
+def again(words):
+    """The program's words to read the same settings, or the same capture, once more, and make nothing; or None."""
+    settings, capture = value_of("--settings", words), value_of("--in", words)
+    return {
+        "settings": (settings, ["replay", "--settings", settings, "--in", EMPTY, "--out", NOWHERE]),
+        "capture": (capture, ["show", "--in", capture]),
+    }
+
+
+def tail_of(command):
+    """The end of what a command says within some seconds, and its status."""
+    with subprocess.Popen(command, stdin=subprocess.DEVNULL, stdout=subprocess.PIPE) as process:
+        clock = threading.Timer(SECONDS, process.kill)
+        clock.start()
+        tail = b""
+        for piece in iter(lambda: process.stdout.read(TAIL), b""):
+            tail = (tail + piece)[-TAIL:]
+        clock.cancel()
+    return tail, process.returncode
+
+
+def line_again(kind, status, program, words):
+    """The last line that the program says for the same file, or None."""
+    name, words = again(words)[kind]
+    if not name or not os.path.isfile(name):
+        return None
+    tail, ended = tail_of([program, *words])
+    found = LINE.search(tail) if ended == status else None
+    return found.group(1) if found else None
+
+
+def last_line(kind, status, program, words):
+    """The last line of a run that ended with that status, or None where it can't be known."""
+    try:
+        line = line_of_report()
+    except (OSError, ValueError):
+        line = None
+    if line is None or not line.startswith(kind.encode()):
+        line = line_again(kind, status, program, words)
+    return line.decode("utf-8", "surrogateescape") if line else None

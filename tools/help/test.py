@@ -1,0 +1,649 @@
+#!/usr/bin/env python3
+"""Runs the script `lispr`, and the help that it starts, beside the program, and compares what they say and end with.
+
+usage: test.py [PART..]
+The program must stand as built. Standard output and status must be the program's own; what a person is told must have
+the words of a table; a terminal is one of the system's own pairs. It prints a line a part, behind what is wrong, and
+ends with status 1 where something is.
+"""
+import contextlib
+import fcntl
+import os
+import pty
+import re
+import shutil
+import signal
+import socket
+import struct
+import subprocess
+import sys
+import tempfile
+import termios
+import threading
+import time
+
+HERE = os.path.dirname(os.path.abspath(__file__))
+TOP = os.path.dirname(os.path.dirname(HERE))
+LISPR, PROGRAM = os.path.join(TOP, "lispr"), os.path.join(TOP, "out", "lispr")
+FIRST = os.path.join(TOP, "examples", "first")
+LINES = os.path.join(TOP, "crates", "replay", "specs", "Lines.antt")
+# The help that the script starts.
+HELP = [sys.executable, "-I", "-S", "-B", "-X", "utf8", os.path.join(HERE, "main.py"), PROGRAM]
+SECONDS = 300
+sys.path.insert(0, HERE)
+from faults import SENTENCES  # noqa: E402
+from words import MAPPINGS, NUMBERS  # noqa: E402
+
+LOCATOR = '[[locator]]\naddress = "192.0.2.1"\n'
+REPLAY = ["replay", "--settings", "s.toml", "--in", "i.pcap", "--out", "o.pcap"]
+wrong = []
+
+
+def check(is_right, *what):
+    if not is_right:
+        wrong.append(what)
+        print("wrong:", *what)
+
+
+def run(command, folder, **more):
+    """Status, standard output and standard error."""
+    more = {"stdin": subprocess.DEVNULL, "stdout": subprocess.PIPE, "stderr": subprocess.PIPE, **more}
+    done = subprocess.run(command, cwd=folder, timeout=SECONDS, **more)
+    return done.returncode, done.stdout, (done.stderr or b"").decode(errors="replace")
+
+
+def both(words, folder, **more):
+    """What the help ends with, says and tells; the program must end with the same, and say the same."""
+    alone = run([PROGRAM, *words], folder, **more)
+    helped = run([*HELP, *words], folder, **more)
+    check(helped[:2] == alone[:2], words, alone[:2], helped)
+    check(alone[2] == "", words, "told by the program", alone[2])
+    return helped
+
+
+def write(path, octets):
+    with open(path, "wb") as file:
+        file.write(octets if isinstance(octets, bytes) else octets.encode())
+
+
+def read(path):
+    with open(path, "rb") as file:
+        return file.read()
+
+
+def header(magic=0xA1B2C3D4, version=2, link=101):
+    return struct.pack("<IHHIIII", magic, version, 4, 0, 0, 262144, link)
+
+
+def record(second, fraction, size, octets=None):
+    return struct.pack("<IIII", second, fraction, size, size) + (bytes(size) if octets is None else octets)
+
+
+def frames(count):
+    """A capture of packets that the first example encapsulates."""
+    frame = read(os.path.join(FIRST, "capture.pcap"))
+    return frame[:24] + frame[24:] * count
+
+
+@contextlib.contextmanager
+def files():
+    """A folder with the settings and the capture of the first example."""
+    with tempfile.TemporaryDirectory(prefix="a b ") as folder:
+        shutil.copy(os.path.join(FIRST, "settings.toml"), os.path.join(folder, "s.toml"))
+        shutil.copy(os.path.join(FIRST, "capture.pcap"), os.path.join(folder, "i.pcap"))
+        yield folder
+
+
+# Words.
+
+WORDS = [
+    ([], "lispr show --in F"),
+    (["--help"], "README.md, at Words"),
+    (["-h"], "lispr trial N"),
+    (["replay", "--help"], "lispr trial N"),
+    (["play"], "play is no command"),
+    ([""], "'' is no command"),
+    (["trial"], "trial lacks its number"),
+    (["trial", "03"], "N is a number from 1 to 50,000, in digits without leading zeros: 03 isn't"),
+    (["trial", "1", "2"], "2 is one word more"),
+    (["show"], "--in lacks"),
+    (["show", "--in"], "--in has no value"),
+    (["show", "--in", ""], "the value of --in is empty"),
+    (["show", "--in", "-x"], "a file of that name is ./-x"),
+    (["show", "--in=x"], "the value is a word of its own, --in x"),
+    (["show", "--out", "x"], "--out is no option of show"),
+    (["show", "--", "x"], "-- is no option of show"),
+    (["show", "--in", "x\x1b[31m", "y"], "y is no option"),
+    (["show", "--in", b"\xff"], "a word is no UTF-8 text"),
+    (["replay", "--in", "--out", "x"], "--in has no value: behind it comes --out"),
+    (["replay", "--in", "a", "--in", "b"], "--in stands twice"),
+    (["replay", "--in", "a", "--out", "b"], "--settings lacks"),
+    ([*REPLAY, "--workers", "17"], "--workers is a number from 0 to 16"),
+    ([*REPLAY, "--round", "0"], "--round is a number from 1 to 4,096"),
+    ([*REPLAY, "--round", "9" * 5000], "--round is a number from 1 to 4,096"),
+    (["replay", "--settings", "s", "--in", "i", "--out", "i"], "--in and --out are the same file, i"),
+    (["replay", "--settings", "s", "--in", "i", "--out", "s"], "--settings and --out are the same file, s"),
+]
+
+
+def test_words():
+    with files() as folder:
+        for words, part in WORDS:
+            status, said, told = both(words, folder)
+            check((status, said) == (1, b"usage\n") and part in told and "\x1b" not in told, words, told)
+        for words, part in WORDS[:3]:
+            done = run([LISPR, *words], folder)
+            check(done[:2] == (1, b"usage\n") and part in done[2], words, done)
+        for name, limits in NUMBERS["replay"].items():
+            for number in (limits[0] - 1, limits[0], limits[1], limits[1] + 1):
+                status, _, told = both([*REPLAY, name, str(number)], folder)
+                check(status == (0 if limits[0] <= number <= limits[1] else 1), name, number, status, told)
+        check(both(["trial", str(MAPPINGS[1] + 1)], folder)[0] == 1, "a mapping more")
+    return len(WORDS)
+
+
+# Statuses.
+
+def test_right_runs():
+    with files() as folder:
+        link = os.path.join(folder, "a link")
+        os.symlink(LISPR, link)
+        os.mkdir(os.path.join(folder, "-d"))
+        shutil.copy(os.path.join(folder, "i.pcap"), os.path.join(folder, "-d", "in put"))
+        other = ["replay", "--settings", "./s.toml", "--in", "./-d/in put", "--out", "./-d/out put"]
+        for command in ([LISPR], [link], ["./a link"], ["bash", "-u", LISPR]):
+            for words, out in ((REPLAY, "o.pcap"), (other, "-d/out put")):
+                write(os.path.join(folder, out), "old " * 1000)
+                done = run([*command, *words], folder, env={**os.environ, "CDPATH": "/"})
+                check(done == (0, read(os.path.join(FIRST, "expected.txt")), ""), command, words, done)
+                made = read(os.path.join(folder, out))
+                check(made == read(os.path.join(FIRST, "expected.pcap")), command, words, "another output")
+        check(both(["trial", "3"], folder)[2] == "", "trial")
+        check(both(["show", "--in", "i.pcap"], folder)[2] == "", "show")
+        shell = f'exec "{LISPR}" show --in <(cat i.pcap)'
+        check(run(["bash", "-c", shell], folder) == (*both(["show", "--in", "i.pcap"], folder)[:2], ""), "a pipe")
+
+
+SETTINGS = [
+    ("x =", "not-toml", "s.toml:1: x ="),
+    (b"\n\n# \xff", "not-toml", "s.toml:3: this line is no UTF-8"),
+    (LOCATOR + "#" * 16777216, "too-long", "more than 16,777,216 octets"),
+    ("\n# no more\n", "missing locator", "s.toml:2: it should be behind this line"),
+    ("locator = []", "missing locator", "s.toml:1: locator = []"),
+    ("ttl = 1\n\nfoo = 1\n" + LOCATOR, "unknown-key foo", "s.toml:3: foo = 1"),
+    ('"a\\u001bb" = 1\n' + LOCATOR, "unknown-key a", 's.toml:1: "a\\u001bb" = 1'),
+    ('"a b.c" = 1\n' + LOCATOR, "unknown-key a b.c", 's.toml:1: "a b.c" = 1'),
+    (LOCATOR + "up = 3\n", "bad-value locator.0.up", "s.toml:3: up = 3"),
+    ('resolver = "::1"\n' + LOCATOR, "bad-value resolver", "an own locator is up"),
+    ('nonces = [ # "x"\n"0102030405060708",\n\n"1",]\n' + LOCATOR, "bad-value nonces.1", 's.toml:4: "1",]'),
+    (LOCATOR + "\n" + LOCATOR, "duplicate locator.1", "s.toml:4: [[locator]]"),
+    ('locator = [{address = "192.0.2.1", "weight" = 1},\n{priority = 1}]', "missing locator.1.address",
+     "s.toml:2: {priority = 1}]  (it should be in the table that begins here)"),
+    (LOCATOR + "[[mapping]]\niid = 1\nprefix = '''10.0.0.0/8'''\n[[mapping.locator]]\n# [[mapping]]\n",
+     "missing mapping.0.locator.0.address", "s.toml:6: [[mapping.locator]]  (it should be"),
+    (LOCATOR + "[[database]]\niid = 1\n" * 65, "too-many database", "s.toml:3: [[database]]"),
+]
+
+
+def test_settings():
+    with files() as folder:
+        for text, line, part in SETTINGS:
+            write(os.path.join(folder, "s.toml"), text)
+            for said, told in (both(REPLAY, folder)[1:], *in_file(REPLAY, folder, 2)):
+                check(said.startswith(b"settings " + line.encode()), line, said)
+                check(f"settings {line}" in told and part in told and "\x1b" not in told, line, told)
+            check(not os.path.exists(os.path.join(folder, "o.pcap")), line, "made an output")
+        shell = f'exec "{LISPR}" replay --settings <(cat s.toml) --in i.pcap --out o.pcap'
+        status, _, told = run(["bash", "-c", shell], folder)
+        check(status == 2 and "the settings are refused" in told, "settings from a pipe", told)
+    return len(SETTINGS)
+
+
+def in_file(words, folder, status):
+    """What the help lets the program say into a file behind other lines, and tells."""
+    with open(os.path.join(folder, "report"), "w+b") as report:
+        report.write(b"capture bad-magic\nsettings not-toml\n")
+        report.flush()
+        done = run([*HELP, *words], folder, stdout=report)
+    check(done[0] == status, words, done)
+    yield read(os.path.join(folder, "report"))[36:], done[2]
+
+
+CAPTURES = [
+    (bytes(24), "bad-magic", "pcapng isn't read"),
+    (header(version=3), "bad-version", "another version of pcap than 2.4"),
+    (header(link=9), "bad-link", "neither Ethernet nor raw IP"),
+    (b"abc", "cut-header 3", "the file has 3 octets"),
+    (header() + b"abc", "cut-record 24", "the record that begins at octet 24"),
+    (header() + record(0, 1000000, 1), "bad-fraction 24", "at octet 24 has a moment"),
+    (header() + record(0, 0, 262145), "too-long 24 262145", "at octet 24 has 262145 octets, more than 262,144"),
+    (header() + record(0, 0, 1) + record(1000001, 0, 1), "span-too-long 2", "record 2 is more than 1,000,000 s"),
+    (frames(2000)[:-1], "cut-record", "the file ends within the record"),
+]
+
+
+def test_captures():
+    with files() as folder:
+        for octets, line, part in CAPTURES:
+            write(os.path.join(folder, "i.pcap"), octets)
+            for words in (REPLAY, ["show", "--in", "i.pcap"]):
+                for said, told in (both(words, folder)[1:], *in_file(words, folder, 3)):
+                    check(said.splitlines()[-1].startswith(b"capture " + line.encode()), line, said[-100:])
+                    check(f"lispr: capture {line}" in told and part in told, line, words, told)
+        shell = f'exec "{LISPR}" show --in <(cat i.pcap)'
+        status, _, told = run(["bash", "-c", shell], folder)
+        check(status == 3 and "the capture is refused" in told, "a capture from a pipe", told)
+    return len(CAPTURES)
+
+
+def test_table():
+    """The table has the words that the definitions have."""
+    words = {"settings": set(), "capture": set()}
+    for kind, word in re.findall(r"^(settings_text|fault_text) .*?codes \"([a-z-]+)", read(LINES).decode().replace(
+            "\n    named", " named"), re.MULTILINE):
+        words["settings" if kind == "settings_text" else "capture"].add(word)
+    known = {kind: {word.split(" ")[0] for word in table} for kind, table in SENTENCES.items()}
+    check(words == known, "words of faults", words, known)
+
+
+def full(folder):
+    return {"stdout": os.open("/dev/full", os.O_WRONLY)}
+
+
+def closed_pipe(folder):
+    ours, theirs = os.pipe()
+    os.close(ours)
+    return {"stdout": theirs}
+
+
+def closed(folder):
+    return {"stdout": None, "preexec_fn": lambda: os.close(1)}
+
+
+HOST = [
+    ({"--settings": "no such"}, None, "--settings no such can't be read: No such file or directory"),
+    ({"--settings": "."}, None, "--settings . can't be read: Is a directory"),
+    ({"--in": "no"}, None, "--in no can't be read: No such file or directory"),
+    ({"--in": "./"}, None, "--in ./ can't be read: Is a directory"),
+    ({"--in": "s.toml/i"}, None, "--in s.toml/i can't be read: Not a directory"),
+    ({"--in": "n" * 300}, None, "can't be read: File name too long"),
+    ({"--in": "loop"}, None, "--in loop can't be read: Too many levels of symbolic links"),
+    ({"--in": "socket"}, None, "--in socket can't be read: No such device or address"),
+    ({"--out": "no/o"}, None, "--out no/o can't be made: No such file or directory"),
+    ({"--out": "."}, None, "--out . can't be made: Is a directory"),
+    ({"--out": "dangling"}, None, "--out dangling can't be made: No such file or directory"),
+    ({"--out": "o" * 300}, None, "can't be made: File name too long"),
+    ({"--out": "o/"}, None, "--out o/ can't be made: Is a directory"),
+    ({"--out": "s.toml/o"}, None, "--out s.toml/o can't be made: Not a directory"),
+    ({"--out": "/proc/none"}, None, "--out /proc/none can't be made: "),
+    ({"--out": "/dev/full"}, None, "a read or a write failed"),
+    ({}, full, "a read or a write failed"),
+    ({}, closed_pipe, "the report can't be written: Broken pipe"),
+    ({}, closed, "the report can't be written: Bad file descriptor"),
+]
+
+
+def test_host():
+    with files() as folder:
+        os.symlink("loop", os.path.join(folder, "loop"))
+        os.symlink("no/where", os.path.join(folder, "dangling"))
+        bound = socket.socket(socket.AF_UNIX)
+        bound.bind(os.path.join(folder, "socket"))
+        for named, report, part in HOST:
+            values = {"--settings": "s.toml", "--in": "i.pcap", "--out": "o.pcap", **named}
+            words = ["replay", *(word for pair in values.items() for word in pair)]
+            before = sorted(os.listdir(folder))
+            status, _, told = both(words, folder, **(report(folder) if report else {}))
+            check(status == 4 and part in told, words, report, status, told)
+            check(report or "made" not in part or sorted(os.listdir(folder)) == before, words, "made a file")
+        done = run([LISPR, "show", "--in", "no"], folder)
+        check(done[:2] == (4, b"") and "--in no can't be read" in done[2], "through the script", done)
+        bound.close()
+    return len(HOST)
+
+
+# An output that is another name of an input.
+
+def test_second_names():
+    with files() as folder:
+        whole = {name: read(os.path.join(folder, name)) for name in ("i.pcap", "s.toml")}
+        for name, octets in whole.items():
+            os.symlink(name, os.path.join(folder, "soft " + name))
+            os.link(os.path.join(folder, name), os.path.join(folder, "hard " + name))
+            for second in ("./" + name, "soft " + name, "hard " + name, os.path.join(folder, name)):
+                for environment in (None, without_python(folder)):
+                    words = [*REPLAY[:-1], second]
+                    done = run([LISPR, *words], folder, env=environment)
+                    check(done[:2] == (1, b"usage\n") and "is another name of " + name in done[2], words, done)
+                    check(read(os.path.join(folder, name)) == octets, words, "the input is another one")
+        done = run([LISPR, *REPLAY[:-1], "./i.pcap"], folder, **full(folder))
+        check(done[0] == 4, "usage on a full device", done)
+        done = run(["bash", "-c", f'"{LISPR}" {" ".join(REPLAY[:-1])} ./i.pcap 2>&-; echo $?'], folder)
+        check(done[1] == b"usage\n1\n", "usage without standard error", done)
+        for words, status in (([*REPLAY[:-1], "./i.pcap"], 1), (["show", "--in", "no"], 4), (["trial", "0"], 1)):
+            ours, theirs = os.pipe()
+            os.close(ours)
+            check(run([LISPR, *words], folder, stderr=theirs)[0] == status, words, "nobody hears of it")
+            os.close(theirs)
+        done = both([*REPLAY[:-2], "--out", "./no", "--in", "no"], folder)
+        check(done[0] == 1 and "--in stands twice" in done[2], done)
+        done = both(["show", "--in", "i.pcap"], folder)
+        check(done[0] == 0, done)
+
+
+# Python that is missing or fails.
+
+def without_python(folder, python=None):
+    """An environment whose path has all that the script needs but Python, or this one."""
+    path = os.path.join(folder, "bin")
+    shutil.rmtree(path, ignore_errors=True)
+    os.mkdir(path)
+    for name in ("bash", "awk", "find", "sort", "xargs", "sha256sum", "cat", "dirname", "readlink", "env"):
+        os.symlink(shutil.which(name), os.path.join(path, name))
+    if python:
+        write(os.path.join(path, "python3"), python)
+        os.chmod(os.path.join(path, "python3"), 0o755)
+    return {"PATH": path}
+
+
+PYTHONS = [
+    None, "#!/bin/bash\necho none >&2\nexit 127\n", "#!/bin/bash\necho /no/where\n",
+    # One that is too old: it has none of the modules.
+    f'#!/bin/bash\n[ "$3" = -c ] && echo "$0" && exit\n[ $# -gt 4 ] && shift 5\n'
+    f'exec {sys.executable} -I -S -c "import sys; sys.modules[\'run\'] = None; '
+    f'sys.argv = sys.argv[1:]; __file__ = sys.argv[0]; exec(open(__file__).read())" "$@"\n',
+]
+
+
+def test_without_python():
+    with files() as folder:
+        for python in PYTHONS:
+            environment = without_python(folder, python)
+            for words, status in ((REPLAY, 0), (["show", "--in", "no"], 4), (["trial", "0"], 1)):
+                done = run([LISPR, *words], folder, env=environment)
+                check(done == (status, run([PROGRAM, *words], folder)[1], ""), python, words, done)
+
+
+# Descriptors that are closed.
+
+def test_closed():
+    with files() as folder:
+        for number in range(3):
+            for words in (REPLAY, ["show", "--in", "no"], ["trial", "2"]):
+                ends = []
+                for program in (PROGRAM, LISPR):
+                    path = os.path.join(folder, "o.pcap")
+                    write(path, b"")
+                    shell = f'exec {number}>&-; "$0" "$@"; echo "status $?" >status'
+                    done = run(["bash", "-c", shell, program, *words], folder)
+                    ends.append((done[1], read(path), read(os.path.join(folder, "status"))))
+                check(ends[0] == ends[1], number, words, ends)
+
+
+# Progress.
+
+class Terminal:
+    """A terminal, and what came to it."""
+
+    def __init__(self):
+        self.ours, self.theirs = pty.openpty()
+        fcntl.ioctl(self.theirs, termios.TIOCSWINSZ, struct.pack("HHHH", 24, 70, 0, 0))
+        self.octets = b""
+        threading.Thread(target=self.listen, daemon=True).start()
+
+    def listen(self):
+        with contextlib.suppress(OSError):
+            while True:
+                self.octets += os.read(self.ours, 4096)
+
+    def text(self):
+        time.sleep(0.2)
+        return self.octets.decode()
+
+
+def slow_run(folder, wait, words, command=LISPR, **more):
+    """A run whose output is taken out of a pipe after some seconds; its status."""
+    path = os.path.join(folder, "pipe")
+    if not os.path.exists(path):
+        os.mkfifo(path)
+    process = subprocess.Popen([command, *words[:-1], "pipe"], cwd=folder, **more)
+    with open(path, "rb") as pipe:
+        pipe.read(65536)
+        time.sleep(wait)
+        pipe.read()
+    return process.wait(SECONDS)
+
+
+def test_progress():
+    with files() as folder:
+        write(os.path.join(folder, "i.pcap"), frames(20000))
+        report, terminal = os.path.join(folder, "report"), Terminal()
+        with open(report, "wb") as out:
+            status = slow_run(folder, 3.5, REPLAY, stdout=out, stderr=terminal.theirs)
+        told = terminal.text()
+        check(status == 0 and read(report).endswith(b"written=20000 entries=1\n"), "slow", status)
+        for part in (r"\rlispr: \d s, \d+ % of i.pcap read, [\d,]+ frames a second", r"\rlispr: 1 s, ", r"\rlispr: [23] s, "):
+            check(re.search(part, told), part, told)
+        check(re.search(r"\r +\r$", told) and "\n" not in told, "the line stays", told)
+        check(max(map(len, told.split("\r"))) < 70, "wide lines", told)
+
+
+def test_progress_of_a_pipe():
+    with files() as folder:
+        write(os.path.join(folder, "i.pcap"), frames(20000))
+        terminal = Terminal()
+        words = [word if word != "i.pcap" else "/dev/stdin" for word in REPLAY]
+        with subprocess.Popen(["cat", "i.pcap"], cwd=folder, stdout=subprocess.PIPE) as feeder:
+            status = slow_run(folder, 1.8, words, stdin=feeder.stdout, stdout=subprocess.DEVNULL,
+                              stderr=terminal.theirs)
+        told = terminal.text()
+        check(status == 0 and re.match(r"\rlispr: 1 s *\r", told), "from a pipe", status, told)
+
+
+def test_no_progress():
+    with files() as folder:
+        write(os.path.join(folder, "i.pcap"), frames(20000))
+        with open(os.path.join(folder, "told"), "wb") as told:
+            status = slow_run(folder, 1.8, REPLAY, stdout=subprocess.DEVNULL, stderr=told)
+        check(status == 0 and read(os.path.join(folder, "told")) == b"", "told without a terminal")
+        terminal = Terminal()
+        status = slow_run(folder, 1.8, REPLAY, stdout=terminal.theirs, stderr=terminal.theirs)
+        check(status == 0 and "lispr: " not in terminal.text(), "told into the report")
+
+
+# Signals.
+
+def children(pid):
+    found = []
+    for name in filter(str.isdigit, os.listdir("/proc")):
+        with contextlib.suppress(OSError):
+            if int(read(f"/proc/{name}/stat").rsplit(b")", 1)[1].split()[1]) == pid:
+                found.append(int(name))
+    return found
+
+
+def started(pid):
+    """The program that a script has started, in a list."""
+    found = []
+    for child in children(pid):
+        with contextlib.suppress(OSError):
+            found += [child] if os.readlink(f"/proc/{child}/exe") == PROGRAM else []
+    return found
+
+
+def state(pid):
+    try:
+        return read(f"/proc/{pid}/stat").rsplit(b")", 1)[1].split()[0].decode()
+    except FileNotFoundError:
+        return "gone"
+
+
+def until(is_so):
+    """Whether that is so within some seconds."""
+    for _ in range(100):
+        if is_so():
+            return True
+        time.sleep(0.1)
+    return False
+
+
+@contextlib.contextmanager
+def waiting_run(ignored=()):
+    """A run that waits for its capture, and the program that it started."""
+    with files() as folder:
+        os.remove(os.path.join(folder, "i.pcap"))
+        os.mkfifo(os.path.join(folder, "i.pcap"))
+        def prepare():
+            # In a group of its own, that a stop isn't passed over.
+            os.setpgid(0, 0)
+            for number in ignored:
+                signal.signal(number, signal.SIG_IGN)
+
+        process = subprocess.Popen([LISPR, *REPLAY], cwd=folder, stdout=subprocess.PIPE, stderr=subprocess.PIPE,
+                                   preexec_fn=prepare)
+        check(until(lambda: started(process.pid)), "no program")
+        program, = started(process.pid)
+        try:
+            yield folder, process, program
+        finally:
+            with contextlib.suppress(ProcessLookupError):
+                process.send_signal(signal.SIGKILL)
+            process.wait(SECONDS)
+
+
+def test_signals():
+    for number in (signal.SIGTERM, signal.SIGINT, signal.SIGHUP, signal.SIGQUIT, signal.SIGUSR1, signal.SIGKILL):
+        with waiting_run() as (_, process, program):
+            process.send_signal(number)
+            done = process.communicate(timeout=SECONDS), process.returncode
+            check(done == ((b"", b""), -number), number, done)
+            check(until(lambda: state(program) in ("gone", "Z")), number, "the program goes on", state(program))
+    with waiting_run() as (_, process, program):
+        os.kill(program, signal.SIGSEGV)
+        check(process.wait(SECONDS) == -signal.SIGSEGV, "a signal to the program", process.returncode)
+
+
+def test_ignored_signals():
+    with waiting_run((signal.SIGHUP, signal.SIGINT)) as (folder, process, program):
+        process.send_signal(signal.SIGHUP)
+        process.send_signal(signal.SIGINT)
+        time.sleep(0.5)
+        check(process.poll() is None and state(program) == "S", "ignored", process.returncode, state(program))
+        write(os.path.join(folder, "i.pcap"), read(os.path.join(FIRST, "capture.pcap")))
+        check(process.wait(SECONDS) == 0, "ignored", process.returncode)
+
+
+def test_stops():
+    with waiting_run() as (folder, process, program):
+        pids = process.pid, program
+        for number in (signal.SIGTSTP, signal.SIGTSTP):
+            process.send_signal(number)
+            check(until(lambda: [state(pid) for pid in pids] == ["T", "T"]), number, "not stopped")
+            process.send_signal(signal.SIGCONT)
+            check(until(lambda: [state(pid) for pid in pids] == ["S", "S"]), number, "not continued")
+        os.kill(program, signal.SIGSTOP)
+        check(until(lambda: [state(pid) for pid in pids] == ["S", "T"]), "the program alone")
+        os.kill(program, signal.SIGCONT)
+        write(os.path.join(folder, "i.pcap"), read(os.path.join(FIRST, "capture.pcap")))
+        check(process.wait(SECONDS) == 0, "stopped", process.returncode)
+
+
+def test_key():
+    """Control-Z and control-C at a terminal."""
+    with files() as folder:
+        os.remove(os.path.join(folder, "i.pcap"))
+        os.mkfifo(os.path.join(folder, "i.pcap"))
+        pid, terminal = pty.fork()
+        if pid == 0:
+            os.chdir(folder)
+            os.execv(LISPR, [LISPR, *REPLAY])
+        check(until(lambda: started(pid)), "no program")
+        program, = started(pid)
+        # Nobody could let this group go on, so that nothing stops it.
+        os.write(terminal, b"\x1a")
+        time.sleep(0.5)
+        check("T" not in (state(pid), state(program)), "control-Z", state(pid), state(program))
+        os.write(terminal, b"\x03")
+        _, status = os.waitpid(pid, 0)
+        check(os.WIFSIGNALED(status) and os.WTERMSIG(status) == signal.SIGINT, "control-C", status)
+        check(until(lambda: state(program) in ("gone", "Z")), "control-C", state(program))
+        os.close(terminal)
+
+
+# The build.
+
+RT = """#!/bin/bash
+echo 'crate octets:'
+echo 'logic=proved functions=1'
+sleep 1
+echo 'crate replay:'
+echo 'fn a: proved'
+echo 'logic=proved functions=2'
+{}
+"""
+MADE = f"mkdir -p out && cp '{PROGRAM}' out/replay_cli; exit 1"
+
+
+@contextlib.contextmanager
+def unbuilt(folder, rt):
+    """A copy of the sources whose program isn't built, and an environment with another `rt`."""
+    copy = os.path.join(folder, "top")
+    os.makedirs(os.path.join(copy, "tools"))
+    shutil.copy(LISPR, copy)
+    shutil.copytree(HERE, os.path.join(copy, "tools", "help"), ignore=shutil.ignore_patterns("__pycache__"))
+    shutil.copy(os.path.join(TOP, "crates.txt"), copy)
+    for line in read(os.path.join(TOP, "crates.txt")).decode().splitlines():
+        name = line.split(":")[0]
+        if os.path.isdir(os.path.join(TOP, "crates", name)):
+            os.makedirs(os.path.join(copy, "crates", name))
+            write(os.path.join(copy, "crates", name, "file"), name)
+    write(os.path.join(folder, "rt"), RT.format(rt))
+    os.chmod(os.path.join(folder, "rt"), 0o755)
+    yield os.path.join(copy, "lispr"), {**os.environ, "PATH": f"{folder}:{os.environ['PATH']}"}
+    shutil.rmtree(copy)
+
+
+def test_build():
+    with files() as folder:
+        with unbuilt(folder, MADE) as (script, environment):
+            done = run([script, *REPLAY], folder, env=environment)
+            check(done == (0, read(os.path.join(FIRST, "expected.txt")), ""), "a build", done)
+            check(run([script, "show", "--in", "no"], folder, env=environment)[0] == 4, "behind a build")
+        with unbuilt(folder, MADE) as (script, environment):
+            terminal = Terminal()
+            done = run([script, "trial", "3"], folder, env=environment, stderr=terminal.theirs)
+            told = terminal.text()
+            for part in ("proving and building ", r"proved octets, \d+ to come, 0 min \d s so far",
+                         r"proved replay, 1 to come, 0 min \d s so far"):
+                check(re.search(part, told), part, told)
+            check(done[0] == 0, "a build at a terminal", done)
+        with unbuilt(folder, "echo wrong; exit 1") as (script, environment):
+            done = run([script, *REPLAY], folder, env=environment)
+            check(done[:2] == (4, b"") and "fn a: proved\n" in done[2] and "lispr: not built" in done[2], done)
+
+
+def test_shell():
+    if shutil.which("shellcheck"):
+        names = run(["git", "ls-files", "lispr", "*.sh"], TOP)[1].decode().split()
+        done = run(["shellcheck", *names], TOP)
+        check(done[0] == 0, "shellcheck", done[1].decode())
+        return len(names)
+    return "not run"
+
+
+def main():
+    # The Python that runs this is the one that the script finds.
+    os.environ["PATH"] = os.path.dirname(os.path.realpath(sys.executable)) + os.pathsep + os.environ["PATH"]
+    for name, test in list(globals().items()):
+        if name.startswith("test_") and (not sys.argv[1:] or name[5:] in sys.argv[1:]):
+            count = len(wrong)
+            begun = time.monotonic()
+            more = test()
+            texts = ["right" if len(wrong) == count else f"{len(wrong) - count} wrong"]
+            texts += [str(more)] if more else []
+            print(f"{name[5:].replace('_', ' ')}: {', '.join(texts)}, {time.monotonic() - begun:.1f} s", flush=True)
+    sys.exit(bool(wrong))
+
+
+if __name__ == "__main__":
+    main()

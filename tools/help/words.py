@@ -1,0 +1,122 @@
+"""The words of the commands: their forms, and which of them is wrong."""
+import os
+import re
+
+from text import shown
+
+FORMS = {
+    "replay": ("replay --settings F --in F --out F [--workers W] [--round N]", "the capture of --in is replayed"),
+    "show": ("show --in F", "its messages are shown"),
+    "trial": ("trial N", "an input of N mappings is made and replayed, N from 1 to 50,000"),
+}
+# What must be there, and the numbers that may be, each with its least and greatest.
+NEEDED = {"replay": ("--settings", "--in", "--out"), "show": ("--in",)}
+NUMBERS = {"replay": {"--workers": (0, 16), "--round": (1, 4096)}, "show": {}}
+MAPPINGS = 1, 50_000
+HELP = "--help", "-h"
+NUMBER = re.compile(r"0|[1-9][0-9]*")
+
+
+def value_of(name, words):
+    """The value behind an option's name."""
+    for known, value in zip(words[1::2], words[2::2]):
+        if known == name:
+            return value
+    return None
+
+
+def are_text(words):
+    return not any("\udc80" <= char <= "\udcff" for word in words for char in word)
+
+
+def number_fault(what, word, least, greatest):
+    """Why a word is no number within the limits, or None."""
+    if NUMBER.fullmatch(word) and len(word) < 20 and least <= int(word) <= greatest:
+        return None
+    return f"{what} is a number from {least:,} to {greatest:,}, in digits without leading zeros: {shown(word)} isn't"
+
+
+def name_fault(command, name, earlier):
+    """Why a word is no option's name where it stands, or None."""
+    known = NEEDED[command] + tuple(NUMBERS[command])
+    if name in earlier:
+        return f"{name} stands twice"
+    if name in known:
+        return None
+    front, equals, value = name.partition("=")
+    if equals and front in known:
+        return f"{shown(name)}: the value is a word of its own, {front} {shown(value)}"
+    return f"{shown(name)} is no option of {command}"
+
+
+def value_fault(name, value):
+    """Why a word is no option's value, or None."""
+    if value is None:
+        return f"{name} has no value"
+    if value == "":
+        return f"the value of {name} is empty"
+    if value.startswith("--"):
+        return f"{name} has no value: behind it comes {shown(value)}"
+    if value.startswith("-"):
+        return f"a value doesn't begin with -: a file of that name is {shown('./' + value)}"
+    return None
+
+
+def options_fault(command, words):
+    """What is wrong with options, one after another, or None."""
+    earlier = []
+    for i in range(0, len(words), 2):
+        name, value = words[i], words[i + 1] if i + 1 < len(words) else None
+        fault = name_fault(command, name, earlier) or value_fault(name, value)
+        if not fault and name in NUMBERS[command]:
+            fault = number_fault(name, value, *NUMBERS[command][name])
+        if fault:
+            return fault
+        earlier.append(name)
+    lacking = [name for name in NEEDED[command] if name not in earlier]
+    return f"{lacking[0]} lacks" if lacking else None
+
+
+def same_fault(words):
+    """Which file is to be read and made, or None."""
+    output = value_of("--out", words)
+    for name in ("--in", "--settings"):
+        if output is not None and value_of(name, words) == output:
+            return f"{name} and --out are the same file, {shown(output)}"
+    return None
+
+
+def trial_fault(words):
+    if not words:
+        return "trial lacks its number"
+    if len(words) > 1:
+        return f"trial has one number alone: {shown(words[1])} is one word more"
+    return number_fault("N", words[0], *MAPPINGS)
+
+
+def is_asking(words):
+    """Whether the words ask for help."""
+    return any(word in HELP for word in words)
+
+
+def words_fault(words):
+    """What is wrong with words, where that is plain, or None."""
+    if not words or is_asking(words):
+        return None
+    if not are_text(words):
+        return "a word is no UTF-8 text"
+    command, rest = words[0], words[1:]
+    if command not in FORMS:
+        return f"{shown(command)} is no command"
+    if command == "trial":
+        return trial_fault(rest)
+    return options_fault(command, rest) or same_fault(words)
+
+
+def forms(words, top):
+    """The forms, with a line each, and where more is said; of a command that is plain, its own form alone."""
+    named = words[0] if words and words[0] in FORMS and not is_asking(words) else None
+    width = max(len(form) for form, _ in FORMS.values())
+    lines = [f"  lispr {form.ljust(width)}  {what}" for name, (form, what) in FORMS.items() if named in (None, name)]
+    more = f"more: {shown(os.path.join(top, 'README.md'))}, at Words, A settings file, How to read a line, Statuses"
+    return ["words:", *lines, more]
