@@ -1,10 +1,11 @@
+# shellcheck shell=bash disable=SC2034
 # What the benchmarks share: the built program, or the one that `given` names, a folder that goes at the end, and a
 # measured run.
 top=$(cd "$(dirname "$0")/.." && pwd)
 folder=$(mktemp -d)
 trap 'rm -rf "$folder"' EXIT
 program=${given:-$top/out/lispr}
-[ -n "${given:-}" ] || "$top/lispr" >/dev/null || true
+[ -n "${given:-}" ] || "$top/lispr" trial 1 >/dev/null
 
 measured() {
     python3 "$top/bench/measured.py" "$@"
