@@ -7,7 +7,8 @@ use Rattle.std.proofs.lemmas.List.Elements.{All-nil, All-cons, All-drop}
 use Rattle.capture_io.proofs.Runs.{fraction_fits, frame_given}
 use Rattle.capture_io.specs.Capture.{advanced, begin, fraction, kept, nanoseconds, number, outcome, per_second, running, seconds}
 use Rattle.capture_io.specs.Frame.{Frame}
-use Rattle.capture_io.specs.Frames.{Run, goes_on, read_on, read_within, rest}
+use Rattle.capture_io.specs.Frames.{read_on, read_within, rest}
+use Rattle.capture_io.specs.Run.{Run, goes_on}
 use Rattle.capture_io.specs.declared.fault.CaptureFault.{CaptureFault}
 use Rattle.capture_io.specs.declared.format.Format.{Format}
 use Rattle.capture_io.specs.declared.format.Fraction.{Fraction}
@@ -44,7 +45,7 @@ whole Microseconds s part early less = omega (arith, early, less)
 whole Nanoseconds s part early less = omega (arith, early, less)
 
 -- what is next, and the frames behind it
-early_on : (format : Format) (at : Position) (left : List ℕ) (answer : Result (Option Frame) CaptureFault) (run : Run) → AreOctets left → answer ≡ outcome format at left
+early_on : (format : Format) (at : Position) (left : List ℕ) (answer : Result (Option Frame) CaptureFault) (run : Run CaptureFault) → AreOctets left → answer ≡ outcome format at left
     → unwrap_or at.greatest 0 < 2 ^ 32 * 1000000000 → (running format at left < 2 ^ 32 * 1000000000 → AreEarly run.frames) → AreEarly (goes_on answer run).frames
 early_on format at left (Ok None) run are is early rest = All-nil (λ (frame : Frame). frame.moment < 2 ^ 32 * 1000000000)
 early_on format at left (Ok (Some f)) run are is early rest =

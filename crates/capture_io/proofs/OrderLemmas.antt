@@ -4,13 +4,14 @@ use Rattle.capture_io.proofs.Runs.{frame_given, frame_room}
 use Rattle.capture_io.specs.Limits.{most_records}
 use Rattle.capture_io.specs.Capture.{advanced, outcome, running, begin}
 use Rattle.capture_io.specs.Frame.{Frame}
-use Rattle.capture_io.specs.Frames.{AreLater, Run, goes_on, read_on, read_within, rest}
+use Rattle.capture_io.specs.Frames.{read_on, read_within, rest}
+use Rattle.capture_io.specs.Run.{AreLater, Run, goes_on}
 use Rattle.capture_io.specs.declared.fault.CaptureFault.{CaptureFault}
 use Rattle.capture_io.specs.declared.format.Format.{Format}
 use Rattle.capture_io.specs.declared.position.Position.{Position}
 
 -- what is next, and the frames behind it
-later_on : (format : Format) (at : Position) (left : List ℕ) (answer : Result (Option Frame) CaptureFault) (run : Run) → answer ≡ outcome format at left
+later_on : (format : Format) (at : Position) (left : List ℕ) (answer : Result (Option Frame) CaptureFault) (run : Run CaptureFault) → answer ≡ outcome format at left
     → AreLater (running format at left) run.frames → AreLater (unwrap_or at.greatest 0) (goes_on answer run).frames
 later_on format at left (Ok None) run is later = tt
 later_on format at left (Ok (Some f)) run is later =
@@ -30,7 +31,7 @@ pub frames-later : (format : Format) (left : List ℕ) → AreLater 0 (read_on f
 unfolding read_on
 frames-later format left = later_within (length left) format begin left
 
-few_on : (format : Format) (at : Position) (left : List ℕ) (answer : Result (Option Frame) CaptureFault) (run : Run) → answer ≡ outcome format at left
+few_on : (format : Format) (at : Position) (left : List ℕ) (answer : Result (Option Frame) CaptureFault) (run : Run CaptureFault) → answer ≡ outcome format at left
     → at.count ≤ most_records → (at.count + 1 ≤ most_records → at.count + 1 + length run.frames ≤ most_records) → at.count + length (goes_on answer run).frames ≤ most_records
 few_on format at left (Ok None) run is room few = omega (arith, room)
 few_on format at left (Ok (Some f)) run is room few =

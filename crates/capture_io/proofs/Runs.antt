@@ -8,7 +8,8 @@ use Rattle.capture_io.specs.Limits.{most_records}
 use Rattle.capture_io.specs.Answers.{unless}
 use Rattle.capture_io.specs.Capture.{header_rules, format_of, begin, record_rules, frame, body, kept, outcome, advanced, fraction, per_second}
 use Rattle.capture_io.specs.Frame.{Frame}
-use Rattle.capture_io.specs.Frames.{ended, before, goes_on, rest, read_within, read_on, opened, capture}
+use Rattle.capture_io.specs.Frames.{rest, read_within, read_on, opened, capture}
+use Rattle.capture_io.specs.Run.{ended, before, goes_on}
 use Rattle.capture_io.specs.Reading.{Reading, started, beginning, passed}
 use Rattle.capture_io.specs.declared.format.Format.{Format}
 use Rattle.capture_io.specs.declared.position.Position.{Position}

@@ -2,7 +2,7 @@
 use Rattle.std.specs.Prelude.{ℕ, zero, suc, List, drop, Option, Some, None, Result, Ok, Err, slice_get}
 use Rattle.capture_io.specs.Capture.{outcome, taken}
 use Rattle.capture_io.specs.Frame.{Frame}
-use Rattle.capture_io.specs.Frames.{Run}
+use Rattle.capture_io.specs.Run.{Run}
 use Rattle.capture_io.specs.Reading.{Reading, after_frame, after_fault}
 use Rattle.capture_io.specs.declared.fault.CaptureFault.{CaptureFault}
 
@@ -33,6 +33,6 @@ ending None = Ok None
 ending (Some fault) = Err fault
 
 -- frame k of a run, counted from 0, or its ending where there are no more
-abbrev pub frame_or_end : ℕ → Run → Result (Option Frame) CaptureFault
+abbrev pub frame_or_end : ℕ → Run CaptureFault → Result (Option Frame) CaptureFault
 frame_or_end k run =
     elim (slice_get run.frames k) [ Some f ↦ Ok (Some f) | None ↦ ending run.fault ]

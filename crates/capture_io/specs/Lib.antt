@@ -7,3 +7,4 @@ pub mod Limits
 pub mod Link
 pub mod Output
 pub mod Reading
+pub mod Run

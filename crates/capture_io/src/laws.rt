@@ -3,9 +3,10 @@ ghost use Rattle.std.specs.Prelude.{◌≡◌, ◌≤◌, ◌<◌, ◌*◌, ◌^
 ghost use Rattle.std.specs.List.{All};
 ghost use Rattle.capture_io.specs.Calls.{later_answer, frame_or_end};
 ghost use Rattle.capture_io.specs.Capture.{begin};
-ghost use Rattle.capture_io.specs.Frames.{AreLater, capture, ended, read_on};
+ghost use Rattle.capture_io.specs.Frames.{capture, read_on};
 ghost use Rattle.capture_io.specs.Limits.{most_records};
 ghost use Rattle.capture_io.specs.Reading.{started};
+ghost use Rattle.capture_io.specs.Run.{AreLater, ended};
 ghost use Rattle.capture_io.specs.declared.format.Format.{Format};
 
 /// A reader answers the frames of its file in order, and then at each call none, or the file's

@@ -26,6 +26,7 @@ pub use laws::{frames_come_in_order, moments_do_not_fall};
 pub use limits::{LONGEST_SPAN, MOST_FRAME_OCTETS, MOST_RECORDS, limits_are};
 pub use link::Link;
 pub use octets::{Items, Layer, NoMemory, Octets, Refused, Why};
+pub use order::Order;
 pub use payload::link_payload;
 pub use reader::CaptureReader;
 pub use writing::{write_header, write_packet};

@@ -6,7 +6,8 @@ use Rattle.octets.specs.Rules.{first_failing}
 use Rattle.capture_io.specs.Capture.{header_rules, format_of}
 use Rattle.capture_io.proofs.Runs.{capture-started, capture-refused}
 use Rattle.capture_io.specs.Calls.{later_answer, frame_or_end}
-use Rattle.capture_io.specs.Frames.{capture, ended}
+use Rattle.capture_io.specs.Frames.{capture}
+use Rattle.capture_io.specs.Run.{ended}
 use Rattle.capture_io.specs.Reading.{Reading, beginning, started}
 use Rattle.capture_io.specs.declared.fault.CaptureFault.{CaptureFault}
 use Rattle.capture_io.proofs.laws.frames_come_in_order.Goals as goal
