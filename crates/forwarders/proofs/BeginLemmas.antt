@@ -5,7 +5,7 @@ use Rattle.std.proofs.lemmas.List.{length-append, length-map}
 use Rattle.std.proofs.lemmas.List.FromFn.{length-range_with_len}
 use Rattle.capture_io.specs.Frame.{Frame}
 use Rattle.lisp_settings.specs.declared.settings.Settings.{Settings}
-use Rattle.playback.specs.Events.{Event, Tick, Arrival, events_after, second_of, ticks}
+use Rattle.capture_events.specs.Events.{Event, Tick, Arrival, events_after, second_of, ticks}
 use Rattle.router_model.specs.Journal.{Journal, last_moment}
 use Rattle.router_model.specs.Lifting.{AreInOrder, FramesInOrder}
 use Rattle.router_model.specs.Parts.{Parts, Stands}

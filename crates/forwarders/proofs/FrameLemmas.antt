@@ -5,7 +5,7 @@ use Rattle.std.proofs.Math.Seq.{take-append_seam, drop-append_seam}
 use Rattle.std.proofs.lemmas.List.{append-nil, length-append}
 use Rattle.capture_io.specs.Frame.{Frame}
 use Rattle.lisp_settings.specs.declared.settings.Settings.{Settings}
-use Rattle.playback.specs.Events.{Event, Tick, Arrival, events_after, second_of, ticks}
+use Rattle.capture_events.specs.Events.{Event, Tick, Arrival, events_after, second_of, ticks}
 use Rattle.router_log.specs.Moments.{seconds}
 use Rattle.router_log.specs.declared.entry.Entry.{Entry}
 use Rattle.router_model.specs.Lifting.{FramesInOrder}

@@ -6,8 +6,8 @@ use Rattle.std.proofs.lemmas.List.Elements.{All-append, All-cons, All-nil}
 use Rattle.capture_io.specs.Frame.{Frame}
 use Rattle.capture_io.specs.Limits.{most_frame_octets}
 use Rattle.lisp_settings.specs.declared.settings.Settings.{Settings}
-use Rattle.playback.specs.Events as events
-use Rattle.playback.specs.Events.{Event, Tick, Arrival, arrivals}
+use Rattle.capture_events.specs.Events as events
+use Rattle.capture_events.specs.Events.{Event, Tick, Arrival, arrivals}
 use Rattle.router_log.specs.Moments.{seconds}
 use Rattle.router_log.specs.declared.verdict.Verdict.{Verdict}
 use Rattle.router_model.specs.Changes.{Change, unchanged}

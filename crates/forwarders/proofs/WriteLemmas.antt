@@ -8,7 +8,7 @@ use Rattle.std.proofs.lemmas.List.Elements.{All-push}
 use Rattle.std.proofs.lemmas.List.FromFn.{length-range_with_len, map-range_with_len_more}
 use Rattle.capture_io.specs.Frame.{Frame}
 use Rattle.lisp_settings.specs.declared.settings.Settings.{Settings}
-use Rattle.playback.specs.Events.{Event, Tick, Arrival, second_of, ticks}
+use Rattle.capture_events.specs.Events.{Event, Tick, Arrival, second_of, ticks}
 use Rattle.router_log.specs.Moments.{seconds}
 use Rattle.router_log.specs.declared.entry.Entry.{Entry}
 use Rattle.router_model.specs.Changes.{Change, unchanged}

@@ -3,8 +3,8 @@ use Rattle.std.specs.Prelude.{◌≡◌, ℕ, ◌+◌, ◌*◌, ◌^◌, ◌<◌
 use Rattle.capture_io.specs.Frame.{Frame}
 use Rattle.capture_io.specs.Limits.{most_frame_octets}
 use Rattle.lisp_settings.specs.declared.settings.Settings.{Settings}
-use Rattle.playback.specs.Events as events
-use Rattle.playback.specs.Events.{Event, events_after}
+use Rattle.capture_events.specs.Events as events
+use Rattle.capture_events.specs.Events.{Event, events_after}
 use Rattle.router_log.specs.declared.entry.Entry.{Entry}
 use Rattle.router_log.specs.declared.notice.Notice.{Notice}
 use Rattle.router_log.specs.declared.verdict.Verdict.{Verdict}

@@ -3,8 +3,8 @@ use Rattle.std.specs.Prelude.{◌≡◌, ℕ, ◌*◌, ◌≤◌, List, [], ◌�
 use Rattle.std.specs.List.{AllZip}
 use Rattle.capture_io.specs.Frame.{Frame}
 use Rattle.lisp_settings.specs.declared.settings.Settings.{Settings}
-use Rattle.playback.specs.Events as events
-use Rattle.playback.specs.Events.{events_after}
+use Rattle.capture_events.specs.Events as events
+use Rattle.capture_events.specs.Events.{events_after}
 use Rattle.router_core.specs.Steps.{HasEntered}
 use Rattle.router_model.specs.Course.{control}
 use Rattle.router_model.specs.Limits.{most_entries, most_event_packets}

@@ -3,7 +3,7 @@ use Rattle.std.specs.Prelude.{◌≡◌, ℕ, List, ◌++◌, drop, take, slice_
 use Rattle.std.specs.List.{AllZip}
 use Rattle.capture_io.specs.Frame.{Frame}
 use Rattle.lisp_settings.specs.declared.settings.Settings.{Settings}
-use Rattle.playback.specs.Events.{Event}
+use Rattle.capture_events.specs.Events.{Event}
 use Rattle.router_log.specs.declared.entry.Entry.{Entry}
 use Rattle.router_model.specs.Parts.{Parts, Stands, table}
 use Rattle.router_model.specs.Sharing.{IsRuled, MayBegin, filled, opening}

@@ -2,7 +2,7 @@
 ghost use Rattle.std.specs.Prelude.{◌≡◌, ◌+◌, ◌*◌, ◌^◌, ◌<◌, ◌≤◌, [], ◌++◌, length, map, take, All, IfOk, OnOk};
 ghost use Rattle.std.specs.List.{AllZip};
 ghost use Rattle.lisp_settings.specs.Lawful.{IsLawful};
-ghost use Rattle.playback.specs.Events.{events_after};
+ghost use Rattle.capture_events.specs.Events.{events_after};
 ghost use Rattle.router_core.specs.Steps.{HasEntered};
 ghost use Rattle.router_model.specs.Journal.{extended};
 ghost use Rattle.router_model.specs.Lifting.{FramesInOrder};

@@ -3,7 +3,7 @@
 ghost use Rattle.std.specs.Prelude.{◌≡◌, ◌+◌, ◌*◌, ◌^◌, ◌<◌, ◌≤◌, List, [], ◌∷◌, ◌++◌, length, slice_index_or, unwrap_or, true, All, IfOk, OnOk, Option, Some};
 ghost use Rattle.capture_io.specs.Frame.{Frame as FrameValue};
 ghost use Rattle.lisp_settings.specs.Lawful.{IsLawful};
-ghost use Rattle.playback.specs.Events.{Arrival, Tick, events_after, second_of, ticks};
+ghost use Rattle.capture_events.specs.Events.{Arrival, Tick, events_after, second_of, ticks};
 ghost use Rattle.router_log.specs.Moments.{seconds};
 ghost use Rattle.router_core.specs.Seen.{course_seen};
 ghost use Rattle.router_core.specs.Steps.{HasEntered, MayStep};

@@ -8,7 +8,7 @@ use Rattle.lisp_settings.specs.declared.settings.OwnLocator.{OwnLocator}
 use Rattle.lisp_settings.specs.declared.settings.Settings.{Settings}
 use Rattle.locator_choice.specs.Choice.{chosen}
 use Rattle.locator_state.specs.Probes.{probe_up}
-use Rattle.playback.specs.Events.{Outcome, Packet, events, events_after, played}
+use Rattle.capture_events.specs.Events.{Outcome, Packet, events, events_after, played}
 use Rattle.request_queue.specs.Queue.{due}
 use Rattle.router_log.specs.Lines.{verdict_text}
 use Rattle.router_log.specs.declared.entry.Entry.{Entry}

@@ -3,7 +3,7 @@ use Rattle.std.proofs.Common.{◌≡◌, ℕ, Bool, true, false, cond, List, [],
 use Rattle.capture_io.specs.Frame.{Frame}
 use Rattle.lisp_settings.specs.declared.settings.OwnLocator.{OwnLocator}
 use Rattle.lisp_settings.specs.declared.settings.Settings.{Settings}
-use Rattle.playback.specs.Events.{Event, Outcome, Tick, Arrival}
+use Rattle.capture_events.specs.Events.{Event, Outcome, Tick, Arrival}
 use Rattle.router_log.specs.Moments.{seconds}
 use Rattle.router_log.specs.declared.decision.Decision.{Decision}
 use Rattle.router_log.specs.declared.entry.Entry.{Entry}

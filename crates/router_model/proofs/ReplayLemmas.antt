@@ -4,7 +4,7 @@ use Rattle.std.specs.List.{range_with_len}
 use Rattle.mapping_records.specs.declared.record.Record.{Record}
 use Rattle.capture_io.specs.Frame.{Frame}
 use Rattle.lisp_settings.specs.declared.settings.Settings.{Settings}
-use Rattle.playback.specs.Events.{Event, Outcome, Tick, Arrival, events, events_after, followed, played, ticks}
+use Rattle.capture_events.specs.Events.{Event, Outcome, Tick, Arrival, events, events_after, followed, played, ticks}
 use Rattle.router_log.specs.Moments.{seconds}
 use Rattle.router_log.specs.declared.decision.Decision.{Decision}
 use Rattle.router_log.specs.declared.entry.Entry.TheVariants.{Learned}

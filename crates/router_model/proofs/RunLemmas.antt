@@ -1,16 +1,14 @@
--- The run of a capture whose frames were read: it is in order, and a journal has room for it.
+-- Frames that came of a capture: they are in order, and a journal has room for them.
 use Rattle.std.proofs.Common.{◌≡◌, ℕ, ◌+◌, ◌*◌, ◌^◌, ◌-◌, ◌/◌, ◌≤◌, ◌<◌, suc, List, [], ◌∷◌, ◌++◌, length, Some, arith, div-mul-le_self, div-add-mod', mod-lt}
 use Rattle.std.specs.List.{All, range_with_len}
 use Rattle.std.proofs.lemmas.List.{length-append, length-map}
 use Rattle.std.proofs.lemmas.List.Elements.{All-head, All-tail}
 use Rattle.std.proofs.lemmas.List.FromFn.{length-range_with_len}
-use Rattle.capture_io.proofs.OrderLemmas.{frames-few, frames-later}
-use Rattle.capture_io.specs.Capture.{begin}
 use Rattle.capture_io.specs.Frame.{Frame}
-use Rattle.capture_io.specs.Frames.{AreLater, read_on}
-use Rattle.playback.specs.Events.{Event, Arrival, Tick, events, events_after, events_of, second_of, ticks}
-use Rattle.playback.specs.Playing.{IsRead}
-use Rattle.router_model.specs.Lifting.{FramesInOrder, ReadFits, ReadInOrder, RunReplays}
+use Rattle.capture_io.specs.Run.{AreLater}
+use Rattle.capture_events.specs.Came.{Came, IsRead}
+use Rattle.capture_events.specs.Events.{Event, Arrival, Tick, events, events_after, events_of, second_of, ticks}
+use Rattle.router_model.specs.Lifting.{CameFits, CameInOrder, CaptureReplays, FramesInOrder}
 use Rattle.router_model.proofs.ReplayLemmas.{events-order, table-replays}
 use Rattle.router_model.proofs.StaticsLemmas.{length-statics}
 
@@ -20,8 +18,8 @@ in_order m [] read later = tt
 in_order m (frame ∷ frames) read later =
     (later.0, ((All-head IsRead frame frames read).octets, in_order frame.moment frames (All-tail IsRead frame frames read) later.1))
 
-pub read-in-order : ReadInOrder
-read-in-order format octets read = in_order 0 (read_on format begin octets).frames read (frames-later format octets)
+pub came-in-order : CameInOrder
+came-in-order frames came = in_order 0 frames came.read came.later
 
 -- the second of a moment that isn't too late
 second_below : (m : ℕ) → m < 2 ^ 32 * 1000000000 → m / 1000000000 ≤ 2 ^ 32
@@ -61,16 +59,14 @@ count (frame ∷ frames) read later =
     let rest = count_after frame.moment frames (All-head IsRead frame frames read).moment (All-tail IsRead frame frames read) later.1 in
     omega (arith, rest)
 
-pub read-fits : ReadFits
-read-fits settings format octets lawful read =
-    let frames = (read_on format begin octets).frames in
-    let all = count frames read (frames-later format octets) in
-    let few = frames-few format octets in
+pub came-fits : CameFits
+came-fits settings frames lawful came =
+    let all = count frames came.read came.later in
+    let few = came.few in
     let fixed = length-statics settings in
     let mappings = lawful.few_mappings in
     omega (arith, all, few, fixed, mappings)
 
-pub run-replays : RunReplays
-run-replays settings format octets lawful read =
-    let frames = (read_on format begin octets).frames in
-    table-replays settings (events frames) (events-order frames (read-in-order format octets read)) (read-fits settings format octets lawful read)
+pub capture-replays : CaptureReplays
+capture-replays settings frames lawful came =
+    table-replays settings (events frames) (events-order frames (came-in-order frames came)) (came-fits settings frames lawful came)

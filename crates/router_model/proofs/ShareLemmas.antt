@@ -5,7 +5,7 @@ use Rattle.std.proofs.lemmas.List.{drop-append-le, length-append, length-drop, l
 use Rattle.std.proofs.lemmas.List.Elements.{All-map, All-weaker, All-cons, All-nil}
 use Rattle.capture_io.specs.Frame.{Frame}
 use Rattle.lisp_settings.specs.declared.settings.Settings.{Settings}
-use Rattle.playback.specs.Events.{Event, Tick, Arrival, events_after, events_of, ticks}
+use Rattle.capture_events.specs.Events.{Event, Tick, Arrival, events_after, events_of, ticks}
 use Rattle.router_log.specs.Moments.{seconds}
 use Rattle.router_log.specs.declared.entry.Entry.{Entry}
 use Rattle.router_log.specs.declared.notice.Notice.{Notice}

@@ -5,8 +5,8 @@ use Rattle.std.proofs.lemmas.List.{append-nil, take-append-drop, drop-drop}
 use Rattle.std.proofs.lemmas.List.Concat.{flat_map-append}
 use Rattle.capture_io.specs.Frame.{Frame}
 use Rattle.lisp_settings.specs.declared.settings.Settings.{Settings}
-use Rattle.playback.specs.Events.{Event, Tick, Arrival, arrivals, events_after, second_of, ticks, events_of}
-use Rattle.playback.proofs.EventLemmas.{arrivals-events}
+use Rattle.capture_events.specs.Events.{Event, Tick, Arrival, arrivals, events_after, second_of, ticks, events_of}
+use Rattle.capture_events.proofs.EventLemmas.{arrivals-events}
 use Rattle.router_log.specs.Moments.{seconds}
 use Rattle.router_log.specs.declared.entry.Entry.{Entry}
 use Rattle.router_model.specs.Changes.{Change, Ledger, each, journal as of_journal, unchanged}

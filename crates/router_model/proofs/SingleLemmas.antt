@@ -5,8 +5,8 @@ use Rattle.std.proofs.lemmas.List.{append-nil, length-replicate}
 use Rattle.std.proofs.lemmas.List.Elements.{All-head, All-replicate, All-tail, Contains-get_or}
 use Rattle.capture_io.specs.Frame.{Frame}
 use Rattle.lisp_settings.specs.declared.settings.Settings.{Settings}
-use Rattle.playback.specs.Events.{Event, Outcome, Packet, Tick, Arrival, events, events_after, events_of, followed, idle, played, second_of}
-use Rattle.playback.proofs.EventLemmas.{played-append}
+use Rattle.capture_events.specs.Events.{Event, Outcome, Packet, Tick, Arrival, events, events_after, events_of, followed, idle, played, second_of}
+use Rattle.capture_events.proofs.EventLemmas.{played-append}
 use Rattle.router_log.specs.Moments.{seconds}
 use Rattle.router_log.specs.declared.decision.Decision.{Decision}
 use Rattle.router_log.specs.declared.notice.Notice.{Notice}

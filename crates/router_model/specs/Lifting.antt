@@ -3,9 +3,6 @@ use Rattle.std.specs.Prelude.{◌≡◌, ℕ, suc, ◌+◌, ◌*◌, ◌^◌, �
 use Rattle.std.specs.List.{All, list_all}
 use Rattle.ip_headers.specs.Udp.{payload_in}
 use Rattle.capture_io.specs.Frame.{Frame}
-use Rattle.capture_io.specs.Capture.{begin}
-use Rattle.capture_io.specs.Frames.{read_on}
-use Rattle.capture_io.specs.declared.format.Format.{Format}
 use Rattle.mapping_records.specs.declared.eid.Eid.{Eid}
 use Rattle.mapping_records.specs.declared.record.Record.{Record}
 use Rattle.map_messages.specs.declared.message.MapRequest.{MapRequest}
@@ -13,8 +10,8 @@ use Rattle.map_messages.specs.declared.message.Message.{Message}
 use Rattle.map_messages.specs.declared.message.Message.TheVariants as message
 use Rattle.lisp_settings.specs.Lawful.{IsLawful}
 use Rattle.lisp_settings.specs.declared.settings.Settings.{Settings}
-use Rattle.playback.specs.Events.{Event, Outcome, Tick, Arrival, events, played}
-use Rattle.playback.specs.Playing.{IsRead, outcome_of}
+use Rattle.capture_events.specs.Came.{Came}
+use Rattle.capture_events.specs.Events.{Event, Outcome, Tick, Arrival, events, played}
 use Rattle.router_log.specs.Moments.{seconds}
 use Rattle.router_log.specs.declared.entry.Entry.{Entry}
 use Rattle.router_log.specs.declared.notice.Notice.{Notice}
@@ -222,22 +219,18 @@ FramesInOrder m (frame ∷ frames) = (m ≤ frame.moment) × (AreOctets frame.oc
 abbrev pub EventsInOrder : Type 0
 EventsInOrder = (frames : List Frame) → FramesInOrder 0 frames → AreInOrder 0 (events frames)
 
--- the frames of a capture that were read, from the start of its records on
-abbrev pub WereRead : Format → List ℕ → Type 0
-WereRead format octets = All IsRead (read_on format begin octets).frames
-
--- those are in order
-abbrev pub ReadInOrder : Type 0
-ReadInOrder = (format : Format) (octets : List ℕ) → WereRead format octets → FramesInOrder 0 (read_on format begin octets).frames
+-- frames that came of a capture are in order
+abbrev pub CameInOrder : Type 0
+CameInOrder = (frames : List Frame) → Came frames → FramesInOrder 0 frames
 
 -- and a journal has room for all that comes of them and of the seconds between them
-abbrev pub ReadFits : Type 0
-ReadFits = (settings : Settings) (format : Format) (octets : List ℕ) → IsLawful settings → WereRead format octets → length (statics settings) + most_entries * length (events (read_on format begin octets).frames) ≤ 2 ^ 62
+abbrev pub CameFits : Type 0
+CameFits = (settings : Settings) (frames : List Frame) → IsLawful settings → Came frames → length (statics settings) + most_entries * length (events frames) ≤ 2 ^ 62
 
--- so of a run that was read a table gives the lines and packets of the plain router, and its parts are those of that
+-- so of frames that came a table gives the lines and packets of the plain router, and its parts are those of that
 -- router's journal, which is proper
-abbrev pub RunReplays : Type 0
-RunReplays = (settings : Settings) (format : Format) (octets : List ℕ) → IsLawful settings → WereRead format octets → let run = read_on format begin octets in (outcome_of (after_event table) (router_tabled (started settings)) run ≡ outcome_tabled (outcome_of plain (started settings) run)) × IsProper settings (outcome_of plain (started settings) run).after.memory
+abbrev pub CaptureReplays : Type 0
+CaptureReplays = (settings : Settings) (frames : List Frame) → IsLawful settings → Came frames → (played (after_event table) (router_tabled (started settings)) (events frames) ≡ outcome_tabled (played plain (started settings) (events frames))) × IsProper settings (played plain (started settings) (events frames)).after.memory
 
 -- ### what the mappings of a view are
 

@@ -3,7 +3,7 @@ use Rattle.std.specs.Prelude.{ℕ, ◌≤◌, List, [], ◌∷◌, ◌++◌, len
 use Rattle.capture_io.specs.Frame.{Frame}
 use Rattle.capture_io.specs.Limits.{most_frame_octets}
 use Rattle.lisp_settings.specs.declared.settings.Settings.{Settings}
-use Rattle.playback.specs.Events.{Event, Outcome, Packet, Tick, Arrival}
+use Rattle.capture_events.specs.Events.{Event, Outcome, Packet, Tick, Arrival}
 use Rattle.router_log.specs.Lines.{frame_line}
 use Rattle.router_log.specs.Moments.{seconds}
 use Rattle.router_log.specs.declared.decision.Decision.{Decision}

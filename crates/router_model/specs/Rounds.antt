@@ -3,7 +3,7 @@ use Rattle.std.specs.Prelude.{◌≡◌, ℕ, ◌<◌, not, Bool, true, List, []
 use Rattle.std.specs.List.{All, Contains}
 use Rattle.capture_io.specs.Frame.{Frame}
 use Rattle.lisp_settings.specs.declared.settings.Settings.{Settings}
-use Rattle.playback.specs.Events.{Event, Outcome, Packet, Tick, Arrival, events_after, followed, idle}
+use Rattle.capture_events.specs.Events.{Event, Outcome, Packet, Tick, Arrival, events_after, followed, idle}
 use Rattle.router_log.specs.Lines.{frame_line}
 use Rattle.router_log.specs.Moments.{seconds}
 use Rattle.router_log.specs.declared.decision.Decision.{Decision}

@@ -3,7 +3,7 @@ use Rattle.std.specs.Prelude.{◌≡◌, ℕ, suc, ◌+◌, ◌*◌, ◌^◌, �
 use Rattle.std.specs.List.{Contains, AllZip}
 use Rattle.capture_io.specs.Frame.{Frame}
 use Rattle.lisp_settings.specs.declared.settings.Settings.{Settings}
-use Rattle.playback.specs.Events.{Event, Tick, Arrival, events, events_after, played, followed}
+use Rattle.capture_events.specs.Events.{Event, Tick, Arrival, events, events_after, played, followed}
 use Rattle.router_log.specs.declared.entry.Entry.{Entry}
 use Rattle.router_model.specs.Changes.{Ledger, journal as of_journal}
 use Rattle.router_model.specs.Course.{control}

@@ -2,7 +2,7 @@
 use Rattle.std.specs.Prelude.{ℕ, List, [], ◌∷◌, ◌++◌, drop, flat_map, fold, get_or, if◌then◌else◌}
 use Rattle.capture_io.specs.Frame.{Frame}
 use Rattle.lisp_settings.specs.declared.settings.Settings.{Settings}
-use Rattle.playback.specs.Events.{Event, Packet, Tick, Arrival}
+use Rattle.capture_events.specs.Events.{Event, Packet, Tick, Arrival}
 use Rattle.router_log.specs.Moments.{seconds}
 use Rattle.router_log.specs.declared.decision.Decision.{Decision}
 use Rattle.router_log.specs.declared.entry.Entry.{Entry}

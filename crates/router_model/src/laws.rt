@@ -16,7 +16,7 @@ ghost use Rattle.router_model.specs.Decide.{decide_by};
 ghost use Rattle.router_model.specs.Hear.{drops, hear, reply_heard};
 ghost use Rattle.router_model.specs.Isolation.{AgreesDecides, DecisionIsolated, MomentIsolated, NoneAsks, RisingIsolated, TableIsolated, TablesAlike};
 ghost use Rattle.router_model.specs.Journal.{Journal, statics};
-ghost use Rattle.router_model.specs.Lifting.{AllAbsorbed, BitsKept, EntryAbsorbed, EventsInOrder, LiveIsExact, NoticesSound, PartsAnswer, ProperRises, ReadFits, ReadInOrder, RunReplays, StandingAbsorbs, StandingAdmits, StandingSees, StaticsStand, TableDecides, TableHears, TableNotes, TableReplays, TableTicks};
+ghost use Rattle.router_model.specs.Lifting.{AllAbsorbed, BitsKept, CameFits, CameInOrder, CaptureReplays, EntryAbsorbed, EventsInOrder, LiveIsExact, NoticesSound, PartsAnswer, ProperRises, StandingAbsorbs, StandingAdmits, StandingSees, StaticsStand, TableDecides, TableHears, TableNotes, TableReplays, TableTicks};
 ghost use Rattle.router_model.specs.Received.{message_in};
 ghost use Rattle.router_model.specs.View.{Agrees, View, view};
 
@@ -114,12 +114,12 @@ pub fn tables_replay_plainly()
     ensures order { EventsInOrder }
 {}
 
-/// Of a capture whose frames were read, whatever its octets are, a table with lawful settings gives
-/// the lines and packets of the plain router.
+/// Of frames that came of a capture, whatever its format and its octets are, a table with lawful settings
+/// gives the lines and packets of the plain router.
 pub fn captures_replay_plainly()
-    ensures order { ReadInOrder }
-    ensures room { ReadFits }
-    ensures replays { RunReplays }
+    ensures order { CameInOrder }
+    ensures room { CameFits }
+    ensures replays { CaptureReplays }
 {}
 
 /// Of the live mappings of a journal that of an EID is the one last learned for it, if that is live.

@@ -1,7 +1,7 @@
 use Rattle.std.proofs.Common.{◌≡◌, ◌∙◌, ℕ, ◌+◌, List, [], ◌∷◌, ◌++◌, get_or, slice_index_or, take, Some, sym, ap, subst, arith}
 use Rattle.std.proofs.lemmas.List.{get_or_default, take_all, take_more}
 use Rattle.capture_io.specs.Frame.{Frame}
-use Rattle.playback.specs.Events.{events_after, ticks}
+use Rattle.capture_events.specs.Events.{events_after, ticks}
 use Rattle.forwarders.specs.Gathering.{Writes}
 use Rattle.forwarders.proofs.FrameLemmas.{latest, latest-append, latest-closes, latest-order, writes-frame}
 use Rattle.forwarders.proofs.WriteLemmas.{between-count, seconds-end, seconds-rise, writes-own}

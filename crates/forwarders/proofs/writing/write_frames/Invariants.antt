@@ -1,5 +1,5 @@
 use Rattle.std.proofs.Common.{◌≡◌, ◌≤◌, ◌<◌, ◌+◌, ◌*◌, ◌^◌, Some, take}
-use Rattle.playback.specs.Events.{events_after, second_of}
+use Rattle.capture_events.specs.Events.{events_after, second_of}
 use Rattle.router_model.specs.Limits.{most_ticked}
 use Rattle.forwarders.specs.Gathering.{Writes}
 use Rattle.forwarders.proofs.FrameLemmas.{latest}

@@ -1,6 +1,6 @@
 use Rattle.std.proofs.Common.{◌≡◌, ◌∙◌, ℕ, List, get_or, Some, sym, ap, subst, arith}
 use Rattle.capture_io.specs.Frame.{Frame}
-use Rattle.playback.specs.Events.{events_after, ticks}
+use Rattle.capture_events.specs.Events.{events_after, ticks}
 use Rattle.forwarders.specs.Gathering.{Writes}
 use Rattle.forwarders.proofs.FrameLemmas.{HasWritten, frames-written}
 use Rattle.forwarders.proofs.WriteLemmas.{opened-count, seconds-end, writes-own}

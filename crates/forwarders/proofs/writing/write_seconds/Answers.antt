@@ -1,6 +1,6 @@
 use Rattle.std.proofs.Common.{◌≡◌, ◌∙◌, ℕ, suc, ◌+◌, ◌-◌, ◌≤◌, [], map, Option, unwrap_or, sym, ap, subst, arith}
 use Rattle.std.specs.List.{range_with_len}
-use Rattle.playback.specs.Events.{Tick, second_of}
+use Rattle.capture_events.specs.Events.{Tick, second_of}
 use Rattle.forwarders.specs.Gathering.{Writes}
 use Rattle.forwarders.proofs.WriteLemmas.{adds-none, seconds-count, second-behind, second-within, writes-more, writes-own, writes-seconds}
 use Rattle.forwarders.proofs.writing.write_seconds.Goals as goal

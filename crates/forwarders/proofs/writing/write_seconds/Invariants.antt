@@ -1,7 +1,7 @@
 use Rattle.std.proofs.Common.{◌≤◌, ◌<◌, ◌*◌, ◌-◌, List, map}
 use Rattle.std.specs.List.{range_with_len}
 use Rattle.capture_io.specs.Frame.{Frame}
-use Rattle.playback.specs.Events.{Tick}
+use Rattle.capture_events.specs.Events.{Tick}
 use Rattle.forwarders.specs.Gathering.{Writes}
 use Rattle.forwarders.proofs.writing.write_seconds.Given as goal
 
