@@ -8,7 +8,8 @@ use Rattle.octets.proofs.RuleLemmas.{none_fails}
 use Rattle.capture_io.specs.Answers.{unless}
 use Rattle.capture_io.specs.Capture.{begin, body, fraction, frame, header_rules, format_of, in_span, kept, moment, outcome, record_rules, seconds}
 use Rattle.capture_io.specs.Frame.{Frame}
-use Rattle.capture_io.specs.Frames.{before, capture, opened, read_on}
+use Rattle.capture_io.specs.Frames.{capture, opened, read_on}
+use Rattle.capture_io.specs.Run.{before}
 use Rattle.capture_io.specs.Limits.{most_frame_octets, most_records}
 use Rattle.capture_io.specs.Output.{packet_record}
 use Rattle.capture_io.specs.Reading.{passed}

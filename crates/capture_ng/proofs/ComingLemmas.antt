@@ -5,11 +5,11 @@ use Rattle.std.proofs.lemmas.Bool.{le-leb, lt-leb}
 use Rattle.std.proofs.lemmas.List.{length-drop, take_all}
 use Rattle.desk.specs.World.{World, after_read, left_of, Fills}
 use Rattle.desk.proofs.Reading.{IfSome_both, left_on, read_nothing, reads_on}
-use Rattle.capture_ng.proofs.Fronts.{number-take}
+use Rattle.capture_io.proofs.Fronts.{number-take}
 use Rattle.capture_ng.specs.Blocks.{last_number}
-use Rattle.capture_ng.specs.Numbers.{number}
-use Rattle.capture_ng.specs.declared.order.Order.{Order}
-use Rattle.capture_ng.specs.declared.order.Order.TheVariants.{Little, Big}
+use Rattle.capture_io.specs.Capture.{number}
+use Rattle.capture_io.specs.declared.order.Order.{Order}
+use Rattle.capture_io.specs.declared.order.Order.TheVariants.{Little, Big}
 use Rattle.capture_ng.specs.Coming.{HasCome, IsComing}
 
 some_within : (id : ℕ) (told : Option World) → IfSome told (λ w. 0 ≤ length (left_of id w))

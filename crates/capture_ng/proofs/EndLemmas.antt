@@ -6,11 +6,11 @@ use Rattle.byteorder.specs.Endian.{big_number, little_number}
 use Rattle.octets.specs.Rules.{first_failing}
 use Rattle.capture_ng.specs.Blocks.{last_number}
 use Rattle.capture_ng.specs.Faults.{ended_rules, whole_rules}
-use Rattle.capture_ng.specs.Numbers.{number}
+use Rattle.capture_io.specs.Capture.{number}
 use Rattle.capture_ng.specs.Position.{Position}
 use Rattle.capture_ng.specs.declared.head.Head.{Head}
-use Rattle.capture_ng.specs.declared.order.Order.{Order}
-use Rattle.capture_ng.specs.declared.order.Order.TheVariants.{Little, Big}
+use Rattle.capture_io.specs.declared.order.Order.{Order}
+use Rattle.capture_io.specs.declared.order.Order.TheVariants.{Little, Big}
 
 -- both tables judge alike
 pub ended-whole : (at : Position) (head : Head) (left : List ℕ) → first_failing (ended_rules at head (last_number head.order head.length left)) ≡ first_failing (whole_rules at head left)

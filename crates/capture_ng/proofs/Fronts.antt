@@ -1,19 +1,13 @@
 -- What the rules of a block's head read is the block's first octets.
-use Rattle.std.proofs.Common.{◌≡◌, ◌≤◌, ◌+◌, ◌&&◌, ◌++◌, nat_le, ℕ, Bool, true, false, List, take, drop, length, unwrap_or, refl, sym, ap, subst, ◌∙◌, arith, inl, inr}
+use Rattle.std.proofs.Common.{◌≡◌, ◌≤◌, ◌&&◌, ◌++◌, nat_le, ℕ, Bool, true, false, List, take, drop, length, unwrap_or, refl, sym, ap, subst, ◌∙◌, arith, inl, inr}
 use Rattle.std.proofs.lemmas.Bool.{cases_Bool, leb-false, leb-true}
 use Rattle.std.proofs.lemmas.List.{length-take, take_all}
 use Rattle.std.proofs.Math.Seq.{take-add}
-use Rattle.octets.proofs.Fronts.{little-take, big-take}
+use Rattle.octets.proofs.Fronts.{little-take}
+use Rattle.capture_io.proofs.Fronts.{number-take}
 use Rattle.capture_ng.specs.Blocks.{begins_section, first_size, kind_at, order_of}
-use Rattle.capture_ng.specs.Numbers.{number}
 use Rattle.capture_ng.specs.Position.{Position}
-use Rattle.capture_ng.specs.declared.order.Order.{Order}
-use Rattle.capture_ng.specs.declared.order.Order.TheVariants.{Little, Big}
-
--- a number that lies in the front of a list is read of the front alone
-pub number-take : (order : Order) (n at size : ℕ) (left : List ℕ) → at + n ≤ size → number order n (take size left) at ≡ number order n left at
-number-take Little n at size left within = little-take n at size left within
-number-take Big n at size left within = big-take n at size left within
+use Rattle.capture_io.specs.declared.order.Order.TheVariants.{Little}
 
 -- a section header is told by its front
 pub section-take : (size : ℕ) (left : List ℕ) → 4 ≤ size → begins_section (take size left) ≡ begins_section left

@@ -1,8 +1,14 @@
+pub mod BlockLemmas
+pub mod BodyLemmas
 pub mod ClassicLemmas
 pub mod ComingLemmas
 pub mod EndLemmas
+pub mod FindingLemmas
+pub mod FrameLemmas
 pub mod Fronts
+pub mod MomentLemmas
 pub mod OnLiterals
 pub mod OptionLemmas
 pub mod OrderLemmas
+pub mod ReaderLemmas
 pub mod Runs

@@ -5,7 +5,7 @@ use Rattle.std.specs.List.{list_all}
 use Rattle.std.proofs.lemmas.List.{length-drop}
 use Rattle.capture_ng.specs.Interfaces.{NgOption, behind_option, clock_after, clock_on, ends_options, first_option, fit_within, is_proper, options_fit, options_in, options_within, padded, set_by, size_in}
 use Rattle.capture_ng.specs.declared.interface.Clock.{Clock}
-use Rattle.capture_ng.specs.declared.order.Order.{Order}
+use Rattle.capture_io.specs.declared.order.Order.{Order}
 
 -- as many options as there are octets are enough
 enough : (n m : ℕ) (order : Order) (octets : List ℕ) → length octets ≤ n → length octets ≤ m → options_within n order octets ≡ options_within m order octets

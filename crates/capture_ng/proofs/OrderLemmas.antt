@@ -9,12 +9,13 @@ use Rattle.octets.proofs.RuleLemmas.{AllHold, all_hold}
 use Rattle.capture_io.specs.Capture.{in_span}
 use Rattle.capture_io.specs.Frame.{Frame}
 use Rattle.capture_io.specs.Frames.{capture}
+use Rattle.capture_io.specs.Run.{Run}
 use Rattle.capture_io.specs.Limits.{longest_span, most_frame_octets, most_records}
 use Rattle.capture_io.specs.declared.link.Link.{Link}
 use Rattle.capture_ng.specs.Classic.{classic}
 use Rattle.capture_ng.specs.Blocks.{head_of, is_packet}
 use Rattle.capture_ng.specs.Faults.{block_fault, block_rules, body_rules, packet_rules, seen_rules}
-use Rattle.capture_ng.specs.Frames.{NgRun, advanced, after_block, blocks_within, ng_frames, of_block, read_on, rest}
+use Rattle.capture_ng.specs.Frames.{advanced, after_block, blocks_within, ng_frames, of_block, read_on, rest}
 use Rattle.capture_ng.specs.Limits.{end_of_moments, most_blocks}
 use Rattle.capture_ng.specs.Packets.{Packet, frame_at, frame_of, interface_number, interface_of, is_moment, kept, moment, packet_in, packet_in_kind, packet_of, packet_place}
 use Rattle.capture_ng.specs.Position.{Position, begin}
@@ -102,7 +103,7 @@ packet_room_for at left none packet =
     ltb-true at.count most_records (room_for (nat_lt at.blocks most_blocks) (nat_le 4 (length left)) (is_packet (head_of at left).kind) (nat_lt at.count most_records) all.0 there packet)
 
 -- and its packet is one that may come
-block_seen : (at : Position) (left : List ℕ) (p : Packet) → unwrap_or at.greatest 0 < end_of_moments → None ≡ block_fault at left → Some p ≡ packet_in at (head_of at left) left
+pub block_seen : (at : Position) (left : List ℕ) (p : Packet) → unwrap_or at.greatest 0 < end_of_moments → None ≡ block_fault at left → Some p ≡ packet_in at (head_of at left) left
     → (at.count < most_records) × IsSeen at p
 block_seen at left p early none is =
     let all = all_hold (block_rules at left) (sym none) in
@@ -110,7 +111,7 @@ block_seen at left p early none is =
     (packet_room_for at left none seen.0, seen.1)
 
 -- behind a packet the count and the greatest moment are its own
-after-packet : (kind : Kind) (at : Position) (head : Head) (left : List ℕ) (p : Packet) → Some p ≡ packet_in_kind kind at head left
+pub after-packet : (kind : Kind) (at : Position) (head : Head) (left : List ℕ) (p : Packet) → Some p ≡ packet_in_kind kind at head left
     → ((after_block kind at head left).count ≡ p.frame.number) × ((after_block kind at head left).greatest ≡ Some p.frame.moment)
 after-packet EnhancedPacket at head left p is = (rw (sym is) refl, rw (sym is) refl)
 after-packet SimplePacket at head left p is = (rw (sym is) refl, rw (sym is) refl)
@@ -120,7 +121,7 @@ after-packet ObsoletePacket at head left p is = cc
 after-packet Other at head left p is = cc
 
 -- behind any other block they stay
-after-other : (kind : Kind) (at : Position) (head : Head) (left : List ℕ) → None ≡ packet_in_kind kind at head left
+pub after-other : (kind : Kind) (at : Position) (head : Head) (left : List ℕ) → None ≡ packet_in_kind kind at head left
     → ((after_block kind at head left).count ≡ at.count) × ((after_block kind at head left).greatest ≡ at.greatest)
 after-other EnhancedPacket at head left is = (rw (sym is) refl, rw (sym is) refl)
 after-other SimplePacket at head left is = (rw (sym is) refl, rw (sym is) refl)
@@ -134,7 +135,7 @@ abbrev AreOf : Link → List Frame → Type 0
 AreOf link frames = All (λ (f : Frame). f.link ≡ link) frames
 
 -- a block, and the frames behind it
-order_step : (link : Link) (at next : Position) (fault : Option NgFault) (o : Option Packet) (run : NgRun)
+order_step : (link : Link) (at next : Position) (fault : Option NgFault) (o : Option Packet) (run : Run NgFault)
     → (None ≡ fault → (p : Packet) → Some p ≡ o → ((at.count < most_records) × IsSeen at p) × ((next.count ≡ p.frame.number) × (next.greatest ≡ Some p.frame.moment)))
     → (None ≡ fault → None ≡ o → (next.count ≡ at.count) × (next.greatest ≡ at.greatest))
     → (None ≡ fault → unwrap_or next.greatest 0 < end_of_moments → AreOf link run.frames → AreInOrder link next.count next.greatest run.frames)

@@ -4,10 +4,11 @@ use Rattle.std.proofs.lemmas.Bool.{leb-true}
 use Rattle.std.proofs.lemmas.List.{length-drop, drop-drop}
 use Rattle.octets.proofs.RuleLemmas.{all_hold}
 use Rattle.capture_io.specs.Frame.{Frame}
+use Rattle.capture_io.specs.Run.{Run, ended, goes_on}
 use Rattle.capture_ng.specs.Blocks.{head_of, is_length}
 use Rattle.capture_ng.specs.Faults.{block_fault, block_rules, end_fault}
-use Rattle.capture_ng.specs.Found.{Found, at_block, behind_block, found, found_within, stopped, then_run}
-use Rattle.capture_ng.specs.Frames.{NgRun, advanced, behind, block_frame, blocks_within, ended, of_block, read_on, rest}
+use Rattle.capture_ng.specs.Found.{Found, at_block, behind_block, found, found_within, stopped}
+use Rattle.capture_ng.specs.Frames.{advanced, behind, block_frame, blocks_within, of_block, read_on, rest}
 use Rattle.capture_ng.specs.Position.{Position}
 use Rattle.capture_ng.specs.declared.head.Kind.{Kind}
 use Rattle.capture_ng.specs.declared.head.Kind.TheVariants.{SectionHeader, InterfaceDescription, ObsoletePacket, SimplePacket, EnhancedPacket, Other}
@@ -34,7 +35,7 @@ block_least at left none =
     least (head_of at left).kind (head_of at left).length all.1.1.1.1.1.0
 
 -- of two ways to go on behind a block that are one where it has no fault
-of_block-same : (fault : Option NgFault) (frame : Option Frame) (one other : NgRun) → (None ≡ fault → one ≡ other) → of_block fault frame one ≡ of_block fault frame other
+of_block-same : (fault : Option NgFault) (frame : Option Frame) (one other : Run NgFault) → (None ≡ fault → one ≡ other) → of_block fault frame one ≡ of_block fault frame other
 of_block-same None frame one other same = ap (behind frame) (same refl)
 of_block-same (Some fault) frame one other same = refl
 
@@ -104,8 +105,8 @@ found-step vlans at x left =
     enough_found (length left) (length (rest at l)) vlans (advanced at l) (rest at l) (omega (arith, least, length-drop (head_of at l).length l)) (omega arith))
 
 -- the run of what was found and of what comes behind it
-abbrev run_of : Bool → Found → List ℕ → NgRun
-run_of vlans f left = then_run f.answer (read_on vlans f.position (drop f.taken left))
+abbrev run_of : Bool → Found → List ℕ → Run NgFault
+run_of vlans f left = goes_on f.answer (read_on vlans f.position (drop f.taken left))
 
 -- the end of a run, as it is found
 run_of-stopped : (fault : Option NgFault) (vlans : Bool) (at : Position) (left : List ℕ) → run_of vlans (stopped fault at) left ≡ ended fault
@@ -116,7 +117,7 @@ run_of-stopped (Some fault) vlans at left = refl
 run_of-block : (fault : Option NgFault) (frame : Option Frame) (vlans : Bool) (at next : Position) (size : ℕ) (left : List ℕ) (f : Found)
     → (None ≡ fault → read_on vlans next (drop size left) ≡ run_of vlans f (drop size left))
     → of_block fault frame (read_on vlans next (drop size left)) ≡ run_of vlans (at_block fault frame at next size f) left
-run_of-block None None vlans at next size left f more = more refl ∙ ap (λ (l : List ℕ). then_run f.answer (read_on vlans f.position l)) (drop-drop f.taken size left)
+run_of-block None None vlans at next size left f more = more refl ∙ ap (λ (l : List ℕ). goes_on f.answer (read_on vlans f.position l)) (drop-drop f.taken size left)
 run_of-block None (Some frame) vlans at next size left f more = refl
 run_of-block (Some fault) frame vlans at next size left f more = refl
 
@@ -135,15 +136,15 @@ first_within (suc n) vlans at (x ∷ left) short =
 
 -- the frames that are left are the one that is found, and then the rest
 pub read_on-found : (vlans : Bool) (at : Position) (left : List ℕ)
-    → read_on vlans at left ≡ then_run (found vlans at left).answer (read_on vlans (found vlans at left).position (drop (found vlans at left).taken left))
+    → read_on vlans at left ≡ goes_on (found vlans at left).answer (read_on vlans (found vlans at left).position (drop (found vlans at left).taken left))
 read_on-found vlans at left = first_within (length left) vlans at left (omega arith)
 
 -- a block's frame is before the run behind it, and leaves the run's fault
-behind-fault : (frame : Option Frame) (run : NgRun) → (behind frame run).fault ≡ run.fault
+behind-fault : (frame : Option Frame) (run : Run NgFault) → (behind frame run).fault ≡ run.fault
 behind-fault None run = refl
 behind-fault (Some f) run = refl
 
-of_block-fault : (fault : Option NgFault) (one other : Option Frame) (a b : NgRun) → a.fault ≡ b.fault → (of_block fault one a).fault ≡ (of_block fault other b).fault
+of_block-fault : (fault : Option NgFault) (one other : Option Frame) (a b : Run NgFault) → a.fault ≡ b.fault → (of_block fault one a).fault ≡ (of_block fault other b).fault
 of_block-fault None one other a b same = behind-fault one a ∙ same ∙ sym (behind-fault other b)
 of_block-fault (Some fault) one other a b same = refl
 

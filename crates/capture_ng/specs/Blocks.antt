@@ -1,10 +1,10 @@
 -- Blocks of a pcapng file: a type, a total length, a body, and the total length again.
 use Rattle.std.specs.Prelude.{ℕ, ◌-◌, ◌%◌, ◌==◌, ◌&&◌, nat_le, Bool, true, false, List, length, Option, Some, None, unwrap_or, if◌then◌else◌}
 use Rattle.octets.specs.Numbers.{little}
-use Rattle.capture_ng.specs.Numbers.{number}
+use Rattle.capture_io.specs.Capture.{number}
 use Rattle.capture_ng.specs.Position.{Position}
-use Rattle.capture_ng.specs.declared.order.Order.{Order}
-use Rattle.capture_ng.specs.declared.order.Order.TheVariants.{Little, Big}
+use Rattle.capture_io.specs.declared.order.Order.{Order}
+use Rattle.capture_io.specs.declared.order.Order.TheVariants.{Little, Big}
 use Rattle.capture_ng.specs.declared.head.Kind.{Kind}
 use Rattle.capture_ng.specs.declared.head.Kind.TheVariants.{SectionHeader, InterfaceDescription, ObsoletePacket, SimplePacket, EnhancedPacket, Other}
 use Rattle.capture_ng.specs.declared.head.Head.{Head}

@@ -5,7 +5,7 @@ use Rattle.octets.specs.Numbers.{big_octets, little_octets}
 use Rattle.capture_ng.specs.Frames.{ng_fault, ng_frames}
 use Rattle.capture_ng.specs.Position.{Position, begin}
 use Rattle.capture_ng.specs.Spelling.{interface_block, option, packet_block, section_block}
-use Rattle.capture_ng.specs.declared.order.Order.TheVariants.{Little}
+use Rattle.capture_io.specs.declared.order.Order.TheVariants.{Little}
 use Rattle.capture_ng.specs.declared.fault.NgFault.{NgFault}
 use Rattle.capture_io.specs.declared.link.Link.TheVariants.{Raw}
 

@@ -6,7 +6,7 @@ use Rattle.capture_io.specs.Limits.{most_frame_octets, most_records}
 use Rattle.capture_ng.specs.Blocks.{begins_section, head_of, is_length, is_magic, is_packet, is_read, kind_at, order_of}
 use Rattle.capture_ng.specs.Interfaces.{are_options, option_octets}
 use Rattle.capture_ng.specs.Limits.{most_block_octets, most_blocks, most_interfaces}
-use Rattle.capture_ng.specs.Numbers.{number}
+use Rattle.capture_io.specs.Capture.{number}
 use Rattle.capture_ng.specs.Packets.{interface_of, is_moment, kept, moment, packet_room}
 use Rattle.capture_ng.specs.Position.{Position}
 use Rattle.capture_ng.specs.declared.head.Kind.TheVariants.{SectionHeader, InterfaceDescription, ObsoletePacket, SimplePacket, EnhancedPacket, Other}

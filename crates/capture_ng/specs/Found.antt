@@ -3,7 +3,7 @@ use Rattle.std.specs.Prelude.{ℕ, zero, suc, ◌+◌, Bool, List, [], ◌∷◌
 use Rattle.capture_io.specs.Frame.{Frame}
 use Rattle.capture_ng.specs.Blocks.{head_of}
 use Rattle.capture_ng.specs.Faults.{block_fault, end_fault}
-use Rattle.capture_ng.specs.Frames.{NgRun, advanced, before, block_frame, ended, rest}
+use Rattle.capture_ng.specs.Frames.{advanced, block_frame, rest}
 use Rattle.capture_ng.specs.Position.{Position}
 use Rattle.capture_ng.specs.declared.fault.NgFault.{NgFault}
 
@@ -49,9 +49,3 @@ found_within (suc n) vlans at (x ∷ left) =
 -- what is found: no more blocks than octets
 unfoldable pub found : Bool → Position → List ℕ → Found
 found vlans at left = found_within (length left) vlans at left
-
--- the run of an answer and of what comes behind it
-abbrev pub then_run : Result (Option Frame) NgFault → NgRun → NgRun
-then_run (Ok None) run = ended None
-then_run (Ok (Some f)) run = before f run
-then_run (Err fault) run = ended (Some fault)

@@ -1,6 +1,7 @@
 -- All frames of a pcapng capture, and the fault at its end: block by block.
 use Rattle.std.specs.Prelude.{ℕ, zero, suc, ◌+◌, Bool, false, List, [], ◌∷◌, ◌++◌, length, drop, Option, Some, None, option_map}
 use Rattle.capture_io.specs.Frame.{Frame}
+use Rattle.capture_io.specs.Run.{Run, before, ended}
 use Rattle.capture_ng.specs.Blocks.{head_of}
 use Rattle.capture_ng.specs.Faults.{block_fault, end_fault}
 use Rattle.capture_ng.specs.Interfaces.{interface_in}
@@ -11,26 +12,13 @@ use Rattle.capture_ng.specs.declared.head.Kind.TheVariants.{SectionHeader, Inter
 use Rattle.capture_ng.specs.declared.head.Head.{Head}
 use Rattle.capture_ng.specs.declared.fault.NgFault.{NgFault}
 
--- the frames before the end or the first fault, and that fault
-pub record NgRun : Type 0 where
-  pub frames : List Frame
-  pub fault : Option NgFault
-
--- a run that ends at once
-abbrev pub ended : Option NgFault → NgRun
-ended fault = record { frames = []; fault = fault }
-
--- the run with a frame before it
-abbrev pub before : Frame → NgRun → NgRun
-before f run = record { frames = f ∷ run.frames; fault = run.fault }
-
 -- the run behind a block, with the block's frame before it where it has one
-abbrev pub behind : Option Frame → NgRun → NgRun
+abbrev pub behind : Option Frame → Run NgFault → Run NgFault
 behind None run = run
 behind (Some f) run = before f run
 
 -- the run of a block and of what comes behind it, unless the block has a fault
-abbrev pub of_block : Option NgFault → Option Frame → NgRun → NgRun
+abbrev pub of_block : Option NgFault → Option Frame → Run NgFault → Run NgFault
 of_block None frame run = behind frame run
 of_block (Some fault) frame run = ended (Some fault)
 
@@ -71,7 +59,7 @@ abbrev pub rest : Position → List ℕ → List ℕ
 rest at left = drop (head_of at left).length left
 
 -- the blocks that are left, at most n
-unfoldable pub blocks_within : ℕ → Bool → Position → List ℕ → NgRun
+unfoldable pub blocks_within : ℕ → Bool → Position → List ℕ → Run NgFault
 blocks_within zero vlans at left = ended (end_fault at)
 blocks_within (suc n) vlans at [] = ended (end_fault at)
 blocks_within (suc n) vlans at (x ∷ left) =
@@ -79,7 +67,7 @@ blocks_within (suc n) vlans at (x ∷ left) =
     (blocks_within n vlans (advanced at (x ∷ left)) (rest at (x ∷ left)))
 
 -- the blocks that are left: no more than octets
-unfoldable pub read_on : Bool → Position → List ℕ → NgRun
+unfoldable pub read_on : Bool → Position → List ℕ → Run NgFault
 read_on vlans at left = blocks_within (length left) vlans at left
 
 -- the frames of a file

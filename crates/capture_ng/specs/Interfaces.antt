@@ -4,8 +4,8 @@ use Rattle.std.specs.List.{list_all}
 use Rattle.capture_io.specs.declared.link.Link.{Link}
 use Rattle.capture_io.specs.declared.link.Link.TheVariants.{Ethernet, Raw}
 use Rattle.capture_ng.specs.Limits.{most_binary, most_decimal}
-use Rattle.capture_ng.specs.Numbers.{number}
-use Rattle.capture_ng.specs.declared.order.Order.{Order}
+use Rattle.capture_io.specs.Capture.{number}
+use Rattle.capture_io.specs.declared.order.Order.{Order}
 use Rattle.capture_ng.specs.declared.head.Head.{Head}
 use Rattle.capture_ng.specs.declared.interface.Added.{Added}
 use Rattle.capture_ng.specs.declared.interface.Added.TheVariants.{Later, Earlier}

@@ -4,11 +4,13 @@ pub mod Classic
 pub mod Coming
 pub mod Examples
 pub mod Faults
+pub mod Finding
 pub mod Found
 pub mod Frames
+pub mod Held
 pub mod Interfaces
 pub mod Limits
-pub mod Numbers
 pub mod Packets
 pub mod Position
+pub mod Reading
 pub mod Spelling

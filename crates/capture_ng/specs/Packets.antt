@@ -6,7 +6,7 @@ use Rattle.capture_io.specs.Link.{is_tagged}
 use Rattle.capture_io.specs.declared.link.Link.{Link}
 use Rattle.capture_io.specs.declared.link.Link.TheVariants.{Ethernet, Raw}
 use Rattle.capture_ng.specs.Limits.{end_of_moments}
-use Rattle.capture_ng.specs.Numbers.{number}
+use Rattle.capture_io.specs.Capture.{number}
 use Rattle.capture_ng.specs.Position.{Position}
 use Rattle.capture_ng.specs.declared.head.Kind.{Kind}
 use Rattle.capture_ng.specs.declared.head.Kind.TheVariants.{SimplePacket, EnhancedPacket}

@@ -1,6 +1,6 @@
 -- Where a pcapng file is read from.
 use Rattle.std.specs.Prelude.{ℕ, List, [], Option, None}
-use Rattle.capture_ng.specs.declared.order.Order.{Order}
+use Rattle.capture_io.specs.declared.order.Order.{Order}
 use Rattle.capture_ng.specs.declared.interface.Interface.{Interface}
 
 -- the offset in the file, and how many blocks were read; the order and the interfaces of the

@@ -1,8 +1,9 @@
 // The rules of a whole block, and of the packet in it.
-ghost use Rattle.std.specs.Prelude.{◌≡◌, ◌≤◌, ◌<◌, ◌+◌, length, option_and_then};
+ghost use Rattle.std.specs.Prelude.{◌≡◌, ◌≤◌, ◌<◌, ◌+◌, length, option_and_then, IfOk, IfErr, Some, None, false};
 ghost use Rattle.octets.specs.Rules.{first_failing};
 ghost use Rattle.capture_io.specs.Capture.{in_span};
-ghost use Rattle.capture_io.specs.Limits.{most_records};
+ghost use Rattle.capture_io.specs.Limits.{most_frame_octets, most_records};
+ghost use Rattle.capture_ng.specs.Answers.{is_outside_fault};
 ghost use Rattle.capture_ng.specs.Faults.{ended_rules, section_rules, seen_rules};
 ghost use Rattle.capture_ng.specs.Packets.{early, interface_number, kept, moment, packet_place, packet_room, time};
 
@@ -11,7 +12,7 @@ use crate::head::{Head, Kind};
 use crate::interface::Interface;
 use crate::packets::{moment_of, snapped};
 use crate::position::Position;
-use capture_io::{LONGEST_SPAN, MOST_FRAME_OCTETS};
+use capture_io::{LONGEST_SPAN, Link, MOST_FRAME_OCTETS};
 
 /// The first rule that a whole block breaks, by the number in its last four octets; none where it is cut.
 pub fn whole_fault(at: &Position, head: Head, last: Option<u32>) -> Option<NgFault>
@@ -87,8 +88,8 @@ pub fn moment(at: &Position, head: Head, interface: Interface, octets: &[u8]) ->
     }
 }
 
-// Where the packet's octets begin in the block.
-fn packet_place(head: Head) -> u32
+/// Where the packet's octets begin in the block.
+pub fn packet_place(head: Head) -> u32
     ensures { result ≡ packet_place head }
 {
     if head.kind == Kind::EnhancedPacket {
@@ -116,29 +117,54 @@ fn is_in_span(at: &Position, moment: u64) -> bool
     }
 }
 
-/// The first rule that a packet of an interface breaks.
-pub fn seen_fault(at: &Position, head: Head, interface: Interface, octets: &[u8]) -> Option<NgFault>
+/// What is seen of a packet whose block breaks no rule.
+#[derive(Clone, Copy, Debug)]
+pub struct Seen {
+    pub link: Link,
+    /// Nanoseconds since 1970, as the block says it.
+    pub moment: u64,
+    /// How many octets the block keeps.
+    pub kept: u32,
+}
+
+/// What is seen of a packet of an interface, or the first rule that it breaks.
+pub fn read_seen(
+    at: &Position,
+    head: Head,
+    interface: Interface,
+    octets: &[u8],
+) -> Result<Seen, NgFault>
     requires fields { packet_place head ≤ length octets.now }
     requires room { packet_place head + 4 ≤ head.length }
     requires units { 0 < interface.clock.units }
     requires count { at.now.count < most_records }
-    ensures { result ≡ first_failing (seen_rules at.now head octets.now interface) }
+    ensures rules { IfOk result (λ seen.
+        first_failing (seen_rules at.now head octets.now interface) ≡ None) }
+    ensures link { IfOk result (λ seen. interface.link ≡ Some seen.link) }
+    ensures moment { IfOk result (λ seen.
+        option_and_then early (moment at.now head interface octets.now) ≡ Some seen.moment) }
+    ensures kept { IfOk result (λ seen. seen.kept ≡ kept head interface octets.now) }
+    ensures room { IfOk result (λ seen. seen.kept ≤ packet_room head) }
+    ensures most { IfOk result (λ seen. seen.kept ≤ most_frame_octets) }
+    ensures fault { IfErr result (λ fault.
+        Some fault ≡ first_failing (seen_rules at.now head octets.now interface)) }
+    ensures file { IfErr result (λ fault. is_outside_fault fault ≡ false) }
 {
-    if interface.link.is_none() {
-        return Some(NgFault::BadLinkType(at.place));
-    }
+    let Some(link) = interface.link else {
+        return Err(NgFault::BadLinkType(at.place));
+    };
     let kept = kept(head, interface, octets);
     if kept > packet_room(head) {
-        return Some(NgFault::BadLength(at.place));
+        return Err(NgFault::BadLength(at.place));
     }
     if kept as usize > MOST_FRAME_OCTETS {
-        return Some(NgFault::TooLong(at.place, kept));
+        return Err(NgFault::TooLong(at.place, kept));
     }
     let Some(moment) = moment(at, head, interface, octets) else {
-        return Some(NgFault::BadMoment(at.place));
+        return Err(NgFault::BadMoment(at.place));
     };
     if !is_in_span(at, moment) {
-        return Some(NgFault::SpanTooLong(at.count + 1));
+        return Err(NgFault::SpanTooLong(at.count + 1));
     }
-    None
+    Ok(Seen { link, moment, kept })
 }

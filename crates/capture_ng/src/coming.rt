@@ -7,7 +7,7 @@ ghost use Rattle.capture_ng.specs.Blocks.{begins_section, first_size, last_numbe
 ghost use Rattle.capture_ng.specs.Coming.{HasCome};
 
 use crate::heads::begins_section;
-use crate::order::Order;
+use capture_io::Order;
 use desk::{Desk, DeskFault, FileId, read_full};
 use octets::Octets;
 use std::alloc::Global;
@@ -28,6 +28,7 @@ pub fn read_more<D: Desk>(
     ensures told { OnOk result (D.told desk.new
         ≡ option_map (after_read id.number (length front.new - length front.old)) (D.told desk.old)) }
     ensures most { OnOk result (length front.new ≤ length front.old + size) }
+    ensures front { OnOk result (take (length front.old) front.new ≡ front.old) }
     ensures more { OnOk result (length front.old ≤ length front.new) }
     ensures shown { shown (D.told desk.new) ≡ shown (D.told desk.old) }
     ensures given { D.given desk.new ≡ D.given desk.old }
@@ -46,6 +47,7 @@ pub fn read_more<D: Desk>(
 pub fn read_first<D: Desk>(alloc: Global, desk: &mut D, id: FileId) -> Result<Octets, DeskFault>
     ensures octets { IfOk result (λ first. IfSome (D.told desk.old) (λ w.
         first ≡ take (first_size (left_of id.number w)) (left_of id.number w))) }
+    ensures most { IfOk result (λ first. length first ≤ first_size first) }
     ensures told { IfOk result (λ first.
         D.told desk.new ≡ option_map (after_read id.number (length first)) (D.told desk.old)) }
     ensures shown { shown (D.told desk.new) ≡ shown (D.told desk.old) }

@@ -1,5 +1,5 @@
 // What a block begins with.
-use crate::order::Order;
+use capture_io::Order;
 
 /// The kinds of blocks that a reader tells apart, by their type.
 #[derive(Clone, Copy, Debug, PartialEq, Eq)]

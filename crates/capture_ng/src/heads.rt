@@ -4,14 +4,13 @@ ghost use Rattle.octets.specs.Rules.{first_failing};
 ghost use Rattle.capture_ng.specs.Blocks.{begins_section, head_of, is_magic, is_packet, is_read, kind_at, kind_of, least_length, order_of};
 ghost use Rattle.capture_ng.specs.Faults.{begin_rules, has_room, head_rules, length_rules};
 ghost use Rattle.capture_ng.specs.Answers.{unless};
-ghost use Rattle.capture_ng.specs.Numbers.{number};
+ghost use Rattle.capture_io.specs.Capture.{number};
 ghost use Rattle.capture_ng.specs.declared.fault.NgFault.TheVariants.{BadMagic, CutBlock};
 
 use crate::head::{Head, Kind};
-use crate::order::Order;
 use crate::position::Position;
 use crate::{MOST_BLOCK_OCTETS, MOST_BLOCKS, NgFault};
-use capture_io::MOST_RECORDS;
+use capture_io::{MOST_RECORDS, Order};
 use octets::little_32;
 
 // A section header's type, and the magic that tells its byte order.
@@ -37,7 +36,8 @@ fn is_packet(kind: Kind) -> bool
     matches!(kind, Kind::SimplePacket | Kind::EnhancedPacket)
 }
 
-fn is_read(kind: Kind) -> bool
+/// It is one of the four kinds whose body is read.
+pub fn is_read(kind: Kind) -> bool
     ensures { result ≡ is_read kind }
 {
     !matches!(kind, Kind::ObsoletePacket | Kind::Other)

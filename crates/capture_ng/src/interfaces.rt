@@ -1,5 +1,5 @@
 // The interface in a block.
-ghost use Rattle.std.specs.Prelude.{◌≡◌, ◌≤◌, length, Some, None, if◌then◌else◌};
+ghost use Rattle.std.specs.Prelude.{◌≡◌, ◌≤◌, ◌<◌, length, IfSome, Some, None, if◌then◌else◌};
 ghost use Rattle.capture_ng.specs.Interfaces.{are_options, interface_in, link_of, option_octets};
 
 use crate::head::Head;
@@ -11,8 +11,9 @@ use capture_io::Link;
 pub fn read_interface(head: Head, octets: &[u8]) -> Option<Interface>
     requires least { 20 ≤ head.length }
     requires whole { head.length ≤ length octets.now }
-    ensures { result ≡ (if are_options head.order (option_octets head octets.now)
+    ensures value { result ≡ (if are_options head.order (option_octets head octets.now)
         then Some (interface_in head octets.now) else None) }
+    ensures units { IfSome result (λ interface. 0 < interface.clock.units) }
 {
     let (_, behind_fields) = octets.split_at(16);
     let (options, _) = behind_fields.split_at(head.length as usize - 20);

@@ -1,22 +1,35 @@
 // The laws of a whole capture. Each function only states its law.
-ghost use Rattle.std.specs.Prelude.{◌≡◌, ℕ, List, Bool, false, None, drop};
+ghost use Rattle.std.specs.Prelude.{◌≡◌, ◌≤◌, ◌<◌, ℕ, length, List, Bool, false, None, drop};
 ghost use Rattle.std.specs.List.{All};
 ghost use Rattle.capture_io.specs.Frame.{Frame};
 ghost use Rattle.capture_io.specs.Frames.{capture};
+ghost use Rattle.capture_io.specs.Limits.{most_records};
+ghost use Rattle.capture_io.specs.Run.{AreLater, goes_on};
 ghost use Rattle.capture_io.specs.declared.link.Link.{Link};
 ghost use Rattle.capture_ng.specs.Classic.{classic};
-ghost use Rattle.capture_ng.specs.Found.{found, then_run};
+ghost use Rattle.capture_ng.specs.Found.{found};
 ghost use Rattle.capture_ng.specs.Frames.{ng_fault, ng_frames, read_on};
+ghost use Rattle.capture_ng.specs.Limits.{end_of_moments};
 ghost use Rattle.capture_ng.specs.Position.{Position, begin};
 
 /// The frames that are left to read are the one that is found, and then those that are left behind it;
 /// or the end, or the fault, that is found. Whether interfaces are VLANs changes no fault.
 pub fn blocks_are_read_one_by_one()
     ensures found { (vlans : Bool) (at : Position) (left : List ℕ) →
-        read_on vlans at left ≡ then_run (found vlans at left).answer
+        read_on vlans at left ≡ goes_on (found vlans at left).answer
         (read_on vlans (found vlans at left).position (drop (found vlans at left).taken left)) }
     ensures fault { (vlans : Bool) (file : List ℕ) →
         (read_on vlans begin file).fault ≡ ng_fault file }
+{}
+
+/// The moments of a file's frames don't fall, and no moment is of 2^32 seconds or more. There are no more
+/// frames than a capture may have records.
+pub fn moments_do_not_fall()
+    ensures later { (file : List ℕ) (vlans : Bool) → AreLater 0 (ng_frames file vlans) }
+    ensures few { (file : List ℕ) (vlans : Bool) →
+        length (ng_frames file vlans) ≤ most_records }
+    ensures early { (file : List ℕ) (vlans : Bool) →
+        All (λ frame. frame.moment < end_of_moments) (ng_frames file vlans) }
 {}
 
 /// Where all frames of a file have one link type, and interfaces are no VLANs, the classic capture with

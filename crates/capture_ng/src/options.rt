@@ -1,11 +1,12 @@
 // The options of an interface.
 ghost use Rattle.std.specs.Prelude.{◌≡◌, ◌+◌, ◌<◌, ◌==◌, ◌&&◌, length, nat_le, is_some, slice_index, IfSome, IsFalse, IsTrue, Some, None, if◌then◌else◌};
-ghost use Rattle.capture_ng.specs.Numbers.{number};
+ghost use Rattle.capture_io.specs.Capture.{number};
 ghost use Rattle.capture_ng.specs.Interfaces.{added_of, behind_option, clock_on, ends_options, first_option, is_proper, is_unit, padded, per_second, plain_clock, set_by, size_in};
 
 use crate::interface::{Added, Clock};
-use crate::order::Order;
+use crate::order::number_64;
 use crate::{MOST_BINARY, MOST_DECIMAL};
+use capture_io::Order;
 
 /// The clock that options set, or none where one doesn't fit or isn't proper.
 pub fn read_options(order: Order, octets: &[u8]) -> Option<Clock>
@@ -96,7 +97,7 @@ fn with_added(order: Order, value: &[u8], clock: Clock) -> Option<Clock>
     if value.len() != 8 {
         return None;
     }
-    let added = added_of(order.number_64(value));
+    let added = added_of(number_64(order, value));
     Some(Clock { added, ..clock })
 }
 

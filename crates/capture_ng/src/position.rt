@@ -1,8 +1,14 @@
 // Where a reader stands between two blocks.
-use crate::NgFault;
+ghost use Rattle.std.specs.Prelude.{◌≡◌, ◌<◌};
+ghost use Rattle.capture_ng.specs.Frames.{passed};
+ghost use Rattle.capture_ng.specs.Limits.{most_blocks};
+ghost use Rattle.capture_ng.specs.Position.{begin};
+
+use crate::head::Head;
 use crate::interface::Interface;
-use crate::order::Order;
+use capture_io::Order;
 use octets::Items;
+use std::alloc::Global;
 use std::marker::Model;
 
 /// Where a reader stands between two blocks.
@@ -24,6 +30,7 @@ pub struct Position {
 
 impl Model for Position {
     ghost use Rattle.std.specs.Prelude.{◌≤◌, ◌<◌, ◌*◌, ◌^◌, length, unwrap_or};
+    ghost use Rattle.std.specs.List.{All};
     ghost use Rattle.capture_io.specs.Limits.{most_records};
     ghost use Rattle.capture_ng.specs.Limits.{end_of_moments, most_blocks, most_interfaces};
     ghost use Rattle.capture_ng.specs.Position.{Position};
@@ -41,5 +48,31 @@ impl Model for Position {
 
     ghost invariant = { λ p. (p.blocks ≤ most_blocks) × ((p.place ≤ 2 ^ 32 * p.blocks)
         × ((p.count ≤ most_records) × ((unwrap_or p.greatest 0 < end_of_moments)
-        × (length p.interfaces ≤ most_interfaces)))) };
+        × ((length p.interfaces ≤ most_interfaces)
+        × All (λ interface. 0 < interface.clock.units) p.interfaces)))) };
+}
+
+impl Position {
+    /// At the start of a file. Takes no memory.
+    pub fn begin(alloc: Global) -> Position
+        ensures { result ≡ begin }
+    {
+        Position {
+            place: 0,
+            blocks: 0,
+            order: None,
+            interfaces: Items::new(alloc),
+            count: 0,
+            greatest: None,
+        }
+    }
+
+    /// One block further.
+    pub fn pass(&mut self, head: Head)
+        requires { self.old.blocks < most_blocks }
+        ensures { self.new ≡ passed self.old head }
+    {
+        self.place += u64::from(head.length);
+        self.blocks += 1;
+    }
 }

@@ -1,0 +1,110 @@
+// Blocks, read to their ends.
+ghost use Rattle.std.specs.Prelude.{◌≡◌, ◌≤◌, ◌+◌, ◌-◌, ◌++◌, length, take, option_map, IfOk, IfErr, IfSome, IsErrOf, IsTrue, MatchOption, None, Some, OnOk, [], false};
+ghost use Rattle.octets.specs.Causes.{Rose};
+ghost use Rattle.desk.specs.declared.fault.DeskFault.TheVariants.{Failed};
+ghost use Rattle.desk.specs.Causes.{HasCause, StaysSteady};
+ghost use Rattle.desk.specs.World.{left_of, after_read, to_read, shown, IsGiven};
+ghost use Rattle.capture_ng.specs.Answers.{is_outside_fault};
+ghost use Rattle.capture_ng.specs.Blocks.{is_read, last_number};
+ghost use Rattle.capture_ng.specs.Faults.{end_fault};
+ghost use Rattle.capture_ng.specs.Held.{IsHeld, IsFront, next_fault, block_size};
+ghost use Rattle.capture_ng.specs.declared.fault.NgFault.TheVariants.{Host};
+
+use crate::NgFault;
+use crate::bodies::whole_fault;
+use crate::coming::{read_end, read_first, read_more};
+use crate::head::Head;
+use crate::heads::{is_read, read_head};
+use crate::position::Position;
+use desk::{Desk, DeskFault, FileId};
+use octets::Octets;
+use std::alloc::Global;
+
+/// The block that comes next, read to its end, or none at the end of the file: its head, and its octets,
+/// all of them where its body is read.
+pub fn read_block<D: Desk>(
+    alloc: Global,
+    desk: &mut D,
+    id: FileId,
+    at: &Position,
+) -> Result<Option<(Head, Octets)>, NgFault>
+    ensures front { IfOk result (λ o. IfSome (D.told desk.old) (λ w.
+        MatchOption o ((left_of id.number w ≡ []) × (None ≡ end_fault at.now))
+        (λ block. IsFront at.now (left_of id.number w) block.0 block.1))) }
+    ensures held { IfOk result (λ o. IfSome o (λ block. IsHeld at.now block.0 block.1)) }
+    ensures fault { IfErr result (λ f. is_outside_fault f ≡ false →
+        IfSome (D.told desk.old) (λ w. Some f ≡ next_fault at.now (left_of id.number w))) }
+    ensures told { IfOk result (λ o.
+        D.told desk.new ≡ option_map (after_read id.number (block_size o)) (D.told desk.old)) }
+    ensures shown { shown (D.told desk.new) ≡ shown (D.told desk.old) }
+    ensures given { D.given desk.new ≡ D.given desk.old }
+    ensures later { D.faults desk.old ≤ D.faults desk.new }
+    ensures host { IsErrOf result Host → Rose (D.faults desk.old) (D.faults desk.new) }
+    ensures steady { StaysSteady (D.steady desk.old) (D.steady desk.new)
+        (IsGiven id.number to_read (D.given desk.old)) (IsErrOf result Host) }
+{
+    let mut octets = read_first(alloc, desk, id)?;
+    if octets.len() == 0 {
+        return at_end(at);
+    }
+    let head = read_head(at, octets.as_slice())?;
+    let last = read_rest(alloc, desk, id, head, &mut octets)?;
+    if let Some(fault) = whole_fault(at, head, last) {
+        return Err(fault);
+    }
+    Ok(Some((head, octets)))
+}
+
+// What is answered where no octet is left: the empty file is cut.
+fn at_end(at: &Position) -> Result<Option<(Head, Octets)>, NgFault>
+    ensures end { IfOk result (λ o. (o ≡ None) × (None ≡ end_fault at.now)) }
+    ensures fault { IfErr result (λ f. (is_outside_fault f ≡ false) × (Some f ≡ end_fault at.now)) }
+{
+    match at.order {
+        Some(_) => Ok(None),
+        None => Err(NgFault::CutBlock(at.place)),
+    }
+}
+
+// Reads a block to its end behind its first octets, to which the others are added where its body is read.
+// The number in its last four octets, where all came.
+fn read_rest<D: Desk>(
+    alloc: Global,
+    desk: &mut D,
+    id: FileId,
+    head: Head,
+    octets: &mut Octets,
+) -> Result<Option<u32>, DeskFault>
+    requires { length octets.old + 4 ≤ head.length }
+    ensures last { IfOk result (λ last. IfSome (D.told desk.old) (λ w.
+        last ≡ last_number head.order (head.length - length octets.old) (left_of id.number w))) }
+    ensures octets { IfOk result (λ last. IfSome (D.told desk.old) (λ w. IsTrue (is_read head.kind) →
+        octets.new ≡ octets.old ++ take (head.length - length octets.old) (left_of id.number w))) }
+    ensures whole { IfOk result (λ last. IfSome last (λ number. IsTrue (is_read head.kind) →
+        length octets.new ≡ head.length)) }
+    ensures told { IfOk result (λ last. IfSome last (λ number. D.told desk.new
+        ≡ option_map (after_read id.number (head.length - length octets.old)) (D.told desk.old))) }
+    ensures shown { shown (D.told desk.new) ≡ shown (D.told desk.old) }
+    ensures given { D.given desk.new ≡ D.given desk.old }
+    ensures cause { HasCause (D.faults desk.old) (D.faults desk.new) result }
+    ensures steady { StaysSteady (D.steady desk.old) (D.steady desk.new)
+        (IsGiven id.number to_read (D.given desk.old)) (IsErrOf result Failed) }
+{
+    let size = head.length - octets.len() as u32;
+    if !is_read(head.kind) {
+        return read_end(alloc, desk, id, head.order, size);
+    }
+    read_more(alloc, desk, id, size, octets)?;
+    Ok(last_of(head, octets.as_slice()))
+}
+
+// The number in the last four octets of a block, where these came.
+fn last_of(head: Head, octets: &[u8]) -> Option<u32>
+    requires { 4 ≤ head.length }
+    ensures { result ≡ last_number head.order head.length octets.now }
+{
+    if octets.len() < head.length as usize {
+        return None;
+    }
+    Some(head.order.number_32(octets, head.length as usize - 4))
+}

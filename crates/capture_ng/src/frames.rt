@@ -1,0 +1,94 @@
+// The frame of a packet block.
+ghost use Rattle.std.specs.Prelude.{◌≡◌, ◌≤◌, ◌<◌, ◌+◌, ◌&&◌, length, take, drop, nat_lt, slice_get, option_and_then, option_map, IfOk, IfErr, IfSome, IsErrOf, Some, None, false, if◌then◌else◌};
+ghost use Rattle.std.specs.List.{All};
+ghost use Rattle.octets.specs.Rules.{first_failing};
+ghost use Rattle.capture_io.specs.Limits.{most_records};
+ghost use Rattle.capture_ng.specs.Answers.{is_outside_fault};
+ghost use Rattle.capture_ng.specs.Faults.{packet_rules};
+ghost use Rattle.capture_ng.specs.Limits.{most_interfaces};
+ghost use Rattle.capture_ng.specs.Packets.{frame_of, interface_of, is_untagged, packet_of, packet_place, tagged};
+ghost use Rattle.capture_ng.specs.Reading.{IsNext};
+ghost use Rattle.capture_ng.specs.declared.fault.NgFault.TheVariants.{Host};
+
+use crate::NgFault;
+use crate::bodies::{interface_number, packet_place, read_seen};
+use crate::head::Head;
+use crate::interface::Interface;
+use crate::packets::{is_untagged, tagged};
+use crate::position::Position;
+use capture_io::{Frame, Link};
+use octets::{NoMemory, Octets};
+use std::alloc::Global;
+
+/// The frame of a packet block, or the first rule that its packet breaks.
+pub fn read_packet(
+    alloc: Global,
+    vlans: bool,
+    at: &Position,
+    head: Head,
+    octets: &[u8],
+) -> Result<Frame, NgFault>
+    requires fields { packet_place head + 4 ≤ head.length }
+    requires whole { length octets.now ≡ head.length }
+    requires count { at.now.count < most_records }
+    ensures rules { IfOk result (λ f. first_failing (packet_rules at.now head octets.now) ≡ None) }
+    ensures frame { IfOk result (λ f. Some f ≡ option_map (frame_of vlans)
+        (option_and_then (packet_of at.now head octets.now) (interface_of at.now head octets.now))) }
+    ensures next { IfOk result (IsNext vlans at.now) }
+    ensures fault { IfErr result (λ fault. is_outside_fault fault ≡ false →
+        Some fault ≡ first_failing (packet_rules at.now head octets.now)) }
+    ensures host { IsErrOf result Host → ⊥ }
+{
+    let number = interface_number(head, octets);
+    let Some(interface) = interface_at(at, number) else {
+        return Err(NgFault::BadInterface(at.place));
+    };
+    let seen = read_seen(at, head, interface, octets)?;
+    let kept = kept_octets(head, seen.kept, octets);
+    let octets = frame_octets(alloc, vlans, number, seen.link, kept)?;
+    Ok(Frame {
+        number: at.count + 1,
+        moment: at.greatest.unwrap_or(0).max(seen.moment),
+        link: seen.link,
+        octets,
+    })
+}
+
+// The interface of a number, where the section has it.
+fn interface_at(at: &Position, number: u32) -> Option<Interface>
+    ensures value { result ≡ slice_get at.now.interfaces number }
+    ensures few { IfSome result (λ interface. number < most_interfaces) }
+    ensures units { IfSome result (λ interface. 0 < interface.clock.units) }
+{
+    at.interfaces.as_slice().get(number as usize).copied()
+}
+
+// The octets that a packet block keeps of its packet.
+fn kept_octets(head: Head, kept: u32, octets: &[u8]) -> &[u8]
+    requires { packet_place head + kept ≤ length octets.now }
+    ensures { result.now ≡ take kept (drop (packet_place head) octets.now) }
+{
+    let (_, behind) = octets.split_at(packet_place(head) as usize);
+    let (kept, _) = behind.split_at(kept as usize);
+    kept
+}
+
+// The octets of a frame: those that were kept, with a tag where its interface is a VLAN.
+fn frame_octets(
+    alloc: Global,
+    vlans: bool,
+    number: u32,
+    link: Link,
+    kept: &[u8],
+) -> Result<Octets, NoMemory>
+    requires { number < 65536 }
+    ensures value { IfOk result (λ o. o ≡
+        (if vlans && (nat_lt 0 number && is_untagged link kept.now) then tagged number kept.now
+        else kept.now)) }
+    ensures octets { IfOk result (All (λ octet. octet < 256)) }
+{
+    if vlans && (number > 0 && is_untagged(link, kept)) {
+        return tagged(alloc, number as u16, kept);
+    }
+    Octets::copied(alloc, kept)
+}
