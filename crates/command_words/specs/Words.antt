@@ -4,6 +4,8 @@ use Rattle.std.specs.List.{list_all, list_any}
 use Rattle.std.specs.Str.{bytes_eq}
 use Rattle.std.specs.Str.Parse.{digits_value}
 use Rattle.command_words.specs.Limits.{default_round_frames, most_round_frames, most_trial_mappings, most_workers}
+use Rattle.command_words.specs.declared.input_format.InputFormat.{InputFormat}
+use Rattle.command_words.specs.declared.input_format.InputFormat.TheVariants.{Classic, Ng}
 use Rattle.command_words.specs.declared.words.Words.{Words}
 use Rattle.command_words.specs.declared.words.Words.TheVariants.{Replay, Show, Trial}
 
@@ -61,12 +63,42 @@ abbrev pub number_or : ℕ → ℕ → ℕ → Option (List ℕ) → Option ℕ
 number_or least greatest default (Some text) = number_in least greatest text
 number_or least greatest default None = Some default
 
+-- ### formats
+
+-- the format that this word names; without the word it is classic
+abbrev pub named_format : Option (List ℕ) → Option InputFormat
+named_format None = Some Classic
+named_format (Some word) =
+    if bytes_eq word (codes "classic") then Some Classic
+    else if bytes_eq word (codes "ng") then Some (Ng false)
+    else None
+
+-- the format in which interfaces are VLANs: a classic capture has none
+abbrev pub with_vlans : InputFormat → Option InputFormat
+with_vlans Classic = None
+with_vlans (Ng vlans) = Some (Ng true)
+
+-- the format in which interfaces are what this word names; without the word they are no VLANs
+abbrev pub with_interfaces : Option (List ℕ) → InputFormat → Option InputFormat
+with_interfaces None format = Some format
+with_interfaces (Some word) format =
+    if bytes_eq word (codes "none") then Some format
+    else if bytes_eq word (codes "vlan") then with_vlans format
+    else None
+
+-- the format by the values of `--format` and `--interfaces`
+abbrev pub format_of : Option (List ℕ) → Option (List ℕ) → Option InputFormat
+format_of word interfaces = do
+  format ← named_format word
+  with_interfaces interfaces format
+
 -- ### commands
 
 -- the names of the options of a replay, and of a show
 abbrev pub replay_names : List (List ℕ)
 replay_names =
-    codes "--settings" ∷ codes "--in" ∷ codes "--out" ∷ codes "--workers" ∷ codes "--round" ∷ []
+    codes "--settings" ∷ codes "--in" ∷ codes "--out" ∷ codes "--format" ∷ codes "--interfaces"
+    ∷ codes "--workers" ∷ codes "--round" ∷ []
 
 abbrev pub show_names : List (List ℕ)
 show_names = codes "--in" ∷ []
@@ -76,21 +108,22 @@ abbrev pub options_of : List (List ℕ) → List (List ℕ) → Option (List (Li
 options_of names words = if are_options names words then Some words else None
 
 -- the replay of these words, unless the output is one of the other files
-abbrev pub unless_over : List ℕ → List ℕ → List ℕ → ℕ → ℕ → Option Words
-unless_over settings input output workers round =
+abbrev pub unless_over : List ℕ → List ℕ → List ℕ → InputFormat → ℕ → ℕ → Option Words
+unless_over settings input output format workers round =
     if bytes_eq output input || bytes_eq output settings then None
-    else Some (Replay settings input output workers round)
+    else Some (Replay settings input output format workers round)
 
--- `--settings F --in F --out F [--workers N] [--round N]`
+-- `--settings F --in F --out F [--format classic|ng] [--interfaces none|vlan] [--workers N] [--round N]`
 abbrev pub replay_of : List (List ℕ) → Option Words
 replay_of words = do
   options ← options_of replay_names words
   settings ← value_of (codes "--settings") options
   input ← value_of (codes "--in") options
   output ← value_of (codes "--out") options
+  format ← format_of (value_of (codes "--format") options) (value_of (codes "--interfaces") options)
   workers ← number_or 0 most_workers 0 (value_of (codes "--workers") options)
   round ← number_or 1 most_round_frames default_round_frames (value_of (codes "--round") options)
-  unless_over settings input output workers round
+  unless_over settings input output format workers round
 
 -- `--in F`
 abbrev pub show_of : List (List ℕ) → Option Words
@@ -109,7 +142,7 @@ trial_of (number ∷ (other ∷ more)) = None
 
 -- the numbers are within their limits
 abbrev pub AreWithinLimits : Words → Type 0
-AreWithinLimits (Replay settings input output workers round) =
+AreWithinLimits (Replay settings input output format workers round) =
     (workers ≤ most_workers) × ((1 ≤ round) × (round ≤ most_round_frames))
 AreWithinLimits (Show input) = Unit {0}
 AreWithinLimits (Trial n) = n ≤ most_trial_mappings

@@ -1,8 +1,11 @@
 // The words after the program's name.
-ghost use Rattle.std.specs.Prelude.{◌≡◌, ◌≤◌, Err, None, Some, map, string_bytes, IfOk, option_map};
-ghost use Rattle.command_words.specs.Words.{replay_of, show_of, trial_of, words_of, AreWithinLimits};
+ghost use Rattle.std.specs.Prelude.{◌≡◌, ◌≤◌, Err, None, Some, codes, map, string_bytes, IfOk, IfSome, option_map};
+ghost use Rattle.command_words.specs.Limits.{default_round_frames, most_round_frames, most_workers};
+ghost use Rattle.command_words.specs.Words.{are_options, number_or, replay_names, replay_of, show_of, trial_of, value_of, words_of, AreWithinLimits};
 ghost use Rattle.command_words.specs.declared.words.WordsFault.TheVariants.{Usage, Memory};
 
+use crate::InputFormat;
+use crate::input_format::format_of;
 use crate::limits::{DEFAULT_ROUND_FRAMES, MOST_ROUND_FRAMES, MOST_TRIAL_MAPPINGS, MOST_WORKERS};
 use crate::options::{are_options, number_in, number_or, value_of};
 use octets::NoMemory;
@@ -53,6 +56,7 @@ pub enum Words {
         settings: Text,
         input: Text,
         output: Text,
+        format: InputFormat,
         workers: u8,
         round: u16,
     },
@@ -107,21 +111,15 @@ fn read_replay(alloc: Global, words: &[Word]) -> Result<Words, WordsFault>
     ensures usage { result ≡ Err Usage → replay_of (map string_bytes words.now) ≡ None }
     ensures limits { IfOk result AreWithinLimits }
 {
-    let names = ["--settings", "--in", "--out", "--workers", "--round"];
-    if !are_options(&names, words) {
+    if !are_replay_options(words) {
         return Err(WordsFault::Usage);
     }
     let settings = value_of("--settings", words).ok_or(WordsFault::Usage)?;
     let input = value_of("--in", words).ok_or(WordsFault::Usage)?;
     let output = value_of("--out", words).ok_or(WordsFault::Usage)?;
-    let workers = number_or(words, "--workers", (0, MOST_WORKERS), 0).ok_or(WordsFault::Usage)?;
-    let round = number_or(
-        words,
-        "--round",
-        (1, MOST_ROUND_FRAMES),
-        DEFAULT_ROUND_FRAMES,
-    )
-    .ok_or(WordsFault::Usage)?;
+    let format = format_of(words).ok_or(WordsFault::Usage)?;
+    let workers = workers_of(words).ok_or(WordsFault::Usage)?;
+    let round = round_of(words).ok_or(WordsFault::Usage)?;
     if output == input || output == settings {
         return Err(WordsFault::Usage);
     }
@@ -130,9 +128,42 @@ fn read_replay(alloc: Global, words: &[Word]) -> Result<Words, WordsFault>
         settings,
         input,
         output,
+        format,
         workers: workers as u8,
         round: round as u16,
     })
+}
+
+fn are_replay_options(words: &[Word]) -> bool
+    ensures { result ≡ are_options replay_names (map string_bytes words.now) }
+{
+    let names = [
+        "--settings",
+        "--in",
+        "--out",
+        "--format",
+        "--interfaces",
+        "--workers",
+        "--round",
+    ];
+    are_options(&names, words)
+}
+
+fn workers_of(words: &[Word]) -> Option<u32>
+    ensures number { result ≡ number_or 0 most_workers 0
+        (value_of (codes "--workers") (map string_bytes words.now)) }
+    ensures within { IfSome result (λ n. n ≤ most_workers) }
+{
+    number_or(words, "--workers", (0, MOST_WORKERS), 0)
+}
+
+fn round_of(words: &[Word]) -> Option<u32>
+    ensures number { result ≡ number_or 1 most_round_frames default_round_frames
+        (value_of (codes "--round") (map string_bytes words.now)) }
+    ensures within { IfSome result (λ n. (1 ≤ n) × (n ≤ most_round_frames)) }
+{
+    let bounds = (1, MOST_ROUND_FRAMES);
+    number_or(words, "--round", bounds, DEFAULT_ROUND_FRAMES)
 }
 
 // Copies of three words.

@@ -6,39 +6,77 @@ use std::test::Fail;
 fn words_of_a_form_say_their_values(rt: HostRuntime) -> Result<(), Fail> {
     let alloc = rt.alloc();
     for (text, says) in [
-        ("replay --settings s --in i --out o", "replay s i o 0 256"),
+        (
+            "replay --settings s --in i --out o",
+            "replay s i o classic 0 256",
+        ),
         (
             "replay --settings s --in i --out o --round 1",
-            "replay s i o 0 1",
+            "replay s i o classic 0 1",
         ),
         (
             "replay --settings s --round 256 --in i --out o",
-            "replay s i o 0 256",
+            "replay s i o classic 0 256",
         ),
         (
             "replay --round 4096 --settings s --in i --out o",
-            "replay s i o 0 4096",
+            "replay s i o classic 0 4096",
         ),
         (
             "replay --out o --round 4095 --workers 0 --in i --settings s",
-            "replay s i o 0 4095",
+            "replay s i o classic 0 4095",
         ),
         (
             "replay --workers 0 --in i --out o --settings s --round 10",
-            "replay s i o 0 10",
+            "replay s i o classic 0 10",
         ),
-        ("replay --settings a --in a --out b", "replay a a b 0 256"),
+        (
+            "replay --settings s --in i --out o --format classic",
+            "replay s i o classic 0 256",
+        ),
+        (
+            "replay --format ng --settings s --in i --out o",
+            "replay s i o ng 0 256",
+        ),
+        (
+            "replay --interfaces none --settings s --in i --out o",
+            "replay s i o classic 0 256",
+        ),
+        (
+            "replay --settings s --format classic --in i --interfaces none --out o",
+            "replay s i o classic 0 256",
+        ),
+        (
+            "replay --settings s --interfaces none --in i --format ng --out o",
+            "replay s i o ng 0 256",
+        ),
+        (
+            "replay --settings s --in i --out o --format ng --interfaces vlan",
+            "replay s i o ng-vlan 0 256",
+        ),
+        (
+            "replay --interfaces vlan --round 7 --format ng --in i --workers 2 --out o --settings s",
+            "replay s i o ng-vlan 2 7",
+        ),
+        (
+            "replay --settings ng --in classic --out vlan",
+            "replay ng classic vlan classic 0 256",
+        ),
+        (
+            "replay --settings a --in a --out b",
+            "replay a a b classic 0 256",
+        ),
         (
             "replay --settings i --in I --out ./I",
-            "replay i I ./I 0 256",
+            "replay i I ./I classic 0 256",
         ),
         (
             "replay --settings 0 --in replay --out o--",
-            "replay 0 replay o-- 0 256",
+            "replay 0 replay o-- classic 0 256",
         ),
         (
             "replay --settings s=s --in ö --out oo",
-            "replay s=s ö oo 0 256",
+            "replay s=s ö oo classic 0 256",
         ),
         ("show --in x", "show x"),
         ("show --in show", "show show"),

@@ -1,5 +1,5 @@
 // Lists of words that are of no form, and that no line of words spells.
-use crate::word_lists::{REPLAY, ROUND, WORKERS, said, words_in};
+use crate::word_lists::{FORMAT, INTERFACES, REPLAY, ROUND, WORKERS, said, words_in};
 use std::test::Fail;
 
 #[test]
@@ -19,6 +19,8 @@ fn empty_words_blanks_in_words_and_long_lists_are_of_no_form(rt: HostRuntime) ->
         ("show --in", "", 1),
         (ROUND, "", 1),
         (WORKERS, "", 1),
+        (FORMAT, "", 1),
+        (INTERFACES, "", 1),
         ("trial", "", 1),
         // A number has no blanks.
         (ROUND, " 1", 1),
@@ -26,6 +28,10 @@ fn empty_words_blanks_in_words_and_long_lists_are_of_no_form(rt: HostRuntime) ->
         (WORKERS, "0 ", 1),
         ("trial", " 5", 1),
         ("trial", "5 ", 1),
+        // Nor has the name of a format.
+        (FORMAT, " ng", 1),
+        (FORMAT, "ng ", 1),
+        (INTERFACES, "vlan ", 1),
         // Two thousand words behind a lawful option.
         ("show --in x", "--junk", 2000),
         ("show --in x", "--in", 2000),

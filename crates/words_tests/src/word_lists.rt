@@ -1,5 +1,5 @@
 // Lists of words, and what they say.
-use command_words::{Word, Words, WordsFault, read_words};
+use command_words::{InputFormat, Word, Words, WordsFault, read_words};
 use std::alloc::Global;
 use std::test::Fail;
 
@@ -12,6 +12,12 @@ pub const ROUND: &str = "replay --settings s --in i --out o --round";
 /// Likewise.
 pub const WORKERS: &str = "replay --settings s --in i --out o --workers";
 
+/// Likewise.
+pub const FORMAT: &str = "replay --settings s --in i --out o --format";
+
+/// Likewise, of a format that has interfaces.
+pub const INTERFACES: &str = "replay --settings s --in i --out o --format ng --interfaces";
+
 /// The words between the spaces of a text; two spaces in a row have an empty word between them.
 pub fn words_in(alloc: Global, text: &str) -> Result<Vec<Word>, Fail> {
     let mut words: Vec<Word> = Vec::new(alloc);
@@ -21,7 +27,8 @@ pub fn words_in(alloc: Global, text: &str) -> Result<Vec<Word>, Fail> {
     Ok(words)
 }
 
-/// What the words say: the command, the files, and the numbers of workers and of a round's frames.
+/// What the words say: the command, the files, the format, and the numbers of workers and of a
+/// round's frames.
 pub fn said(alloc: Global, words: &[Word]) -> Result<String, Fail> {
     let text = match read_words(alloc, words) {
         Ok(
@@ -29,12 +36,14 @@ pub fn said(alloc: Global, words: &[Word]) -> Result<String, Fail> {
                 settings,
                 input,
                 output,
+                format,
                 workers,
                 round,
             },
         ) => {
             let (settings, input, output) = (settings.as_str(), input.as_str(), output.as_str());
-            format!(in alloc; "replay {settings} {input} {output} {workers} {round}")?
+            let format = format_word(format);
+            format!(in alloc; "replay {settings} {input} {output} {format} {workers} {round}")?
         }
         Ok(Words::Show { input }) => format!(in alloc; "show {}", input.as_str())?,
         Ok(Words::Trial { n }) => format!(in alloc; "trial {n}")?,
@@ -42,4 +51,12 @@ pub fn said(alloc: Global, words: &[Word]) -> Result<String, Fail> {
         Err(WordsFault::Memory) => String::from_str(alloc, "memory")?,
     };
     Ok(text)
+}
+
+fn format_word(format: InputFormat) -> &'static str {
+    match format {
+        InputFormat::Classic => "classic",
+        InputFormat::Ng { vlans: false } => "ng",
+        InputFormat::Ng { vlans: true } => "ng-vlan",
+    }
 }
