@@ -1,16 +1,16 @@
 -- Plays whose outcome is determined at each event.
 use Rattle.std.proofs.Common.{◌≡◌, ℕ, List, [], ◌∷◌, ◌++◌, Option, Some, refl, sym, ap, ap₂, ◌∙◌, ◌⊎◌, inl, inr, subst}
 use Rattle.std.proofs.lemmas.List.{append-nil}
-use Rattle.std.specs.List.{All}
 use Rattle.desk.specs.World.{World, Shown}
 use Rattle.capture_io.specs.Frame.{Frame}
-use Rattle.capture_io.specs.Frames.{Run}
+use Rattle.capture_events.specs.Came.{Came}
 use Rattle.playback.specs.Determined.{CutPlay, EndPlay}
-use Rattle.playback.specs.Events.{Determined, End, Event, Happens, Outcome, Pause, Played, Step, events, followed, happened, played, records_of}
+use Rattle.capture_events.specs.Events.{Determined, End, Event, Happens, Outcome, Pause, Played, Step, events, followed, happened, played, records_of}
 use Rattle.playback.specs.Front.{Cut, CutRun, IsFront}
-use Rattle.playback.specs.Playing.{with_outcome, Ends, HasPlayed, IsRead}
+use Rattle.playback.specs.Input.{InputRun}
+use Rattle.playback.specs.Playing.{with_outcome, Ends, HasPlayed}
 use Rattle.playback.specs.declared.plays.Ending.{Ending}
-use Rattle.playback.proofs.EventLemmas.{happened-append, played-append}
+use Rattle.capture_events.proofs.EventLemmas.{happened-append, played-append}
 use Rattle.playback.proofs.FrontLemmas.{front-front, front-lines}
 
 -- with the end they are the same
@@ -36,21 +36,21 @@ module _ {S : Type 0} (step : S → Event → Outcome S) where
 
   module _ (start : S) (file : Option ℕ) (old : Shown) where
     -- a play to the end
-    pub end-play : (run : Run) (ending : Ending) (after : S) (now : Option World) → HasPlayed (Determined step) start file old run ending after now → EndPlay step start file old run ending after now
+    pub end-play : (run : InputRun) (ending : Ending) (after : S) (now : Option World) → HasPlayed (Determined step) start file old run ending after now → EndPlay step start file old run ending after now
     end-play run ending after now has =
         let events = happened-closed has.steps ∙ has.steps_are.events in
         let same = determined-played start (has.steps ++ End ∷ []) has.outcome has.played ∙ ap (played step start) events in
         record {
-          read = has.read;
+          came = has.came;
           ends = subst (λ (o : Outcome S). Ends o run ending) same has.ends;
           shown = has.shown ∙ ap (λ (o : Outcome S). Some (with_outcome file o old)) same;
           left = has.left ∙ ap (λ (o : Outcome S). o.after) same;
         }
 
     -- a play of these frames that is cut short
-    cut-frames : (run : Run) (frames : List Frame) (all : List Step) (now : Option World) → happened all ≡ events frames → IsFront frames run.frames → All IsRead frames
+    cut-frames : (run : InputRun) (frames : List Frame) (all : List Step) (now : Option World) → happened all ≡ events frames → IsFront frames run.frames → Came frames
         → Cut (Determined step) start file old all now → CutPlay step start file old run now
-    cut-frames run frames all now same within read cut =
+    cut-frames run frames all now same within came cut =
         let some = happened cut.first in
         let more = happened cut.others in
         let done : cut.done ≡ played step start some = determined-played start cut.first cut.done cut.is_done in
@@ -63,7 +63,7 @@ module _ {S : Type 0} (step : S → Event → Outcome S) where
         record {
           frames = frames;
           within = within;
-          read = read;
+          came = came;
           first = some;
           front = front-front some (some ++ more) (events frames) (more, refl) both;
           lines = cut.lines;
@@ -75,9 +75,9 @@ module _ {S : Type 0} (step : S → Event → Outcome S) where
         }
 
     -- the same of a run
-    pub cut-play : (run : Run) (now : Option World) → CutRun (Determined step) start file old run now → CutPlay step start file old run now
+    pub cut-play : (run : InputRun) (now : Option World) → CutRun (Determined step) start file old run now → CutPlay step start file old run now
     cut-play run now cut = cases cut.cut
       where
         cases : Cut (Determined step) start file old cut.steps now ⊎ ((cut.frames ≡ run.frames) × Cut (Determined step) start file old (cut.steps ++ End ∷ []) now) → CutPlay step start file old run now
-        cases (inl some) = cut-frames run cut.frames cut.steps now cut.steps_are.events cut.within cut.read some
-        cases (inr (whole, all)) = cut-frames run cut.frames (cut.steps ++ End ∷ []) now (happened-closed cut.steps ∙ cut.steps_are.events) cut.within cut.read all
+        cases (inl some) = cut-frames run cut.frames cut.steps now cut.steps_are.events cut.within cut.came some
+        cases (inr (whole, all)) = cut-frames run cut.frames (cut.steps ++ End ∷ []) now (happened-closed cut.steps ∙ cut.steps_are.events) cut.within cut.came all

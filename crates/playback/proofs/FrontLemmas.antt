@@ -7,11 +7,11 @@ use Rattle.std.proofs.lemmas.List.{append-nil, length-append, map-append, take-a
 use Rattle.std.proofs.lemmas.List.FromFn.{map-range_with_len_more}
 use Rattle.desk.specs.World.{World, Shown, after_say, after_write, shown, shown_of}
 use Rattle.capture_io.specs.Frame.{Frame}
-use Rattle.playback.specs.Events.{Arrival, Event, Happens, Outcome, Played, Step, Tick, events_of, followed, idle, played, records_of, second_of, steps_of, ticks}
+use Rattle.capture_events.specs.Events.{Arrival, Event, Happens, Outcome, Played, Step, Tick, events_of, followed, idle, played, records_of, second_of, steps_of, ticks}
 use Rattle.playback.specs.Front.{Breaks, Cut, Hands, IsFront, Stands}
 use Rattle.playback.specs.Playing.{after_output, with_outcome, with_output, GathersOne}
 use Rattle.playback.specs.declared.output.Output.{Output}
-use Rattle.playback.proofs.EventLemmas.{played-append, plays-append, plays-one}
+use Rattle.capture_events.proofs.EventLemmas.{played-append, plays-append, plays-one}
 use Rattle.playback.proofs.OutputLemmas.{records_of-append, says_and_writes, with_output-twice, written-none}
 
 -- nothing is gathered

@@ -1,6 +1,7 @@
+pub mod ClassicLemmas
 pub mod DeterminedLemmas
-pub mod EventLemmas
 pub mod FrontLemmas
+pub mod NgLemmas
 pub mod OutputLemmas
 pub mod PassingLemmas
 pub mod WrittenLemmas

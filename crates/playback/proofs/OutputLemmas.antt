@@ -7,7 +7,7 @@ use Rattle.desk.specs.declared.file.NamedFile.{NamedFile}
 use Rattle.desk.specs.World.{World, Shown, after_say, after_write, extended}
 use Rattle.desk.proofs.Entries.{changed_at-changed_at, changed_at-same}
 use Rattle.capture_io.specs.Output.{packet_record}
-use Rattle.playback.specs.Events.{Packet, records_of}
+use Rattle.capture_events.specs.Events.{Packet, records_of}
 use Rattle.playback.specs.Playing.{after_output, handed_on, with_output, written, KeepsReaders}
 use Rattle.playback.specs.Front.{Hands}
 use Rattle.playback.specs.declared.output.Output.{Output}

@@ -1,27 +1,25 @@
--- The frames of a capture one after another: which were read and played, and what is left.
-use Rattle.std.proofs.Common.{◌≡◌, ℕ, ◌+◌, length, List, [], ◌∷◌, ◌++◌, drop, Option, Some, None, Result, Ok, Err, append_assoc, refl, sym, ap, ap₂, ◌∙◌, subst, inl, inr, arith, unwrap_or}
+-- The frames of a capture one after another: which came and were played, and what is left.
+use Rattle.std.proofs.Common.{◌≡◌, ◌≤◌, ℕ, ◌+◌, length, List, [], ◌∷◌, ◌++◌, drop, Option, Some, None, Result, Ok, Err, append_assoc, refl, sym, ap, ap₂, ◌∙◌, subst, inl, inr, arith, unwrap_or}
 use Rattle.std.specs.List.{All}
 use Rattle.std.proofs.lemmas.List.{append-nil, length-append}
 use Rattle.std.proofs.lemmas.List.Elements.{All-append, All-cons, All-nil}
-use Rattle.std.specs.Option.{option_map, IfSome, IsSomeAnd}
+use Rattle.std.specs.Option.{IfSome, IsSomeAnd}
 use Rattle.std.specs.Result.{IfOk, OnErr, OnOk}
-use Rattle.desk.specs.World.{World, Shown, after_read, found_at, left_of, shown, shown_of}
-use Rattle.desk.proofs.Reading.{left-after_read, shown-after_read}
-use Rattle.capture_io.specs.Capture.{begin, outcome}
+use Rattle.desk.specs.World.{World, Shown, found_at, left_of, shown, shown_of}
 use Rattle.capture_io.specs.Frame.{Frame}
-use Rattle.capture_io.specs.Frames.{Run, ended, read_on}
-use Rattle.capture_io.specs.Reading.{passed}
-use Rattle.capture_io.specs.declared.fault.CaptureFault.{CaptureFault}
-use Rattle.capture_io.specs.declared.format.Format.{Format}
-use Rattle.capture_io.specs.declared.position.Position.{Position}
-use Rattle.capture_io.proofs.Runs.{read_on-end, read_on-fault, read_on-frame}
-use Rattle.playback.specs.Events.{AreStepsOf, End, Event, GoesOn, Outcome, Pause, Step, events, events_after, events_of, followed, happened, idle, records_of, steps_of}
+use Rattle.capture_io.specs.Run.{AreLater, before, ended}
+use Rattle.capture_events.specs.Came.{Came, IsRead}
+use Rattle.capture_events.specs.Events.{AreStepsOf, End, Event, GoesOn, Outcome, Pause, Step, events, events_after, events_of, followed, happened, idle, records_of, steps_of}
 use Rattle.playback.specs.Front.{Breaks, Cut, CutRun, Stands}
+use Rattle.playback.specs.Input.{IfFrame, InputRun, IsNext, Comes, beginning, behind, left_in}
+use Rattle.playback.specs.Limits.{most_records}
 use Rattle.playback.specs.Passing.{IsOver, Passed}
-use Rattle.playback.specs.Playing.{handed_on, with_output, GathersOne, HasPlayed, IsRead, KeepsReaders}
+use Rattle.playback.specs.Playing.{handed_on, with_output, GathersOne, HasPlayed, KeepsReaders}
+use Rattle.playback.specs.declared.fault.InputFault.{InputFault}
 use Rattle.playback.specs.declared.output.Output.{Output}
 use Rattle.playback.specs.declared.plays.Ending.{Ending}
-use Rattle.playback.proofs.EventLemmas.{happened-append, happened-steps, open-steps}
+use Rattle.playback.specs.declared.progress.Progress.{Progress}
+use Rattle.capture_events.proofs.EventLemmas.{happened-append, happened-steps, open-steps}
 use Rattle.playback.proofs.FrontLemmas.{breaks-cut, cut_here, stands-gathers, stands-hands, stands-played, stands_shown}
 use Rattle.playback.proofs.OutputLemmas.{records_of-append, with_output-none}
 
@@ -39,29 +37,68 @@ steps-pause frames steps are = record {
   goes_on = All-append GoesOn steps (Pause ∷ []) are.goes_on (All-cons GoesOn Pause [] tt (All-nil GoesOn));
 }
 
-module _ {S : Type 0} (does : S → Step → Outcome S → Type 0) (id : ℕ) (file : Option ℕ) (format : Format) where
-  -- the frames that are left at a position
-  abbrev left_at : Position → World → Run
-  left_at at w = read_on format at (left_of id w)
+-- what is left of a file stays with the readers
+left-kept : (id : ℕ) (a b : World) → KeepsReaders (Some a) (Some b) → left_of id b ≡ left_of id a
+left-kept id a b keeps = ap (λ (o : Option (List (ℕ × List ℕ))). unwrap_or (found_at id (unwrap_or o [])) []) keeps
 
-  -- the run of a file that is read from the header's end
-  abbrev run_of : World → Run
-  run_of w = read_on format begin (left_of id w)
+-- what a world leaves to a reader stays as long as no reader moves
+abbrev pub StaysLeft : (World → InputRun) → Type 0
+StaysLeft left = (a b : World) → KeepsReaders (Some a) (Some b) → left b ≡ left a
 
-  abbrev pub Passing : S → Position → S → Output → Option World → Option World → Type 0
-  Passing start at state output None now = Unit {0}
-  Passing start at state output (Some w) now = IsSomeAnd now (Passed does id file format start (run_of w) (shown_of w) at state output now)
+pub left_in-stays : {R : Type 0} (id : R → ℕ) (run : R → List ℕ → InputRun) (reader : R) → StaysLeft (left_in id run reader)
+left_in-stays id run reader a b keeps = ap (run reader) (left-kept (id reader) a b keeps)
 
-  pub passing-first : (state : S) (at : Position) (output : Output) (told : Option World) → at ≡ begin → output.lines ≡ [] → output.records ≡ [] → output.written ≡ 0
-      → Passing state at state output told told
-  passing-first state at output None is lines records none = tt
-  passing-first state at output (Some w) is lines records none =
-      let here : Passed does id file format state (run_of w) (shown_of w) begin state output (Some w) w = record {
+-- a frame that came next was read
+pub was-read : (at : Progress) (f : Frame) → IsNext at f → IsRead f
+was-read at f next = record { moment = next.moment; octets = next.octets }
+
+-- the frames with the one that was read
+all-read : (frames : List Frame) (f : Frame) → All IsRead frames → IsRead f → All IsRead (frames ++ f ∷ [])
+all-read frames f read one = All-append IsRead frames (f ∷ []) read (All-cons IsRead f [] one (All-nil IsRead))
+
+-- those behind it are as late as it is
+later-then : (frames : List Frame) (m : ℕ) (f : Frame) → m ≤ f.moment → ((more : List Frame) → AreLater m more → AreLater 0 (frames ++ more))
+    → (more : List Frame) → AreLater f.moment more → AreLater 0 ((frames ++ f ∷ []) ++ more)
+later-then frames m f after later more are = subst (AreLater 0) (sym (append_assoc frames (f ∷ []) more)) (later (f ∷ more) (after, are))
+
+-- the events of a frame more
+events-one : (frames : List Frame) (greatest : Option ℕ) (f : Frame) → ((more : List Frame) → events (frames ++ more) ≡ events frames ++ events_after greatest more)
+    → events (frames ++ f ∷ []) ≡ events frames ++ events_of greatest f
+events-one frames greatest f joins = joins (f ∷ []) ∙ ap (λ (l : List Event). events frames ++ l) (append-nil (events_of greatest f))
+
+events-then : (frames : List Frame) (greatest : Option ℕ) (f : Frame) (more : List Frame) → ((more : List Frame) → events (frames ++ more) ≡ events frames ++ events_after greatest more)
+    → events ((frames ++ f ∷ []) ++ more) ≡ events (frames ++ f ∷ []) ++ events_after (Some f.moment) more
+events-then frames greatest f more joins =
+    ap events (append_assoc frames (f ∷ []) more) ∙ joins (f ∷ more)
+    ∙ sym (append_assoc (events frames) (events_of greatest f) (events_after (Some f.moment) more))
+    ∙ ap (λ (l : List Event). l ++ events_after (Some f.moment) more) (sym (events-one frames greatest f joins))
+
+-- the frame that is next is one of those that are left
+next-left : (f : Frame) (frames : List Frame) (run left rest : InputRun) → frames ++ left.frames ≡ run.frames → left ≡ before f rest
+    → (frames ++ f ∷ []) ++ rest.frames ≡ run.frames
+next-left f frames run left rest whole is = append_assoc frames (f ∷ []) rest.frames ∙ ap (λ (r : InputRun). frames ++ r.frames) (sym is) ∙ whole
+
+-- the frame that was next, and what is left behind it, where the desk tells it
+abbrev pub IsBehind : Frame → (World → InputRun) → (World → InputRun) → Option World → Option World → Type 0
+IsBehind f left rest mid read = IfSome mid (λ w. IsSomeAnd read (λ v. left w ≡ before f (rest v)))
+
+module _ {S : Type 0} (does : S → Step → Outcome S → Type 0) (file : Option ℕ) where
+  abbrev pub Passing : S → (World → InputRun) → (World → InputRun) → Progress → S → Output → Option World → Option World → Type 0
+  Passing start run left at state output None now = Unit {0}
+  Passing start run left at state output (Some w) now = IsSomeAnd now (Passed does file start (run w) (shown_of w) left at state output now)
+
+  pub passing-first : (state : S) (run : World → InputRun) (at : Progress) (output : Output) (told : Option World) → at ≡ beginning → output.lines ≡ [] → output.records ≡ [] → output.written ≡ 0
+      → Passing state run run at state output told told
+  passing-first state run at output None is lines records none = tt
+  passing-first state run at output (Some w) is lines records none =
+      let here : Passed does file state (run w) (shown_of w) run beginning state output (Some w) w = record {
         frames = [];
         whole = refl;
         fault = refl;
         read = All-nil IsRead;
+        later = λ more are. are;
         count = refl;
+        most = omega arith;
         joins = λ more. refl;
         steps = [];
         steps_are = record { events = refl; goes_on = All-nil GoesOn };
@@ -80,153 +117,147 @@ module _ {S : Type 0} (does : S → Step → Outcome S → Type 0) (id : ℕ) (f
           written = none;
         };
       } in
-      subst (λ (p : Position). Passed does id file format state (run_of w) (shown_of w) p state output (Some w) w) (sym is) here
+      subst (λ (p : Progress). Passed does file state (run w) (shown_of w) run p state output (Some w) w) (sym is) here
 
-  -- the events of a frame more
-  events-one : (frames : List Frame) (greatest : Option ℕ) (f : Frame) → ((more : List Frame) → events (frames ++ more) ≡ events frames ++ events_after greatest more)
-      → events (frames ++ f ∷ []) ≡ events frames ++ events_of greatest f
-  events-one frames greatest f joins = joins (f ∷ []) ∙ ap (λ (l : List Event). events frames ++ l) (append-nil (events_of greatest f))
+  -- the frames that came so far
+  came-so-far : (start : S) (run : InputRun) (old : Shown) (left : World → InputRun) (at : Progress) (state : S) (output : Output) (now : Option World) (w : World)
+      → (p : Passed does file start run old left at state output now w) → Came p.frames
+  came-so-far start run old left at state output now w p =
+      let count = p.count in
+      let most = p.most in
+      record {
+        read = p.read;
+        later = subst (AreLater 0) (append-nil p.frames) (p.later [] tt);
+        few = omega (arith, count, most);
+      }
 
-  events-then : (frames : List Frame) (greatest : Option ℕ) (f : Frame) (more : List Frame) → ((more : List Frame) → events (frames ++ more) ≡ events frames ++ events_after greatest more)
-      → events ((frames ++ f ∷ []) ++ more) ≡ events (frames ++ f ∷ []) ++ events_after (Some f.moment) more
-  events-then frames greatest f more joins =
-      ap events (append_assoc frames (f ∷ []) more) ∙ joins (f ∷ more)
-      ∙ sym (append_assoc (events frames) (events_of greatest f) (events_after (Some f.moment) more))
-      ∙ ap (λ (l : List Event). l ++ events_after (Some f.moment) more) (sym (events-one frames greatest f joins))
+  -- with a frame more
+  came-then : (frames : List Frame) (at : Progress) (f : Frame) → IsNext at f → All IsRead frames → at.frames ≡ length frames
+      → ((more : List Frame) → AreLater (unwrap_or at.moment 0) more → AreLater 0 (frames ++ more)) → Came (frames ++ f ∷ [])
+  came-then frames at f next read count later =
+      let number = next.number in
+      let most = next.most in
+      let sum = length-append frames (f ∷ []) in
+      record {
+        read = all-read frames f read (was-read at f next);
+        later = later (f ∷ []) (next.later, tt);
+        few = omega (arith, number, most, sum, count);
+      }
 
-  -- the frame that is next is one of those that are left
-  next-left : (at : Position) (w : World) (f : Frame) (frames : List Frame) (run : Run) → frames ++ (left_at at w).frames ≡ run.frames → Ok (Some f) ≡ outcome format at (left_of id w)
-      → (frames ++ f ∷ []) ++ (read_on format (passed at f) (drop (16 + length f.octets) (left_of id w))).frames ≡ run.frames
-  next-left at w f frames run whole is =
-      let more = read_on format (passed at f) (drop (16 + length f.octets) (left_of id w)) in
-      append_assoc frames (f ∷ []) more.frames ∙ ap (λ (r : Run). frames ++ r.frames) (sym (read_on-frame format at (left_of id w) f is)) ∙ whole
-
-  -- the frames with the one that was read
-  all-read : (frames : List Frame) (f : Frame) → All IsRead frames → IsRead f → All IsRead (frames ++ f ∷ [])
-  all-read frames f read one = All-append IsRead frames (f ∷ []) read (All-cons IsRead f [] one (All-nil IsRead))
-
-  -- what is left of a file stays with the readers
-  left-kept : (a b : World) → KeepsReaders (Some a) (Some b) → left_of id b ≡ left_of id a
-  left-kept a b keeps = ap (λ (o : Option (List (ℕ × List ℕ))). unwrap_or (found_at id (unwrap_or o [])) []) keeps
-
-  -- a frame was read and played
-  pub passing-on : (start : S) (at : Position) (state next : S) (old mid read now : Option World) (before after : Output) (f : Frame)
-      → Passing start at state before old mid → IfSome mid (λ w. Ok (Some f) ≡ outcome format at (left_of id w)) → IsRead f → f.number ≡ at.count + 1
-      → read ≡ option_map (after_read id (16 + length f.octets)) mid → KeepsReaders read now
-      → ((first : S) (shown_first : Shown) (past : List Step) → Stands does first file shown_first past state before read
-      → Stands does first file shown_first (past ++ steps_of (events_of at.greatest f)) next after now)
-      → Passing start (passed at f) next after old now
-  passing-on start at state next None mid read now before after f passing is was_read number reads keeps goes = tt
-  passing-on start at state next (Some w) None read now before after f passing is was_read number reads keeps goes = absurd passing
-  passing-on start at state next (Some w) (Some v) read None before after f passing is was_read number reads keeps goes =
-      let gone = subst (λ (t : Option World). KeepsReaders t None) reads keeps in cc
-  passing-on start at state next (Some w) (Some v) read (Some u) before after f passing is was_read number reads keeps goes =
-      let size = 16 + length f.octets in
+  -- a frame came and was played
+  pub passing-on : (start : S) (run left rest : World → InputRun) (at : Progress) (state next : S) (old mid read now : Option World) (one two : Output) (f : Frame)
+      → Passing start run left at state one old mid → IsBehind f left rest mid read → StaysLeft rest → IsNext at f
+      → shown read ≡ shown mid → KeepsReaders read now
+      → ((first : S) (shown_first : Shown) (past : List Step) → Stands does first file shown_first past state one read
+      → Stands does first file shown_first (past ++ steps_of (events_of at.moment f)) next two now)
+      → Passing start run rest (behind f) next two old now
+  passing-on start run left rest at state next None mid read now one two f passing comes stays is same keeps goes = tt
+  passing-on start run left rest at state next (Some w) None read now one two f passing comes stays is same keeps goes = absurd passing
+  passing-on start run left rest at state next (Some w) (Some v) None now one two f passing comes stays is same keeps goes = absurd comes
+  passing-on start run left rest at state next (Some w) (Some v) (Some r) None one two f passing comes stays is same keeps goes = cc
+  passing-on start run left rest at state next (Some w) (Some v) (Some r) (Some u) one two f passing comes stays is same keeps goes =
       let frames = passing.frames in
-      let more = events_of at.greatest f in
-      let kept = subst (λ (t : Option World). KeepsReaders t (Some u)) reads keeps in
-      let left : left_of id u ≡ drop size (left_of id v) = left-kept (after_read id size v) u kept ∙ left-after_read id size v in
-      let still = stands_shown does start file (shown_of w) passing.steps state before (Some v) read (shown-after_read id size (Some v) read reads) passing.stands in
+      let more = events_of at.moment f in
+      let kept : rest u ≡ rest r = stays r u keeps in
+      let still = stands_shown does start file (shown_of w) passing.steps state one (Some v) (Some r) same passing.stands in
       let count = passing.count in
+      let number = is.number in
+      let most = is.most in
       let sum = length-append frames (f ∷ []) in
       record {
         frames = frames ++ f ∷ [];
-        whole = ap (λ (l : List ℕ). (frames ++ f ∷ []) ++ (read_on format (passed at f) l).frames) left ∙ next-left at v f frames (run_of w) passing.whole is;
-        fault = ap (λ (l : List ℕ). (read_on format (passed at f) l).fault) left ∙ ap (λ (r : Run). r.fault) (sym (read_on-frame format at (left_of id v) f is)) ∙ passing.fault;
-        read = all-read frames f passing.read was_read;
+        whole = ap (λ (l : InputRun). (frames ++ f ∷ []) ++ l.frames) kept ∙ next-left f frames (run w) (left v) (rest r) passing.whole comes;
+        fault = ap (λ (l : InputRun). l.fault) kept ∙ ap (λ (l : InputRun). l.fault) (sym comes) ∙ passing.fault;
+        read = all-read frames f passing.read (was-read at f is);
+        later = later-then frames (unwrap_or at.moment 0) f is.later passing.later;
         count = omega (arith, number, count, sum);
-        joins = λ more. events-then frames at.greatest f more passing.joins;
+        most = most;
+        joins = λ more. events-then frames at.moment f more passing.joins;
         steps = passing.steps ++ steps_of more;
-        steps_are = steps-then frames (frames ++ f ∷ []) passing.steps more (events-one frames at.greatest f passing.joins) passing.steps_are;
+        steps_are = steps-then frames (frames ++ f ∷ []) passing.steps more (events-one frames at.moment f passing.joins) passing.steps_are;
         stands = goes start (shown_of w) passing.steps still;
       }
 
   -- a fault while the next frame is read
-  pub cut_reading : (start : S) (at : Position) (state : S) (old mid now : Option World) (output : Output)
-      → Passing start at state output old mid → shown now ≡ shown mid → IfSome old (λ w. CutRun does start file (shown_of w) (run_of w) now)
-  cut_reading start at state None mid now output passing same = tt
-  cut_reading start at state (Some w) None now output passing same = absurd passing
-  cut_reading start at state (Some w) (Some v) now output passing same = record {
+  pub cut_reading : (start : S) (run left : World → InputRun) (at : Progress) (state : S) (old mid now : Option World) (output : Output)
+      → Passing start run left at state output old mid → shown now ≡ shown mid → IfSome old (λ w. CutRun does start file (shown_of w) (run w) now)
+  cut_reading start run left at state None mid now output passing same = tt
+  cut_reading start run left at state (Some w) None now output passing same = absurd passing
+  cut_reading start run left at state (Some w) (Some v) now output passing same = record {
     frames = passing.frames;
-    within = ((left_at at v).frames, passing.whole);
-    read = passing.read;
+    within = ((left v).frames, passing.whole);
+    came = came-so-far start (run w) (shown_of w) left at state output (Some v) v passing;
     steps = passing.steps;
     steps_are = passing.steps_are;
     cut = inl (cut_here does start file (shown_of w) passing.steps state output now (stands_shown does start file (shown_of w) passing.steps state output (Some v) now same passing.stands));
   }
 
   -- one while a frame is played
-  pub cut_playing : (start : S) (at : Position) (state : S) (old mid read now : Option World) (output : Output) (f : Frame)
-      → Passing start at state output old mid → IfSome mid (λ w. Ok (Some f) ≡ outcome format at (left_of id w)) → IsRead f → shown read ≡ shown mid
+  pub cut_playing : (start : S) (run left rest : World → InputRun) (at : Progress) (state : S) (old mid read now : Option World) (output : Output) (f : Frame)
+      → Passing start run left at state output old mid → IsBehind f left rest mid read → IsNext at f → shown read ≡ shown mid
       → ((first : S) (shown_first : Shown) (past : List Step) → Stands does first file shown_first past state output read
-      → Cut does first file shown_first (past ++ steps_of (events_of at.greatest f)) now)
-      → IfSome old (λ w. CutRun does start file (shown_of w) (run_of w) now)
-  cut_playing start at state None mid read now output f passing is was_read same goes = tt
-  cut_playing start at state (Some w) None read now output f passing is was_read same goes = absurd passing
-  cut_playing start at state (Some w) (Some v) read now output f passing is was_read same goes =
+      → Cut does first file shown_first (past ++ steps_of (events_of at.moment f)) now)
+      → IfSome old (λ w. CutRun does start file (shown_of w) (run w) now)
+  cut_playing start run left rest at state None mid read now output f passing comes is same goes = tt
+  cut_playing start run left rest at state (Some w) None read now output f passing comes is same goes = absurd passing
+  cut_playing start run left rest at state (Some w) (Some v) None now output f passing comes is same goes = absurd comes
+  cut_playing start run left rest at state (Some w) (Some v) (Some r) now output f passing comes is same goes =
       let frames = passing.frames in
-      let more = events_of at.greatest f in
-      let still = stands_shown does start file (shown_of w) passing.steps state output (Some v) read same passing.stands in
+      let more = events_of at.moment f in
+      let still = stands_shown does start file (shown_of w) passing.steps state output (Some v) (Some r) same passing.stands in
       record {
         frames = frames ++ f ∷ [];
-        within = ((read_on format (passed at f) (drop (16 + length f.octets) (left_of id v))).frames, next-left at v f frames (run_of w) passing.whole is);
-        read = all-read frames f passing.read was_read;
+        within = ((rest r).frames, next-left f frames (run w) (left v) (rest r) passing.whole comes);
+        came = came-then frames at f is passing.read passing.count passing.later;
         steps = passing.steps ++ steps_of more;
-        steps_are = steps-then frames (frames ++ f ∷ []) passing.steps more (events-one frames at.greatest f passing.joins) passing.steps_are;
+        steps_are = steps-then frames (frames ++ f ∷ []) passing.steps more (events-one frames at.moment f passing.joins) passing.steps_are;
         cut = inl (goes start (shown_of w) passing.steps still);
       }
 
   -- the caller's work at a pause was gathered
-  pub passing-pause : (start : S) (at : Position) (state next : S) (old now : Option World) (output new : Output)
-      → Passing start at state output old now → GathersOne (does state Pause) output new next → Passing start at next new old now
-  passing-pause start at state next None now output new passing gathers = tt
-  passing-pause start at state next (Some w) None output new passing gathers = absurd passing
-  passing-pause start at state next (Some w) (Some v) output new passing gathers = record {
+  pub passing-pause : (start : S) (run left : World → InputRun) (at : Progress) (state next : S) (old now : Option World) (output new : Output)
+      → Passing start run left at state output old now → GathersOne (does state Pause) output new next → Passing start run left at next new old now
+  passing-pause start run left at state next None now output new passing gathers = tt
+  passing-pause start run left at state next (Some w) None output new passing gathers = absurd passing
+  passing-pause start run left at state next (Some w) (Some v) output new passing gathers = record {
     frames = passing.frames;
     whole = passing.whole;
     fault = passing.fault;
     read = passing.read;
+    later = passing.later;
     count = passing.count;
+    most = passing.most;
     joins = passing.joins;
     steps = passing.steps ++ Pause ∷ [];
     steps_are = steps-pause passing.frames passing.steps passing.steps_are;
     stands = stands-gathers does start file (shown_of w) passing.steps Pause state next output new (Some v) gathers passing.stands;
   }
 
-  -- nothing is left at the end
-  pub at_end : (at : Position) (told : Option World) → IfSome told (λ w. Ok None ≡ outcome format at (left_of id w)) → IfSome told (λ w. left_at at w ≡ ended None)
-  at_end at None is = tt
-  at_end at (Some w) is = read_on-end format at (left_of id w) is
-
-  -- nor at a fault
-  pub at_fault : (at : Position) (told : Option World) (fault : CaptureFault) → IfSome told (λ w. Err fault ≡ outcome format at (left_of id w)) → IfSome told (λ w. left_at at w ≡ ended (Some fault))
-  at_fault at None fault is = tt
-  at_fault at (Some w) fault is = read_on-fault format at (left_of id w) fault is
-
-  -- then all frames were read
-  frames-all : (at : Position) (w : World) (frames : List Frame) (run : Run) (fault : Option CaptureFault) → frames ++ (left_at at w).frames ≡ run.frames → left_at at w ≡ ended fault → frames ≡ run.frames
-  frames-all at w frames run fault whole over = sym (append-nil frames) ∙ ap (λ (r : Run). frames ++ r.frames) (sym over) ∙ whole
+  -- then all frames came
+  frames-all : (frames : List Frame) (run left : InputRun) (fault : Option InputFault) → frames ++ left.frames ≡ run.frames → left ≡ ended fault → frames ≡ run.frames
+  frames-all frames run left fault whole over = sym (append-nil frames) ∙ ap (λ (r : InputRun). frames ++ r.frames) (sym over) ∙ whole
 
   -- the end came
-  pub passing-over : (start : S) (at : Position) (state : S) (old mid now : Option World) (output : Output) (fault : Option CaptureFault)
-      → Passing start at state output old mid → IfSome mid (λ w. left_at at w ≡ ended fault) → shown now ≡ shown mid
-      → IfSome old (λ w. IsOver does file start (run_of w) (shown_of w) at.count fault state output now)
-  passing-over start at state None mid now output fault passing over same = tt
-  passing-over start at state (Some w) None now output fault passing over same = absurd passing
-  passing-over start at state (Some w) (Some v) now output fault passing over same =
-      let all = frames-all at v passing.frames (run_of w) fault passing.whole over in
+  pub passing-over : (start : S) (run left : World → InputRun) (at : Progress) (state : S) (old mid now : Option World) (output : Output) (fault : Option InputFault)
+      → Passing start run left at state output old mid → IfSome mid (λ w. left w ≡ ended fault) → shown now ≡ shown mid
+      → IfSome old (λ w. IsOver does file start (run w) (shown_of w) at.frames fault state output now)
+  passing-over start run left at state None mid now output fault passing over same = tt
+  passing-over start run left at state (Some w) None now output fault passing over same = absurd passing
+  passing-over start run left at state (Some w) (Some v) now output fault passing over same =
+      let all = frames-all passing.frames (run w) (left v) fault passing.whole over in
+      let came = came-so-far start (run w) (shown_of w) left at state output (Some v) v passing in
       record {
-        fault_is = ap (λ (r : Run). r.fault) (sym over) ∙ passing.fault;
-        read = subst (λ (l : List Frame). All IsRead l) all passing.read;
+        fault_is = ap (λ (r : InputRun). r.fault) (sym over) ∙ passing.fault;
+        came = subst Came all came;
         count_is = passing.count ∙ ap length all;
         steps = passing.steps;
         steps_are = subst (λ (l : List Frame). AreStepsOf l passing.steps) all passing.steps_are;
         stands = stands_shown does start file (shown_of w) passing.steps state output (Some v) now same passing.stands;
       }
 
-module _ {S : Type 0} (does : S → Step → Outcome S → Type 0) (file : Option ℕ) (start : S) (run : Run) (old : Shown) where
+module _ {S : Type 0} (does : S → Step → Outcome S → Type 0) (file : Option ℕ) (start : S) (run : InputRun) (old : Shown) where
   -- the caller's work for the end was gathered, and all is handed on
-  pub over-played : (count : ℕ) (fault : Option CaptureFault) (state next : S) (output new : Output) (mid now : Option World)
+  pub over-played : (count : ℕ) (fault : Option InputFault) (state next : S) (output new : Output) (mid now : Option World)
       → IsOver does file start run old count fault state output mid → GathersOne (does state End) output new next → now ≡ handed_on file new mid
       → HasPlayed does start file old run (record { fault = fault; frames = count; written = new.written }) next now
   over-played count fault state next output new mid now over gathers handed =
@@ -244,7 +275,7 @@ module _ {S : Type 0} (does : S → Step → Outcome S → Type 0) (file : Optio
         steps_are = over.steps_are;
         outcome = followed done held;
         played = stands-played does start file old steps next none now stands;
-        read = over.read;
+        came = over.came;
         ends = record {
           fault = over.fault_is;
           frames = over.count_is;
@@ -255,7 +286,7 @@ module _ {S : Type 0} (does : S → Step → Outcome S → Type 0) (file : Optio
       }
 
   -- a fault while it is
-  pub over-cut : (count : ℕ) (fault : Option CaptureFault) (state next : S) (output new : Output) (mid now : Option World)
+  pub over-cut : (count : ℕ) (fault : Option InputFault) (state next : S) (output new : Output) (mid now : Option World)
       → IsOver does file start run old count fault state output mid → GathersOne (does state End) output new next → Breaks file new mid now
       → CutRun does start file old run now
   over-cut count fault state next output new mid now over gathers breaks =
@@ -264,15 +295,15 @@ module _ {S : Type 0} (does : S → Step → Outcome S → Type 0) (file : Optio
       record {
         frames = run.frames;
         within = ([], append-nil run.frames);
-        read = over.read;
+        came = over.came;
         steps = over.steps;
         steps_are = over.steps_are;
         cut = inr (refl, breaks-cut does start file old steps next new mid now breaks closed);
       }
 
-module _ {S E : Type 0} (does : S → Step → Outcome S → Type 0) (file : Option ℕ) (start : S) (run : World → Run) where
+module _ {S E : Type 0} (does : S → Step → Outcome S → Type 0) (file : Option ℕ) (start : S) (run : World → InputRun) where
   -- the same of what a call answers that hands all on
-  pub ends-played : (told : Option World) (count : ℕ) (fault : Option CaptureFault) (state next : S) (output new : Output) (mid now : Option World) (result : Result Ending E)
+  pub ends-played : (told : Option World) (count : ℕ) (fault : Option InputFault) (state next : S) (output new : Output) (mid now : Option World) (result : Result Ending E)
       → IfSome told (λ w. IsOver does file start (run w) (shown_of w) count fault state output mid) → GathersOne (does state End) output new next
       → OnOk result (now ≡ handed_on file new mid) → IfOk result (λ ending. ending ≡ record { fault = fault; frames = count; written = new.written })
       → IfOk result (λ ending. IfSome told (λ w. HasPlayed does start file (shown_of w) (run w) ending next now))
@@ -282,7 +313,7 @@ module _ {S E : Type 0} (does : S → Step → Outcome S → Type 0) (file : Opt
       subst (λ (e : Ending). HasPlayed does start file (shown_of w) (run w) e next now) (sym is)
       (over-played does file start (run w) (shown_of w) count fault state next output new mid now over gathers handed)
 
-  pub ends-cut : (told : Option World) (count : ℕ) (fault : Option CaptureFault) (state next : S) (output new : Output) (mid now : Option World) (result : Result Ending E)
+  pub ends-cut : (told : Option World) (count : ℕ) (fault : Option InputFault) (state next : S) (output new : Output) (mid now : Option World) (result : Result Ending E)
       → IfSome told (λ w. IsOver does file start (run w) (shown_of w) count fault state output mid) → GathersOne (does state End) output new next
       → OnErr result (Breaks file new mid now)
       → OnErr result (IfSome told (λ w. CutRun does start file (shown_of w) (run w) now))

@@ -8,13 +8,14 @@ use Rattle.octets.proofs.RuleLemmas.{none_fails}
 use Rattle.capture_io.specs.Answers.{unless}
 use Rattle.capture_io.specs.Capture.{begin, body, fraction, frame, header_rules, in_span, kept, moment, outcome, record_rules, seconds}
 use Rattle.capture_io.specs.Frame.{Frame}
-use Rattle.capture_io.specs.Frames.{before, capture, opened, read_on}
+use Rattle.capture_io.specs.Frames.{capture, opened, read_on}
+use Rattle.capture_io.specs.Run.{before}
 use Rattle.capture_io.specs.Output.{out_header, packet_record}
 use Rattle.capture_io.specs.Reading.{passed}
 use Rattle.capture_io.specs.declared.link.Link.TheVariants.{Raw}
 use Rattle.capture_io.specs.declared.position.Position.{Position}
 use Rattle.capture_io.proofs.Runs.{read_on-end, read_on-frame}
-use Rattle.playback.specs.Events.{Packet, records_of}
+use Rattle.capture_events.specs.Events.{Packet, records_of}
 use Rattle.playback.specs.Limits.{most_frame_octets, most_records}
 use Rattle.playback.specs.Written.{AreInOrder, MayFollow, frames_from, frames_of, out_format}
 

@@ -1,28 +1,28 @@
 -- Plays whose outcome is determined at each event, by that outcome.
 use Rattle.std.specs.Prelude.{◌≡◌, ℕ, List, Option, Some}
-use Rattle.std.specs.List.{All}
 use Rattle.desk.specs.World.{World, Shown, shown}
 use Rattle.capture_io.specs.Frame.{Frame}
-use Rattle.capture_io.specs.Frames.{Run}
-use Rattle.playback.specs.Events.{Determined, Event, Outcome, Played, Step, events, happened, played, records_of}
+use Rattle.capture_events.specs.Came.{Came}
+use Rattle.capture_events.specs.Events.{Determined, Event, Outcome, Played, Step, events, happened, played, records_of}
 use Rattle.playback.specs.Front.{CutRun, IsFront}
-use Rattle.playback.specs.Playing.{outcome_of, with_outcome, with_output, Ends, HasPlayed, IsRead}
+use Rattle.playback.specs.Input.{InputRun}
+use Rattle.playback.specs.Playing.{outcome_of, with_outcome, with_output, Ends, HasPlayed}
 use Rattle.playback.specs.declared.plays.Ending.{Ending}
 
 module _ {S : Type 0} (step : S → Event → Outcome S) (start : S) (file : Option ℕ) (old : Shown) where
   -- a capture of that run was played to its end, and left a state
-  pub record EndPlay (run : Run) (ending : Ending) (after : S) (now : Option World) : Type 0 where
-    pub read : All IsRead run.frames
+  pub record EndPlay (run : InputRun) (ending : Ending) (after : S) (now : Option World) : Type 0 where
+    pub came : Came run.frames
     pub ends : Ends (outcome_of step start run) run ending
     pub shown : shown now ≡ Some (with_outcome file (outcome_of step start run) old)
     pub left : after ≡ (outcome_of step start run).after
 
   -- these frames of a run were read, and a beginning of what is done for their events was said and written: of the
   -- first of the events each line was said, and no packet but theirs was written
-  pub record CutPlay (run : Run) (now : Option World) : Type 0 where
+  pub record CutPlay (run : InputRun) (now : Option World) : Type 0 where
     pub frames : List Frame
     pub within : IsFront frames run.frames
-    pub read : All IsRead frames
+    pub came : Came frames
     pub first : List Event
     pub front : IsFront first (events frames)
     pub lines : List ℕ
@@ -43,11 +43,11 @@ StepsArePlayed S =
 -- a play to the end says and writes it
 abbrev pub EndsArePlayed : Type 0 → Type 0
 EndsArePlayed S =
-    (step : S → Event → Outcome S) (start : S) (file : Option ℕ) (old : Shown) (run : Run) (ending : Ending) (after : S) (now : Option World)
+    (step : S → Event → Outcome S) (start : S) (file : Option ℕ) (old : Shown) (run : InputRun) (ending : Ending) (after : S) (now : Option World)
     → HasPlayed (Determined step) start file old run ending after now → EndPlay step start file old run ending after now
 
 -- one that is cut short a beginning of it
 abbrev pub CutsArePlayed : Type 0 → Type 0
 CutsArePlayed S =
-    (step : S → Event → Outcome S) (start : S) (file : Option ℕ) (old : Shown) (run : Run) (now : Option World)
+    (step : S → Event → Outcome S) (start : S) (file : Option ℕ) (old : Shown) (run : InputRun) (now : Option World)
     → CutRun (Determined step) start file old run now → CutPlay step start file old run now

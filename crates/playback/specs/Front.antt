@@ -1,12 +1,12 @@
 -- What a play that is cut short leaves at its desk: a beginning of all that it was to say and write.
 use Rattle.std.specs.Prelude.{◌≡◌, ℕ, ◌+◌, List, [], ◌∷◌, ◌++◌, length, Option, Some, Result, ◌⊎◌, option_map}
-use Rattle.std.specs.List.{All}
 use Rattle.std.specs.Result.{MatchResult}
 use Rattle.desk.specs.World.{World, Shown, shown}
 use Rattle.capture_io.specs.Frame.{Frame}
-use Rattle.capture_io.specs.Frames.{Run}
-use Rattle.playback.specs.Events.{AreStepsOf, End, Outcome, Played, Step, records_of}
-use Rattle.playback.specs.Playing.{after_output, handed_on, with_output, with_outcome, IsRead}
+use Rattle.capture_events.specs.Came.{Came}
+use Rattle.capture_events.specs.Events.{AreStepsOf, End, Outcome, Played, Step, records_of}
+use Rattle.playback.specs.Input.{InputRun}
+use Rattle.playback.specs.Playing.{after_output, handed_on, with_output, with_outcome}
 use Rattle.playback.specs.declared.output.Output.{Output}
 
 -- the list begins with that one
@@ -61,11 +61,11 @@ module _ {S : Type 0} (does : S → Step → Outcome S → Type 0) (start : S) (
     pub reported : IsFront done.lines lines
     pub written : IsFront octets (records_of done.packets)
 
-  -- the same of a run, of which these frames were read, and perhaps its end
-  pub record CutRun (run : Run) (now : Option World) : Type 0 where
+  -- the same of a run, of which these frames came, and perhaps its end
+  pub record CutRun (run : InputRun) (now : Option World) : Type 0 where
     pub frames : List Frame
     pub within : IsFront frames run.frames
-    pub read : All IsRead frames
+    pub came : Came frames
     pub steps : List Step
     pub steps_are : AreStepsOf frames steps
     pub cut : Cut steps now ⊎ ((frames ≡ run.frames) × Cut (steps ++ End ∷ []) now)

@@ -1,6 +1,6 @@
 pub mod Determined
-pub mod Events
 pub mod Front
+pub mod Input
 pub mod Limits
 pub mod Passing
 pub mod Playing

@@ -1,17 +1,13 @@
 -- What a play of a capture leaves at its desk.
-use Rattle.std.specs.Prelude.{◌≡◌, ℕ, ◌+◌, ◌*◌, ◌^◌, ◌<◌, ◌||◌, nat_le, Bool, List, [], ◌∷◌, ◌++◌, length, Option, Some, None, option_map, Result, Ok, Err}
-use Rattle.std.specs.List.{All}
+use Rattle.std.specs.Prelude.{◌≡◌, ℕ, ◌+◌, ◌||◌, nat_le, Bool, List, [], ◌∷◌, ◌++◌, length, Option, Some, None, option_map}
 use Rattle.desk.specs.declared.file.NamedFile.{NamedFile}
 use Rattle.desk.specs.World.{World, Direction, Shown, changed_at, extended, shown, to_write, IsGiven}
-use Rattle.capture_io.specs.Frame.{Frame}
-use Rattle.capture_io.specs.Frames.{Run}
-use Rattle.capture_io.specs.declared.fault.CaptureFault.{CaptureFault}
-use Rattle.playback.specs.Events.{AreStepsOf, End, Event, Outcome, Played, Step, events, played, records_of}
+use Rattle.capture_events.specs.Came.{Came}
+use Rattle.capture_events.specs.Events.{AreStepsOf, End, Event, Outcome, Played, Step, events, played, records_of}
+use Rattle.playback.specs.Input.{InputRun}
 use Rattle.playback.specs.Limits.{piece_octets}
 use Rattle.playback.specs.declared.output.Output.{Output}
 use Rattle.playback.specs.declared.plays.Ending.{Ending}
-use Rattle.playback.specs.declared.reading.Next.{Next}
-use Rattle.playback.specs.declared.reading.Next.TheVariants as next
 
 -- the writers, with more in the file of that id; without an id nothing is written
 abbrev pub written : Option ℕ → List ℕ → List (ℕ × NamedFile) → List (ℕ × NamedFile)
@@ -64,16 +60,11 @@ pub record GathersOne {S : Type 0} (may : Outcome S → Type 0) (old new : Outpu
   pub left : after ≡ outcome.after
 
 -- the outcome of all frames of a run
-abbrev pub outcome_of : {S : Type 0} → (S → Event → Outcome S) → S → Run → Outcome S
+abbrev pub outcome_of : {S : Type 0} → (S → Event → Outcome S) → S → InputRun → Outcome S
 outcome_of step state run = played step state (events run.frames)
 
--- what is known of a frame that was read, whatever its file holds: its moment in nanoseconds, and that it is of octets
-pub record IsRead (f : Frame) : Type 0 where
-  pub moment : f.moment < 2 ^ 32 * 1000000000
-  pub octets : All (λ octet. octet < 256) f.octets
-
 -- how a play ends
-pub record Ends {S : Type 0} (outcome : Outcome S) (run : Run) (ending : Ending) : Type 0 where
+pub record Ends {S : Type 0} (outcome : Outcome S) (run : InputRun) (ending : Ending) : Type 0 where
   pub fault : ending.fault ≡ run.fault
   pub frames : ending.frames ≡ length run.frames
   pub written : ending.written ≡ length outcome.packets
@@ -81,24 +72,12 @@ pub record Ends {S : Type 0} (outcome : Outcome S) (run : Run) (ending : Ending)
 -- a capture of that run was played to its end from a state, into a file: what may be done for its events, with pauses
 -- among them, and at the end is said and written, and left a state
 pub record HasPlayed {S : Type 0} (does : S → Step → Outcome S → Type 0) (start : S) (file : Option ℕ) (old : Shown)
-    (run : Run) (ending : Ending) (after : S) (now : Option World) : Type 0 where
+    (run : InputRun) (ending : Ending) (after : S) (now : Option World) : Type 0 where
   pub steps : List Step
   pub steps_are : AreStepsOf run.frames steps
   pub outcome : Outcome S
   pub played : Played does start (steps ++ End ∷ []) outcome
-  pub read : All IsRead run.frames
+  pub came : Came run.frames
   pub ends : Ends outcome run ending
   pub shown : shown now ≡ Some (with_outcome file outcome old)
   pub left : after ≡ outcome.after
-
--- what is next in a capture
-abbrev pub answer_of : Next → Result (Option Frame) CaptureFault
-answer_of (next.Frame f) = Ok (Some f)
-answer_of next.End = Ok None
-answer_of (next.Fault fault) = Err fault
-
--- a fact of the frame that is next, if one is
-abbrev pub IfFrame : Next → (Frame → Type 0) → Type 0
-IfFrame (next.Frame f) P = P f
-IfFrame next.End P = Unit {0}
-IfFrame (next.Fault fault) P = Unit {0}

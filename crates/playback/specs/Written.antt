@@ -6,7 +6,7 @@ use Rattle.capture_io.specs.declared.order.Order.TheVariants.{Little}
 use Rattle.capture_io.specs.declared.link.Link.TheVariants.{Raw}
 use Rattle.capture_io.specs.declared.format.Fraction.TheVariants.{Nanoseconds}
 use Rattle.capture_io.specs.declared.format.Format.{Format}
-use Rattle.playback.specs.Events.{Packet}
+use Rattle.capture_events.specs.Events.{Packet}
 use Rattle.playback.specs.Limits.{most_frame_octets}
 
 -- how a capture that is written spells its records

@@ -1,19 +1,13 @@
-// Laws of events, of plays, and of captures that are written. Each function only states its law.
+// Laws of plays, and of captures that are written. Each function only states its law.
 ghost use Rattle.std.specs.Prelude.{◌≡◌, ◌≤◌, ℕ, List, ◌++◌, length, None};
 ghost use Rattle.octets.specs.Rules.{first_failing};
 ghost use Rattle.capture_io.specs.Capture.{begin, format_of, header_rules};
-ghost use Rattle.capture_io.specs.Frame.{Frame};
 ghost use Rattle.capture_io.specs.Frames.{capture, read_on};
 ghost use Rattle.capture_io.specs.Output.{out_header};
 ghost use Rattle.playback.specs.Determined.{CutsArePlayed, EndsArePlayed, StepsArePlayed};
-ghost use Rattle.playback.specs.Events.{Packet, arrivals, events, records_of};
+ghost use Rattle.capture_events.specs.Events.{Packet, records_of};
 ghost use Rattle.playback.specs.Limits.{most_records};
 ghost use Rattle.playback.specs.Written.{AreInOrder, frames_of, out_format};
-
-/// The seconds between the frames of a capture neither lose nor move one.
-pub fn events_keep_the_frames()
-    ensures { (frames : List Frame) → arrivals (events frames) ≡ frames }
-{}
 
 /// Where it is determined what is done at each event, and nothing is done at a pause and at the end, a play
 /// says and writes that, and one that is cut short a beginning of it.

@@ -2,21 +2,29 @@
 //! machine says and writes goes out in pieces.
 #![tactic(auto)]
 
+mod classic;
+mod fault;
 mod laws;
 mod limits;
 mod machine;
+mod ng;
 mod output;
 mod playing;
 mod plays;
-mod reading;
+mod progress;
+mod reader;
 mod seconds;
 
 pub use capture_io::{
     CaptureFault, CaptureReader, Desk, DeskFault, FileId, Frame, NoMemory, Octets,
 };
-pub use laws::{determined_plays_are_played, events_keep_the_frames, what_is_written_is_read};
+pub use capture_ng::{NgFault, NgReader};
+pub use fault::InputFault;
+pub use laws::{determined_plays_are_played, what_is_written_is_read};
 pub use limits::{PIECE_OCTETS, limits_are};
-pub use machine::{Machine, Progress};
+pub use machine::Machine;
 pub use output::Output;
 pub use playing::play;
 pub use plays::{Ending, Play, Turn};
+pub use progress::Progress;
+pub use reader::{FrameReader, Next};

@@ -1,23 +1,15 @@
 // What is done for the events of a capture.
 ghost use Rattle.std.specs.Prelude.{◌≡◌, ◌<◌, ◌≤◌, ◌+◌, ◌*◌, ◌^◌, ℕ, Bool, false, Some, length, unwrap_or, IfOk, OnOk};
-ghost use Rattle.playback.specs.Events.{Arrival, Happens, Outcome, Step, Tick};
-ghost use Rattle.playback.specs.Limits.{most_frame_octets, most_records};
+ghost use Rattle.capture_events.specs.Events.{Arrival, Happens, Outcome, Step, Tick};
+ghost use Rattle.playback.specs.Limits.{most_arrival_octets, most_records};
 ghost use Rattle.playback.specs.Playing.{GathersOne};
-ghost use Rattle.playback.specs.declared.machine.Progress.{Progress};
+ghost use Rattle.playback.specs.declared.progress.Progress.{Progress};
 
 use crate::Output;
+use crate::progress::Progress;
 use capture_io::Frame;
 use octets::NoMemory;
 use std::alloc::Global;
-
-/// How far a play has come.
-#[derive(Clone, Copy, Debug, PartialEq, Eq)]
-pub struct Progress {
-    /// The frames so far.
-    pub frames: u32,
-    /// The moment of the last event in nanoseconds; None before the first.
-    pub moment: Option<u64>,
-}
 
 /// What is done for the events of a capture, one after another. A machine may gather events, and leave
 /// it to its caller to do what they ask for once it is full; and what is done need not be determined.
@@ -68,7 +60,7 @@ pub trait Machine {
         requires later { unwrap_or progress.moment 0 ≤ frame.moment }
         requires most { frame.number ≤ most_records }
         requires moment { frame.moment < 2 ^ 32 * 1000000000 }
-        requires size { length frame.octets ≤ most_frame_octets }
+        requires size { length frame.octets ≤ most_arrival_octets }
         ensures ready { OnOk result (IsReady
             (record { frames = frame.number; moment = Some frame.moment })
             output.new.written self.new) }

@@ -1,52 +1,52 @@
 // The frames of a capture, one after another, through a machine.
-ghost use Rattle.std.specs.Prelude.{◌≡◌, ◌<◌, ◌≤◌, ◌+◌, ◌*◌, ◌^◌, None, Some, false, IfOk, IfSome, IsErrOf, OnErr, OnOk, length, option_map, unwrap_or};
+ghost use Rattle.std.specs.Prelude.{◌≡◌, ◌<◌, ◌≤◌, ◌+◌, ◌*◌, ◌^◌, Some, false, IfOk, IfSome, IsErrOf, OnErr, OnOk, length, option_map, unwrap_or};
 ghost use Rattle.desk.specs.declared.fault.DeskFault.TheVariants.{Failed};
 ghost use Rattle.desk.specs.Causes.{HasCause, StaysSteady};
-ghost use Rattle.desk.specs.World.{left_of, to_read, shown_of, IsGiven};
-ghost use Rattle.capture_io.specs.Capture.{begin};
-ghost use Rattle.capture_io.specs.Frames.{read_on};
-ghost use Rattle.capture_io.specs.Reading.{beginning};
-ghost use Rattle.playback.specs.Events.{events_of, idle, steps_of, End};
+ghost use Rattle.desk.specs.World.{to_read, shown_of, IsGiven};
+ghost use Rattle.capture_events.specs.Events.{events_of, idle, steps_of, End};
 ghost use Rattle.playback.specs.Front.{CutRun, Goes};
-ghost use Rattle.playback.specs.Limits.{most_frame_octets, most_records};
+ghost use Rattle.playback.specs.Input.{beginning, left_in};
+ghost use Rattle.playback.specs.Limits.{most_arrival_octets, most_records};
 ghost use Rattle.playback.specs.Playing.{HasPlayed, KeepsReaders, MayWrite};
 
-use crate::machine::{Machine, Progress};
+use crate::machine::Machine;
 use crate::output::{Output, hand_on_full};
 use crate::plays::{Ending, Play, Turn};
+use crate::progress::Progress;
+use crate::reader::FrameReader;
 use crate::seconds::play_seconds;
-use capture_io::{CaptureReader, Frame};
+use capture_io::Frame;
 use desk::{Desk, DeskFault, FileId};
 use std::alloc::Global;
 
-/// Plays the frames of a capture whose header was read, and the seconds between them, through a
+/// Plays the frames of a capture of which none was read, and the seconds between them, through a
 /// machine that is never full and has nothing to do at the end. Its lines are said; its packets are
 /// written into the file, if there is one.
-pub fn play<D: Desk, M: Machine>(
+pub fn play<D: Desk, M: Machine, R: FrameReader>(
     alloc: Global,
     desk: &mut D,
     machine: &mut M,
-    reader: CaptureReader,
+    reader: R,
     file: Option<FileId>,
 ) -> Result<Ending, DeskFault>
-    requires begins { reader ≡ beginning reader.id reader.format }
-    requires ready { M.IsReady (record { frames = 0; moment = None }) 0 machine.old }
+    requires open { R.IsOpen reader }
+    requires begins { R.progress reader ≡ beginning }
+    requires ready { M.IsReady beginning 0 machine.old }
     requires not_full { (state : M.State) → M.full state ≡ false }
     requires rests { (state : M.State) → M.Does state End (idle state) }
-    // Each frame was given as one, so that it is in the range of its type.
     ensures played { IfOk result (λ ending. IfSome (D.told desk.old) (λ w.
         HasPlayed M.Does (M.state machine.old) (option_map (λ id. id.number) file) (shown_of w)
-        (read_on reader.format begin (left_of reader.id w)) ending
+        (left_in R.id R.run reader w) ending
         (M.state machine.new) (D.told desk.new))) }
 
     // After a fault a beginning of what may be done was said and written.
     ensures cut { OnErr result (IfSome (D.told desk.old) (λ w.
         CutRun M.Does (M.state machine.old) (option_map (λ id. id.number) file) (shown_of w)
-        (read_on reader.format begin (left_of reader.id w)) (D.told desk.new))) }
+        (left_in R.id R.run reader w) (D.told desk.new))) }
     ensures cause { HasCause (D.faults desk.old) (D.faults desk.new) result }
     ensures given { D.given desk.new ≡ D.given desk.old }
     ensures steady { StaysSteady (D.steady desk.old) (D.steady desk.new)
-        (IsGiven reader.id to_read (D.given desk.old)
+        (IsGiven (R.id reader) to_read (D.given desk.old)
         × MayWrite (option_map (λ id. id.number) file) (D.given desk.old)) (IsErrOf result Failed) }
 {
     let mut play = Play::new(alloc, reader, file);
@@ -72,7 +72,7 @@ pub(crate) fn play_frame<D: Desk, M: Machine>(
     requires later { unwrap_or progress.moment 0 ≤ frame.moment }
     requires most { frame.number ≤ most_records }
     requires moment { frame.moment < 2 ^ 32 * 1000000000 }
-    requires size { length frame.octets ≤ most_frame_octets }
+    requires size { length frame.octets ≤ most_arrival_octets }
     ensures ready { OnOk result (M.IsReady
         (record { frames = frame.number; moment = Some frame.moment })
         output.new.written machine.new) }

@@ -1,26 +1,27 @@
 // A play of a capture, from pause to pause.
-ghost use Rattle.std.specs.Prelude.{◌≡◌, ◌<◌, ◌≤◌, None, false, true, IfOk, IsErrOf, OnErr, OnOk, option_map};
+ghost use Rattle.std.specs.Prelude.{◌≡◌, ◌<◌, false, true, IfOk, IsErrOf, OnErr, OnOk};
 ghost use Rattle.desk.specs.declared.fault.DeskFault.TheVariants.{Failed};
 ghost use Rattle.desk.specs.Causes.{HasCause, StaysSteady};
 ghost use Rattle.desk.specs.World.{to_read, IsGiven};
-ghost use Rattle.capture_io.specs.Reading.{beginning};
 ghost use Rattle.playback.specs.Front.{Breaks};
+ghost use Rattle.playback.specs.Input.{beginning, left_in};
 ghost use Rattle.playback.specs.Passing.{file_of, IfFull, IsBegun, IsBetween, IsSamePlay, PassesOn};
 ghost use Rattle.playback.specs.Playing.{handed_on, MayWrite};
 
-use crate::machine::{Machine, Progress};
+use crate::fault::InputFault;
+use crate::machine::Machine;
 use crate::output::{Output, hand_on};
 use crate::playing::play_frame;
-use crate::reading::{Next, next_frame};
-use capture_io::{CaptureFault, CaptureReader};
+use crate::progress::Progress;
+use crate::reader::{FrameReader, Next};
 use desk::{Desk, DeskFault, FileId};
 use std::alloc::Global;
 
 /// A play of a capture: what is left to read, the file into which packets are written, if there is
 /// one, how far it has come, and what is gathered to go out.
 #[derive(Drop)]
-pub struct Play {
-    pub reader: CaptureReader,
+pub struct Play<R> {
+    pub reader: R,
     pub file: Option<FileId>,
     pub progress: Progress,
     pub output: Output,
@@ -32,26 +33,26 @@ pub enum Turn {
     /// The machine is full: its caller is to work before the play goes on.
     Full,
     /// The capture is at its end, or at its fault.
-    Ended(Option<CaptureFault>),
+    Ended(Option<InputFault>),
 }
 
 /// How a capture ended: its fault, if it has one, the frames before that, and the packets written.
 #[derive(Clone, Copy)]
 pub struct Ending {
-    pub fault: Option<CaptureFault>,
+    pub fault: Option<InputFault>,
     pub frames: u32,
     pub written: u64,
 }
 
-impl Play {
-    /// A play of a capture whose header was read. Takes no memory.
-    pub fn new(alloc: Global, reader: CaptureReader, file: Option<FileId>) -> Play
-        requires begins { reader ≡ beginning reader.id reader.format }
+impl<R: FrameReader> Play<R> {
+    /// A play of a capture of which no frame was read. Takes no memory.
+    pub fn new(alloc: Global, reader: R, file: Option<FileId>) -> Play<R>
+        requires open { R.IsOpen reader }
+        requires begins { R.progress reader ≡ beginning }
         ensures reader { result.reader ≡ reader }
         ensures file { result.file ≡ file }
-        ensures progress { result.progress ≡ record { frames = 0; moment = None } }
         ensures begun { IsBegun result }
-        ensures between { IsBetween result }
+        ensures between { IsBetween R.IsOpen R.progress result }
     {
         Play {
             reader,
@@ -72,25 +73,25 @@ impl Play {
         desk: &mut D,
         machine: &mut M,
     ) -> Result<Turn, DeskFault>
-        requires between { IsBetween self.old }
+        requires between { IsBetween R.IsOpen R.progress self.old }
         requires ready { M.IsReady self.old.progress self.old.output.written machine.old }
         requires not_full { M.full (M.state machine.old) ≡ false }
         ensures file { self.new.file ≡ self.old.file }
-        ensures same { IfOk result (λ turn. IfFull turn (IsSamePlay self.old self.new)) }
-        ensures between { IfOk result (λ turn. IfFull turn (IsBetween self.new)) }
+        ensures same { IfOk result (λ turn. IfFull turn (IsSamePlay R.id self.old self.new)) }
+        ensures between { IfOk result (λ turn. IfFull turn (IsBetween R.IsOpen R.progress self.new)) }
         ensures ready { OnOk result (M.IsReady self.new.progress self.new.output.written machine.new) }
         ensures full { IfOk result (λ turn. IfFull turn (M.full (M.state machine.new) ≡ true)) }
         ensures more { IfOk result (λ turn. IfFull turn (self.old.progress.frames < self.new.progress.frames)) }
-        ensures passes { PassesOn M.Does self.old self.new (M.state machine.old) (M.state machine.new)
+        ensures passes { PassesOn M.Does (left_in R.id R.run) self.old self.new (M.state machine.old) (M.state machine.new)
             (D.told desk.old) result (D.told desk.new) }
         ensures cause { HasCause (D.faults desk.old) (D.faults desk.new) result }
         ensures given { D.given desk.new ≡ D.given desk.old }
         ensures steady { StaysSteady (D.steady desk.old) (D.steady desk.new)
-            (IsGiven self.old.reader.id to_read (D.given desk.old)
+            (IsGiven (R.id self.old.reader) to_read (D.given desk.old)
             × MayWrite (file_of self.old) (D.given desk.old)) (IsErrOf result Failed) }
     {
         loop {
-            match next_frame(alloc, desk, &mut self.reader)? {
+            match self.reader.next_frame(alloc, desk)? {
                 Next::Frame(frame) => {
                     let (file, before) = (self.file, self.progress);
                     let reached = Progress {
@@ -122,7 +123,7 @@ impl Play {
         self,
         alloc: Global,
         desk: &mut D,
-        fault: Option<CaptureFault>,
+        fault: Option<InputFault>,
     ) -> Result<Ending, DeskFault>
         ensures ending { IfOk result (λ ending. ending ≡ record {
           fault = fault;

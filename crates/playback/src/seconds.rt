@@ -2,13 +2,14 @@
 ghost use Rattle.std.specs.Prelude.{◌≡◌, ◌<◌, ◌≤◌, ◌+◌, ◌*◌, ◌^◌, ◌∷◌, [], false, Some, IfOk, IsErrOf, OnOk, option_map, unwrap_or};
 ghost use Rattle.desk.specs.declared.fault.DeskFault.TheVariants.{Failed};
 ghost use Rattle.desk.specs.Causes.{HasCause, StaysSteady};
-ghost use Rattle.playback.specs.Events.{second_of, steps_of, ticks, Happens, Tick};
+ghost use Rattle.capture_events.specs.Events.{second_of, steps_of, ticks, Happens, Tick};
 ghost use Rattle.playback.specs.Front.{Goes};
 ghost use Rattle.playback.specs.Limits.{most_records};
 ghost use Rattle.playback.specs.Playing.{KeepsReaders, MayWrite};
 
-use crate::machine::{Machine, Progress};
+use crate::machine::Machine;
 use crate::output::{Output, hand_on_full};
+use crate::progress::Progress;
 use desk::{Desk, DeskFault, FileId};
 use std::alloc::Global;
 

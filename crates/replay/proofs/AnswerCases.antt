@@ -1,5 +1,4 @@
 -- The answer, case by case, and how steps of a run make it.
-use Rattle.octets.specs.Rules.{first_failing}
 use Rattle.command_words.specs.Words.{words_of}
 use Rattle.command_words.specs.declared.words.Words.{Words}
 use Rattle.std.proofs.Common.{◌≡◌, ℕ, List, [], ◌∷◌, ◌++◌, length, Option, Some, None, Result, Ok, Err, append_assoc, refl, sym, ap, subst, ◌∙◌}
@@ -9,24 +8,25 @@ use Rattle.std.proofs.lemmas.List.{append-nil, map-append}
 use Rattle.desk.specs.declared.file.NamedFile.{NamedFile}
 use Rattle.desk.specs.World.{World, Shown, content, left_of, found_at, extended, after_say, after_make, after_write, shown, shown_of}
 use Rattle.desk.proofs.Entries.{changed_at-more}
-use Rattle.capture_io.specs.Capture.{begin, header_rules}
-use Rattle.capture_io.specs.Frames.{Run, capture, read_on}
-use Rattle.capture_io.specs.declared.fault.CaptureFault.{CaptureFault}
 use Rattle.capture_io.specs.Output.{out_header}
-use Rattle.capture_io.specs.declared.format.Format.{Format}
 use Rattle.lisp_settings.specs.Lawful.{IsLawful}
 use Rattle.lisp_settings.specs.declared.settings.Settings.{Settings}
-use Rattle.playback.specs.Events.{Determined, Outcome, records_of}
+use Rattle.capture_events.specs.Came.{Came}
+use Rattle.capture_events.specs.Events.{Determined, Outcome, records_of}
+use Rattle.playback.specs.Input.{InputRun}
 use Rattle.playback.specs.Playing.{outcome_of, with_outcome, Ends, HasPlayed}
+use Rattle.playback.specs.declared.fault.InputFault.{InputFault}
 use Rattle.playback.specs.declared.plays.Ending.{Ending}
 use Rattle.playback.proofs.DeterminedLemmas.{end-play}
 use Rattle.router_model.specs.Journal.{Journal, statics}
-use Rattle.router_model.specs.Lifting.{outcome_tabled, WereRead}
+use Rattle.router_model.specs.Lifting.{outcome_tabled}
 use Rattle.router_model.specs.Parts.{Parts, parts_in, table}
 use Rattle.router_model.specs.Plain.{Router, after_event}
-use Rattle.router_model.proofs.RunLemmas.{run-replays}
-use Rattle.replay.specs.Answer.{Answer, answer, answer_by, after_words, closing, replayed, told_off, status_of, made_files, Gives, after_header, messages_shown}
+use Rattle.router_model.proofs.RunLemmas.{capture-replays}
+use Rattle.replay.specs.Answer.{Answer, answer, answer_by, after_words, closing, replayed, told_off, status_of, made_files, Gives, after_opening, messages_shown}
+use Rattle.replay.specs.Opening.{Opened, run_in}
 use Rattle.replay.specs.Readings.{replay_of, HasReplayed, HasReplayedBy, HasReplayedFile}
+use Rattle.replay.specs.declared.input.Input.{Input}
 use Rattle.replay.specs.declared.replaying.Counts.{Counts}
 use Rattle.replay.specs.Lines.{count_line, end_line, fault_line}
 use Rattle.replay.specs.Show.{showing}
@@ -73,7 +73,7 @@ counts_of ending entries =
     record { fault = ending.fault; frames = ending.frames; written = ending.written; entries = entries }
 
 -- what the steps of a replay leave, before its last line
-pub has_replayed : (outcome : Outcome (Router Journal)) (id : ℕ) (name : List ℕ) (run : Run) (w : World) (new : Option World) (ending : Ending) (entries : ℕ)
+pub has_replayed : (outcome : Outcome (Router Journal)) (id : ℕ) (name : List ℕ) (run : InputRun) (w : World) (new : Option World) (ending : Ending) (entries : ℕ)
     → found_at id w.writers ≡ None → Ends outcome run ending
     → shown new ≡ Some (with_outcome (Some id) outcome (shown_of (after_write id out_header (after_make id name w))))
     → entries ≡ length outcome.after.memory
@@ -96,46 +96,46 @@ has_replayed outcome id name run w (Some v) ending entries fresh ends frames cou
     }
 
 -- the same, over what the desk tells
-frames_replayed : (settings : Settings) (id reader : ℕ) (format : Format) (name : List ℕ) (old made new : Option World) (ending : Ending) (entries : ℕ)
+frames_replayed : (settings : Settings) (id : ℕ) (reader : Input) (name : List ℕ) (old made new : Option World) (ending : Ending) (entries : ℕ)
     → IfSome old (λ w. found_at id w.writers ≡ None) → made ≡ option_map (λ w. after_write id out_header (after_make id name w)) old
-    → IfSome made (λ w. Ends (replay_of settings (read_on format begin (left_of reader w))) (read_on format begin (left_of reader w)) ending)
-    → IfSome made (λ w. shown new ≡ Some (with_outcome (Some id) (replay_of settings (read_on format begin (left_of reader w))) (shown_of w)))
-    → IfSome made (λ w. entries ≡ length (replay_of settings (read_on format begin (left_of reader w))).after.memory)
-    → IfSome old (λ w. HasReplayed settings name (read_on format begin (left_of reader w)) (counts_of ending entries) (shown_of w) (shown new))
-frames_replayed settings id reader format name None made new ending entries fresh makes ends frames count = tt
-frames_replayed settings id reader format name (Some w) made new ending entries fresh makes ends frames count =
-    has_replayed (replay_of settings (read_on format begin (left_of reader w))) id name (read_on format begin (left_of reader w)) w new ending entries fresh (rw makes at ends) (rw makes at frames) (rw makes at count)
+    → IfSome made (λ w. Ends (replay_of settings (run_in reader w)) (run_in reader w) ending)
+    → IfSome made (λ w. shown new ≡ Some (with_outcome (Some id) (replay_of settings (run_in reader w)) (shown_of w)))
+    → IfSome made (λ w. entries ≡ length (replay_of settings (run_in reader w)).after.memory)
+    → IfSome old (λ w. HasReplayed settings name (run_in reader w) (counts_of ending entries) (shown_of w) (shown new))
+frames_replayed settings id reader name None made new ending entries fresh makes ends frames count = tt
+frames_replayed settings id reader name (Some w) made new ending entries fresh makes ends frames count =
+    has_replayed (replay_of settings (run_in reader w)) id name (run_in reader w) w new ending entries fresh (rw makes at ends) (rw makes at frames) (rw makes at count)
 
 -- the frames of a file, by a table
-abbrev table_of : Settings → Parts → Run → Outcome (Router Parts)
+abbrev table_of : Settings → Parts → InputRun → Outcome (Router Parts)
 table_of settings parts run = outcome_of (after_event table) (router_of settings parts) run
 
--- of frames that were read the table of the static mappings says and writes what the plain router does
-as_plain : (settings : Settings) (format : Format) (octets : List ℕ) (parts : Parts) → IsLawful settings → parts ≡ parts_in settings (statics settings) → WereRead format octets
-    → table_of settings parts (read_on format begin octets) ≡ outcome_tabled (replay_of settings (read_on format begin octets))
-as_plain settings format octets parts lawful begins read = rw begins (run-replays settings format octets lawful read).0
+-- of frames that came the table of the static mappings says and writes what the plain router does
+as_plain : (settings : Settings) (run : InputRun) (parts : Parts) → IsLawful settings → parts ≡ parts_in settings (statics settings) → Came run.frames
+    → table_of settings parts run ≡ outcome_tabled (replay_of settings run)
+as_plain settings run parts lawful begins came = rw begins (capture-replays settings run.frames lawful came).0
 
 -- what a table leaves is what the plain router does
-pub table_replayed : (settings : Settings) (id reader : ℕ) (format : Format) (name : List ℕ) (old made new : Option World) (ending : Ending) (entries : ℕ) (parts after : Parts) (kept : Settings)
+pub table_replayed : (settings : Settings) (id : ℕ) (reader : Input) (name : List ℕ) (old made new : Option World) (ending : Ending) (entries : ℕ) (parts after : Parts) (kept : Settings)
     → IsLawful settings → parts ≡ parts_in settings (statics settings)
     → IfSome old (λ w. found_at id w.writers ≡ None) → made ≡ option_map (λ w. after_write id out_header (after_make id name w)) old
-    → IfSome made (λ w. HasPlayed (Determined (after_event table)) (router_of settings parts) (Some id) (shown_of w) (read_on format begin (left_of reader w)) ending (router_of kept after) new)
+    → IfSome made (λ w. HasPlayed (Determined (after_event table)) (router_of settings parts) (Some id) (shown_of w) (run_in reader w) ending (router_of kept after) new)
     → entries ≡ after.count
-    → IfSome old (λ w. HasReplayed settings name (read_on format begin (left_of reader w)) (counts_of ending entries) (shown_of w) (shown new))
-table_replayed settings id reader format name old None new ending entries parts after kept lawful begins fresh makes played count =
-    frames_replayed settings id reader format name old None new ending entries fresh makes tt tt tt
-table_replayed settings id reader format name old (Some w) new ending entries parts after kept lawful begins fresh makes played count =
-    let run = read_on format begin (left_of reader w) in
+    → IfSome old (λ w. HasReplayed settings name (run_in reader w) (counts_of ending entries) (shown_of w) (shown new))
+table_replayed settings id reader name old None new ending entries parts after kept lawful begins fresh makes played count =
+    frames_replayed settings id reader name old None new ending entries fresh makes tt tt tt
+table_replayed settings id reader name old (Some w) new ending entries parts after kept lawful begins fresh makes played count =
+    let run = run_in reader w in
     let ended = end-play (after_event table) (router_of settings parts) (Some id) (shown_of w) run ending (router_of kept after) new played in
-    let same : table_of settings parts run ≡ outcome_tabled (replay_of settings run) = as_plain settings format (left_of reader w) parts lawful begins ended.read in
+    let same : table_of settings parts run ≡ outcome_tabled (replay_of settings run) = as_plain settings run parts lawful begins ended.came in
     let goes : Ends (outcome_tabled (replay_of settings run)) run ending = subst (λ (o : Outcome (Router Parts)). Ends o run ending) same ended.ends in
-    frames_replayed settings id reader format name old (Some w) new ending entries fresh makes
+    frames_replayed settings id reader name old (Some w) new ending entries fresh makes
     (record { fault = goes.fault; frames = goes.frames; written = goes.written })
     (subst (λ (o : Outcome (Router Parts)). shown new ≡ Some (with_outcome (Some id) o (shown_of w))) same ended.shown)
     (count ∙ ap (λ (r : Router Parts). r.memory.count) (ended.left ∙ ap (λ (o : Outcome (Router Parts)). o.after) same))
 
 -- the last line makes of that the answer
-pub closed : (outcome : Outcome (Router Journal)) (output : List ℕ) (run : Run) (counts : Counts) (old : Shown) (mid new : Option World) (s : Status) → HasReplayedBy outcome output run counts old (shown mid)
+pub closed : (outcome : Outcome (Router Journal)) (output : List ℕ) (run : InputRun) (counts : Counts) (old : Shown) (mid new : Option World) (s : Status) → HasReplayedBy outcome output run counts old (shown mid)
     → new ≡ option_map (after_say (closing counts.fault (end_line counts.frames counts.written counts.entries))) mid → s ≡ status_of counts.fault → Gives (answer_by outcome output run) s old (shown new)
 closed outcome output run counts old None new s has said is = absurd has.left
 closed outcome output run counts old (Some v) new s has said is =
@@ -151,33 +151,35 @@ closed outcome output run counts old (Some v) new s has said is =
     })
 
 -- that of the plain router
-replayed-closed : (settings : Settings) (output : List ℕ) (run : Run) (s : Status) (old : Shown) (new : Option Shown) → Gives (answer_by (replay_of settings run) output run) s old new → Gives (replayed settings output run) s old new
+replayed-closed : (settings : Settings) (output : List ℕ) (run : InputRun) (s : Status) (old : Shown) (new : Option Shown) → Gives (answer_by (replay_of settings run) output run) s old new → Gives (replayed settings output run) s old new
 unfolding replayed
 replayed-closed settings output run s old new gives = gives
 
--- the answer to a file that was replayed
-pub file_closed : (settings : Settings) (output input : List ℕ) (counts : Counts) (old mid new : Option World) (s : Status)
-    → IfSome old (λ w. HasReplayedFile settings output (content input w.files) (Ok counts) (shown_of w) (shown mid))
+-- the answer to a capture that was replayed
+pub file_closed : (settings : Settings) (output : List ℕ) (what : World → Opened) (counts : Counts) (old mid new : Option World) (s : Status)
+    → IfSome old (λ w. HasReplayedFile settings output (what w) (Ok counts) (shown_of w) (shown mid))
     → new ≡ option_map (after_say (closing counts.fault (end_line counts.frames counts.written counts.entries))) mid → s ≡ status_of counts.fault
-    → IfSome old (λ w. Gives (after_header (replayed settings output) (content input w.files) (first_failing (header_rules (content input w.files)))) s (shown_of w) (shown new))
-file_closed settings output input counts None mid new s has said is = tt
-file_closed settings output input counts (Some w) mid new s has said is =
-    let file = content input w.files in
-    gives_as (replayed settings output (capture file)) (after_header (replayed settings output) file (first_failing (header_rules file))) s (shown_of w) (shown new)
-    (ap (after_header (replayed settings output) file) (sym has.0))
-    (replayed-closed settings output (capture file) s (shown_of w) (shown new) (closed (replay_of settings (capture file)) output (capture file) counts (shown_of w) mid new s has.1 said is))
+    → IfSome old (λ w. Gives (after_opening (replayed settings output) (what w)) s (shown_of w) (shown new))
+file_closed settings output what counts None mid new s has said is = tt
+file_closed settings output what counts (Some w) mid new s has said is = by (what w) has
+  where
+    by : (o : Opened) → HasReplayedFile settings output o (Ok counts) (shown_of w) (shown mid) → Gives (after_opening (replayed settings output) o) s (shown_of w) (shown new)
+    by (Ok run) done = replayed-closed settings output run s (shown_of w) (shown new) (closed (replay_of settings run) output run counts (shown_of w) mid new s done said is)
+    by (Err fault) done = absurd done
 
--- the answer to a file whose header has a fault
-pub file_refused : (settings : Settings) (output input : List ℕ) (fault : CaptureFault) (old mid new : Option World) (s : Status)
-    → IfSome old (λ w. HasReplayedFile settings output (content input w.files) (Err fault) (shown_of w) (shown mid))
+-- the answer to one whose header has a fault
+pub file_refused : (settings : Settings) (output : List ℕ) (what : World → Opened) (fault : InputFault) (old mid new : Option World) (s : Status)
+    → IfSome old (λ w. HasReplayedFile settings output (what w) (Err fault) (shown_of w) (shown mid))
     → new ≡ option_map (after_say (fault_line fault)) mid → s ≡ status.Capture
-    → IfSome old (λ w. Gives (after_header (replayed settings output) (content input w.files) (first_failing (header_rules (content input w.files)))) s (shown_of w) (shown new))
-file_refused settings output input fault None mid new s has said is = tt
-file_refused settings output input fault (Some w) mid new s has said is =
-    let file = content input w.files in
-    let line = shown_stays (λ (o : Shown). Gives (told_off status.Capture (fault_line fault)) status.Capture o (shown new)) (Some w) mid has.1 (said_line status.Capture (fault_line fault) mid new said) in
-    rw is (gives_as (told_off status.Capture (fault_line fault)) (after_header (replayed settings output) file (first_failing (header_rules file))) status.Capture (shown_of w) (shown new)
-    (ap (after_header (replayed settings output) file) (sym has.0)) line)
+    → IfSome old (λ w. Gives (after_opening (replayed settings output) (what w)) s (shown_of w) (shown new))
+file_refused settings output what fault None mid new s has said is = tt
+file_refused settings output what fault (Some w) mid new s has said is = by (what w) has
+  where
+    by : (o : Opened) → HasReplayedFile settings output o (Err fault) (shown_of w) (shown mid) → Gives (after_opening (replayed settings output) o) s (shown_of w) (shown new)
+    by (Ok run) done = absurd done
+    by (Err other) done =
+        let line = shown_stays (λ (o : Shown). Gives (told_off status.Capture (fault_line fault)) status.Capture o (shown new)) (Some w) mid done.1 (said_line status.Capture (fault_line fault) mid new said) in
+        subst (λ (f : InputFault). Gives (told_off status.Capture (fault_line f)) s (shown_of w) (shown new)) done.0 (rw is line)
 
 -- two facts of a value make a third
 pub ok_both : {T E : Type 0} (r : Result T E) {P R : T → Type 0} {Q : Type 0} → IfOk r P → OnOk r Q → ((x : T) → P x → Q → R x) → IfOk r R
@@ -185,7 +187,7 @@ ok_both (Ok x) p q both = both x p q
 ok_both (Err e) p q both = tt
 
 -- what the steps of a show leave is its answer
-gives_shown : (run : Run) (w : World) (mid new : Option World) (ending : Ending) (s : Status)
+gives_shown : (run : InputRun) (w : World) (mid new : Option World) (ending : Ending) (s : Status)
     → Ends (outcome_of showing tt run) run ending → shown mid ≡ Some (with_outcome None (outcome_of showing tt run) (shown_of w))
     → new ≡ option_map (after_say (closing ending.fault (count_line ending.frames))) mid → s ≡ status_of ending.fault
     → Gives (messages_shown run) s (shown_of w) (shown new)
@@ -207,12 +209,12 @@ gives_shown run w (Some v) new ending s ends frames said is =
     })
 
 -- the same, over what the desk tells
-pub messages_answered : (reader : ℕ) (format : Format) (old now new : Option World) (ending : Ending) (s : Status)
-    → IfSome old (λ w. HasPlayed (Determined showing) tt None (shown_of w) (read_on format begin (left_of reader w)) ending tt now)
+pub messages_answered : (reader : Input) (old now new : Option World) (ending : Ending) (s : Status)
+    → IfSome old (λ w. HasPlayed (Determined showing) tt None (shown_of w) (run_in reader w) ending tt now)
     → new ≡ option_map (after_say (closing ending.fault (count_line ending.frames))) now → s ≡ status_of ending.fault
-    → IfSome old (λ w. Gives (messages_shown (read_on format begin (left_of reader w))) s (shown_of w) (shown new))
-messages_answered reader format None now new ending s played said is = tt
-messages_answered reader format (Some w) now new ending s played said is =
-    let run = read_on format begin (left_of reader w) in
+    → IfSome old (λ w. Gives (messages_shown (run_in reader w)) s (shown_of w) (shown new))
+messages_answered reader None now new ending s played said is = tt
+messages_answered reader (Some w) now new ending s played said is =
+    let run = run_in reader w in
     let ended = end-play showing tt None (shown_of w) run ending tt now played in
     gives_shown run w now new ending s ended.ends ended.shown said is

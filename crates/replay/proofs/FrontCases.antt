@@ -5,28 +5,25 @@ use Rattle.std.specs.Option.{option_map, IfSome}
 use Rattle.std.proofs.lemmas.Option.{IfSome_then}
 use Rattle.std.proofs.Math.Seq.{take-append_seam}
 use Rattle.std.proofs.lemmas.List.{append-nil, length-append, map-append}
-use Rattle.octets.specs.Rules.{first_failing}
 use Rattle.command_words.specs.Words.{words_of}
 use Rattle.command_words.specs.declared.words.Words.{Words}
 use Rattle.command_words.specs.declared.words.Words.TheVariants.{Replay, Show, Trial}
 use Rattle.desk.specs.declared.file.NamedFile.{NamedFile}
 use Rattle.desk.specs.World.{World, Shown, content, left_of, found_at, extended, after_open, after_read, after_make, after_write, shown, shown_of}
 use Rattle.desk.proofs.Entries.{changed_at-more}
-use Rattle.capture_io.specs.Capture.{begin, header_rules}
 use Rattle.capture_io.specs.Frame.{Frame}
-use Rattle.capture_io.specs.Reading.{Reading, beginning, started as started_at}
-use Rattle.capture_io.specs.Frames.{AreLater, Run, capture, read_on}
 use Rattle.capture_io.specs.Output.{out_header}
-use Rattle.capture_io.specs.declared.fault.CaptureFault.{CaptureFault}
-use Rattle.capture_io.specs.declared.format.Format.{Format}
-use Rattle.capture_io.proofs.OrderLemmas.{frames-few, frames-later}
 use Rattle.lisp_settings.specs.Lawful.{IsLawful}
 use Rattle.lisp_settings.specs.Settings.{settings_of}
 use Rattle.lisp_settings.specs.declared.fault.SettingsFault.{SettingsFault}
 use Rattle.lisp_settings.specs.declared.settings.Settings.{Settings}
-use Rattle.playback.specs.Events.{Determined, Event, Outcome, events, events_after, events_of, played, records_of}
+use Rattle.capture_events.specs.Came.{Came}
+use Rattle.capture_events.specs.Events.{Determined, Event, Outcome, events, events_after, events_of, played, records_of}
+use Rattle.command_words.specs.declared.input_format.InputFormat.TheVariants.{Classic}
 use Rattle.playback.specs.Front.{CutRun, IsFront}
-use Rattle.playback.specs.Playing.{outcome_of, with_outcome, with_output, Ends, HasPlayed, IsRead}
+use Rattle.playback.specs.Input.{InputRun}
+use Rattle.playback.specs.Playing.{outcome_of, with_outcome, with_output, Ends, HasPlayed}
+use Rattle.playback.specs.declared.fault.InputFault.{InputFault}
 use Rattle.playback.specs.declared.plays.Ending.{Ending}
 use Rattle.playback.proofs.DeterminedLemmas.{cut-play, end-play}
 use Rattle.playback.proofs.OutputLemmas.{with_output-none}
@@ -38,42 +35,43 @@ use Rattle.router_model.specs.Plain.{Router, after_event, plain, started}
 use Rattle.router_model.proofs.ReplayLemmas.{events-order, table-replays}
 use Rattle.router_model.proofs.RunLemmas.{count, in_order}
 use Rattle.router_model.proofs.StaticsLemmas.{length-statics}
-use Rattle.replay.proofs.CaptureAnswers.{capture_goes_on, capture_stops}
-use Rattle.replay.specs.Answer.{Answer, after_header, answer_by, closing, made_files, messages_shown, replayed}
-use Rattle.replay.specs.Front.{AreFronts, EndsFront, MakesPart, Part, SaysPart, part, part_after_header, part_after_settings, part_after_words, part_by, replayed_part, shown_part}
+use Rattle.replay.specs.Answer.{Answer, after_opening, answer_by, closing, made_files, messages_shown, replayed}
+use Rattle.replay.specs.Front.{AreFronts, EndsFront, MakesPart, Part, SaysPart, part, part_after_opening, part_after_settings, part_after_words, part_by, replayed_part, shown_part}
 use Rattle.replay.specs.Lines.{count_line, end_line, fault_line}
+use Rattle.replay.specs.Opening.{Opened, opened, run_in}
 use Rattle.replay.specs.Readings.{replay_of, HasReplayed, HasReplayedBy, HasReplayedFile}
 use Rattle.replay.specs.Show.{showing}
 use Rattle.replay.specs.Taking.{router_of}
+use Rattle.replay.specs.declared.input.Input.{Input}
 use Rattle.replay.specs.declared.replaying.Counts.{Counts}
 
 -- before the first event nothing was said
-pub replayed-zero : (settings : Settings) (output : List ℕ) (run : Run) → (replayed_part settings output run 0).said ≡ []
+pub replayed-zero : (settings : Settings) (output : List ℕ) (run : InputRun) → (replayed_part settings output run 0).said ≡ []
 unfolding replayed_part
 replayed-zero settings output run = refl
 
-shown-zero : (run : Run) → (shown_part run 0).said ≡ []
+shown-zero : (run : InputRun) → (shown_part run 0).said ≡ []
 unfolding shown_part
 shown-zero run = refl
 
-pub header-zero : (parts : Run → ℕ → Part) (file : List ℕ) (o : Option CaptureFault) → ((run : Run) → (parts run 0).said ≡ []) → (part_after_header parts file o 0).said ≡ []
-header-zero parts file None zeros = zeros (capture file)
-header-zero parts file (Some fault) zeros = refl
+pub opening-zero : (parts : InputRun → ℕ → Part) (what : Opened) → ((run : InputRun) → (parts run 0).said ≡ []) → (part_after_opening parts what 0).said ≡ []
+opening-zero parts (Ok run) zeros = zeros run
+opening-zero parts (Err fault) zeros = refl
 
-pub replay-zero : (settings : Settings) (output file : List ℕ) (o : Option CaptureFault) → (part_after_header (replayed_part settings output) file o 0).said ≡ []
-replay-zero settings output file o = header-zero (replayed_part settings output) file o (replayed-zero settings output)
+pub replay-zero : (settings : Settings) (output : List ℕ) (what : Opened) → (part_after_opening (replayed_part settings output) what 0).said ≡ []
+replay-zero settings output what = opening-zero (replayed_part settings output) what (replayed-zero settings output)
 
-pub show-zero : (file : List ℕ) (o : Option CaptureFault) → (part_after_header shown_part file o 0).said ≡ []
-show-zero file o = header-zero shown_part file o shown-zero
+pub show-zero : (what : Opened) → (part_after_opening shown_part what 0).said ≡ []
+show-zero what = opening-zero shown_part what shown-zero
 
-pub settings-zero : (output file : List ℕ) (r : Result Settings SettingsFault) → (part_after_settings output file r 0).said ≡ []
-settings-zero output file (Ok settings) = replay-zero settings output file (first_failing (header_rules file))
-settings-zero output file (Err fault) = refl
+pub settings-zero : (output : List ℕ) (what : Opened) (r : Result Settings SettingsFault) → (part_after_settings output what r 0).said ≡ []
+settings-zero output what (Ok settings) = replay-zero settings output what
+settings-zero output what (Err fault) = refl
 
 pub words-zero : (files : List NamedFile) (words : Option Words) → (part_after_words files words 0).said ≡ []
 words-zero files None = refl
-words-zero files (Some (Replay settings input output workers round)) = settings-zero output (content input files) (settings_of (content settings files))
-words-zero files (Some (Show input)) = show-zero (content input files) (first_failing (header_rules (content input files)))
+words-zero files (Some (Replay settings input output format workers round)) = settings-zero output (opened format (content input files)) (settings_of (content settings files))
+words-zero files (Some (Show input)) = show-zero (opened Classic (content input files))
 words-zero files (Some (Trial n)) = refl
 
 pub part-of : (words : List (List ℕ)) (files : List NamedFile) (said : Option Words) → words_of words ≡ said → part words files ≡ part_after_words files said
@@ -148,28 +146,20 @@ order-front : (m : ℕ) (first more : List Event) → AreInOrder m (first ++ mor
 order-front m [] more order = tt
 order-front m (event ∷ first) more order = (order.0, (order.1.0, order-front (event_moment event) first more order.1.1))
 
-later-front : (m : ℕ) (frames more : List Frame) → AreLater m (frames ++ more) → AreLater m frames
-later-front m [] more later = tt
-later-front m (frame ∷ frames) more later = (later.0, later-front frame.moment frames more later.1)
-
--- for the first events of frames that were read, a table says and writes what the plain router does
-tabled : (settings : Settings) (format : Format) (octets : List ℕ) (parts : Parts) (frames : List Frame) (first : List Event) → IsLawful settings → parts ≡ parts_in settings (statics settings)
-    → IsFront frames (read_on format begin octets).frames → All IsRead frames → IsFront first (events frames)
+-- for the first events of frames that came, a table says and writes what the plain router does
+tabled : (settings : Settings) (parts : Parts) (frames : List Frame) (first : List Event) → IsLawful settings → parts ≡ parts_in settings (statics settings)
+    → Came frames → IsFront first (events frames)
     → played (after_event table) (router_of settings parts) first ≡ outcome_tabled (played plain (started settings) first)
-tabled settings format octets parts frames first lawful begins within read front =
-    let all = (read_on format begin octets).frames in
-    let later = later-front 0 frames within.0 (subst (λ (l : List Frame). AreLater 0 l) (sym within.1) (frames-later format octets)) in
-    let whole = events-order frames (in_order 0 frames read later) in
+tabled settings parts frames first lawful begins came front =
+    let whole = events-order frames (in_order 0 frames came.read came.later) in
     let order = order-front 0 first front.0 (subst (λ (l : List Event). AreInOrder 0 l) (sym front.1) whole) in
-    let most = count frames read later in
-    let few = frames-few format octets in
-    let size = ap length within.1 in
-    let sum = length-append frames within.0 in
+    let most = count frames came.read came.later in
+    let few = came.few in
     let places = ap length front.1 in
     let shares = length-append first front.0 in
     let fixed = length-statics settings in
     let mappings = lawful.few_mappings in
-    let room : length (statics settings) + 2048 * length first ≤ 2 ^ 62 = omega (arith, most, few, size, sum, places, shares, fixed, mappings) in
+    let room : length (statics settings) + 2048 * length first ≤ 2 ^ 62 = omega (arith, most, few, places, shares, fixed, mappings) in
     rw begins (table-replays settings first order room).0
 
 -- what is shown of octets that were said and written into the file that was made
@@ -186,7 +176,7 @@ made-more : (id : ℕ) (file : NamedFile) (writers : List (ℕ × NamedFile)) �
 made-more id file writers = map-append (λ (x : ℕ × NamedFile). x.1) writers ((id, file) ∷ [])
 
 -- frames whose output was made, by what is said and written for them, and for so many of their parts
-pub frames_front : (outcome : Outcome (Router Journal)) (parts : ℕ → Outcome (Router Journal)) (count : ℕ) (name : List ℕ) (run : Run) (id : ℕ) (w : World) (new : Option World) (lines octets : List ℕ)
+pub frames_front : (outcome : Outcome (Router Journal)) (parts : ℕ → Outcome (Router Journal)) (count : ℕ) (name : List ℕ) (run : InputRun) (id : ℕ) (w : World) (new : Option World) (lines octets : List ℕ)
     → found_at id w.writers ≡ None
     → shown new ≡ Some (with_output (Some id) lines octets (shown_of (after_write id out_header (after_make id name w))))
     → IsFront lines outcome.lines → IsFront octets (records_of outcome.packets)
@@ -210,7 +200,7 @@ frames_front outcome parts count name run id w new lines octets fresh is said se
     })
 
 -- a replay whose output was made, of so many events
-replay_front : (settings : Settings) (name : List ℕ) (run : Run) (id : ℕ) (w : World) (new : Option World) (first : List Event) (lines octets : List ℕ) → found_at id w.writers ≡ None
+replay_front : (settings : Settings) (name : List ℕ) (run : InputRun) (id : ℕ) (w : World) (new : Option World) (first : List Event) (lines octets : List ℕ) → found_at id w.writers ≡ None
     → shown new ≡ Some (with_output (Some id) lines octets (shown_of (after_write id out_header (after_make id name w))))
     → IsFront first (events run.frames) → IsFront lines (replay_of settings run).lines
     → IsFront (played plain (started settings) first).lines lines → IsFront octets (records_of (played plain (started settings) first).packets)
@@ -225,17 +215,16 @@ replay_front settings name run id w new first lines octets fresh is within said 
     (rw named reported) (rw named written)
 
 -- a play by the table that was cut short
-play_front : (settings : Settings) (name : List ℕ) (format : Format) (octets : List ℕ) (id : ℕ) (w : World) (new : Option World) (parts : Parts) → IsLawful settings → parts ≡ parts_in settings (statics settings)
+play_front : (settings : Settings) (name : List ℕ) (run : InputRun) (id : ℕ) (w : World) (new : Option World) (parts : Parts) → IsLawful settings → parts ≡ parts_in settings (statics settings)
     → found_at id w.writers ≡ None
-    → CutRun (Determined (after_event table)) (router_of settings parts) (Some id) (shown_of (after_write id out_header (after_make id name w))) (read_on format begin octets) new
-    → EndsFront (replayed settings name (read_on format begin octets)) (replayed_part settings name (read_on format begin octets)) (shown_of w) new
-play_front settings name format octets id w new parts lawful begins fresh cut_run =
-    let run = read_on format begin octets in
+    → CutRun (Determined (after_event table)) (router_of settings parts) (Some id) (shown_of (after_write id out_header (after_make id name w))) run new
+    → EndsFront (replayed settings name run) (replayed_part settings name run) (shown_of w) new
+play_front settings name run id w new parts lawful begins fresh cut_run =
     let cut = cut-play (after_event table) (router_of settings parts) (Some id) (shown_of (after_write id out_header (after_make id name w))) run new cut_run in
     let some = events cut.frames in
     let all = events run.frames in
     let within = front-events cut.frames run.frames cut.within in
-    let by = λ (first : List Event) (front : IsFront first some). tabled settings format octets parts cut.frames first lawful begins cut.within cut.read front in
+    let by = λ (first : List Event) (front : IsFront first some). tabled settings parts cut.frames first lawful begins cut.came front in
     let whole = by some (front-all some) in
     let part = by cut.first cut.front in
     let said : IsFront cut.lines (played plain (started settings) some).lines = subst (λ (o : Outcome (Router Parts)). IsFront cut.lines o.lines) whole cut.said in
@@ -245,27 +234,27 @@ play_front settings name format octets id w new parts lawful begins fresh cut_ru
     (front-front cut.lines (played plain (started settings) some).lines (replay_of settings run).lines said (front-lines plain (started settings) some all within)) reported written
 
 -- the same, over what the desk tells
-pub table_front : (settings : Settings) (id reader : ℕ) (format : Format) (name : List ℕ) (old made new : Option World) (parts : Parts) → IsLawful settings → parts ≡ parts_in settings (statics settings)
+pub table_front : (settings : Settings) (id : ℕ) (reader : Input) (name : List ℕ) (old made new : Option World) (parts : Parts) → IsLawful settings → parts ≡ parts_in settings (statics settings)
     → IfSome old (λ w. found_at id w.writers ≡ None) → made ≡ option_map (λ w. after_write id out_header (after_make id name w)) old
-    → IfSome made (λ w. CutRun (Determined (after_event table)) (router_of settings parts) (Some id) (shown_of w) (read_on format begin (left_of reader w)) new)
-    → IfSome old (λ w. EndsFront (replayed settings name (read_on format begin (left_of reader w))) (replayed_part settings name (read_on format begin (left_of reader w))) (shown_of w) new)
-table_front settings id reader format name None made new parts lawful begins fresh makes cut = tt
-table_front settings id reader format name (Some w) made new parts lawful begins fresh makes cut =
-    play_front settings name format (left_of reader w) id w new parts lawful begins fresh (rw makes at cut)
+    → IfSome made (λ w. CutRun (Determined (after_event table)) (router_of settings parts) (Some id) (shown_of w) (run_in reader w) new)
+    → IfSome old (λ w. EndsFront (replayed settings name (run_in reader w)) (replayed_part settings name (run_in reader w)) (shown_of w) new)
+table_front settings id reader name None made new parts lawful begins fresh makes cut = tt
+table_front settings id reader name (Some w) made new parts lawful begins fresh makes cut =
+    play_front settings name (run_in reader w) id w new parts lawful begins fresh (rw makes at cut)
 
 -- want of memory behind the header
-pub header_front : (settings : Settings) (id reader : ℕ) (format : Format) (name : List ℕ) (old made : Option World)
+pub header_front : (settings : Settings) (id : ℕ) (reader : Input) (name : List ℕ) (old made : Option World)
     → IfSome old (λ w. found_at id w.writers ≡ None) → made ≡ option_map (λ w. after_write id out_header (after_make id name w)) old
-    → IfSome old (λ w. EndsFront (replayed settings name (read_on format begin (left_of reader w))) (replayed_part settings name (read_on format begin (left_of reader w))) (shown_of w) made)
-header_front settings id reader format name None made fresh makes = tt
-header_front settings id reader format name (Some w) made fresh makes =
-    let run = read_on format begin (left_of reader w) in
+    → IfSome old (λ w. EndsFront (replayed settings name (run_in reader w)) (replayed_part settings name (run_in reader w)) (shown_of w) made)
+header_front settings id reader name None made fresh makes = tt
+header_front settings id reader name (Some w) made fresh makes =
+    let run = run_in reader w in
     let file = after_write id out_header (after_make id name w) in
     let same : shown made ≡ Some (with_output (Some id) [] [] (shown_of file)) = ap shown makes ∙ ap Some (sym (with_output-none (Some id) (shown_of file))) in
     replay_front settings name run id w made [] [] [] fresh same (events run.frames, refl) ((replay_of settings run).lines, refl) ([], refl) ([], refl)
 
 -- the output was made only in part, or not at all
-pub make_front : (outcome : Outcome (Router Journal)) (parts : ℕ → Outcome (Router Journal)) (name : List ℕ) (run : Run) (w : World) (new : Option World) → (parts 0).lines ≡ [] → MakesPart name (Some w) new
+pub make_front : (outcome : Outcome (Router Journal)) (parts : ℕ → Outcome (Router Journal)) (name : List ℕ) (run : InputRun) (w : World) (new : Option World) → (parts 0).lines ≡ [] → MakesPart name (Some w) new
     → EndsFront (answer_by outcome name run) (λ k. part_by (parts k) name) (shown_of w) new
 make_front outcome parts name run w new zero (inl same) = front_none _ _ w new zero (ap shown same)
 make_front outcome parts name run w new zero (inr (id, k, fresh, is)) =
@@ -288,16 +277,16 @@ make_front outcome parts name run w new zero (inr (id, k, fresh, is)) =
       written = (refl, (front _, tt));
     })
 
-plain_make : (settings : Settings) (name : List ℕ) (run : Run) (w : World) (new : Option World) → MakesPart name (Some w) new
+plain_make : (settings : Settings) (name : List ℕ) (run : InputRun) (w : World) (new : Option World) → MakesPart name (Some w) new
     → EndsFront (replayed settings name run) (replayed_part settings name run) (shown_of w) new
 unfolding replayed replayed_part
 plain_make settings name run w new makes =
     make_front (replay_of settings run) (λ k. played plain (started settings) (take k (events run.frames))) name run w new refl makes
 
-pub output_front : (settings : Settings) (reader : ℕ) (format : Format) (name : List ℕ) (old new : Option World) → MakesPart name old new
-    → IfSome old (λ w. EndsFront (replayed settings name (read_on format begin (left_of reader w))) (replayed_part settings name (read_on format begin (left_of reader w))) (shown_of w) new)
-output_front settings reader format name None new makes = tt
-output_front settings reader format name (Some w) new makes = plain_make settings name (read_on format begin (left_of reader w)) w new makes
+pub output_front : (settings : Settings) (reader : Input) (name : List ℕ) (old new : Option World) → MakesPart name old new
+    → IfSome old (λ w. EndsFront (replayed settings name (run_in reader w)) (replayed_part settings name (run_in reader w)) (shown_of w) new)
+output_front settings reader name None new makes = tt
+output_front settings reader name (Some w) new makes = plain_make settings name (run_in reader w) w new makes
 
 -- a file of that name was made, and then its header was written in part
 pub makes_part : (id : ℕ) (name header : List ℕ) (old made new : Option World) → header ≡ out_header → IfSome old (λ w. found_at id w.writers ≡ None)
@@ -307,18 +296,6 @@ makes_part id name header old made new is fresh makes writes = inr (id, writes.0
     twice : (o : Option World) → option_map (after_write id (take writes.0 header)) (option_map (after_make id name) o) ≡ option_map (λ w. after_write id (take writes.0 header) (after_make id name w)) o
     twice None = refl
     twice (Some w) = refl
-
--- a file that is replayed: what the desk told is the file's
-pub capture_front : (frames : Run → Answer) (parts : Run → ℕ → Part) (id : ℕ) (input : List ℕ) (old mid now new : Option World) (r : Reading)
-    → IfSome old (λ w. found_at id w.readers ≡ None) → mid ≡ option_map (after_open id input) old
-    → IfSome mid (λ w. Ok r ≡ started_at id (left_of id w)) → now ≡ option_map (after_read id 24) mid → r ≡ beginning id r.format
-    → IfSome now (λ w. EndsFront (frames (read_on r.format begin (left_of r.id w))) (parts (read_on r.format begin (left_of r.id w))) (shown_of w) new)
-    → IfSome old (λ w. EndsFront (after_header frames (content input w.files) (first_failing (header_rules (content input w.files)))) (part_after_header parts (content input w.files) (first_failing (header_rules (content input w.files)))) (shown_of w) new)
-capture_front frames parts id input old mid now new r fresh opened is read fresh_reader ends =
-    IfSome_then old (capture_goes_on (λ run x. EndsFront (frames run) (parts run) x new) id input old mid now r fresh opened is read fresh_reader ends) (λ w goes.
-    let file = content input w.files in
-    front_as (frames (capture file)) (after_header frames file (first_failing (header_rules file))) (parts (capture file)) (part_after_header parts file (first_failing (header_rules file))) (shown_of w) new
-    (ap (after_header frames file) (sym goes.0)) (ap (part_after_header parts file) (sym goes.0)) goes.1)
 
 -- only reading came between
 pub front_read : (a : World → Answer) (parts : World → ℕ → Part) (old mid new : Option World) → ((w : World) → (parts w 0).said ≡ []) → shown mid ≡ shown old → shown new ≡ shown mid
@@ -333,7 +310,7 @@ front_says a parts line None mid new zeros same is says = tt
 front_says a parts line (Some w) mid new zeros same is says = front_line (a w) (parts w) line w mid new (zeros w) is same says
 
 -- a part of the last line of frames
-pub last_line_front : (outcome : Outcome (Router Journal)) (parts : ℕ → Outcome (Router Journal)) (count : ℕ) (output : List ℕ) (run : Run) (counts : Counts) (w : World) (mid new : Option World) → parts count ≡ outcome
+pub last_line_front : (outcome : Outcome (Router Journal)) (parts : ℕ → Outcome (Router Journal)) (count : ℕ) (output : List ℕ) (run : InputRun) (counts : Counts) (w : World) (mid new : Option World) → parts count ≡ outcome
     → HasReplayedBy outcome output run counts (shown_of w) (shown mid) → SaysPart (closing counts.fault (end_line counts.frames counts.written counts.entries)) mid new
     → EndsFront (answer_by outcome output run) (λ k. part_by (parts k) output) (shown_of w) new
 last_line_front outcome parts count output run counts w None new whole has says = absurd has.left
@@ -355,7 +332,7 @@ last_line_front outcome parts count output run counts w (Some v) new whole has s
     })
 
 -- of a replay
-closing_front : (settings : Settings) (output : List ℕ) (run : Run) (counts : Counts) (w : World) (mid new : Option World) → HasReplayed settings output run counts (shown_of w) (shown mid)
+closing_front : (settings : Settings) (output : List ℕ) (run : InputRun) (counts : Counts) (w : World) (mid new : Option World) → HasReplayed settings output run counts (shown_of w) (shown mid)
     → SaysPart (closing counts.fault (end_line counts.frames counts.written counts.entries)) mid new
     → EndsFront (replayed settings output run) (replayed_part settings output run) (shown_of w) new
 unfolding replayed replayed_part
@@ -364,31 +341,33 @@ closing_front settings output run counts w mid new has says =
     last_line_front (replay_of settings run) (λ k. played plain (started settings) (take k all)) (length all) output run counts w mid new
     (ap (played plain (started settings)) (by-count all all (front-all all))) has says
 
--- the same of a file
-pub file_front : (settings : Settings) (output input : List ℕ) (counts : Counts) (old mid new : Option World)
-    → IfSome old (λ w. HasReplayedFile settings output (content input w.files) (Ok counts) (shown_of w) (shown mid))
+-- the same of what is read of a capture
+pub file_front : (settings : Settings) (output : List ℕ) (what : World → Opened) (counts : Counts) (old mid new : Option World)
+    → IfSome old (λ w. HasReplayedFile settings output (what w) (Ok counts) (shown_of w) (shown mid))
     → SaysPart (closing counts.fault (end_line counts.frames counts.written counts.entries)) mid new
-    → IfSome old (λ w. EndsFront (after_header (replayed settings output) (content input w.files) (first_failing (header_rules (content input w.files)))) (part_after_header (replayed_part settings output) (content input w.files) (first_failing (header_rules (content input w.files)))) (shown_of w) new)
-file_front settings output input counts None mid new has says = tt
-file_front settings output input counts (Some w) mid new has says =
-    let file = content input w.files in
-    front_as (replayed settings output (capture file)) (after_header (replayed settings output) file (first_failing (header_rules file))) (replayed_part settings output (capture file)) (part_after_header (replayed_part settings output) file (first_failing (header_rules file))) (shown_of w) new
-    (ap (after_header (replayed settings output) file) (sym has.0)) (ap (part_after_header (replayed_part settings output) file) (sym has.0)) (closing_front settings output (capture file) counts w mid new has.1 says)
+    → IfSome old (λ w. EndsFront (after_opening (replayed settings output) (what w)) (part_after_opening (replayed_part settings output) (what w)) (shown_of w) new)
+file_front settings output what counts None mid new has says = tt
+file_front settings output what counts (Some w) mid new has says = by (what w) has
+  where
+    by : (o : Opened) → HasReplayedFile settings output o (Ok counts) (shown_of w) (shown mid) → EndsFront (after_opening (replayed settings output) o) (part_after_opening (replayed_part settings output) o) (shown_of w) new
+    by (Ok run) done = closing_front settings output run counts w mid new done says
+    by (Err fault) done = absurd done
 
 -- a part of the line of a header's fault
-pub refused_front : (settings : Settings) (output input : List ℕ) (fault : CaptureFault) (old mid new : Option World)
-    → IfSome old (λ w. HasReplayedFile settings output (content input w.files) (Err fault) (shown_of w) (shown mid))
+pub refused_front : (settings : Settings) (output : List ℕ) (what : World → Opened) (fault : InputFault) (old mid new : Option World)
+    → IfSome old (λ w. HasReplayedFile settings output (what w) (Err fault) (shown_of w) (shown mid))
     → SaysPart (fault_line fault) mid new
-    → IfSome old (λ w. EndsFront (after_header (replayed settings output) (content input w.files) (first_failing (header_rules (content input w.files)))) (part_after_header (replayed_part settings output) (content input w.files) (first_failing (header_rules (content input w.files)))) (shown_of w) new)
-refused_front settings output input fault None mid new has says = tt
-refused_front settings output input fault (Some w) mid new has says =
-    let file = content input w.files in
-    let said : (after_header (replayed settings output) file (first_failing (header_rules file))).said ≡ fault_line fault = rw has.0 refl in
-    front_line (after_header (replayed settings output) file (first_failing (header_rules file))) (part_after_header (replayed_part settings output) file (first_failing (header_rules file))) (fault_line fault) w mid new
-    (replay-zero settings output file (first_failing (header_rules file))) said has.1 says
+    → IfSome old (λ w. EndsFront (after_opening (replayed settings output) (what w)) (part_after_opening (replayed_part settings output) (what w)) (shown_of w) new)
+refused_front settings output what fault None mid new has says = tt
+refused_front settings output what fault (Some w) mid new has says = by (what w) has
+  where
+    by : (o : Opened) → HasReplayedFile settings output o (Err fault) (shown_of w) (shown mid) → EndsFront (after_opening (replayed settings output) o) (part_after_opening (replayed_part settings output) o) (shown_of w) new
+    by (Ok run) done = absurd done
+    by (Err other) done =
+        front_line (after_opening (replayed settings output) (Err other)) (part_after_opening (replayed_part settings output) (Err other)) (fault_line fault) w mid new refl (ap fault_line (sym done.0)) done.1 says
 
 -- a show that was cut short
-shown_front : (run : Run) (w : World) (new : Option World) (first : List Event) (lines octets : List ℕ) → shown new ≡ Some (with_output None lines octets (shown_of w))
+shown_front : (run : InputRun) (w : World) (new : Option World) (first : List Event) (lines octets : List ℕ) → shown new ≡ Some (with_output None lines octets (shown_of w))
     → IsFront first (events run.frames) → IsFront lines (played showing tt (events run.frames)).lines → IsFront (played showing tt first).lines lines
     → EndsFront (messages_shown run) (shown_part run) (shown_of w) new
 unfolding messages_shown shown_part
@@ -407,19 +386,19 @@ shown_front run w new first lines octets same within said reported =
       written = tt;
     })
 
-pub messages_front : (reader : ℕ) (format : Format) (old new : Option World)
-    → IfSome old (λ w. CutRun (Determined showing) tt None (shown_of w) (read_on format begin (left_of reader w)) new)
-    → IfSome old (λ w. EndsFront (messages_shown (read_on format begin (left_of reader w))) (shown_part (read_on format begin (left_of reader w))) (shown_of w) new)
-messages_front reader format None new cut = tt
-messages_front reader format (Some w) new cut_run =
-    let run = read_on format begin (left_of reader w) in
+pub messages_front : (reader : Input) (old new : Option World)
+    → IfSome old (λ w. CutRun (Determined showing) tt None (shown_of w) (run_in reader w) new)
+    → IfSome old (λ w. EndsFront (messages_shown (run_in reader w)) (shown_part (run_in reader w)) (shown_of w) new)
+messages_front reader None new cut = tt
+messages_front reader (Some w) new cut_run =
+    let run = run_in reader w in
     let cut = cut-play showing tt None (shown_of w) run new cut_run in
     let within = front-events cut.frames run.frames cut.within in
     shown_front run w new cut.first cut.lines cut.octets cut.shown (front-front cut.first (events cut.frames) (events run.frames) cut.front within)
     (front-front cut.lines (played showing tt (events cut.frames)).lines (played showing tt (events run.frames)).lines cut.said (front-lines showing tt (events cut.frames) (events run.frames) within)) cut.reported
 
 -- a part of the last line of a show
-last_front : (run : Run) (w : World) (mid new : Option World) (ending : Ending) → Ends (outcome_of showing tt run) run ending
+last_front : (run : InputRun) (w : World) (mid new : Option World) (ending : Ending) → Ends (outcome_of showing tt run) run ending
     → shown mid ≡ Some (with_outcome None (outcome_of showing tt run) (shown_of w)) → SaysPart (closing ending.fault (count_line ending.frames)) mid new
     → EndsFront (messages_shown run) (shown_part run) (shown_of w) new
 unfolding messages_shown shown_part
@@ -444,13 +423,13 @@ last_front run w (Some v) new ending ends frames says =
       written = tt;
     })
 
-pub line_front : (reader : ℕ) (format : Format) (old mid new : Option World) (ending : Ending)
-    → IfSome old (λ w. HasPlayed (Determined showing) tt None (shown_of w) (read_on format begin (left_of reader w)) ending tt mid)
+pub line_front : (reader : Input) (old mid new : Option World) (ending : Ending)
+    → IfSome old (λ w. HasPlayed (Determined showing) tt None (shown_of w) (run_in reader w) ending tt mid)
     → SaysPart (closing ending.fault (count_line ending.frames)) mid new
-    → IfSome old (λ w. EndsFront (messages_shown (read_on format begin (left_of reader w))) (shown_part (read_on format begin (left_of reader w))) (shown_of w) new)
-line_front reader format None mid new ending has says = tt
-line_front reader format (Some w) mid new ending has says =
-    let run = read_on format begin (left_of reader w) in
+    → IfSome old (λ w. EndsFront (messages_shown (run_in reader w)) (shown_part (run_in reader w)) (shown_of w) new)
+line_front reader None mid new ending has says = tt
+line_front reader (Some w) mid new ending has says =
+    let run = run_in reader w in
     let ended = end-play showing tt None (shown_of w) run ending tt mid has in
     last_front run w mid new ending ended.ends ended.shown says
 
@@ -458,18 +437,6 @@ line_front reader format (Some w) mid new ending has says =
 pub says_none : (line : List ℕ) (told : Option World) → SaysPart line told told
 says_none line None = (0, refl)
 says_none line (Some w) = (0, ap (λ (said : List ℕ). Some (record w { said = said })) (sym (append-nil w.said)))
-
--- a part of the line of a header's fault, of a show
-pub stops_front : (frames : Run → Answer) (parts : Run → ℕ → Part) (id : ℕ) (input : List ℕ) (old mid now new : Option World) (f : CaptureFault) → ((file : List ℕ) (o : Option CaptureFault) → (part_after_header parts file o 0).said ≡ [])
-    → IfSome old (λ w. found_at id w.readers ≡ None) → mid ≡ option_map (after_open id input) old
-    → IfSome mid (λ w. Err f ≡ started_at id (left_of id w)) → shown now ≡ shown mid → SaysPart (fault_line f) now new
-    → IfSome old (λ w. EndsFront (after_header frames (content input w.files) (first_failing (header_rules (content input w.files)))) (part_after_header parts (content input w.files) (first_failing (header_rules (content input w.files)))) (shown_of w) new)
-stops_front frames parts id input old mid now new f zeros fresh opened is same says =
-    IfSome_then old (capture_stops id input old mid now f fresh opened is same) (λ w stops.
-    let file = content input w.files in
-    let said : (after_header frames file (first_failing (header_rules file))).said ≡ fault_line f = rw stops.0 refl in
-    front_line (after_header frames file (first_failing (header_rules file))) (part_after_header parts file (first_failing (header_rules file))) (fault_line f) w now new
-    (zeros file (first_failing (header_rules file))) said stops.1 says)
 
 -- the same of what is shown alone
 pub front_shown : (a : List NamedFile → Answer) (parts : List NamedFile → ℕ → Part) (old new : Option World) → IfSome old (λ w. EndsFront (a w.files) (parts w.files) (shown_of w) new)

@@ -1,5 +1,5 @@
 pub mod AnswerCases
-pub mod CaptureAnswers
+pub mod OpeningLemmas
 pub mod FrontCases
 pub mod MessageLemmas
 pub mod PieceLemmas

@@ -7,7 +7,7 @@ use Rattle.capture_io.specs.Frame.{Frame}
 use Rattle.capture_io.specs.Output.{packet_record}
 use Rattle.lisp_settings.specs.Lawful.{IsLawful}
 use Rattle.lisp_settings.specs.declared.settings.Settings.{Settings}
-use Rattle.playback.specs.Events.{Arrival, Determined, End, Event, Happens, Outcome, Packet, idle, records_of, second_of}
+use Rattle.capture_events.specs.Events.{Arrival, Determined, End, Event, Happens, Outcome, Packet, idle, records_of, second_of}
 use Rattle.playback.specs.Playing.{Gathers, GathersOne}
 use Rattle.playback.specs.declared.output.Output.{Output}
 use Rattle.router_log.specs.Lines.{frame_line}

@@ -2,34 +2,34 @@
 use Rattle.std.proofs.Common.{◌≡◌, ◌≤◌, ◌∙◌, zero, suc, ℕ, false, List, [], Option, Some, None, Result, Ok, Err, arith, refl, sym, ap, subst}
 use Rattle.std.specs.Option.{option_map, IfSome, IsSomeAnd}
 use Rattle.std.specs.Result.{IfOk, OnOk}
-use Rattle.octets.specs.Rules.{first_failing}
 use Rattle.command_words.specs.Words.{words_of}
+use Rattle.command_words.specs.declared.input_format.InputFormat.{InputFormat}
 use Rattle.command_words.specs.declared.words.Words.{Words}
 use Rattle.command_words.specs.declared.words.Words.TheVariants.{Replay, Show, Trial}
-use Rattle.desk.specs.World.{World, Shown, content, left_of, found_at, after_say, after_make, after_write, shown, shown_of}
+use Rattle.desk.specs.World.{World, Shown, content, found_at, after_say, after_make, after_write, shown, shown_of}
 use Rattle.desk.specs.declared.file.NamedFile.{NamedFile}
-use Rattle.capture_io.specs.Capture.{begin, header_rules}
-use Rattle.capture_io.specs.Frames.{Run, capture, read_on}
 use Rattle.capture_io.specs.Output.{out_header}
-use Rattle.capture_io.specs.declared.fault.CaptureFault.{CaptureFault}
-use Rattle.capture_io.specs.declared.format.Format.{Format}
 use Rattle.lisp_settings.specs.Settings.{settings_of}
 use Rattle.lisp_settings.specs.declared.fault.SettingsFault.{SettingsFault}
 use Rattle.lisp_settings.specs.declared.settings.Settings.{Settings}
+use Rattle.playback.specs.Input.{InputRun}
+use Rattle.playback.specs.declared.fault.InputFault.{InputFault}
 use Rattle.router_model.specs.Rounds.{rounds}
-use Rattle.replay.specs.Answer.{Gives, Leaves, after_header, after_settings, after_words, answer, closing, replayed, status_of, told_off}
+use Rattle.replay.specs.Answer.{Gives, Leaves, after_opening, after_settings, after_words, answer, closing, replayed, status_of, told_off}
 use Rattle.sharing.specs.Sharing as sharing
 use Rattle.sharing.specs.declared.playing.RoundsEnding.{RoundsEnding}
 use Rattle.replay.specs.Lines.{end_line, fault_line, settings_line}
-use Rattle.replay.specs.Readings.{HasReplayedInRounds, HasReplayedFileInRounds}
-use Rattle.replay.specs.Shared.{GivesAfter, GivesFor, GivesWith, MayHave, Shares, SharesBy, SharesFile, SharesOf, after_settings_by, after_words_by, answer_with, are_some, frames_by, has_workers, shared}
+use Rattle.replay.specs.Opening.{Opened, opened, run_in}
+use Rattle.replay.specs.Readings.{HasReplayedInRounds}
+use Rattle.replay.specs.Shared.{GivesAfter, GivesFor, GivesWith, MayHave, Shares, SharesBy, SharesOf, after_settings_by, after_words_by, answer_with, are_some, frames_by, has_workers, shared}
+use Rattle.replay.specs.declared.input.Input.{Input}
 use Rattle.replay.specs.declared.replaying.Counts.{Counts}
 use Rattle.replay.specs.declared.status.Status.{Status}
 use Rattle.replay.specs.declared.status.Status.TheVariants as status
 use Rattle.replay.proofs.AnswerCases.{closed, counts_of, gives_as, has_replayed, said_line, shown_stays}
 
 -- what a play of rounds leaves, before its last line
-run_shared : (settings : Settings) (size id : ℕ) (name : List ℕ) (run : Run) (w : World) (new : Option World) (ended : RoundsEnding)
+run_shared : (settings : Settings) (size id : ℕ) (name : List ℕ) (run : InputRun) (w : World) (new : Option World) (ended : RoundsEnding)
     → found_at id w.writers ≡ None → sharing.HasShared size settings (Some id) (shown_of (after_write id out_header (after_make id name w))) run ended new
     → HasReplayedInRounds size settings name run (counts_of ended.ending ended.entries) (shown_of w) (shown new)
 run_shared settings size id name run w new ended fresh played =
@@ -40,85 +40,86 @@ run_shared settings size id name run w new ended fresh played =
     }
 
 -- the same, over what the desk tells
-pub frames_shared : (settings : Settings) (size id reader : ℕ) (format : Format) (name : List ℕ) (old made new : Option World) (ended : RoundsEnding)
+pub frames_shared : (settings : Settings) (size id : ℕ) (reader : Input) (name : List ℕ) (old made new : Option World) (ended : RoundsEnding)
     → IfSome old (λ w. found_at id w.writers ≡ None) → made ≡ option_map (λ w. after_write id out_header (after_make id name w)) old
-    → IfSome made (λ w. sharing.HasShared size settings (Some id) (shown_of w) (read_on format begin (left_of reader w)) ended new)
-    → IfSome old (λ w. HasReplayedInRounds size settings name (read_on format begin (left_of reader w)) (counts_of ended.ending ended.entries) (shown_of w) (shown new))
-frames_shared settings size id reader format name None made new ended fresh makes played = tt
-frames_shared settings size id reader format name (Some w) made new ended fresh makes played =
-    run_shared settings size id name (read_on format begin (left_of reader w)) w new ended fresh (rw makes at played)
+    → IfSome made (λ w. sharing.HasShared size settings (Some id) (shown_of w) (run_in reader w) ended new)
+    → IfSome old (λ w. HasReplayedInRounds size settings name (run_in reader w) (counts_of ended.ending ended.entries) (shown_of w) (shown new))
+frames_shared settings size id reader name None made new ended fresh makes played = tt
+frames_shared settings size id reader name (Some w) made new ended fresh makes played =
+    run_shared settings size id name (run_in reader w) w new ended fresh (rw makes at played)
 
--- the answer to a file that was replayed
-pub shared_closed : (size : ℕ) (settings : Settings) (output input : List ℕ) (counts : Counts) (old mid new : Option World) (s : Status)
-    → IfSome old (λ w. HasReplayedFileInRounds size settings output (content input w.files) (Ok counts) (shown_of w) (shown mid))
+-- the answer to a capture that was replayed
+shared-closed : (size : ℕ) (settings : Settings) (output : List ℕ) (run : InputRun) (counts : Counts) (old : Shown) (mid new : Option World) (s : Status)
+    → HasReplayedInRounds size settings output run counts old (shown mid)
     → new ≡ option_map (after_say (closing counts.fault (end_line counts.frames counts.written counts.entries))) mid → s ≡ status_of counts.fault
-    → IfSome old (λ w. SharesFile size settings output (content input w.files) s (shown_of w) (shown new))
+    → SharesOf size settings output (Ok run) s old (shown new)
 unfolding shared
-shared_closed size settings output input counts None mid new s has said is = tt
-shared_closed size settings output input counts (Some w) mid new s has said is =
-    let file = content input w.files in
-    subst (λ (o : Option CaptureFault). SharesOf size settings output file o s (shown_of w) (shown new)) (sym has.0) (record {
-      ns = has.1.ns;
-      lawful = has.1.lawful;
-      gives = closed (rounds settings (capture file).frames size has.1.ns) output (capture file) counts (shown_of w) mid new s has.1.replayed said is;
-    })
+shared-closed size settings output run counts old mid new s has said is = record {
+  ns = has.ns;
+  lawful = has.lawful;
+  gives = closed (rounds settings run.frames size has.ns) output run counts old mid new s has.replayed said is;
+}
 
--- the answer to a file whose header has a fault
-pub shared_refused : (size : ℕ) (settings : Settings) (output input : List ℕ) (fault : CaptureFault) (old mid new : Option World) (s : Status)
-    → IfSome old (λ w. HasReplayedFileInRounds size settings output (content input w.files) (Err fault) (shown_of w) (shown mid))
-    → new ≡ option_map (after_say (fault_line fault)) mid → s ≡ status.Capture
-    → IfSome old (λ w. SharesFile size settings output (content input w.files) s (shown_of w) (shown new))
-shared_refused size settings output input fault None mid new s has said is = tt
-shared_refused size settings output input fault (Some w) mid new s has said is =
-    let line = shown_stays (λ (o : Shown). Gives (told_off status.Capture (fault_line fault)) status.Capture o (shown new)) (Some w) mid has.1 (said_line status.Capture (fault_line fault) mid new said) in
-    subst (λ (o : Option CaptureFault). SharesOf size settings output (content input w.files) o s (shown_of w) (shown new)) (sym has.0)
-    (subst (λ (x : Status). SharesOf size settings output (content input w.files) (Some fault) x (shown_of w) (shown new)) (sym is) (record { ns = []; lawful = refl; gives = line }))
+pub input_closed : (size : ℕ) (settings : Settings) (output : List ℕ) (run : World → InputRun) (counts : Counts) (old mid new : Option World) (s : Status)
+    → IfSome old (λ w. HasReplayedInRounds size settings output (run w) counts (shown_of w) (shown mid))
+    → new ≡ option_map (after_say (closing counts.fault (end_line counts.frames counts.written counts.entries))) mid → s ≡ status_of counts.fault
+    → IfSome old (λ w. SharesOf size settings output (Ok (run w)) s (shown_of w) (shown new))
+input_closed size settings output run counts None mid new s has said is = tt
+input_closed size settings output run counts (Some w) mid new s has said is = shared-closed size settings output (run w) counts (shown_of w) mid new s has said is
+
+-- the answer to one whose header has a fault
+pub input_refused : (size : ℕ) (settings : Settings) (output : List ℕ) (fault : InputFault) (old new : Option World) (s : Status)
+    → new ≡ option_map (after_say (fault_line fault)) old → s ≡ status.Capture
+    → IfSome old (λ w. SharesOf size settings output (Err fault) s (shown_of w) (shown new))
+input_refused size settings output fault None new s said is = tt
+input_refused size settings output fault (Some w) new s said is =
+    rw is (record { ns = []; lawful = refl; gives = said_line status.Capture (fault_line fault) (Some w) new said })
 
 -- ### by the words
 
 -- settings that have a fault, and those that have none
-pub shares_refused : (size : ℕ) (output file text : List ℕ) (fault : SettingsFault) (s : Status) (old : Shown) (new : Option Shown) → Err fault ≡ settings_of text
-    → Gives (told_off status.Settings (settings_line fault)) s old new → Shares size output file text s old new
-shares_refused size output file text fault s old new is gives =
-    subst (λ (r : Result Settings SettingsFault). SharesBy size output file r s old new) is (record { ns = []; lawful = refl; gives = gives })
+pub shares_refused : (size : ℕ) (output : List ℕ) (input : Opened) (text : List ℕ) (fault : SettingsFault) (s : Status) (old : Shown) (new : Option Shown) → Err fault ≡ settings_of text
+    → Gives (told_off status.Settings (settings_line fault)) s old new → Shares size output input text s old new
+shares_refused size output input text fault s old new is gives =
+    subst (λ (r : Result Settings SettingsFault). SharesBy size output input r s old new) is (record { ns = []; lawful = refl; gives = gives })
 
-pub shares_by : (size : ℕ) (settings : Settings) (output file text : List ℕ) (s : Status) (old : Shown) (new : Option Shown) → Ok settings ≡ settings_of text
-    → SharesFile size settings output file s old new → Shares size output file text s old new
-shares_by size settings output file text s old new is shares =
-    subst (λ (r : Result Settings SettingsFault). SharesBy size output file r s old new) is (record { ns = shares.ns; lawful = shares.lawful; gives = shares.gives })
+pub shares_by : (size : ℕ) (settings : Settings) (output : List ℕ) (input : Opened) (text : List ℕ) (s : Status) (old : Shown) (new : Option Shown) → Ok settings ≡ settings_of text
+    → SharesOf size settings output input s old new → Shares size output input text s old new
+shares_by size settings output input text s old new is shares =
+    subst (λ (r : Result Settings SettingsFault). SharesBy size output input r s old new) is (record { ns = shares.ns; lawful = shares.lawful; gives = shares.gives })
 
 -- without forwarders the frames are replayed plainly
-plain-header : (size : ℕ) (ns : List (List ℕ)) (output file : List ℕ) (settings : Settings) (o : Option CaptureFault)
-    → after_header (frames_by zero size ns output settings) file o ≡ after_header (replayed settings output) file o
-plain-header size ns output file settings None = refl
-plain-header size ns output file settings (Some fault) = refl
+plain-opening : (size : ℕ) (ns : List (List ℕ)) (output : List ℕ) (settings : Settings) (input : Opened)
+    → after_opening (frames_by zero size ns output settings) input ≡ after_opening (replayed settings output) input
+plain-opening size ns output settings (Ok run) = refl
+plain-opening size ns output settings (Err fault) = refl
 
-pub plain-settings : (size : ℕ) (ns : List (List ℕ)) (output file : List ℕ) (r : Result Settings SettingsFault)
-    → after_settings_by (frames_by zero size ns output) file r ≡ after_settings output file r
-plain-settings size ns output file (Err fault) = refl
-plain-settings size ns output file (Ok settings) = plain-header size ns output file settings (first_failing (header_rules file))
+pub plain-settings : (size : ℕ) (ns : List (List ℕ)) (output : List ℕ) (input : Opened) (r : Result Settings SettingsFault)
+    → after_settings_by (frames_by zero size ns output) input r ≡ after_settings output input r
+plain-settings size ns output input (Err fault) = refl
+plain-settings size ns output input (Ok settings) = plain-opening size ns output settings input
 
-pub for_plain : (workers size : ℕ) (output file text : List ℕ) (s : Status) (old : Shown) (new : Option Shown) → workers ≡ zero
-    → Gives (after_settings output file (settings_of text)) s old new → GivesFor workers size output file text s old new
-for_plain workers size output file text s old new none gives =
-    rw none (record { ns = []; lawful = refl; gives = gives_as _ _ s old new (sym (plain-settings size [] output file (settings_of text))) gives })
+pub for_plain : (workers size : ℕ) (output : List ℕ) (input : Opened) (text : List ℕ) (s : Status) (old : Shown) (new : Option Shown) → workers ≡ zero
+    → Gives (after_settings output input (settings_of text)) s old new → GivesFor workers size output input text s old new
+for_plain workers size output input text s old new none gives =
+    rw none (record { ns = []; lawful = refl; gives = gives_as _ _ s old new (sym (plain-settings size [] output input (settings_of text))) gives })
 
 -- with some in rounds
-shared-header : (workers size : ℕ) (ns : List (List ℕ)) (output file : List ℕ) (settings : Settings) (o : Option CaptureFault)
-    → after_header (shared output size ns settings) file o ≡ after_header (frames_by (suc workers) size ns output settings) file o
-shared-header workers size ns output file settings None = refl
-shared-header workers size ns output file settings (Some fault) = refl
+shared-opening : (workers size : ℕ) (ns : List (List ℕ)) (output : List ℕ) (settings : Settings) (input : Opened)
+    → after_opening (shared output size ns settings) input ≡ after_opening (frames_by (suc workers) size ns output settings) input
+shared-opening workers size ns output settings (Ok run) = refl
+shared-opening workers size ns output settings (Err fault) = refl
 
-pub shared-settings : (workers size : ℕ) (ns : List (List ℕ)) (output file : List ℕ) (r : Result Settings SettingsFault)
-    → after_settings_by (shared output size ns) file r ≡ after_settings_by (frames_by (suc workers) size ns output) file r
-shared-settings workers size ns output file (Err fault) = refl
-shared-settings workers size ns output file (Ok settings) = shared-header workers size ns output file settings (first_failing (header_rules file))
+pub shared-settings : (workers size : ℕ) (ns : List (List ℕ)) (output : List ℕ) (input : Opened) (r : Result Settings SettingsFault)
+    → after_settings_by (shared output size ns) input r ≡ after_settings_by (frames_by (suc workers) size ns output) input r
+shared-settings workers size ns output input (Err fault) = refl
+shared-settings workers size ns output input (Ok settings) = shared-opening workers size ns output settings input
 
-pub for_shared : (workers size : ℕ) (output file text : List ℕ) (s : Status) (old : Shown) (new : Option Shown) → 1 ≤ workers
-    → Shares size output file text s old new → GivesFor workers size output file text s old new
-for_shared zero size output file text s old new some shares = let none : ⊥ = omega (arith, some) in absurd none
-for_shared (suc workers) size output file text s old new some shares =
-    record { ns = shares.ns; lawful = shares.lawful; gives = gives_as _ _ s old new (shared-settings workers size shares.ns output file (settings_of text)) shares.gives }
+pub for_shared : (workers size : ℕ) (output : List ℕ) (input : Opened) (text : List ℕ) (s : Status) (old : Shown) (new : Option Shown) → 1 ≤ workers
+    → Shares size output input text s old new → GivesFor workers size output input text s old new
+for_shared zero size output input text s old new some shares = let none : ⊥ = omega (arith, some) in absurd none
+for_shared (suc workers) size output input text s old new some shares =
+    record { ns = shares.ns; lawful = shares.lawful; gives = gives_as _ _ s old new (shared-settings workers size shares.ns output input (settings_of text)) shares.gives }
 
 -- words without forwarders
 pub by_plain : (files : List NamedFile) (words : Words) (s : Status) (old : Shown) (new : Option Shown) → ((ns : List (List ℕ)) → after_words_by files ns (Some words) ≡ after_words files (Some words))
@@ -133,22 +134,22 @@ gives_with words files said s old new is gives =
     record { ns = gives.ns; lawful = rw is gives.lawful; gives = gives_as _ _ s old new (ap (after_words_by files gives.ns) (sym is)) gives.gives }
 
 -- numbers change no status
-same-header : (workers size : ℕ) (ns : List (List ℕ)) (output file : List ℕ) (settings : Settings) (o : Option CaptureFault)
-    → (after_header (frames_by workers size ns output settings) file o).status ≡ (after_header (replayed settings output) file o).status
+same-opening : (workers size : ℕ) (ns : List (List ℕ)) (output : List ℕ) (settings : Settings) (input : Opened)
+    → (after_opening (frames_by workers size ns output settings) input).status ≡ (after_opening (replayed settings output) input).status
 unfolding replayed shared
-same-header workers size ns output file settings (Some fault) = refl
-same-header zero size ns output file settings None = refl
-same-header (suc workers) size ns output file settings None = refl
+same-opening workers size ns output settings (Err fault) = refl
+same-opening zero size ns output settings (Ok run) = refl
+same-opening (suc workers) size ns output settings (Ok run) = refl
 
-same-settings : (workers size : ℕ) (ns : List (List ℕ)) (output file : List ℕ) (r : Result Settings SettingsFault)
-    → (after_settings_by (frames_by workers size ns output) file r).status ≡ (after_settings output file r).status
-same-settings workers size ns output file (Err fault) = refl
-same-settings workers size ns output file (Ok settings) = same-header workers size ns output file settings (first_failing (header_rules file))
+same-settings : (workers size : ℕ) (ns : List (List ℕ)) (output : List ℕ) (input : Opened) (r : Result Settings SettingsFault)
+    → (after_settings_by (frames_by workers size ns output) input r).status ≡ (after_settings output input r).status
+same-settings workers size ns output input (Err fault) = refl
+same-settings workers size ns output input (Ok settings) = same-opening workers size ns output settings input
 
 same-words : (files : List NamedFile) (ns : List (List ℕ)) (words : Option Words) → (after_words_by files ns words).status ≡ (after_words files words).status
 same-words files ns None = refl
-same-words files ns (Some (Replay settings input output workers round)) =
-    same-settings workers round ns output (content input files) (settings_of (content settings files))
+same-words files ns (Some (Replay settings input output format workers round)) =
+    same-settings workers round ns output (opened format (content input files)) (settings_of (content settings files))
 same-words files ns (Some (Show input)) = refl
 same-words files ns (Some (Trial n)) = refl
 
@@ -159,8 +160,8 @@ status-with words files s old new gives = gives.gives.status ∙ same-words file
 -- without forwarders the answer is that of the plain router
 pub plain-words : (files : List NamedFile) (ns : List (List ℕ)) (words : Option Words) → has_workers words ≡ false → after_words_by files ns words ≡ after_words files words
 plain-words files ns None none = refl
-plain-words files ns (Some (Replay settings input output zero round)) none = plain-settings round ns output (content input files) (settings_of (content settings files))
-plain-words files ns (Some (Replay settings input output (suc workers) round)) none = cc
+plain-words files ns (Some (Replay settings input output format zero round)) none = plain-settings round ns output (opened format (content input files)) (settings_of (content settings files))
+plain-words files ns (Some (Replay settings input output format (suc workers) round)) none = cc
 plain-words files ns (Some (Show input)) none = refl
 plain-words files ns (Some (Trial n)) none = refl
 
@@ -191,9 +192,9 @@ shared-left r words (Some w) new none shared = ok_then r _ shared (λ s gives. (
 
 -- ### of what words say
 
-pub after_replay : (files : List NamedFile) (settings input output : List ℕ) (workers round : ℕ) (s : Status) (old : Shown) (new : Option Shown)
-    → GivesFor workers round output (content input files) (content settings files) s old new → GivesAfter files (Some (Replay settings input output workers round)) s old new
-after_replay files settings input output workers round s old new gives = record { ns = gives.ns; lawful = gives.lawful; gives = gives.gives }
+pub after_replay : (files : List NamedFile) (settings input output : List ℕ) (format : InputFormat) (workers round : ℕ) (s : Status) (old : Shown) (new : Option Shown)
+    → GivesFor workers round output (opened format (content input files)) (content settings files) s old new → GivesAfter files (Some (Replay settings input output format workers round)) s old new
+after_replay files settings input output format workers round s old new gives = record { ns = gives.ns; lawful = gives.lawful; gives = gives.gives }
 
 pub none-asked : (workers : ℕ) → are_some workers ≡ false → workers ≡ 0
 none-asked zero none = refl

@@ -2,7 +2,7 @@
 use Rattle.std.proofs.Common.{◌≡◌, ◌++◌, sym, ◌∙◌, arith}
 use Rattle.std.proofs.lemmas.List.{append-nil}
 use Rattle.capture_io.specs.Frame.{Frame}
-use Rattle.playback.specs.Events.{Arrival}
+use Rattle.capture_events.specs.Events.{Arrival}
 use Rattle.playback.specs.Playing.{Gathers}
 use Rattle.playback.specs.declared.output.Output.{Output}
 use Rattle.replay.specs.Show.{shown_frame, showing}

@@ -2,7 +2,6 @@
 use Rattle.std.proofs.Common.{◌≡◌, ℕ, List, [], ◌∷◌, ◌++◌, eqb, Option, Some, None, is_some, IsTrue, ap, subst, inl, inr}
 use Rattle.std.proofs.lemmas.Bool.{cases_Bool}
 use Rattle.desk.specs.World.{World, Direction, to_read, Shown, found_at, there, shown, shown_of, IsGiven, IsThere}
-use Rattle.capture_io.specs.Reading.{Reading, beginning}
 use Rattle.desk.proofs.Entries.{found_at-more}
 
 -- an id stays given
@@ -23,7 +22,3 @@ there-kept name (Some w) None same is = cc
 there-kept name (Some w) (Some v) same is =
     let e : shown_of w ≡ shown_of v = cc in
     subst (λ (x : Shown). IsTrue (is_some (there name x.files))) e is
-
--- the reader of an id that was given
-pub given-reader : (id : ℕ) (r : Reading) (given new : List (ℕ × Direction)) → r ≡ beginning id r.format → new ≡ given → IsGiven id to_read given → IsGiven r.id to_read new
-given-reader id r given new fresh same is = rw (ap (λ (x : Reading). x.id) fresh, same) is

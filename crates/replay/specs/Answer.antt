@@ -1,23 +1,23 @@
 -- What a run answers, by its words and the files.
 use Rattle.std.specs.Prelude.{◌≡◌, ℕ, Bool, true, false, List, [], ◌∷◌, ◌++◌, codes, length, map, Option, Some, None, Result, Ok, Err, IsSomeAnd}
 use Rattle.std.specs.List.{All}
-use Rattle.octets.specs.Rules.{first_failing}
 use Rattle.command_words.specs.Words.{words_of}
 use Rattle.command_words.specs.declared.words.Words.{Words}
 use Rattle.command_words.specs.declared.words.Words.TheVariants.{Replay, Show, Trial}
 use Rattle.desk.specs.declared.file.NamedFile.{NamedFile}
 use Rattle.desk.specs.World.{World, Shown, content, IsThere}
-use Rattle.capture_io.specs.Frames.{Run, capture}
-use Rattle.capture_io.specs.Capture.{header_rules}
 use Rattle.capture_io.specs.Output.{out_header}
-use Rattle.capture_io.specs.declared.fault.CaptureFault.{CaptureFault}
 use Rattle.lisp_settings.specs.Settings.{settings_of}
 use Rattle.lisp_settings.specs.declared.fault.SettingsFault.{SettingsFault}
 use Rattle.lisp_settings.specs.declared.settings.Settings.{Settings}
-use Rattle.playback.specs.Events.{Outcome, events, played, records_of}
+use Rattle.capture_events.specs.Events.{Outcome, events, played, records_of}
+use Rattle.command_words.specs.declared.input_format.InputFormat.TheVariants.{Classic}
+use Rattle.playback.specs.Input.{InputRun}
+use Rattle.playback.specs.declared.fault.InputFault.{InputFault}
 use Rattle.router_model.specs.Journal.{Journal}
 use Rattle.router_model.specs.Plain.{Router, plain, started}
 use Rattle.replay.specs.Lines.{count_line, end_line, fault_line, settings_line}
+use Rattle.replay.specs.Opening.{Opened, opened}
 use Rattle.replay.specs.Show.{showing}
 use Rattle.replay.specs.Trial.{trial_text}
 use Rattle.replay.specs.declared.status.Status.{Status}
@@ -30,12 +30,12 @@ pub record Answer : Type 0 where
   pub made : List NamedFile
 
 -- the status, by the fault of the capture
-abbrev pub status_of : Option CaptureFault → Status
+abbrev pub status_of : Option InputFault → Status
 status_of None = Done
 status_of (Some fault) = Capture
 
 -- the last line: that of the capture's fault, or else this one
-abbrev pub closing : Option CaptureFault → List ℕ → List ℕ
+abbrev pub closing : Option InputFault → List ℕ → List ℕ
 closing None line = line
 closing (Some fault) line = fault_line fault
 
@@ -44,7 +44,7 @@ abbrev pub told_off : Status → List ℕ → Answer
 told_off status line = record { status = status; said = line; made = [] }
 
 -- the answer to the frames of a capture that are replayed into a file, by what is said and written for them
-abbrev pub answer_by : Outcome (Router Journal) → List ℕ → Run → Answer
+abbrev pub answer_by : Outcome (Router Journal) → List ℕ → InputRun → Answer
 answer_by outcome output run = record {
   status = status_of run.fault;
   said =
@@ -54,11 +54,11 @@ answer_by outcome output run = record {
 }
 
 -- by what the plain router says and writes
-unfoldable pub replayed : Settings → List ℕ → Run → Answer
+unfoldable pub replayed : Settings → List ℕ → InputRun → Answer
 replayed settings output run = answer_by (played plain (started settings) (events run.frames)) output run
 
 -- the messages in the frames of a capture, shown
-unfoldable pub messages_shown : Run → Answer
+unfoldable pub messages_shown : InputRun → Answer
 messages_shown run =
     let outcome = played showing tt (events run.frames) in
     record {
@@ -67,25 +67,22 @@ messages_shown run =
       made = [];
     }
 
--- the answer to a capture, by the first rule that its header fails
-abbrev pub after_header : (Run → Answer) → List ℕ → Option CaptureFault → Answer
-after_header frames file (Some fault) = told_off Capture (fault_line fault)
-after_header frames file None = frames (capture file)
+-- the answer to a capture, by what is read of it
+abbrev pub after_opening : (InputRun → Answer) → Opened → Answer
+after_opening frames (Err fault) = told_off Capture (fault_line fault)
+after_opening frames (Ok run) = frames run
 
--- the answer to a replay, by its settings
-abbrev pub after_settings : List ℕ → List ℕ → Result Settings SettingsFault → Answer
-after_settings output file (Err fault) = told_off BadSettings (settings_line fault)
-after_settings output file (Ok settings) =
-    after_header (replayed settings output) file (first_failing (header_rules file))
+-- the answer to a replay of a capture, by its settings
+abbrev pub after_settings : List ℕ → Opened → Result Settings SettingsFault → Answer
+after_settings output input (Err fault) = told_off BadSettings (settings_line fault)
+after_settings output input (Ok settings) = after_opening (replayed settings output) input
 
 -- the answer to what words say
 abbrev pub after_words : List NamedFile → Option Words → Answer
 after_words files None = told_off Usage (codes "usage\n")
-after_words files (Some (Replay settings input output workers round)) =
-    after_settings output (content input files) (settings_of (content settings files))
-after_words files (Some (Show input)) =
-    let file = content input files in
-    after_header messages_shown file (first_failing (header_rules file))
+after_words files (Some (Replay settings input output format workers round)) =
+    after_settings output (opened format (content input files)) (settings_of (content settings files))
+after_words files (Some (Show input)) = after_opening messages_shown (opened Classic (content input files))
 after_words files (Some (Trial n)) = told_off Done (trial_text n)
 
 -- the answer to words, where these files are there
@@ -94,7 +91,7 @@ answer words files = after_words files (words_of words)
 
 -- the files that words name to be read
 abbrev pub names_read : Option Words → List (List ℕ)
-names_read (Some (Replay settings input output workers round)) = settings ∷ input ∷ []
+names_read (Some (Replay settings input output format workers round)) = settings ∷ input ∷ []
 names_read (Some (Show input)) = input ∷ []
 names_read _ = []
 

@@ -1,23 +1,22 @@
 -- What a run leaves that is cut short, by the desk or for want of memory: a beginning of its answer.
 use Rattle.std.specs.Prelude.{◌≡◌, ℕ, List, [], ◌∷◌, ◌++◌, take, Option, Some, None, Result, Ok, Err, IfSome, IsSomeAnd, option_map, ◌⊎◌}
-use Rattle.octets.specs.Rules.{first_failing}
 use Rattle.command_words.specs.Words.{words_of}
 use Rattle.command_words.specs.declared.words.Words.{Words}
 use Rattle.command_words.specs.declared.words.Words.TheVariants.{Replay, Show}
 use Rattle.desk.specs.declared.file.NamedFile.{NamedFile}
 use Rattle.desk.specs.World.{World, Shown, after_make, after_say, after_write, content, found_at, shown}
-use Rattle.capture_io.specs.Frames.{Run, capture}
-use Rattle.capture_io.specs.Capture.{header_rules}
 use Rattle.capture_io.specs.Output.{out_header}
-use Rattle.capture_io.specs.declared.fault.CaptureFault.{CaptureFault}
 use Rattle.lisp_settings.specs.Settings.{settings_of}
 use Rattle.lisp_settings.specs.declared.fault.SettingsFault.{SettingsFault}
 use Rattle.lisp_settings.specs.declared.settings.Settings.{Settings}
-use Rattle.playback.specs.Events.{Outcome, events, played, records_of}
+use Rattle.capture_events.specs.Events.{Outcome, events, played, records_of}
+use Rattle.command_words.specs.declared.input_format.InputFormat.TheVariants.{Classic}
 use Rattle.playback.specs.Front.{IsFront}
+use Rattle.playback.specs.Input.{InputRun}
 use Rattle.router_model.specs.Journal.{Journal}
 use Rattle.router_model.specs.Plain.{Router, plain, started}
 use Rattle.replay.specs.Answer.{Answer, made_files}
+use Rattle.replay.specs.Opening.{Opened, opened}
 use Rattle.replay.specs.Show.{showing}
 
 -- what was said, and the file that was made, if one was
@@ -37,33 +36,30 @@ part_by outcome output = record {
 }
 
 -- for so many events of a capture that is replayed into a file: their lines, and the file with their packets
-unfoldable pub replayed_part : Settings → List ℕ → Run → ℕ → Part
+unfoldable pub replayed_part : Settings → List ℕ → InputRun → ℕ → Part
 replayed_part settings output run count =
     part_by (played plain (started settings) (take count (events run.frames))) output
 
 -- for so many events of a capture that is shown
-unfoldable pub shown_part : Run → ℕ → Part
+unfoldable pub shown_part : InputRun → ℕ → Part
 shown_part run count =
     record { said = (played showing tt (take count (events run.frames))).lines; made = [] }
 
--- by the first rule that a capture's header fails
-abbrev pub part_after_header : (Run → ℕ → Part) → List ℕ → Option CaptureFault → ℕ → Part
-part_after_header frames file (Some fault) = no_part
-part_after_header frames file None = frames (capture file)
+-- by what is read of a capture
+abbrev pub part_after_opening : (InputRun → ℕ → Part) → Opened → ℕ → Part
+part_after_opening frames (Err fault) = no_part
+part_after_opening frames (Ok run) = frames run
 
 -- by the settings of a replay
-abbrev pub part_after_settings : List ℕ → List ℕ → Result Settings SettingsFault → ℕ → Part
-part_after_settings output file (Err fault) = no_part
-part_after_settings output file (Ok settings) =
-    part_after_header (replayed_part settings output) file (first_failing (header_rules file))
+abbrev pub part_after_settings : List ℕ → Opened → Result Settings SettingsFault → ℕ → Part
+part_after_settings output input (Err fault) = no_part
+part_after_settings output input (Ok settings) = part_after_opening (replayed_part settings output) input
 
 -- by what words say
 abbrev pub part_after_words : List NamedFile → Option Words → ℕ → Part
-part_after_words files (Some (Replay settings input output workers round)) =
-    part_after_settings output (content input files) (settings_of (content settings files))
-part_after_words files (Some (Show input)) =
-    let file = content input files in
-    part_after_header shown_part file (first_failing (header_rules file))
+part_after_words files (Some (Replay settings input output format workers round)) =
+    part_after_settings output (opened format (content input files)) (settings_of (content settings files))
+part_after_words files (Some (Show input)) = part_after_opening shown_part (opened Classic (content input files))
 part_after_words files _ = no_part
 
 -- what words have said and made for so many events of their capture

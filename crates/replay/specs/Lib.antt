@@ -2,6 +2,7 @@ pub mod Answer
 pub mod Front
 pub mod Lines
 pub mod Messages
+pub mod Opening
 pub mod Readings
 pub mod Shared
 pub mod Show

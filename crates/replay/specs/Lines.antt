@@ -2,8 +2,12 @@
 use Rattle.std.specs.Prelude.{ℕ, List, [], ◌∷◌, ◌++◌, codes}
 use Rattle.capture_io.specs.declared.fault.CaptureFault.{CaptureFault}
 use Rattle.capture_io.specs.declared.fault.CaptureFault.TheVariants as fault
+use Rattle.capture_ng.specs.declared.fault.NgFault.{NgFault}
+use Rattle.capture_ng.specs.declared.fault.NgFault.TheVariants as ng
 use Rattle.lisp_settings.specs.declared.fault.SettingsFault.{SettingsFault}
 use Rattle.lisp_settings.specs.declared.fault.SettingsFault.TheVariants as settings_fault
+use Rattle.playback.specs.declared.fault.InputFault.{InputFault}
+use Rattle.playback.specs.declared.fault.InputFault.TheVariants as input
 use Rattle.router_log.specs.Numbers.{named}
 
 -- the counts at the end of a capture: its frames, the packets written, the journal's length
@@ -31,7 +35,7 @@ settings_text settings_fault.Memory = []
 abbrev pub settings_line : SettingsFault → List ℕ
 settings_line f = codes "settings " ++ (settings_text f ++ 10 ∷ [])
 
--- a word, and the numbers of the fault
+-- a word, and the numbers of the fault: of a classic capture
 abbrev pub fault_text : CaptureFault → List ℕ
 fault_text fault.BadMagic = codes "bad-magic"
 fault_text fault.BadVersion = codes "bad-version"
@@ -46,6 +50,29 @@ fault_text fault.TooManyRecords = codes "too-many-records"
 fault_text fault.Host = []
 fault_text fault.Memory = []
 
+-- and of one in the pcapng format
+abbrev pub ng_text : NgFault → List ℕ
+ng_text ng.TooManyRecords = codes "too-many-records"
+ng_text (ng.CutBlock place) = named (codes "cut-block ") place
+ng_text ng.BadMagic = codes "bad-magic"
+ng_text (ng.BadLength place) = named (codes "bad-length ") place
+ng_text (ng.TooLong place size) = named (codes "too-long ") place ++ named (codes " ") size
+ng_text (ng.OldPacket place) = named (codes "old-packet ") place
+ng_text (ng.BadVersion place) = named (codes "bad-version ") place
+ng_text (ng.BadOption place) = named (codes "bad-option ") place
+ng_text (ng.TooManyInterfaces place) = named (codes "too-many-interfaces ") place
+ng_text (ng.BadInterface place) = named (codes "bad-interface ") place
+ng_text (ng.BadLinkType place) = named (codes "bad-link-type ") place
+ng_text (ng.BadMoment place) = named (codes "bad-moment ") place
+ng_text (ng.SpanTooLong number) = named (codes "span-too-long ") number
+ng_text ng.Host = []
+ng_text ng.Memory = []
+
+-- by its format
+abbrev pub input_text : InputFault → List ℕ
+input_text (input.Classic f) = fault_text f
+input_text (input.Ng f) = ng_text f
+
 -- the last line where the capture is refused
-abbrev pub fault_line : CaptureFault → List ℕ
-fault_line f = codes "capture " ++ (fault_text f ++ 10 ∷ [])
+abbrev pub fault_line : InputFault → List ℕ
+fault_line f = codes "capture " ++ (input_text f ++ 10 ∷ [])

@@ -1,19 +1,18 @@
 -- What is read of files, and what is left before a last line: for contracts of parts alone, no clause of `run` needs it.
 use Rattle.std.specs.Prelude.{◌≡◌, ◌<◌, ◌⊎◌, ◌++◌, ◌∷◌, [], ℕ, List, length, Option, Some, None, Result, Ok, Err, IsSomeAnd}
-use Rattle.octets.specs.Rules.{first_failing}
 use Rattle.desk.specs.World.{Shown}
-use Rattle.capture_io.specs.Capture.{header_rules}
-use Rattle.capture_io.specs.Frames.{Run, capture}
 use Rattle.capture_io.specs.Output.{out_header}
-use Rattle.capture_io.specs.declared.fault.CaptureFault.{CaptureFault}
 use Rattle.lisp_settings.specs.Limits.{most_text_octets}
 use Rattle.lisp_settings.specs.declared.settings.Settings.{Settings}
-use Rattle.playback.specs.Events.{Outcome, records_of}
+use Rattle.capture_events.specs.Events.{Outcome, records_of}
+use Rattle.playback.specs.Input.{InputRun}
 use Rattle.playback.specs.Playing.{outcome_of}
+use Rattle.playback.specs.declared.fault.InputFault.{InputFault}
 use Rattle.router_model.specs.Journal.{Journal}
 use Rattle.router_model.specs.Plain.{Router, plain, started}
 use Rattle.router_model.specs.Rounds.{Lawful, rounds}
 use Rattle.replay.specs.Answer.{Answer, Leaves, status_of}
+use Rattle.replay.specs.Opening.{Opened}
 use Rattle.replay.specs.declared.replaying.Counts.{Counts}
 
 -- the octets are the text, or both are longer than settings may be
@@ -21,11 +20,11 @@ abbrev pub ReadsAs : List ℕ → List ℕ → Type 0
 ReadsAs octets text = (octets ≡ text) ⊎ ((most_text_octets < length octets) × (most_text_octets < length text))
 
 -- the outcome of a replay
-abbrev pub replay_of : Settings → Run → Outcome (Router Journal)
+abbrev pub replay_of : Settings → InputRun → Outcome (Router Journal)
 replay_of settings run = outcome_of plain (started settings) run
 
 -- the answer to a replay into a file of that name, but for its last line
-abbrev pub unclosed : Outcome (Router Journal) → List ℕ → Run → Answer
+abbrev pub unclosed : Outcome (Router Journal) → List ℕ → InputRun → Answer
 unclosed outcome output run = record {
   status = status_of run.fault;
   said = outcome.lines;
@@ -33,7 +32,7 @@ unclosed outcome output run = record {
 }
 
 -- a run was replayed with that outcome, but for its last line, which has these counts
-pub record HasReplayedBy (outcome : Outcome (Router Journal)) (output : List ℕ) (run : Run) (counts : Counts)
+pub record HasReplayedBy (outcome : Outcome (Router Journal)) (output : List ℕ) (run : InputRun) (counts : Counts)
     (old : Shown) (new : Option Shown) : Type 0 where
   pub fault : counts.fault ≡ run.fault
   pub frames : counts.frames ≡ length run.frames
@@ -42,30 +41,19 @@ pub record HasReplayedBy (outcome : Outcome (Router Journal)) (output : List ℕ
   pub left : IsSomeAnd new (Leaves (unclosed outcome output run) old)
 
 -- with that of the plain router
-abbrev pub HasReplayed : Settings → List ℕ → Run → Counts → Shown → Option Shown → Type 0
+abbrev pub HasReplayed : Settings → List ℕ → InputRun → Counts → Shown → Option Shown → Type 0
 HasReplayed settings output run counts old new = HasReplayedBy (replay_of settings run) output run counts old new
 
--- the same of a file, unless its header has a fault
-abbrev pub HasReplayedFile : Settings → List ℕ → List ℕ → Result Counts CaptureFault → Shown → Option Shown
-    → Type 0
-HasReplayedFile settings output file (Ok counts) old new =
-    (first_failing (header_rules file) ≡ None)
-    × HasReplayed settings output (capture file) counts old new
-HasReplayedFile settings output file (Err fault) old new =
-    (first_failing (header_rules file) ≡ Some fault) × (new ≡ Some old)
+-- the same of what is read of a capture: it was replayed, or its header has that fault and nothing was done
+abbrev pub HasReplayedFile : Settings → List ℕ → Opened → Result Counts InputFault → Shown → Option Shown → Type 0
+HasReplayedFile settings output (Ok run) (Ok counts) old new = HasReplayed settings output run counts old new
+HasReplayedFile settings output (Err fault) (Err other) old new = (other ≡ fault) × (new ≡ Some old)
+HasReplayedFile settings output (Ok run) (Err other) old new = ⊥
+HasReplayedFile settings output (Err fault) (Ok counts) old new = ⊥
 
 -- in rounds of a size, with the outcome of numbers that they may have
-pub record HasReplayedInRounds (size : ℕ) (settings : Settings) (output : List ℕ) (run : Run) (counts : Counts)
+pub record HasReplayedInRounds (size : ℕ) (settings : Settings) (output : List ℕ) (run : InputRun) (counts : Counts)
     (old : Shown) (new : Option Shown) : Type 0 where
   pub ns : List (List ℕ)
   pub lawful : Lawful settings run.frames size ns
   pub replayed : HasReplayedBy (rounds settings run.frames size ns) output run counts old new
-
--- the same of a file
-abbrev pub HasReplayedFileInRounds : ℕ → Settings → List ℕ → List ℕ → Result Counts CaptureFault → Shown → Option Shown
-    → Type 0
-HasReplayedFileInRounds size settings output file (Ok counts) old new =
-    (first_failing (header_rules file) ≡ None)
-    × HasReplayedInRounds size settings output (capture file) counts old new
-HasReplayedFileInRounds size settings output file (Err fault) old new =
-    (first_failing (header_rules file) ≡ Some fault) × (new ≡ Some old)

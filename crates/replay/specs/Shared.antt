@@ -1,66 +1,64 @@
 -- What a run with forwarders answers, by its words, the files, and the numbers that its report shows.
 use Rattle.std.specs.Prelude.{◌≡◌, ℕ, zero, suc, Bool, true, false, List, [], Option, Some, None, Result, Ok, Err}
-use Rattle.octets.specs.Rules.{first_failing}
 use Rattle.command_words.specs.Words.{words_of}
 use Rattle.command_words.specs.declared.words.Words.{Words}
 use Rattle.command_words.specs.declared.words.Words.TheVariants.{Replay}
 use Rattle.desk.specs.declared.file.NamedFile.{NamedFile}
 use Rattle.desk.specs.World.{Shown, content}
-use Rattle.capture_io.specs.Frames.{Run, capture}
-use Rattle.capture_io.specs.Capture.{header_rules}
-use Rattle.capture_io.specs.declared.fault.CaptureFault.{CaptureFault}
 use Rattle.lisp_settings.specs.Settings.{settings_of}
 use Rattle.lisp_settings.specs.declared.fault.SettingsFault.{SettingsFault}
 use Rattle.lisp_settings.specs.declared.settings.Settings.{Settings}
+use Rattle.playback.specs.Input.{InputRun}
 use Rattle.router_model.specs.Rounds.{Lawful, rounds}
-use Rattle.replay.specs.Answer.{Answer, Gives, after_header, after_words, answer_by, replayed, told_off}
+use Rattle.replay.specs.Answer.{Answer, Gives, after_opening, after_words, answer_by, replayed, told_off}
 use Rattle.replay.specs.Lines.{settings_line}
+use Rattle.replay.specs.Opening.{Opened, opened}
 use Rattle.replay.specs.declared.status.Status.{Status}
 use Rattle.replay.specs.declared.status.Status.TheVariants.{Settings as BadSettings}
 
 -- the frames of a capture, replayed in rounds of a size with these numbers
-unfoldable pub shared : List ℕ → ℕ → List (List ℕ) → Settings → Run → Answer
+unfoldable pub shared : List ℕ → ℕ → List (List ℕ) → Settings → InputRun → Answer
 shared output size ns settings run = answer_by (rounds settings run.frames size ns) output run
 
 -- the answer to a replay, by its settings
-abbrev pub after_settings_by : (Settings → Run → Answer) → List ℕ → Result Settings SettingsFault → Answer
-after_settings_by frames file (Err fault) = told_off BadSettings (settings_line fault)
-after_settings_by frames file (Ok settings) = after_header (frames settings) file (first_failing (header_rules file))
+abbrev pub after_settings_by : (Settings → InputRun → Answer) → Opened → Result Settings SettingsFault → Answer
+after_settings_by frames input (Err fault) = told_off BadSettings (settings_line fault)
+after_settings_by frames input (Ok settings) = after_opening (frames settings) input
 
 -- with so many forwarders, of which there may be none
-abbrev pub frames_by : ℕ → ℕ → List (List ℕ) → List ℕ → Settings → Run → Answer
+abbrev pub frames_by : ℕ → ℕ → List (List ℕ) → List ℕ → Settings → InputRun → Answer
 frames_by zero size ns output settings run = replayed settings output run
 frames_by (suc workers) size ns output settings run = shared output size ns settings run
 
 -- the answer to what words say: without forwarders that of the plain router
 abbrev pub after_words_by : List NamedFile → List (List ℕ) → Option Words → Answer
-after_words_by files ns (Some (Replay settings input output workers round)) =
-    after_settings_by (frames_by workers round ns output) (content input files) (settings_of (content settings files))
+after_words_by files ns (Some (Replay settings input output format workers round)) =
+    after_settings_by (frames_by workers round ns output) (opened format (content input files)) (settings_of (content settings files))
 after_words_by files ns words = after_words files words
 
 -- the answer to words, where these files are there
 unfoldable pub answer_with : List (List ℕ) → List NamedFile → List (List ℕ) → Answer
 answer_with words files ns = after_words_by files ns (words_of words)
 
--- numbers that the capture of a file may have, where its header has no fault
-abbrev pub AreNumbersOf : Settings → ℕ → List (List ℕ) → List ℕ → Option CaptureFault → Type 0
-AreNumbersOf settings size ns file (Some fault) = ns ≡ []
-AreNumbersOf settings size ns file None = Lawful settings (capture file).frames size ns
+-- numbers that a capture may have, where an output is made for it
+abbrev pub AreNumbersOf : Settings → ℕ → List (List ℕ) → Opened → Type 0
+AreNumbersOf settings size ns (Err fault) = ns ≡ []
+AreNumbersOf settings size ns (Ok run) = Lawful settings run.frames size ns
 
 -- where the settings have none
-abbrev pub AreNumbers : ℕ → List (List ℕ) → List ℕ → Result Settings SettingsFault → Type 0
-AreNumbers size ns file (Err fault) = ns ≡ []
-AreNumbers size ns file (Ok settings) = AreNumbersOf settings size ns file (first_failing (header_rules file))
+abbrev pub AreNumbers : ℕ → List (List ℕ) → Opened → Result Settings SettingsFault → Type 0
+AreNumbers size ns input (Err fault) = ns ≡ []
+AreNumbers size ns input (Ok settings) = AreNumbersOf settings size ns input
 
 -- without forwarders none are chosen
-abbrev pub AreChosen : ℕ → ℕ → List (List ℕ) → List ℕ → Result Settings SettingsFault → Type 0
-AreChosen zero size ns file settings = ns ≡ []
-AreChosen (suc workers) size ns file settings = AreNumbers size ns file settings
+abbrev pub AreChosen : ℕ → ℕ → List (List ℕ) → Opened → Result Settings SettingsFault → Type 0
+AreChosen zero size ns input settings = ns ≡ []
+AreChosen (suc workers) size ns input settings = AreNumbers size ns input settings
 
 -- numbers that a run of words may have
 abbrev pub MayHave : List NamedFile → List (List ℕ) → Option Words → Type 0
-MayHave files ns (Some (Replay settings input output workers round)) =
-    AreChosen workers round ns (content input files) (settings_of (content settings files))
+MayHave files ns (Some (Replay settings input output format workers round)) =
+    AreChosen workers round ns (opened format (content input files)) (settings_of (content settings files))
 MayHave files ns words = ns ≡ []
 
 -- a run of what words say ends by an answer with numbers that it may have, and leaves what that says
@@ -75,29 +73,26 @@ pub record GivesWith (words : List (List ℕ)) (files : List NamedFile) (s : Sta
   pub lawful : MayHave files ns (words_of words)
   pub gives : Gives (answer_with words files ns) s old new
 
--- of a capture, by its file and the fault of its header
-pub record SharesOf (size : ℕ) (settings : Settings) (output file : List ℕ) (broken : Option CaptureFault) (s : Status) (old : Shown) (new : Option Shown) : Type 0 where
+-- of a capture, by what is read of it
+pub record SharesOf (size : ℕ) (settings : Settings) (output : List ℕ) (input : Opened) (s : Status) (old : Shown) (new : Option Shown) : Type 0 where
   pub ns : List (List ℕ)
-  pub lawful : AreNumbersOf settings size ns file broken
-  pub gives : Gives (after_header (shared output size ns settings) file broken) s old new
-
-abbrev pub SharesFile : ℕ → Settings → List ℕ → List ℕ → Status → Shown → Option Shown → Type 0
-SharesFile size settings output file s old new = SharesOf size settings output file (first_failing (header_rules file)) s old new
+  pub lawful : AreNumbersOf settings size ns input
+  pub gives : Gives (after_opening (shared output size ns settings) input) s old new
 
 -- the same by the settings, and by their text
-pub record SharesBy (size : ℕ) (output file : List ℕ) (settings : Result Settings SettingsFault) (s : Status) (old : Shown) (new : Option Shown) : Type 0 where
+pub record SharesBy (size : ℕ) (output : List ℕ) (input : Opened) (settings : Result Settings SettingsFault) (s : Status) (old : Shown) (new : Option Shown) : Type 0 where
   pub ns : List (List ℕ)
-  pub lawful : AreNumbers size ns file settings
-  pub gives : Gives (after_settings_by (shared output size ns) file settings) s old new
+  pub lawful : AreNumbers size ns input settings
+  pub gives : Gives (after_settings_by (shared output size ns) input settings) s old new
 
-abbrev pub Shares : ℕ → List ℕ → List ℕ → List ℕ → Status → Shown → Option Shown → Type 0
-Shares size output file text s old new = SharesBy size output file (settings_of text) s old new
+abbrev pub Shares : ℕ → List ℕ → Opened → List ℕ → Status → Shown → Option Shown → Type 0
+Shares size output input text s old new = SharesBy size output input (settings_of text) s old new
 
 -- with so many forwarders
-pub record GivesFor (workers size : ℕ) (output file text : List ℕ) (s : Status) (old : Shown) (new : Option Shown) : Type 0 where
+pub record GivesFor (workers size : ℕ) (output : List ℕ) (input : Opened) (text : List ℕ) (s : Status) (old : Shown) (new : Option Shown) : Type 0 where
   pub ns : List (List ℕ)
-  pub lawful : AreChosen workers size ns file (settings_of text)
-  pub gives : Gives (after_settings_by (frames_by workers size ns output) file (settings_of text)) s old new
+  pub lawful : AreChosen workers size ns input (settings_of text)
+  pub gives : Gives (after_settings_by (frames_by workers size ns output) input (settings_of text)) s old new
 
 -- there are some
 abbrev pub are_some : ℕ → Bool
@@ -106,5 +101,5 @@ are_some (suc workers) = true
 
 -- words that ask for forwarders
 abbrev pub has_workers : Option Words → Bool
-has_workers (Some (Replay settings input output workers round)) = are_some workers
+has_workers (Some (Replay settings input output format workers round)) = are_some workers
 has_workers words = false

@@ -1,42 +1,40 @@
 -- What a run with forwarders leaves that is cut short: a beginning of its answer, by numbers that its data packets may have.
 use Rattle.std.specs.Prelude.{ℕ, zero, suc, List, Option, Some, Result, Ok, Err}
-use Rattle.octets.specs.Rules.{first_failing}
 use Rattle.command_words.specs.Words.{words_of}
 use Rattle.command_words.specs.declared.words.Words.{Words}
 use Rattle.command_words.specs.declared.words.Words.TheVariants.{Replay}
 use Rattle.desk.specs.declared.file.NamedFile.{NamedFile}
 use Rattle.desk.specs.World.{World, Shown, content}
-use Rattle.capture_io.specs.Frames.{Run}
-use Rattle.capture_io.specs.Capture.{header_rules}
-use Rattle.capture_io.specs.declared.fault.CaptureFault.{CaptureFault}
 use Rattle.lisp_settings.specs.Settings.{settings_of}
 use Rattle.lisp_settings.specs.declared.fault.SettingsFault.{SettingsFault}
 use Rattle.lisp_settings.specs.declared.settings.Settings.{Settings}
+use Rattle.playback.specs.Input.{InputRun}
 use Rattle.router_model.specs.Rounds.{Lawful}
 use Rattle.sharing.specs.Sharing.{first_rounds}
-use Rattle.replay.specs.Answer.{Answer, after_header}
-use Rattle.replay.specs.Front.{EndsFront, Part, no_part, part_after_header, part_after_words, part_by, replayed_part}
+use Rattle.replay.specs.Answer.{Answer, after_opening}
+use Rattle.replay.specs.Front.{EndsFront, Part, no_part, part_after_opening, part_after_words, part_by, replayed_part}
+use Rattle.replay.specs.Opening.{Opened, opened}
 use Rattle.replay.specs.Shared.{AreChosen, AreNumbers, AreNumbersOf, MayHave, after_settings_by, after_words_by, answer_with, frames_by, shared}
 
 -- for so many rounds of a capture that is replayed into a file with these numbers: their lines, and the file with their
 -- packets
-unfoldable pub shared_part : List ℕ → ℕ → List (List ℕ) → Settings → Run → ℕ → Part
+unfoldable pub shared_part : List ℕ → ℕ → List (List ℕ) → Settings → InputRun → ℕ → Part
 shared_part output size ns settings run count = part_by (first_rounds settings run.frames size ns count) output
 
 -- by the settings of a replay
-abbrev pub part_after_settings_by : (Settings → Run → ℕ → Part) → List ℕ → Result Settings SettingsFault → ℕ → Part
-part_after_settings_by frames file (Err fault) = no_part
-part_after_settings_by frames file (Ok settings) = part_after_header (frames settings) file (first_failing (header_rules file))
+abbrev pub part_after_settings_by : (Settings → InputRun → ℕ → Part) → Opened → Result Settings SettingsFault → ℕ → Part
+part_after_settings_by frames input (Err fault) = no_part
+part_after_settings_by frames input (Ok settings) = part_after_opening (frames settings) input
 
 -- with so many forwarders, of which there may be none
-abbrev pub parts_by : ℕ → ℕ → List (List ℕ) → List ℕ → Settings → Run → ℕ → Part
+abbrev pub parts_by : ℕ → ℕ → List (List ℕ) → List ℕ → Settings → InputRun → ℕ → Part
 parts_by zero size ns output settings run = replayed_part settings output run
 parts_by (suc workers) size ns output settings run = shared_part output size ns settings run
 
 -- by what words say: without forwarders for so many events
 abbrev pub part_after_words_by : List NamedFile → List (List ℕ) → Option Words → ℕ → Part
-part_after_words_by files ns (Some (Replay settings input output workers round)) =
-    part_after_settings_by (parts_by workers round ns output) (content input files) (settings_of (content settings files))
+part_after_words_by files ns (Some (Replay settings input output format workers round)) =
+    part_after_settings_by (parts_by workers round ns output) (opened format (content input files)) (settings_of (content settings files))
 part_after_words_by files ns words = part_after_words files words
 
 -- what words have said and made for so many rounds of their capture
@@ -59,32 +57,29 @@ abbrev pub EndsAfter : List NamedFile → Option Words → Shown → Option Worl
 EndsAfter files words old new =
     EndsBy (λ ns. MayHave files ns words) (λ ns. after_words_by files ns words) (λ ns. part_after_words_by files ns words) old new
 
--- of a replay with so many forwarders, by its files
-abbrev pub EndsFor : ℕ → ℕ → List ℕ → List ℕ → List ℕ → Shown → Option World → Type 0
-EndsFor workers size output file text old new =
-    EndsBy (λ ns. AreChosen workers size ns file (settings_of text)) (λ ns. after_settings_by (frames_by workers size ns output) file (settings_of text))
-    (λ ns. part_after_settings_by (parts_by workers size ns output) file (settings_of text)) old new
+-- of a replay with so many forwarders
+abbrev pub EndsFor : ℕ → ℕ → List ℕ → Opened → List ℕ → Shown → Option World → Type 0
+EndsFor workers size output input text old new =
+    EndsBy (λ ns. AreChosen workers size ns input (settings_of text)) (λ ns. after_settings_by (frames_by workers size ns output) input (settings_of text))
+    (λ ns. part_after_settings_by (parts_by workers size ns output) input (settings_of text)) old new
 
 -- in rounds, by the settings
-abbrev pub EndsInRoundsBy : ℕ → List ℕ → List ℕ → Result Settings SettingsFault → Shown → Option World → Type 0
-EndsInRoundsBy size output file settings old new =
-    EndsBy (λ ns. AreNumbers size ns file settings) (λ ns. after_settings_by (shared output size ns) file settings)
-    (λ ns. part_after_settings_by (shared_part output size ns) file settings) old new
+abbrev pub EndsInRoundsBy : ℕ → List ℕ → Opened → Result Settings SettingsFault → Shown → Option World → Type 0
+EndsInRoundsBy size output input settings old new =
+    EndsBy (λ ns. AreNumbers size ns input settings) (λ ns. after_settings_by (shared output size ns) input settings)
+    (λ ns. part_after_settings_by (shared_part output size ns) input settings) old new
 
-abbrev pub EndsInRounds : ℕ → List ℕ → List ℕ → List ℕ → Shown → Option World → Type 0
-EndsInRounds size output file text old new = EndsInRoundsBy size output file (settings_of text) old new
+abbrev pub EndsInRounds : ℕ → List ℕ → Opened → List ℕ → Shown → Option World → Type 0
+EndsInRounds size output input text old new = EndsInRoundsBy size output input (settings_of text) old new
 
--- of a capture, by the fault of its header
-abbrev pub EndsFileBy : ℕ → Settings → List ℕ → List ℕ → Option CaptureFault → Shown → Option World → Type 0
-EndsFileBy size settings output file broken old new =
-    EndsBy (λ ns. AreNumbersOf settings size ns file broken) (λ ns. after_header (shared output size ns settings) file broken)
-    (λ ns. part_after_header (shared_part output size ns settings) file broken) old new
-
-abbrev pub EndsFile : ℕ → Settings → List ℕ → List ℕ → Shown → Option World → Type 0
-EndsFile size settings output file old new = EndsFileBy size settings output file (first_failing (header_rules file)) old new
+-- of a capture, by what is read of it
+abbrev pub EndsOf : ℕ → Settings → List ℕ → Opened → Shown → Option World → Type 0
+EndsOf size settings output input old new =
+    EndsBy (λ ns. AreNumbersOf settings size ns input) (λ ns. after_opening (shared output size ns settings) input)
+    (λ ns. part_after_opening (shared_part output size ns settings) input) old new
 
 -- of its frames
-abbrev pub EndsRun : ℕ → Settings → List ℕ → Run → Shown → Option World → Type 0
+abbrev pub EndsRun : ℕ → Settings → List ℕ → InputRun → Shown → Option World → Type 0
 EndsRun size settings output run old new =
     EndsBy (λ ns. Lawful settings run.frames size ns) (λ ns. shared output size ns settings run)
     (λ ns. shared_part output size ns settings run) old new

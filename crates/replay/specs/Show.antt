@@ -9,7 +9,7 @@ use Rattle.ip_headers.specs.declared.header.UdpHeader.{UdpHeader}
 use Rattle.lisp_header.specs.Header.{lisp_rules}
 use Rattle.map_messages.specs.Message.{message_rules}
 use Rattle.capture_io.specs.Frame.{Frame}
-use Rattle.playback.specs.Events.{Event, Outcome, Tick, Arrival, idle}
+use Rattle.capture_events.specs.Events.{Event, Outcome, Tick, Arrival, idle}
 use Rattle.router_log.specs.Numbers.{fixed_hex, named}
 use Rattle.router_log.specs.Refusals.{refused_text}
 use Rattle.router_model.specs.Course.{FramePacket, datagram_read, frame_packet, frame_refusal}

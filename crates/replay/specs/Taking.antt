@@ -1,9 +1,9 @@
 -- What a frame adds to a replay, for contracts of parts alone.
 use Rattle.std.specs.Prelude.{◌≡◌, ◌≤◌, ◌+◌, ◌*◌, ℕ, List, ◌++◌, length, unwrap_or}
 use Rattle.lisp_settings.specs.declared.settings.Settings.{Settings}
-use Rattle.playback.specs.Events.{Outcome, Packet, records_of, second_of}
+use Rattle.capture_events.specs.Events.{Outcome, Packet, records_of, second_of}
 use Rattle.playback.specs.Playing.{Gathers}
-use Rattle.playback.specs.declared.machine.Progress.{Progress}
+use Rattle.playback.specs.declared.progress.Progress.{Progress}
 use Rattle.playback.specs.declared.output.Output.{Output}
 use Rattle.router_model.specs.Limits.{most_event_packets}
 use Rattle.router_model.specs.Parts.{Parts}

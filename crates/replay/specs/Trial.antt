@@ -3,7 +3,7 @@ use Rattle.std.specs.Prelude.{ℕ, List, [], ◌∷◌, ◌++◌, codes, flat_ma
 use Rattle.octets.specs.Numbers.{big_octets}
 use Rattle.capture_io.specs.Output.{out_header}
 use Rattle.locator_choice.specs.Hash.{octets_hash}
-use Rattle.playback.specs.Events.{Outcome, events, played, records_of}
+use Rattle.capture_events.specs.Events.{Outcome, events, played, records_of}
 use Rattle.playback.specs.Written.{frames_of}
 use Rattle.router_log.specs.Numbers.{fixed_hex, named}
 use Rattle.router_model.specs.Journal.{Journal}

@@ -5,14 +5,17 @@ ghost use Rattle.desk.specs.Causes.{HasCause, StaysSteady};
 ghost use Rattle.desk.specs.World.{after_say};
 ghost use Rattle.replay.specs.Answer.{closing, status_of};
 ghost use Rattle.replay.specs.Front.{SaysPart};
-ghost use Rattle.replay.specs.Lines.{count_line, end_line, fault_line, fault_text, settings_line, settings_text};
+ghost use Rattle.router_log.specs.Numbers.{named};
+ghost use Rattle.replay.specs.Lines.{count_line, end_line, fault_line, fault_text, input_text, ng_text, settings_line, settings_text};
 ghost use Rattle.replay.specs.declared.status.Status.TheVariants.{Usage, Settings as BadSettings, Capture};
 
 use crate::Status;
 use capture_io::CaptureFault;
+use capture_ng::NgFault;
 use desk::{Desk, DeskFault};
 use lisp_settings::{Key, SettingsFault};
 use octets::{NoMemory, Octets};
+use playback::InputFault;
 use router_log::{push_named, push_number};
 use std::alloc::Global;
 
@@ -53,7 +56,7 @@ pub(crate) fn refuse_settings<D: Desk>(
 pub(crate) fn close<D: Desk>(
     alloc: Global,
     desk: &mut D,
-    fault: Option<CaptureFault>,
+    fault: Option<InputFault>,
     line: &[u8],
 ) -> Result<Status, DeskFault>
     ensures status { IfOk result (λ s. s ≡ status_of fault) }
@@ -77,7 +80,7 @@ pub(crate) fn close<D: Desk>(
 pub(crate) fn refuse_capture<D: Desk>(
     alloc: Global,
     desk: &mut D,
-    fault: CaptureFault,
+    fault: InputFault,
 ) -> Result<Status, DeskFault>
     ensures status { IfOk result (λ s. s ≡ Capture) }
     ensures told { OnOk result (D.told desk.new
@@ -154,7 +157,7 @@ pub(crate) fn count_line(alloc: Global, frames: u32) -> Result<Octets, NoMemory>
 }
 
 /// The last line where a capture is refused.
-fn fault_line(alloc: Global, fault: CaptureFault) -> Result<Octets, NoMemory>
+fn fault_line(alloc: Global, fault: InputFault) -> Result<Octets, NoMemory>
     ensures { IfOk result (λ line. line ≡ fault_line fault) }
 {
     let mut line = Octets::new(alloc);
@@ -164,7 +167,16 @@ fn fault_line(alloc: Global, fault: CaptureFault) -> Result<Octets, NoMemory>
     Ok(line)
 }
 
-fn push_fault(fault: CaptureFault, out: &mut Octets) -> Result<(), NoMemory>
+fn push_fault(fault: InputFault, out: &mut Octets) -> Result<(), NoMemory>
+    ensures { OnOk result (out.new ≡ out.old ++ input_text fault) }
+{
+    match fault {
+        InputFault::Classic(fault) => push_classic(fault, out),
+        InputFault::Ng(fault) => push_ng(fault, out),
+    }
+}
+
+fn push_classic(fault: CaptureFault, out: &mut Octets) -> Result<(), NoMemory>
     ensures { OnOk result (out.new ≡ out.old ++ fault_text fault) }
 {
     match fault {
@@ -174,14 +186,40 @@ fn push_fault(fault: CaptureFault, out: &mut Octets) -> Result<(), NoMemory>
         CaptureFault::CutHeader(size) => push_named(b"cut-header ", size, out),
         CaptureFault::CutRecord(place) => push_named(b"cut-record ", place, out),
         CaptureFault::BadFraction(place) => push_named(b"bad-fraction ", place, out),
-        CaptureFault::TooLong(place, size) => {
-            push_named(b"too-long ", place, out)?;
-            push_named(b" ", u64::from(size), out)
-        }
+        CaptureFault::TooLong(place, size) => push_too_long(place, size, out),
         CaptureFault::SpanTooLong(number) => {
             push_named(b"span-too-long ", u64::from(number), out)
         }
         CaptureFault::TooManyRecords => out.append(b"too-many-records"),
         CaptureFault::Host | CaptureFault::Memory => Ok(()),
     }
+}
+
+fn push_ng(fault: NgFault, out: &mut Octets) -> Result<(), NoMemory>
+    ensures { OnOk result (out.new ≡ out.old ++ ng_text fault) }
+{
+    match fault {
+        NgFault::TooManyRecords => out.append(b"too-many-records"),
+        NgFault::BadMagic => out.append(b"bad-magic"),
+        NgFault::CutBlock(place) => push_named(b"cut-block ", place, out),
+        NgFault::BadLength(place) => push_named(b"bad-length ", place, out),
+        NgFault::TooLong(place, size) => push_too_long(place, size, out),
+        NgFault::OldPacket(place) => push_named(b"old-packet ", place, out),
+        NgFault::BadVersion(place) => push_named(b"bad-version ", place, out),
+        NgFault::BadOption(place) => push_named(b"bad-option ", place, out),
+        NgFault::TooManyInterfaces(place) => push_named(b"too-many-interfaces ", place, out),
+        NgFault::BadInterface(place) => push_named(b"bad-interface ", place, out),
+        NgFault::BadLinkType(place) => push_named(b"bad-link-type ", place, out),
+        NgFault::BadMoment(place) => push_named(b"bad-moment ", place, out),
+        NgFault::SpanTooLong(number) => push_named(b"span-too-long ", u64::from(number), out),
+        NgFault::Host | NgFault::Memory => Ok(()),
+    }
+}
+
+fn push_too_long(place: u64, size: u32, out: &mut Octets) -> Result<(), NoMemory>
+    ensures { OnOk result (out.new
+        ≡ out.old ++ (named (codes "too-long ") place ++ named (codes " ") size)) }
+{
+    push_named(b"too-long ", place, out)?;
+    push_named(b" ", u64::from(size), out)
 }

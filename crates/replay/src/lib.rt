@@ -3,6 +3,7 @@
 
 mod frame_text;
 mod in_rounds;
+mod input;
 mod last_lines;
 mod message_lines;
 mod output_file;

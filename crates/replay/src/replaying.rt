@@ -1,33 +1,33 @@
 // A capture, replayed by the settings.
 ghost use Rattle.std.specs.Prelude.{◌≡◌, false, ◌≤◌, ◌+◌, ◌*◌, unwrap_or, IfOk, IfSome, IsErrOf, IsTrue, OnErr};
-ghost use Rattle.octets.specs.Rules.{first_failing};
 ghost use Rattle.desk.specs.declared.fault.DeskFault.TheVariants.{Failed};
 ghost use Rattle.desk.specs.Causes.{HasCause, StaysSteady};
-ghost use Rattle.desk.specs.World.{content, left_of, to_read, shown, shown_of, IsGiven, IsThere};
-ghost use Rattle.capture_io.specs.Capture.{begin, header_rules};
-ghost use Rattle.capture_io.specs.Frames.{read_on};
-ghost use Rattle.capture_io.specs.Reading.{beginning};
+ghost use Rattle.desk.specs.World.{content, to_read, shown, shown_of, IsGiven, IsThere};
 ghost use Rattle.lisp_settings.specs.Lawful.{IsLawful};
 ghost use Rattle.lisp_settings.specs.Settings.{settings_of};
-ghost use Rattle.playback.specs.Events.{second_of, Determined};
+ghost use Rattle.capture_events.specs.Events.{second_of, Determined};
+ghost use Rattle.playback.specs.Input.{beginning};
 ghost use Rattle.router_model.specs.Limits.{most_heard, most_mappings, most_ticked};
 ghost use Rattle.router_model.specs.Parts.{Parts, table};
 ghost use Rattle.router_model.specs.Plain.{Router, after_event};
 ghost use Rattle.replay.specs.Taking.{most_packets, router_of};
-ghost use Rattle.replay.specs.Answer.{after_header, after_settings, is_end, is_of_form, replayed, Gives};
-ghost use Rattle.replay.specs.Front.{part_after_header, part_after_settings, replayed_part, EndsFront};
+ghost use Rattle.replay.specs.Answer.{after_opening, after_settings, is_end, is_of_form, replayed, Gives};
+ghost use Rattle.replay.specs.Front.{part_after_opening, part_after_settings, replayed_part, EndsFront};
+ghost use Rattle.replay.specs.Opening.{id_of, opened, progress_of, run_in, IsOpen};
 ghost use Rattle.replay.specs.Readings.{HasReplayed, HasReplayedFile};
 
 use crate::Status;
+use crate::input::{Input, open_input};
 use crate::last_lines::{close, end_line, refuse_capture, refuse_settings};
 use crate::output_file::make_output;
 use crate::settings_file::load_settings;
 use crate::taking::{take_frame, take_second};
-use capture_io::{CaptureFault, CaptureReader, Frame};
+use capture_io::Frame;
+use command_words::InputFormat;
 use desk::{Desk, DeskFault};
 use lisp_settings::Settings;
 use octets::NoMemory;
-use playback::{Machine, Output, Progress, play};
+use playback::{InputFault, Machine, Output, Progress, play};
 use router_core::Table;
 use std::alloc::Global;
 
@@ -35,7 +35,7 @@ use std::alloc::Global;
 /// written, and the length of the journal.
 #[derive(Clone, Copy)]
 pub struct Counts {
-    pub fault: Option<CaptureFault>,
+    pub fault: Option<InputFault>,
     pub frames: u32,
     pub written: u64,
     pub entries: u64,
@@ -88,28 +88,29 @@ impl<'a> Machine for Replay<'a> {
     }
 }
 
-/// Replays the capture of that name by the settings in a file, into the output.
+/// Replays the capture of that name and format by the settings in a file, into the output.
 pub(crate) fn replay_capture<D: Desk>(
     alloc: Global,
     desk: &mut D,
     settings: &str,
+    format: InputFormat,
     input: &str,
     output: &str,
 ) -> Result<Status, DeskFault>
     ensures answer { IfOk result (λ s. IfSome (D.told desk.old) (λ w.
-        Gives (after_settings output.now (content input.now w.files)
+        Gives (after_settings output.now (opened format (content input.now w.files))
         (settings_of (content settings.now w.files))) s (shown_of w) (shown (D.told desk.new)))) }
     ensures form { IfOk result (λ s. IsTrue (is_of_form s)) }
     ensures front { OnErr result (IfSome (D.told desk.old) (λ w.
-        let file = content input.now w.files in
-        EndsFront (after_settings output.now file (settings_of (content settings.now w.files)))
-        (part_after_settings output.now file (settings_of (content settings.now w.files))) (shown_of w) (D.told desk.new))) }
+        let what = opened format (content input.now w.files) in
+        EndsFront (after_settings output.now what (settings_of (content settings.now w.files)))
+        (part_after_settings output.now what (settings_of (content settings.now w.files))) (shown_of w) (D.told desk.new))) }
     ensures cause { HasCause (D.faults desk.old) (D.faults desk.new) result }
     ensures steady { StaysSteady (D.steady desk.old) (D.steady desk.new)
         (IsThere settings.now (D.told desk.old) × IsThere input.now (D.told desk.old)) (IsErrOf result Failed) }
 {
     match load_settings(alloc, desk, settings)? {
-        Ok(settings) => replay_by(alloc, desk, &settings, input, output),
+        Ok(settings) => replay_by(alloc, desk, &settings, format, input, output),
         Err(fault) => refuse_settings(alloc, desk, &fault),
     }
 }
@@ -118,24 +119,24 @@ fn replay_by<D: Desk>(
     alloc: Global,
     desk: &mut D,
     settings: &Settings,
+    format: InputFormat,
     input: &str,
     output: &str,
 ) -> Result<Status, DeskFault>
     requires { IsLawful settings.now }
     ensures answer { IfOk result (λ s. IfSome (D.told desk.old) (λ w.
-        let file = content input.now w.files in
-        Gives (after_header (replayed settings.now output.now) file
-        (first_failing (header_rules file))) s (shown_of w) (shown (D.told desk.new)))) }
+        Gives (after_opening (replayed settings.now output.now) (opened format (content input.now w.files)))
+        s (shown_of w) (shown (D.told desk.new)))) }
     ensures end { IfOk result (λ s. IsTrue (is_end s)) }
     ensures front { OnErr result (IfSome (D.told desk.old) (λ w.
-        let file = content input.now w.files in
-        EndsFront (after_header (replayed settings.now output.now) file (first_failing (header_rules file)))
-        (part_after_header (replayed_part settings.now output.now) file (first_failing (header_rules file))) (shown_of w) (D.told desk.new))) }
+        let what = opened format (content input.now w.files) in
+        EndsFront (after_opening (replayed settings.now output.now) what)
+        (part_after_opening (replayed_part settings.now output.now) what) (shown_of w) (D.told desk.new))) }
     ensures cause { HasCause (D.faults desk.old) (D.faults desk.new) result }
     ensures steady { StaysSteady (D.steady desk.old) (D.steady desk.new)
         (IsThere input.now (D.told desk.old)) (IsErrOf result Failed) }
 {
-    match replay_file(alloc, desk, settings, input, output)? {
+    match replay_file(alloc, desk, settings, format, input, output)? {
         Ok(counts) => {
             let line = end_line(alloc, counts.frames, counts.written, counts.entries)?;
             close(alloc, desk, counts.fault, line.as_slice())
@@ -144,58 +145,53 @@ fn replay_by<D: Desk>(
     }
 }
 
-/// Replays the capture of that name into the output, but for the last line; or answers the fault
-/// of its header.
+/// Replays the capture of that name and format into the output, but for the last line; or answers the
+/// fault of its header.
 pub(crate) fn replay_file<D: Desk>(
     alloc: Global,
     desk: &mut D,
     settings: &Settings,
+    format: InputFormat,
     input: &str,
     output: &str,
-) -> Result<Result<Counts, CaptureFault>, DeskFault>
+) -> Result<Result<Counts, InputFault>, DeskFault>
     requires { IsLawful settings.now }
     ensures answer { IfOk result (λ counts. IfSome (D.told desk.old) (λ w.
-        HasReplayedFile settings.now output.now (content input.now w.files) counts
+        HasReplayedFile settings.now output.now (opened format (content input.now w.files)) counts
         (shown_of w) (shown (D.told desk.new)))) }
     ensures front { OnErr result (IfSome (D.told desk.old) (λ w.
-        let file = content input.now w.files in
-        EndsFront (after_header (replayed settings.now output.now) file (first_failing (header_rules file)))
-        (part_after_header (replayed_part settings.now output.now) file (first_failing (header_rules file))) (shown_of w) (D.told desk.new))) }
+        let what = opened format (content input.now w.files) in
+        EndsFront (after_opening (replayed settings.now output.now) what)
+        (part_after_opening (replayed_part settings.now output.now) what) (shown_of w) (D.told desk.new))) }
     ensures cause { HasCause (D.faults desk.old) (D.faults desk.new) result }
     ensures steady { StaysSteady (D.steady desk.old) (D.steady desk.new)
         (IsThere input.now (D.told desk.old)) (IsErrOf result Failed) }
 {
-    let id = desk.open_file(alloc, input)?;
-    match CaptureReader::start(alloc, desk, id) {
+    match open_input(alloc, desk, format, input)? {
         Ok(reader) => Ok(Ok(replay_frames(alloc, desk, settings, reader, output)?)),
-        Err(fault) => match fault {
-            CaptureFault::Host => Err(DeskFault::Failed),
-            CaptureFault::Memory => Err(DeskFault::Memory),
-            own => Ok(Err(own)),
-        },
+        Err(fault) => Ok(Err(fault)),
     }
 }
 
+// Replays a capture that was opened into the output, but for the last line.
 fn replay_frames<D: Desk>(
     alloc: Global,
     desk: &mut D,
     settings: &Settings,
-    reader: CaptureReader,
+    reader: Input,
     output: &str,
 ) -> Result<Counts, DeskFault>
-    requires begins { reader ≡ beginning reader.id reader.format }
+    requires open { IsOpen reader }
+    requires begins { progress_of reader ≡ beginning }
     requires lawful { IsLawful settings.now }
     ensures answer { IfOk result (λ counts. IfSome (D.told desk.old) (λ w.
-        HasReplayed settings.now output.now
-        (read_on reader.format begin (left_of reader.id w)) counts
-        (shown_of w) (shown (D.told desk.new)))) }
+        HasReplayed settings.now output.now (run_in reader w) counts (shown_of w) (shown (D.told desk.new)))) }
     ensures front { OnErr result (IfSome (D.told desk.old) (λ w.
-        let run = read_on reader.format begin (left_of reader.id w) in
-        EndsFront (replayed settings.now output.now run) (replayed_part settings.now output.now run)
-        (shown_of w) (D.told desk.new))) }
+        EndsFront (replayed settings.now output.now (run_in reader w))
+        (replayed_part settings.now output.now (run_in reader w)) (shown_of w) (D.told desk.new))) }
     ensures cause { HasCause (D.faults desk.old) (D.faults desk.new) result }
     ensures steady { StaysSteady (D.steady desk.old) (D.steady desk.new)
-        (IsGiven reader.id to_read (D.given desk.old)) (IsErrOf result Failed) }
+        (IsGiven (id_of reader) to_read (D.given desk.old)) (IsErrOf result Failed) }
 {
     let file = make_output(alloc, desk, output)?;
     let table = Table::new(alloc, settings)?;

@@ -1,21 +1,22 @@
 // The messages of a capture, shown.
 ghost use Rattle.std.specs.Prelude.{◌≡◌, false, IfOk, IfSome, IsErrOf, IsTrue, OnErr};
-ghost use Rattle.octets.specs.Rules.{first_failing};
 ghost use Rattle.desk.specs.declared.fault.DeskFault.TheVariants.{Failed};
 ghost use Rattle.desk.specs.Causes.{HasCause, StaysSteady};
-ghost use Rattle.desk.specs.World.{content, left_of, to_read, shown, shown_of, IsGiven, IsThere};
-ghost use Rattle.capture_io.specs.Capture.{begin, header_rules};
-ghost use Rattle.capture_io.specs.Frames.{read_on};
-ghost use Rattle.capture_io.specs.Reading.{beginning};
-ghost use Rattle.playback.specs.Events.{Determined};
-ghost use Rattle.replay.specs.Answer.{after_header, is_end, messages_shown, Gives};
-ghost use Rattle.replay.specs.Front.{part_after_header, shown_part, EndsFront};
+ghost use Rattle.desk.specs.World.{content, to_read, shown, shown_of, IsGiven, IsThere};
+ghost use Rattle.command_words.specs.declared.input_format.InputFormat.TheVariants.{Classic};
+ghost use Rattle.capture_events.specs.Events.{Determined};
+ghost use Rattle.playback.specs.Input.{beginning};
+ghost use Rattle.replay.specs.Answer.{after_opening, is_end, messages_shown, Gives};
+ghost use Rattle.replay.specs.Front.{part_after_opening, shown_part, EndsFront};
+ghost use Rattle.replay.specs.Opening.{id_of, opened, progress_of, run_in, IsOpen};
 ghost use Rattle.replay.specs.Show.{showing};
 
 use crate::Status;
 use crate::frame_text::push_shown;
+use crate::input::{Input, open_input};
 use crate::last_lines::{close, count_line, refuse_capture};
-use capture_io::{CaptureFault, CaptureReader, Frame};
+use capture_io::Frame;
+use command_words::InputFormat;
 use desk::{Desk, DeskFault};
 use octets::NoMemory;
 use playback::{Machine, Output, Progress, play};
@@ -58,52 +59,42 @@ impl Machine for Show {
     }
 }
 
-/// Shows the messages in the capture of that name.
+/// Shows the messages in the classic capture of that name.
 pub(crate) fn show_capture<D: Desk>(
     alloc: Global,
     desk: &mut D,
     input: &str,
 ) -> Result<Status, DeskFault>
     ensures answer { IfOk result (λ s. IfSome (D.told desk.old) (λ w.
-        let file = content input.now w.files in
-        Gives (after_header messages_shown file
-        (first_failing (header_rules file))) s (shown_of w) (shown (D.told desk.new)))) }
+        Gives (after_opening messages_shown (opened Classic (content input.now w.files)))
+        s (shown_of w) (shown (D.told desk.new)))) }
     ensures end { IfOk result (λ s. IsTrue (is_end s)) }
     ensures front { OnErr result (IfSome (D.told desk.old) (λ w.
-        let file = content input.now w.files in
-        EndsFront (after_header messages_shown file (first_failing (header_rules file)))
-        (part_after_header shown_part file (first_failing (header_rules file))) (shown_of w) (D.told desk.new))) }
+        let what = opened Classic (content input.now w.files) in
+        EndsFront (after_opening messages_shown what)
+        (part_after_opening shown_part what) (shown_of w) (D.told desk.new))) }
     ensures cause { HasCause (D.faults desk.old) (D.faults desk.new) result }
     ensures steady { StaysSteady (D.steady desk.old) (D.steady desk.new)
         (IsThere input.now (D.told desk.old)) (IsErrOf result Failed) }
 {
-    let id = desk.open_file(alloc, input)?;
-    match CaptureReader::start(alloc, desk, id) {
+    match open_input(alloc, desk, InputFormat::Classic, input)? {
         Ok(reader) => show_frames(alloc, desk, reader),
-        Err(fault) => match fault {
-            CaptureFault::Host => Err(DeskFault::Failed),
-            CaptureFault::Memory => Err(DeskFault::Memory),
-            own => refuse_capture(alloc, desk, own),
-        },
+        Err(fault) => refuse_capture(alloc, desk, fault),
     }
 }
 
-fn show_frames<D: Desk>(
-    alloc: Global,
-    desk: &mut D,
-    reader: CaptureReader,
-) -> Result<Status, DeskFault>
-    requires { reader ≡ beginning reader.id reader.format }
+fn show_frames<D: Desk>(alloc: Global, desk: &mut D, reader: Input) -> Result<Status, DeskFault>
+    requires open { IsOpen reader }
+    requires begins { progress_of reader ≡ beginning }
     ensures answer { IfOk result (λ s. IfSome (D.told desk.old) (λ w.
-        Gives (messages_shown (read_on reader.format begin (left_of reader.id w))) s (shown_of w)
-        (shown (D.told desk.new)))) }
+        Gives (messages_shown (run_in reader w)) s (shown_of w) (shown (D.told desk.new)))) }
     ensures end { IfOk result (λ s. IsTrue (is_end s)) }
     ensures front { OnErr result (IfSome (D.told desk.old) (λ w.
-        let run = read_on reader.format begin (left_of reader.id w) in
-        EndsFront (messages_shown run) (shown_part run) (shown_of w) (D.told desk.new))) }
+        EndsFront (messages_shown (run_in reader w)) (shown_part (run_in reader w))
+        (shown_of w) (D.told desk.new))) }
     ensures cause { HasCause (D.faults desk.old) (D.faults desk.new) result }
     ensures steady { StaysSteady (D.steady desk.old) (D.steady desk.new)
-        (IsGiven reader.id to_read (D.given desk.old)) (IsErrOf result Failed) }
+        (IsGiven (id_of reader) to_read (D.given desk.old)) (IsErrOf result Failed) }
 {
     let ending = play(alloc, desk, &mut Show {}, reader, None)?;
     let line = count_line(alloc, ending.frames)?;

@@ -2,7 +2,7 @@
 ghost use Rattle.std.specs.Prelude.{◌≡◌, ◌<◌, ◌≤◌, ◌+◌, ◌*◌, ◌^◌, ◌∷◌, [], true, length, All, None, OnOk};
 ghost use Rattle.std.specs.List.{list_all};
 ghost use Rattle.lisp_settings.specs.Lawful.{IsLawful};
-ghost use Rattle.playback.specs.Events.{Arrival, Tick};
+ghost use Rattle.capture_events.specs.Events.{Arrival, Tick};
 ghost use Rattle.router_core.specs.Seen.{course_seen, IfLeaving, IfSettled};
 ghost use Rattle.router_core.specs.Sendable.{IsSendable};
 ghost use Rattle.router_core.specs.Steps.{HasEntered, MayStep};

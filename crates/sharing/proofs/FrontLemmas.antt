@@ -6,14 +6,14 @@ use Rattle.std.proofs.lemmas.List.{append-nil}
 use Rattle.std.proofs.lemmas.List.Elements.{All-cons, All-head, All-nil, All-tail}
 use Rattle.desk.specs.World.{World, Shown, shown, shown_of}
 use Rattle.capture_io.specs.Frame.{Frame}
-use Rattle.capture_io.specs.Frames.{Run}
-use Rattle.capture_io.specs.declared.fault.CaptureFault.{CaptureFault}
 use Rattle.lisp_settings.specs.declared.settings.Settings.{Settings}
-use Rattle.playback.specs.Events.{Arrival, End, GoesOn, Happens, Outcome, Packet, Pause, Played, Step, Tick, arrivals, followed, happened, idle, records_of}
+use Rattle.capture_events.specs.Events.{Arrival, End, GoesOn, Happens, Outcome, Packet, Pause, Played, Step, Tick, arrivals, followed, happened, idle, records_of}
 use Rattle.playback.specs.Front.{Cut, CutRun, IsFront}
+use Rattle.playback.specs.Input.{InputRun}
+use Rattle.playback.specs.declared.fault.InputFault.{InputFault}
 use Rattle.playback.specs.Passing.{IsOver}
 use Rattle.playback.specs.declared.output.Output.{Output}
-use Rattle.playback.proofs.EventLemmas.{arrivals-events}
+use Rattle.capture_events.proofs.EventLemmas.{arrivals-events}
 use Rattle.playback.proofs.FrontLemmas.{cut_here, front-all, front-front}
 use Rattle.playback.proofs.OutputLemmas.{records_of-append, with_output-none}
 use Rattle.router_model.specs.Cut.{cut}
@@ -314,7 +314,7 @@ module _ (settings : Settings) (size : ℕ) (file : Option ℕ) (old : Shown) (n
           (divides-all settings size steps done some goes_on (subst (λ (l : List Step). Played InRounds begun l done) all part.is_done))
 
   -- what is left, by the numbers
-  part-of : (run : Run) (steps : List Step) (part : Cut InRounds begun file old steps now) → Divides settings size run.frames (part.done.lines ++ part.held.lines) part.done
+  part-of : (run : InputRun) (steps : List Step) (part : Cut InRounds begun file old steps now) → Divides settings size run.frames (part.done.lines ++ part.held.lines) part.done
       → HasSharedPart size settings file old run now
   part-of run steps part divides =
       let done = part.done in
@@ -334,7 +334,7 @@ module _ (settings : Settings) (size : ℕ) (file : Option ℕ) (old : Shown) (n
       }
 
   -- a play that was cut short
-  pub cut-shares : (run : Run) → CutRun InRounds begun file old run now → HasSharedPart size settings file old run now
+  pub cut-shares : (run : InputRun) → CutRun InRounds begun file old run now → HasSharedPart size settings file old run now
   cut-shares run cut_run = by cut_run.cut
     where
       steps : List Step
@@ -376,20 +376,20 @@ module _ (settings : Settings) (size : ℕ) (file : Option ℕ) (old : Shown) (n
           last one (inr whole) = cut-end steps one goes_on whole
 
 -- a play at its end, of which no more came
-pub over-cut : (file : Option ℕ) (start : Gathering) (run : World → Run) (told : Option World) (count : ℕ) (fault : Option CaptureFault) (state : Gathering) (output : Output) (now : Option World)
+pub over-cut : (file : Option ℕ) (start : Gathering) (run : World → InputRun) (told : Option World) (count : ℕ) (fault : Option InputFault) (state : Gathering) (output : Output) (now : Option World)
     → IfSome told (λ w. IsOver InRounds file start (run w) (shown_of w) count fault state output now) → IfSome told (λ w. CutRun InRounds start file (shown_of w) (run w) now)
 over-cut file start run None count fault state output now over = tt
 over-cut file start run (Some w) count fault state output now over = record {
   frames = (run w).frames;
   within = ([], append-nil (run w).frames);
-  read = over.read;
+  came = over.came;
   steps = over.steps;
   steps_are = over.steps_are;
   cut = inl (cut_here InRounds start file (shown_of w) over.steps state output now over.stands);
 }
 
 -- nothing was done yet
-pub none-shared : (settings : Settings) (size : ℕ) (file : Option ℕ) (old : Shown) (run : Run) (now : Option World) → shown now ≡ Some old
+pub none-shared : (settings : Settings) (size : ℕ) (file : Option ℕ) (old : Shown) (run : InputRun) (now : Option World) → shown now ≡ Some old
     → HasSharedPart size settings file old run now
 none-shared settings size file old run now is =
     let numbers = numbers-exist (started settings) None (cut size run.frames) in
@@ -407,7 +407,7 @@ none-shared settings size file old run now is =
     }
 
 -- over what the desk tells
-pub parts-shared : (settings : Settings) (size : ℕ) (file : Option ℕ) (run : World → Run) (start : Gathering) (told now : Option World)
+pub parts-shared : (settings : Settings) (size : ℕ) (file : Option ℕ) (run : World → InputRun) (start : Gathering) (told now : Option World)
     → 1 ≤ size → start ≡ none_gathered size settings → IfSome told (λ w. CutRun InRounds start file (shown_of w) (run w) now)
     → IfSome told (λ w. HasSharedPart size settings file (shown_of w) (run w) now)
 parts-shared settings size file run start None now some begins stops = tt
@@ -415,7 +415,7 @@ parts-shared settings size file run start (Some w) now some begins stops =
     cut-shares settings size file (shown_of w) now some (run w) (subst (λ (g : Gathering). CutRun InRounds g file (shown_of w) (run w) now) begins stops)
 
 -- where the desk tells the same as before
-pub still-shared : (settings : Settings) (size : ℕ) (file : Option ℕ) (run : World → Run) (told : Option World)
+pub still-shared : (settings : Settings) (size : ℕ) (file : Option ℕ) (run : World → InputRun) (told : Option World)
     → IfSome told (λ w. HasSharedPart size settings file (shown_of w) (run w) told)
 still-shared settings size file run None = tt
 still-shared settings size file run (Some w) = none-shared settings size file (shown_of w) (run w) (Some w) refl

@@ -6,8 +6,8 @@ use Rattle.std.proofs.lemmas.List.{append-nil}
 use Rattle.std.proofs.lemmas.List.Elements.{All-head, All-tail}
 use Rattle.std.proofs.lemmas.List.Sums.{fold-append}
 use Rattle.capture_io.specs.Frame.{Frame}
-use Rattle.playback.specs.Events.{Arrival, End, GoesOn, Happens, Outcome, Packet, Pause, Played, Step, Tick, arrivals, followed, happened}
-use Rattle.playback.proofs.EventLemmas.{arrivals-events}
+use Rattle.capture_events.specs.Events.{Arrival, End, GoesOn, Happens, Outcome, Packet, Pause, Played, Step, Tick, arrivals, followed, happened}
+use Rattle.capture_events.proofs.EventLemmas.{arrivals-events}
 use Rattle.router_model.specs.Cut.{StaysOpen, cut, empty, is_full, with_frame, with_frames}
 use Rattle.router_model.specs.Rounds.{AllLawful, after_round, round, rounds_from}
 use Rattle.router_model.proofs.CutLemmas.{last-round-closes, round-closes, round-stays-open}

@@ -4,9 +4,9 @@ use Rattle.command_words.specs.Limits.{most_round_frames}
 use Rattle.capture_io.specs.Frame.{Frame}
 use Rattle.lisp_settings.specs.Lawful.{IsLawful}
 use Rattle.lisp_settings.specs.declared.settings.Settings.{Settings}
-use Rattle.playback.specs.Events.{AreStepsOf, Arrival, End, Happens, Outcome, Pause, Played, Step, Tick, idle, second_of}
-use Rattle.playback.specs.Limits.{most_frame_octets, most_records}
-use Rattle.playback.specs.declared.machine.Progress.{Progress}
+use Rattle.capture_events.specs.Events.{AreStepsOf, Arrival, End, Happens, Outcome, Pause, Played, Step, Tick, idle, second_of}
+use Rattle.playback.specs.Limits.{most_arrival_octets, most_records}
+use Rattle.playback.specs.declared.progress.Progress.{Progress}
 use Rattle.router_log.specs.declared.entry.Entry.{Entry}
 use Rattle.router_model.specs.Cut.{empty, is_full, with_frames}
 use Rattle.router_model.specs.Journal.{Journal}
@@ -93,7 +93,7 @@ RoundsAreGathered = (settings : Settings) (frames : List Frame) (size : ℕ) (st
 pub record AreGathered (g : Gathering) (octets : ℕ) : Type 0 where
   pub filling : with_frames empty g.frames ≡ record { frames = length g.frames; octets = octets }
   pub few : length g.frames ≤ g.size
-  pub small : octets ≤ most_round_octets + most_frame_octets
+  pub small : octets ≤ most_round_octets + most_arrival_octets
   pub order : FramesInOrder (unwrap_or g.previous 0) g.frames
   pub early : All (λ frame. frame.moment < 2 ^ 32 * 1000000000) g.frames
 

@@ -2,10 +2,10 @@
 use Rattle.std.specs.Prelude.{◌≡◌, ℕ, List, length, take, Option, None, Some}
 use Rattle.desk.specs.World.{World, Shown, shown}
 use Rattle.capture_io.specs.Frame.{Frame}
-use Rattle.capture_io.specs.Frames.{Run}
 use Rattle.lisp_settings.specs.declared.settings.Settings.{Settings}
-use Rattle.playback.specs.Events.{Outcome, records_of}
+use Rattle.capture_events.specs.Events.{Outcome, records_of}
 use Rattle.playback.specs.Front.{IsFront}
+use Rattle.playback.specs.Input.{InputRun}
 use Rattle.playback.specs.Playing.{Ends, with_outcome, with_output}
 use Rattle.router_model.specs.Cut.{cut}
 use Rattle.router_model.specs.Journal.{Journal}
@@ -15,7 +15,7 @@ use Rattle.sharing.specs.declared.playing.RoundsEnding.{RoundsEnding}
 
 -- a capture of that run was played in rounds of a size: there are numbers that its data packets may have, for which
 -- all that the rounds say and send was said, and written into the file
-pub record HasShared (size : ℕ) (settings : Settings) (file : Option ℕ) (old : Shown) (run : Run) (ended : RoundsEnding) (now : Option World) : Type 0 where
+pub record HasShared (size : ℕ) (settings : Settings) (file : Option ℕ) (old : Shown) (run : InputRun) (ended : RoundsEnding) (now : Option World) : Type 0 where
   pub ns : List (List ℕ)
   pub lawful : Lawful settings run.frames size ns
   pub ends : Ends (rounds settings run.frames size ns) run ended.ending
@@ -29,7 +29,7 @@ first_rounds settings frames size ns count = rounds_from (started settings) None
 -- a play in rounds that was cut short: there are numbers that the data packets may have, and a beginning of what the
 -- rounds then say was said, and one of what they send was written. All lines of so many rounds were said, and no
 -- packet but theirs was written
-pub record HasSharedPart (size : ℕ) (settings : Settings) (file : Option ℕ) (old : Shown) (run : Run) (now : Option World) : Type 0 where
+pub record HasSharedPart (size : ℕ) (settings : Settings) (file : Option ℕ) (old : Shown) (run : InputRun) (now : Option World) : Type 0 where
   pub ns : List (List ℕ)
   pub lawful : Lawful settings run.frames size ns
   pub lines : List ℕ

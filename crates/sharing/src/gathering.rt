@@ -1,7 +1,8 @@
 // A router that gathers the frames of a round, which is worked once it is full.
-ghost use Rattle.std.specs.Prelude.{◌≡◌, ◌≤◌, length, IfOk, None};
+ghost use Rattle.std.specs.Prelude.{◌≡◌, ◌≤◌, length, IfOk};
 ghost use Rattle.command_words.specs.Limits.{most_round_frames, most_workers};
 ghost use Rattle.lisp_settings.specs.Lawful.{IsLawful};
+ghost use Rattle.playback.specs.Input.{beginning};
 ghost use Rattle.router_model.specs.Cut.{is_full};
 ghost use Rattle.router_model.specs.Lifting.{AreOctets};
 ghost use Rattle.forwarders.specs.Batches.{count_of};
@@ -85,7 +86,7 @@ pub(crate) fn begun<'a, R: Threads + Wait + Sync, G: Gate>(
         ≡ none_gathered crew.now.round settings.now) }
     ensures ready { IfOk result (λ g. MayGather g.settings.now g.table.parts g.published
         (gathering_of g.settings.now g.published.batches g.size g.previous g.frames.items)
-        g.octets (record { frames = 0; moment = None }) 0) }
+        g.octets beginning 0) }
 {
     let table = Table::new(alloc, settings)?;
     let published = open_hall(crew.rt, alloc, settings, &table, crew.workers)?;

@@ -1,14 +1,12 @@
 // A capture, played in rounds.
-ghost use Rattle.std.specs.Prelude.{◌≡◌, ◌≤◌, [], None, Some, IfOk, IfSome, IsErrOf, OnErr};
+ghost use Rattle.std.specs.Prelude.{◌≡◌, ◌≤◌, [], Some, IfOk, IfSome, IsErrOf, OnErr};
 ghost use Rattle.command_words.specs.Limits.{most_round_frames, most_workers};
 ghost use Rattle.desk.specs.declared.fault.DeskFault.TheVariants.{Failed};
 ghost use Rattle.desk.specs.Causes.{HasCause, StaysSteady};
-ghost use Rattle.desk.specs.World.{left_of, to_read, to_write, shown_of, IsGiven};
-ghost use Rattle.capture_io.specs.Capture.{begin};
-ghost use Rattle.capture_io.specs.Frames.{read_on};
-ghost use Rattle.capture_io.specs.Reading.{beginning};
+ghost use Rattle.desk.specs.World.{to_read, to_write, shown_of, IsGiven};
 ghost use Rattle.lisp_settings.specs.Lawful.{IsLawful};
 ghost use Rattle.playback.specs.Front.{CutRun};
+ghost use Rattle.playback.specs.Input.{beginning, left_in};
 ghost use Rattle.playback.specs.Playing.{HasPlayed};
 ghost use Rattle.sharing.specs.Gathering.{InRounds, MayGather, gathering_of};
 ghost use Rattle.sharing.specs.Sharing.{HasShared, HasSharedPart};
@@ -16,11 +14,10 @@ ghost use Rattle.sharing.specs.Sharing.{HasShared, HasSharedPart};
 use crate::crew::Crew;
 use crate::gathering::{Gathering, begun};
 use crate::working::{work_last, work_round};
-use capture_io::CaptureReader;
 use desk::{Desk, DeskFault, FileId};
 use forwarders::Gate;
 use lisp_settings::Settings;
-use playback::{Ending, Play, Turn};
+use playback::{Ending, FrameReader, Play, Turn};
 use std::alloc::Global;
 use std::sync::Wait;
 use std::thread::Threads;
@@ -32,34 +29,35 @@ pub struct RoundsEnding {
     pub entries: u64,
 }
 
-/// Plays the frames of a capture whose header was read, in rounds, by the settings. Its lines are said, and
+/// Plays the frames of a capture of which none was read, in rounds, by the settings. Its lines are said, and
 /// its packets written into the file.
 ///
 /// It starts threads, and waits for them. A round's lines and packets go out once it is worked. A fault of
 /// the capture ends the round that is open.
-pub fn play_rounds<R: Threads + Wait + Sync, D: Desk, G: Gate>(
+pub fn play_rounds<R: Threads + Wait + Sync, D: Desk, G: Gate, I: FrameReader>(
     crew: &Crew<'_, R, G>,
     alloc: Global,
     desk: &mut D,
     settings: &Settings,
-    reader: CaptureReader,
+    reader: I,
     file: FileId,
 ) -> Result<RoundsEnding, DeskFault>
     requires workers { (1 ≤ crew.now.workers) × (crew.now.workers ≤ most_workers) }
     requires round { (1 ≤ crew.now.round) × (crew.now.round ≤ most_round_frames) }
-    requires begins { reader ≡ beginning reader.id reader.format }
+    requires open { I.IsOpen reader }
+    requires begins { I.progress reader ≡ beginning }
     requires lawful { IsLawful settings.now }
     ensures shared { IfOk result (λ ended. IfSome (D.told desk.old) (λ w.
         HasShared crew.now.round settings.now (Some file.number) (shown_of w)
-        (read_on reader.format begin (left_of reader.id w)) ended (D.told desk.new))) }
+        (left_in I.id I.run reader w) ended (D.told desk.new))) }
 
     // After a fault a beginning of what the rounds say and send by such numbers was said and written.
     ensures front { OnErr result (IfSome (D.told desk.old) (λ w.
         HasSharedPart crew.now.round settings.now (Some file.number) (shown_of w)
-        (read_on reader.format begin (left_of reader.id w)) (D.told desk.new))) }
+        (left_in I.id I.run reader w) (D.told desk.new))) }
     ensures cause { HasCause (D.faults desk.old) (D.faults desk.new) result }
     ensures steady { StaysSteady (D.steady desk.old) (D.steady desk.new)
-        (IsGiven reader.id to_read (D.given desk.old) × IsGiven file.number to_write (D.given desk.old))
+        (IsGiven (I.id reader) to_read (D.given desk.old) × IsGiven file.number to_write (D.given desk.old))
         (IsErrOf result Failed) }
 {
     let mut router = begun(crew, alloc, settings)?;
@@ -70,41 +68,42 @@ pub fn play_rounds<R: Threads + Wait + Sync, D: Desk, G: Gate>(
 }
 
 // Plays the capture: each round is worked once it is full, and what is left at the end.
-fn play_on<R: Threads + Wait + Sync, D: Desk, G: Gate>(
+fn play_on<R: Threads + Wait + Sync, D: Desk, G: Gate, I: FrameReader>(
     crew: &Crew<'_, R, G>,
     alloc: Global,
     desk: &mut D,
     router: &mut Gathering<'_>,
-    reader: CaptureReader,
+    reader: I,
     file: FileId,
 ) -> Result<Ending, DeskFault>
     requires workers { crew.now.workers ≤ most_workers }
-    requires begins { reader ≡ beginning reader.id reader.format }
+    requires open { I.IsOpen reader }
+    requires begins { I.progress reader ≡ beginning }
     requires none { router.old.frames.items ≡ [] }
     requires ready { MayGather router.old.settings.now router.old.table.parts router.old.published
         (gathering_of router.old.settings.now router.old.published.batches router.old.size router.old.previous router.old.frames.items)
-        router.old.octets (record { frames = 0; moment = None }) 0 }
+        router.old.octets beginning 0 }
     ensures played { IfOk result (λ ending. IfSome (D.told desk.old) (λ w.
         HasPlayed InRounds
         (gathering_of router.old.settings.now router.old.published.batches router.old.size router.old.previous router.old.frames.items)
-        (Some file.number) (shown_of w) (read_on reader.format begin (left_of reader.id w)) ending
+        (Some file.number) (shown_of w) (left_in I.id I.run reader w) ending
         (gathering_of router.new.settings.now router.new.published.batches router.new.size router.new.previous router.new.frames.items)
         (D.told desk.new))) }
     ensures cut { OnErr result (IfSome (D.told desk.old) (λ w.
         CutRun InRounds
         (gathering_of router.old.settings.now router.old.published.batches router.old.size router.old.previous router.old.frames.items)
-        (Some file.number) (shown_of w) (read_on reader.format begin (left_of reader.id w)) (D.told desk.new))) }
+        (Some file.number) (shown_of w) (left_in I.id I.run reader w) (D.told desk.new))) }
     ensures cause { HasCause (D.faults desk.old) (D.faults desk.new) result }
     ensures steady { StaysSteady (D.steady desk.old) (D.steady desk.new)
-        (IsGiven reader.id to_read (D.given desk.old) × IsGiven file.number to_write (D.given desk.old))
+        (IsGiven (I.id reader) to_read (D.given desk.old) × IsGiven file.number to_write (D.given desk.old))
         (IsErrOf result Failed) }
 {
     let mut play = Play::new(alloc, reader, Some(file));
     loop {
         match play.on(alloc, desk, router)? {
-            Turn::Full => work_round(crew, alloc, router, &mut play)?,
+            Turn::Full => work_round(crew, alloc, router, play.progress, &mut play.output)?,
             Turn::Ended(fault) => {
-                work_last(crew, alloc, router, &mut play)?;
+                work_last(crew, alloc, router, play.progress, &mut play.output)?;
                 return play.end(alloc, desk, fault);
             }
         }

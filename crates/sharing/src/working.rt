@@ -1,7 +1,7 @@
 // A round that is worked: its lines and packets are gathered to go out.
 ghost use Rattle.std.specs.Prelude.{◌≡◌, ◌<◌, ◌≤◌, ◌+◌, ◌++◌, ◌^◌, [], length, map, All, OnOk};
 ghost use Rattle.command_words.specs.Limits.{most_workers};
-ghost use Rattle.playback.specs.Events.{records_of};
+ghost use Rattle.capture_events.specs.Events.{records_of};
 ghost use Rattle.playback.specs.Playing.{GathersOne};
 ghost use Rattle.router_model.specs.Rounds.{closing_moment, lines_text};
 ghost use Rattle.forwarders.specs.Gathering.{IsWritable};
@@ -13,7 +13,7 @@ use crate::gathering::Gathering;
 use capture_io::Frame;
 use forwarders::{Gate, Line, Packet, run_round};
 use octets::{NoMemory, Octets};
-use playback::{Output, Play};
+use playback::{Output, Progress};
 use router_log::push_frame_line;
 use std::alloc::Global;
 use std::sync::Wait;
@@ -25,21 +25,21 @@ pub(crate) fn work_round<R: Threads + Wait + Sync, G: Gate>(
     crew: &Crew<'_, R, G>,
     alloc: Global,
     router: &mut Gathering<'_>,
-    play: &mut Play,
+    progress: Progress,
+    output: &mut Output,
 ) -> Result<(), NoMemory>
     requires workers { crew.now.workers ≤ most_workers }
     requires some { 1 ≤ length router.old.frames.items }
     requires ready { MayGather router.old.settings.now router.old.table.parts router.old.published
         (gathering_of router.old.settings.now router.old.published.batches router.old.size router.old.previous router.old.frames.items)
-        router.old.octets play.old.progress play.old.output.written }
-    ensures play { play.new ≡ record play.old { output = play.new.output } }
+        router.old.octets progress output.old.written }
     ensures gathers { OnOk result (GathersOne
         (WorksRound (gathering_of router.old.settings.now router.old.published.batches router.old.size router.old.previous router.old.frames.items)
-        router.old.frames.items) play.old.output play.new.output
+        router.old.frames.items) output.old output.new
         (gathering_of router.new.settings.now router.new.published.batches router.new.size router.new.previous router.new.frames.items)) }
     ensures ready { OnOk result (MayGather router.new.settings.now router.new.table.parts router.new.published
         (gathering_of router.new.settings.now router.new.published.batches router.new.size router.new.previous router.new.frames.items)
-        router.new.octets play.new.progress play.new.output.written) }
+        router.new.octets progress output.new.written) }
     ensures none { OnOk result (router.new.frames.items ≡ []) }
 {
     let done = run_round(
@@ -56,8 +56,8 @@ pub(crate) fn work_round<R: Threads + Wait + Sync, G: Gate>(
     router.previous = Some(closing_moment(router.frames.as_slice()));
     router.frames.clear();
     router.octets = 0;
-    push_lines(done.lines.as_slice(), &mut play.output.lines)?;
-    push_packets(done.written.as_slice(), &mut play.output)
+    push_lines(done.lines.as_slice(), &mut output.lines)?;
+    push_packets(done.written.as_slice(), output)
 }
 
 /// Works the round of the frames that are left at the end of a capture, if there are some.
@@ -65,22 +65,22 @@ pub(crate) fn work_last<R: Threads + Wait + Sync, G: Gate>(
     crew: &Crew<'_, R, G>,
     alloc: Global,
     router: &mut Gathering<'_>,
-    play: &mut Play,
+    progress: Progress,
+    output: &mut Output,
 ) -> Result<(), NoMemory>
     requires workers { crew.now.workers ≤ most_workers }
     requires ready { MayGather router.old.settings.now router.old.table.parts router.old.published
         (gathering_of router.old.settings.now router.old.published.batches router.old.size router.old.previous router.old.frames.items)
-        router.old.octets play.old.progress play.old.output.written }
-    ensures play { play.new ≡ record play.old { output = play.new.output } }
+        router.old.octets progress output.old.written }
     ensures gathers { OnOk result (GathersOne
         (ClosesRound router.old.frames.items (gathering_of router.old.settings.now router.old.published.batches router.old.size router.old.previous router.old.frames.items))
-        play.old.output play.new.output
+        output.old output.new
         (gathering_of router.new.settings.now router.new.published.batches router.new.size router.new.previous router.new.frames.items)) }
 {
     if router.frames.is_empty() {
         return Ok(());
     }
-    work_round(crew, alloc, router, play)
+    work_round(crew, alloc, router, progress, output)
 }
 
 // The moment of the last of some frames.

@@ -7,7 +7,7 @@ use Rattle.std.specs.List.{range_with_len}
 use Rattle.capture_io.specs.Limits.{longest_span, most_records}
 use Rattle.capture_io.specs.Output.{out_header, packet_record}
 use Rattle.mapping_records.specs.Limits.{most_mappings}
-use Rattle.playback.specs.Events.{Packet, records_of}
+use Rattle.capture_events.specs.Events.{Packet, records_of}
 use Rattle.playback.specs.Written.{AreInOrder, MayFollow}
 use Rattle.trial_input.specs.Trial.{packet_to, trial_packet, trial_packets}
 

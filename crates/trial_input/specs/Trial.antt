@@ -12,7 +12,7 @@ use Rattle.mapping_records.specs.Limits.{default_minutes}
 use Rattle.mapping_records.specs.declared.eid.Eid.{Eid}
 use Rattle.mapping_records.specs.declared.record.Record.{Record}
 use Rattle.lisp_settings.specs.declared.settings.Settings.{Settings}
-use Rattle.playback.specs.Events.{Packet}
+use Rattle.capture_events.specs.Events.{Packet}
 
 -- an IPv4 prefix in instance 0
 abbrev pub eid_v4 : (addr len : ℕ) → IsTrue (is_prefix (V4 addr) len) → Eid

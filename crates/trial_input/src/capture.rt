@@ -5,7 +5,7 @@ ghost use Rattle.capture_io.specs.Capture.{header_rules};
 ghost use Rattle.capture_io.specs.Frames.{capture};
 ghost use Rattle.capture_io.specs.Output.{out_header, packet_record};
 ghost use Rattle.mapping_records.specs.Limits.{most_mappings};
-ghost use Rattle.playback.specs.Events.{records_of};
+ghost use Rattle.capture_events.specs.Events.{records_of};
 ghost use Rattle.playback.specs.Written.{frames_of};
 ghost use Rattle.trial_input.specs.Trial.{datagram_to, packet_to, trial_packets};
 

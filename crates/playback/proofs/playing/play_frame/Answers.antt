@@ -2,7 +2,7 @@ use Rattle.std.proofs.Common.{◌≡◌, ◌∷◌, ◌++◌, [], List, ap, rule
 use Rattle.std.specs.Option.{option_map}
 use Rattle.capture_io.specs.Frame.{Frame}
 use Rattle.desk.specs.declared.desk.FileId.{FileId}
-use Rattle.playback.specs.Events.{Arrival, Happens, Step, events_of, steps_of, ticks}
+use Rattle.capture_events.specs.Events.{Arrival, Happens, Step, events_of, steps_of, ticks}
 use Rattle.playback.proofs.FrontLemmas.{breaks-cut, cut_front, cut_here, frame-steps, stands-gathers, stands-hands}
 use Rattle.playback.proofs.playing.play_frame.Goals as goal
 

@@ -2,7 +2,7 @@ use Rattle.std.proofs.Common.{◌∷◌, ◌++◌, [], List, rules}
 use Rattle.std.specs.Option.{option_map}
 use Rattle.std.proofs.lemmas.Result.{on_err_weaker, on_ok_weaker}
 use Rattle.desk.specs.declared.desk.FileId.{FileId}
-use Rattle.playback.specs.Events.{Happens, Step, Tick}
+use Rattle.capture_events.specs.Events.{Happens, Step, Tick}
 use Rattle.playback.proofs.FrontLemmas.{breaks-cut, cut_front, cut_here, either, front-more, stands-gathers, stands-hands}
 use Rattle.playback.proofs.OutputLemmas.{hands-keep}
 use Rattle.playback.proofs.seconds.play_second.Goals as goal

@@ -2,7 +2,7 @@ use Rattle.std.proofs.Common.{◌≡◌, suc, ◌∙◌, ◌-◌, ◌+◌, ◌�
 use Rattle.std.specs.Option.{option_map}
 use Rattle.std.proofs.lemmas.List.{append-nil}
 use Rattle.desk.specs.declared.desk.FileId.{FileId}
-use Rattle.playback.specs.Events.{Happens, Step, Tick, second_of, steps_of, ticks}
+use Rattle.capture_events.specs.Events.{Happens, Step, Tick, second_of, steps_of, ticks}
 use Rattle.playback.proofs.FrontLemmas.{cut_front, front-second, seconds-all, seconds-more, seconds_of}
 use Rattle.playback.proofs.seconds.play_seconds.Goals as goal
 

@@ -1,6 +1,6 @@
 use Rattle.std.proofs.Common.{◌≡◌, ◌<◌, ◌≤◌, ◌*◌, ◌-◌, ◌++◌, false, List, unwrap_or, IsTrue}
 use Rattle.std.specs.Option.{option_map}
-use Rattle.playback.specs.Events.{Step}
+use Rattle.capture_events.specs.Events.{Step}
 use Rattle.desk.specs.World.{Shown}
 use Rattle.playback.specs.Front.{Stands}
 use Rattle.playback.specs.Playing.{KeepsReaders}

@@ -1,50 +1,48 @@
-use Rattle.std.proofs.Common.{◌∙◌, List, ℕ, ap}
-use Rattle.std.specs.Option.{option_map}
-use Rattle.desk.specs.World.{after_say}
-use Rattle.replay.specs.Answer.{closing}
-use Rattle.replay.proofs.AnswerCases.{ok_both}
-use Rattle.replay.proofs.SharedCases.{shared_closed, shared_refused}
-use Rattle.std.proofs.Common.{subst}
-use Rattle.std.proofs.lemmas.Result.{on_err_weaker}
+use Rattle.std.proofs.lemmas.Result.{IfOk-weaker, on_err_weaker}
+use Rattle.desk.specs.World.{Shown, World, content, shown, shown_of}
 use Rattle.playback.proofs.FrontLemmas.{on_err_always}
-use Rattle.replay.specs.Front.{SaysPart}
-use Rattle.replay.specs.Lines.{end_line}
-use Rattle.replay.proofs.FrontCases.{says_none}
-use Rattle.replay.proofs.SharedFrontCases.{shares_fault, shares_line}
+use Rattle.replay.specs.Opening.{Opened, opened, run_in}
+use Rattle.replay.specs.Shared.{SharesOf}
+use Rattle.replay.specs.SharedFront.{EndsOf}
+use Rattle.replay.proofs.AnswerCases.{ok_both}
+use Rattle.replay.proofs.OpeningLemmas.{opened-goes, opened-stops}
+use Rattle.replay.proofs.SharedCases.{input_refused}
+use Rattle.replay.proofs.SharedFrontCases.{shares_fault, shares_unread}
 use Rattle.replay.proofs.in_rounds.share_by.Goals as goal
 
-pub returns-in_ok-line-in-Ok-clause-answer : goal.returns-in_ok-line-in-Ok-clause-answer
-returns-in_ok-line-in-Ok-clause-answer g c =
-    let counts = c.in-Ok.counts in
-    let played = g.D.Desk.told c.share_file.new.desk in
-    ok_both c.close.result c.close.ensures.status c.close.ensures.told (λ s is said.
-    let line = said ∙ ap (λ (l : List ℕ). option_map (after_say (closing counts.fault l)) played) (c.as_slice.ensures ∙ c.in_ok-line-in-Ok.ensures) in
-    shared_closed c.args.crew.now.round c.args.settings.now c.args.output.now c.args.input.now counts (g.D.Desk.told c.args.desk.now) played (g.D.Desk.told c.close.new.desk) s (rw c.in-Ok.is at c.in_ok-counts.ensures.answer) line is)
+pub returns-in-Ok-clause-answer : goal.returns-in-Ok-clause-answer
+returns-in-Ok-clause-answer g c =
+    let new = shown (g.D.Desk.told c.share_input.new.desk) in
+    IfOk-weaker c.share_input.result _ _ (λ s shares.
+    opened-goes (λ (r : Opened) (x : Shown). SharesOf c.args.crew.now.round c.args.settings.now c.args.output.now r s x new) (λ (w : World). opened c.args.format (content c.args.input.now w.files)) (run_in c.in-Ok.reader)
+    (g.D.Desk.told c.args.desk.now) (g.D.Desk.told c.open_input.new.desk) (rw c.in-Ok.is at c.in_ok-reader.ensures.opened) c.in_ok-reader.ensures.shown shares) c.share_input.ensures.answer
 
 pub returns-in-Err-clause-answer : goal.returns-in-Err-clause-answer
 returns-in-Err-clause-answer g c =
+    let mid = g.D.Desk.told c.open_input.new.desk in
+    let new = g.D.Desk.told c.refuse_capture.new.desk in
+    let fault = c.in-Err.fault in
     ok_both c.refuse_capture.result c.refuse_capture.ensures.status c.refuse_capture.ensures.told (λ s is said.
-    shared_refused c.args.crew.now.round c.args.settings.now c.args.output.now c.args.input.now c.in-Err.fault (g.D.Desk.told c.args.desk.now) (g.D.Desk.told c.share_file.new.desk) (g.D.Desk.told c.refuse_capture.new.desk) s
-    (rw c.in-Err.is at c.in_ok-counts.ensures.answer) said is)
+    opened-stops (λ (r : Opened) (x : Shown). SharesOf c.args.crew.now.round c.args.settings.now c.args.output.now r s x (shown new)) (λ (w : World). opened c.args.format (content c.args.input.now w.files)) fault
+    (g.D.Desk.told c.args.desk.now) mid (rw c.in-Err.is at c.in_ok-reader.ensures.opened) c.in_ok-reader.ensures.shown (input_refused c.args.crew.now.round c.args.settings.now c.args.output.now fault mid new s said is))
 
-pub returns-in_err-line-in-Ok-clause-front : goal.returns-in_err-line-in-Ok-clause-front
-returns-in_err-line-in-Ok-clause-front g c =
-    let counts = c.in-Ok.counts in
-    let played = g.D.Desk.told c.share_file.new.desk in
-    on_err_always c.from_residual-in_err-line-in-Ok.result
-    (shares_line c.args.crew.now.round c.args.settings.now c.args.output.now c.args.input.now counts (g.D.Desk.told c.args.desk.now) played played (rw c.in-Ok.is at c.in_ok-counts.ensures.answer) (says_none (closing counts.fault (end_line counts.frames counts.written counts.entries)) played))
+pub returns-in_err-reader-clause-front : goal.returns-in_err-reader-clause-front
+returns-in_err-reader-clause-front g c =
+    on_err_always c.from_residual.result
+    (shares_unread c.args.settings.now c.args.crew.now.round c.args.output.now (λ (w : World). opened c.args.format (content c.args.input.now w.files)) (g.D.Desk.told c.args.desk.now) (g.D.Desk.told c.open_input.new.desk) c.in_err-reader.ensures.shown)
 
-pub returns-in_ok-line-in-Ok-clause-front : goal.returns-in_ok-line-in-Ok-clause-front
-returns-in_ok-line-in-Ok-clause-front g c =
-    let counts = c.in-Ok.counts in
-    let played = g.D.Desk.told c.share_file.new.desk in
-    let new = g.D.Desk.told c.close.new.desk in
-    on_err_weaker c.close.result (λ says.
-    shares_line c.args.crew.now.round c.args.settings.now c.args.output.now c.args.input.now counts (g.D.Desk.told c.args.desk.now) played new (rw c.in-Ok.is at c.in_ok-counts.ensures.answer)
-    (subst (λ (l : List ℕ). SaysPart (closing counts.fault l) played new) (c.as_slice.ensures ∙ c.in_ok-line-in-Ok.ensures) says)) c.close.ensures.part
+pub returns-in-Ok-clause-front : goal.returns-in-Ok-clause-front
+returns-in-Ok-clause-front g c =
+    let new = g.D.Desk.told c.share_input.new.desk in
+    on_err_weaker c.share_input.result (λ ends.
+    opened-goes (λ (r : Opened) (x : Shown). EndsOf c.args.crew.now.round c.args.settings.now c.args.output.now r x new) (λ (w : World). opened c.args.format (content c.args.input.now w.files)) (run_in c.in-Ok.reader)
+    (g.D.Desk.told c.args.desk.now) (g.D.Desk.told c.open_input.new.desk) (rw c.in-Ok.is at c.in_ok-reader.ensures.opened) c.in_ok-reader.ensures.shown ends) c.share_input.ensures.front
 
 pub returns-in-Err-clause-front : goal.returns-in-Err-clause-front
 returns-in-Err-clause-front g c =
+    let mid = g.D.Desk.told c.open_input.new.desk in
+    let new = g.D.Desk.told c.refuse_capture.new.desk in
+    let fault = c.in-Err.fault in
     on_err_weaker c.refuse_capture.result (λ says.
-    shares_fault c.args.crew.now.round c.args.settings.now c.args.output.now c.args.input.now c.in-Err.fault (g.D.Desk.told c.args.desk.now) (g.D.Desk.told c.share_file.new.desk) (g.D.Desk.told c.refuse_capture.new.desk)
-    (rw c.in-Err.is at c.in_ok-counts.ensures.answer) says) c.refuse_capture.ensures.part
+    opened-stops (λ (r : Opened) (x : Shown). EndsOf c.args.crew.now.round c.args.settings.now c.args.output.now r x new) (λ (w : World). opened c.args.format (content c.args.input.now w.files)) fault
+    (g.D.Desk.told c.args.desk.now) mid (rw c.in-Err.is at c.in_ok-reader.ensures.opened) c.in_ok-reader.ensures.shown (shares_fault c.args.crew.now.round c.args.settings.now c.args.output.now fault mid new says)) c.refuse_capture.ensures.part

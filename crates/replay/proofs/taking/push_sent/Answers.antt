@@ -1,5 +1,5 @@
 use Rattle.std.proofs.Common.{List, ℕ, Some, ◌≡◌, ap, subst}
-use Rattle.playback.specs.Events.{Packet}
+use Rattle.capture_events.specs.Events.{Packet}
 use Rattle.router_model.specs.Plain.{packet_of, packets_of}
 use Rattle.replay.specs.Taking.{Sends}
 use Rattle.replay.proofs.ReplayLemmas.{on_ok_three, sends-one}

@@ -1,7 +1,7 @@
 use Rattle.std.proofs.Common.{◌≡◌, ◌∙◌, false, ap, sym, subst, arith}
 use Rattle.std.proofs.lemmas.Result.{on_ok_weaker}
 use Rattle.std.specs.Result.{OnOk}
-use Rattle.playback.specs.Events.{Outcome}
+use Rattle.capture_events.specs.Events.{Outcome}
 use Rattle.router_model.specs.Course.{control, is_message}
 use Rattle.router_model.specs.Parts.{Parts}
 use Rattle.router_model.specs.Plain.{Router}

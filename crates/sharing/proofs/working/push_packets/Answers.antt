@@ -1,6 +1,6 @@
 use Rattle.std.proofs.Common.{◌∙◌, ◌++◌, ap, ap₂, sym, arith, append_assoc, map, take, List, ℕ}
 use Rattle.capture_io.specs.Output.{packet_record}
-use Rattle.playback.specs.Events.{records_of}
+use Rattle.capture_events.specs.Events.{records_of}
 use Rattle.forwarders.specs.Rounding.{packet_seen}
 use Rattle.sharing.proofs.RoundLemmas.{records-more}
 use Rattle.sharing.proofs.working.push_packets.Goals as goal

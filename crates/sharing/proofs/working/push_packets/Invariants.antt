@@ -1,5 +1,5 @@
 use Rattle.std.proofs.Common.{◌≡◌, ◌+◌, ◌++◌, map, take}
-use Rattle.playback.specs.Events.{records_of}
+use Rattle.capture_events.specs.Events.{records_of}
 use Rattle.forwarders.specs.Rounding.{packet_seen}
 use Rattle.sharing.proofs.working.push_packets.Given as goal
 

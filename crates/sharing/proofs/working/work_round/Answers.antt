@@ -2,7 +2,7 @@ use Rattle.std.proofs.Common.{◌∙◌, ◌+◌, ◌++◌, List, ap, length, ma
 use Rattle.forwarders.specs.Rounding.{line_seen, packet_seen}
 use Rattle.forwarders.specs.declared.round_done.Line.{Line}
 use Rattle.forwarders.specs.declared.round_done.Packet.{Packet}
-use Rattle.playback.specs.Events.{records_of}
+use Rattle.capture_events.specs.Events.{records_of}
 use Rattle.router_model.specs.Rounds.{lines_text}
 use Rattle.sharing.specs.Gathering.{gathering_of}
 use Rattle.sharing.proofs.RoundLemmas.{on_ok_three, ready-worked, round-gathers, round-left}
@@ -12,14 +12,14 @@ pub run_round-requires-clause-count : goal.run_round-requires-clause-count
 run_round-requires-clause-count g c =
     let router = c.args.router.now in
     let room = round-left router.settings.now router.table.parts router.published (gathering_of router.settings.now router.published.batches router.size router.previous router.frames.items)
-    router.octets c.args.play.now.output.written c.args.play.now.progress c.requires.ready c.requires.some in
+    router.octets c.args.output.now.written c.args.progress c.requires.ready c.requires.some in
     omega (arith, room.0)
 
 pub push_packets-requires-clause-room : goal.push_packets-requires-clause-room
 push_packets-requires-clause-room g c =
     let router = c.args.router.now in
     let room = round-left router.settings.now router.table.parts router.published (gathering_of router.settings.now router.published.batches router.size router.previous router.frames.items)
-    router.octets c.args.play.now.output.written c.args.play.now.progress c.requires.ready c.requires.some in
+    router.octets c.args.output.now.written c.args.progress c.requires.ready c.requires.some in
     let few = rw c.as_slice.ensures.value at c.in_ok-done.ensures.packets.few in
     let number = ap (λ (l : List Packet). length l) c.as_slice-4.ensures in
     omega (arith, room.1, few, number)
@@ -28,7 +28,7 @@ pub returns-clause-gathers : goal.returns-clause-gathers
 returns-clause-gathers g c =
     let router = c.args.router.now in
     let done = c.in_ok-done.done in
-    let old = c.args.play.now.output in
+    let old = c.args.output.now in
     let round = rw c.as_slice.ensures.value at c.in_ok-done.ensures.round in
     let said = c.in_ok-push_lines.ensures ∙ ap (λ (l : List Line). old.lines ++ lines_text (map line_seen l)) c.as_slice-3.ensures in
     on_ok_three c.push_packets.result c.push_packets.ensures.lines c.push_packets.ensures.records c.push_packets.ensures.written (λ lines records written.
@@ -40,7 +40,7 @@ pub returns-clause-ready : goal.returns-clause-ready
 returns-clause-ready g c =
     let router = c.args.router.now in
     let done = c.in_ok-done.done in
-    let old = c.args.play.now.output in
+    let old = c.args.output.now in
     let ensured = c.in_ok-done.ensures in
     let round = rw c.as_slice.ensures.value at ensured.round in
     let entered = rw c.as_slice.ensures.value at ensured.entered in
@@ -49,4 +49,4 @@ returns-clause-ready g c =
     on_ok_three c.push_packets.result c.push_packets.ensures.written c.push_packets.ensures.written c.push_packets.ensures.written (λ written same still.
     rw (c.clear.ensures.items, c.closing_moment.ensures, c.as_slice-2.ensures.value)
     (ready-worked router.settings.now router.published c.run_round.new.published router.table.parts c.run_round.new.table.parts router.size router.previous router.frames.items router.octets old.written c.push_packets.new.output.written
-    c.args.play.now.progress done c.requires.ready c.requires.some round ensured.published entered (omega (arith, written, number, few))))
+    c.args.progress done c.requires.ready c.requires.some round ensured.published entered (omega (arith, written, number, few))))

@@ -5,7 +5,7 @@ use Rattle.octets.specs.Rules.{first_failing}
 use Rattle.capture_io.specs.Capture.{header_rules}
 use Rattle.capture_io.specs.Frames.{capture}
 use Rattle.capture_io.specs.Output.{out_header, packet_record}
-use Rattle.playback.specs.Events.{records_of}
+use Rattle.capture_events.specs.Events.{records_of}
 use Rattle.trial_input.specs.Trial.{packet_to, trial_packet, trial_packets}
 use Rattle.trial_input.proofs.CaptureLemmas.{records-more, trial_packets-in_order, trial_packets-length}
 use Rattle.trial_input.proofs.capture.trial_capture.Goals as goal

@@ -1,7 +1,7 @@
 use Rattle.std.proofs.Common.{◌≡◌, ◌++◌, map}
 use Rattle.std.specs.List.{range_with_len}
 use Rattle.capture_io.specs.Output.{out_header}
-use Rattle.playback.specs.Events.{records_of}
+use Rattle.capture_events.specs.Events.{records_of}
 use Rattle.trial_input.specs.Trial.{trial_packet}
 use Rattle.trial_input.proofs.capture.trial_capture.Given as goal
 

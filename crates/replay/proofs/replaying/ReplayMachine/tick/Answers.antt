@@ -1,5 +1,5 @@
 use Rattle.std.proofs.Common.{arith, unwrap_or}
-use Rattle.playback.specs.Events.{Tick}
+use Rattle.capture_events.specs.Events.{Tick}
 use Rattle.router_model.specs.Parts.{table}
 use Rattle.router_model.specs.Plain.{after_event}
 use Rattle.replay.specs.Taking.{router_of}

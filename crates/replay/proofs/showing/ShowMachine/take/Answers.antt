@@ -1,5 +1,5 @@
 use Rattle.std.proofs.Common.{refl}
-use Rattle.playback.specs.Events.{Arrival}
+use Rattle.capture_events.specs.Events.{Arrival}
 use Rattle.replay.specs.Show.{showing}
 use Rattle.replay.proofs.ReplayLemmas.{gathers-determined}
 use Rattle.replay.proofs.ShowLemmas.{lines_gathered}

@@ -1,5 +1,5 @@
 use Rattle.std.proofs.Common.{refl}
-use Rattle.playback.specs.Events.{Happens, Tick}
+use Rattle.capture_events.specs.Events.{Happens, Tick}
 use Rattle.playback.proofs.FrontLemmas.{gathers-idle}
 use Rattle.sharing.specs.Gathering.{InRounds, gathering_of}
 use Rattle.sharing.proofs.RoundLemmas.{ready-second}

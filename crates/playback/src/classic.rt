@@ -1,0 +1,33 @@
+// A classic capture, as a play reads it.
+use crate::fault::InputFault;
+use crate::reader::{FrameReader, Next};
+use capture_io::{CaptureFault, CaptureReader};
+use desk::{Desk, DeskFault};
+use std::alloc::Global;
+
+impl FrameReader for CaptureReader {
+    ghost use Rattle.std.specs.Prelude.{◌≡◌, None};
+    ghost use Rattle.capture_io.specs.Frames.{read_on};
+    ghost use Rattle.playback.specs.Input.{input_run};
+    ghost use Rattle.playback.specs.declared.fault.InputFault.TheVariants.{Classic};
+
+    ghost id = { λ r. r.id };
+
+    ghost run = { λ r left. input_run Classic (read_on r.format r.position left) };
+
+    ghost progress = { λ r. record { frames = r.position.count; moment = r.position.greatest } };
+
+    ghost IsOpen = { λ r. r.fault ≡ None };
+
+    fn next_frame<D: Desk>(&mut self, alloc: Global, desk: &mut D) -> Result<Next, DeskFault> {
+        match self.next(alloc, desk) {
+            Ok(Some(frame)) => Ok(Next::Frame(frame)),
+            Ok(None) => Ok(Next::End),
+            Err(fault) => match fault {
+                CaptureFault::Host => Err(DeskFault::Failed),
+                CaptureFault::Memory => Err(DeskFault::Memory),
+                own => Ok(Next::Fault(InputFault::Classic(own))),
+            },
+        }
+    }
+}

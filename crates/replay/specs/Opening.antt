@@ -1,0 +1,62 @@
+-- What is read of a capture, by its format.
+use Rattle.std.specs.Prelude.{◌≡◌, List, ℕ, Option, Some, None, Result, Ok, Err, IsSomeAnd}
+use Rattle.octets.specs.Rules.{first_failing}
+use Rattle.command_words.specs.declared.input_format.InputFormat.{InputFormat}
+use Rattle.command_words.specs.declared.input_format.InputFormat.TheVariants as format
+use Rattle.capture_io.specs.Capture.{header_rules}
+use Rattle.desk.specs.World.{World}
+use Rattle.capture_io.specs.Frames.{capture, read_on}
+use Rattle.capture_io.specs.declared.fault.CaptureFault.{CaptureFault}
+use Rattle.capture_ng.specs.Frames.{read_on as ng_read_on}
+use Rattle.capture_ng.specs.Position.{begin}
+use Rattle.playback.specs.Input.{InputRun, input_run, left_in}
+use Rattle.playback.specs.declared.fault.InputFault.{InputFault}
+use Rattle.playback.specs.declared.fault.InputFault.TheVariants as fault
+use Rattle.playback.specs.declared.progress.Progress.{Progress}
+use Rattle.replay.specs.declared.input.Input.{Input}
+use Rattle.replay.specs.declared.input.Input.TheVariants as input
+
+-- a capture's frames and its fault; or a fault for which not even an output is made
+abbrev pub Opened : Type 0
+Opened = Result InputRun InputFault
+
+-- a classic capture, by the first rule that its header fails
+abbrev pub behind_header : Option CaptureFault → InputRun → Opened
+behind_header None run = Ok run
+behind_header (Some f) run = Err (fault.Classic f)
+
+-- a capture of that format; one in the pcapng format is judged block by block, behind the output
+abbrev pub opened : InputFormat → List ℕ → Opened
+opened format.Classic file = behind_header (first_failing (header_rules file)) (input_run fault.Classic (capture file))
+opened (format.Ng vlans) file = Ok (input_run fault.Ng (ng_read_on vlans begin file))
+
+-- ### a capture that is read
+
+-- the id of its file
+abbrev pub id_of : Input → ℕ
+id_of (input.Classic r) = r.id
+id_of (input.Ng r) = r.id
+
+-- what is still to come, where these octets are left
+abbrev pub run_of : Input → List ℕ → InputRun
+run_of (input.Classic r) left = input_run fault.Classic (read_on r.format r.position left)
+run_of (input.Ng r) left = input_run fault.Ng (ng_read_on r.vlans r.position left)
+
+-- how far it was read
+abbrev pub progress_of : Input → Progress
+progress_of (input.Classic r) = record { frames = r.position.count; moment = r.position.greatest }
+progress_of (input.Ng r) = record { frames = r.position.count; moment = r.position.greatest }
+
+-- it gave frames alone so far
+abbrev pub IsOpen : Input → Type 0
+IsOpen (input.Classic r) = r.fault ≡ None
+IsOpen (input.Ng r) = r.fault ≡ None
+
+-- what is still to come in a world
+abbrev pub run_in : Input → World → InputRun
+run_in = left_in id_of run_of
+
+-- a capture was opened: it has still to give all of its run, as the desk now tells; or its header has a fault
+abbrev pub Opens : Opened → Result Input InputFault → Option World → Type 0
+Opens what (Ok reader) now = IsSomeAnd now (λ w. what ≡ Ok (run_in reader w))
+Opens what (Err fault) now = what ≡ Err fault

@@ -1,0 +1,92 @@
+// A capture of either format, as it is read.
+ghost use Rattle.std.specs.Prelude.{◌≡◌, IfOk, IfSome, IsErrOf};
+ghost use Rattle.desk.specs.declared.fault.DeskFault.TheVariants.{Failed};
+ghost use Rattle.desk.specs.Causes.{HasCause, StaysSteady};
+ghost use Rattle.desk.specs.World.{content, left_of, to_read, shown, IsGiven, IsThere};
+ghost use Rattle.command_words.specs.declared.input_format.InputFormat.TheVariants.{Classic};
+ghost use Rattle.playback.specs.Input.{beginning};
+ghost use Rattle.replay.specs.Opening.{id_of, opened, progress_of, IsOpen, Opens};
+
+use capture_io::{CaptureFault, CaptureReader};
+use capture_ng::NgReader;
+use command_words::InputFormat;
+use desk::{Desk, DeskFault, FileId};
+use playback::{FrameReader, InputFault, Next};
+use std::alloc::Global;
+
+/// A capture that is read, by its format.
+#[derive(Drop)]
+pub(crate) enum Input {
+    Classic(CaptureReader),
+    Ng(NgReader),
+}
+
+impl FrameReader for Input {
+    ghost use Rattle.replay.specs.Opening.{id_of, progress_of, run_of, IsOpen};
+
+    ghost id = { id_of };
+
+    ghost run = { run_of };
+
+    ghost progress = { progress_of };
+
+    ghost IsOpen = { IsOpen };
+
+    fn next_frame<D: Desk>(&mut self, alloc: Global, desk: &mut D) -> Result<Next, DeskFault> {
+        match self {
+            Input::Classic(reader) => reader.next_frame(alloc, desk),
+            Input::Ng(reader) => reader.next_frame(alloc, desk),
+        }
+    }
+}
+
+/// Opens the capture of that name, and reads a classic one's header; or answers the fault of that.
+pub(crate) fn open_input<D: Desk>(
+    alloc: Global,
+    desk: &mut D,
+    format: InputFormat,
+    name: &str,
+) -> Result<Result<Input, InputFault>, DeskFault>
+    ensures opened { IfOk result (λ input. IfSome (D.told desk.old) (λ w.
+        Opens (opened format (content name.now w.files)) input (D.told desk.new))) }
+    ensures open { IfOk result (λ input. IfOk input IsOpen) }
+    ensures begins { IfOk result (λ input. IfOk input (λ reader. progress_of reader ≡ beginning)) }
+    ensures given { IfOk result (λ input. IfOk input (λ reader. IsGiven (id_of reader) to_read (D.given desk.new))) }
+    ensures shown { shown (D.told desk.new) ≡ shown (D.told desk.old) }
+    ensures cause { HasCause (D.faults desk.old) (D.faults desk.new) result }
+    ensures steady { StaysSteady (D.steady desk.old) (D.steady desk.new)
+        (IsThere name.now (D.told desk.old)) (IsErrOf result Failed) }
+{
+    let id = desk.open_file(alloc, name)?;
+    match format {
+        InputFormat::Classic => start_classic(alloc, desk, id),
+        InputFormat::Ng { vlans } => Ok(Ok(Input::Ng(NgReader::new(alloc, id, vlans)))),
+    }
+}
+
+// Reads the header of a classic capture.
+fn start_classic<D: Desk>(
+    alloc: Global,
+    desk: &mut D,
+    id: FileId,
+) -> Result<Result<Input, InputFault>, DeskFault>
+    ensures opened { IfOk result (λ input. IfSome (D.told desk.old) (λ w.
+        Opens (opened Classic (left_of id.number w)) input (D.told desk.new))) }
+    ensures open { IfOk result (λ input. IfOk input IsOpen) }
+    ensures begins { IfOk result (λ input. IfOk input (λ reader. progress_of reader ≡ beginning)) }
+    ensures id { IfOk result (λ input. IfOk input (λ reader. id_of reader ≡ id.number)) }
+    ensures shown { shown (D.told desk.new) ≡ shown (D.told desk.old) }
+    ensures given { D.given desk.new ≡ D.given desk.old }
+    ensures cause { HasCause (D.faults desk.old) (D.faults desk.new) result }
+    ensures steady { StaysSteady (D.steady desk.old) (D.steady desk.new)
+        (IsGiven id.number to_read (D.given desk.old)) (IsErrOf result Failed) }
+{
+    match CaptureReader::start(alloc, desk, id) {
+        Ok(reader) => Ok(Ok(Input::Classic(reader))),
+        Err(fault) => match fault {
+            CaptureFault::Host => Err(DeskFault::Failed),
+            CaptureFault::Memory => Err(DeskFault::Memory),
+            own => Ok(Err(InputFault::Classic(own))),
+        },
+    }
+}
