@@ -1,15 +1,25 @@
 """A reader of the words behind the program's name, of its own: the command that they give, or None."""
 import re
+from enum import Enum
 from typing import NamedTuple
 
 NUMBER = re.compile(r"0|[1-9][0-9]*")
 MOST_WORKERS, MOST_ROUND, MOST_MAPPINGS = 16, 4096, 50_000
 
 
+class Format(Enum):
+    """The format of a capture, with the words of `--format` and `--interfaces`."""
+
+    CLASSIC = "classic", "none"
+    NG = "ng", "none"
+    NG_VLANS = "ng", "vlan"
+
+
 class Replay(NamedTuple):
     settings: str
     input: str
     output: str
+    format: Format = Format.CLASSIC
     workers: int = 0
     round: int = 256
 
@@ -39,13 +49,19 @@ def pairs(words):
     return dict(zip(names, values)) if are_pairs else None
 
 
+def format_of(*words):
+    """The format that two words name, or None where they name none."""
+    return next((format for format in Format if format.value == words), None)
+
+
 def replay_of(words):
     match pairs(words):
         case {"--settings": settings, "--in": source, "--out": output, **others}:
+            format = format_of(others.pop("--format", "classic"), others.pop("--interfaces", "none"))
             workers = number(others.pop("--workers", "0"), 0, MOST_WORKERS)
             size = number(others.pop("--round", "256"), 1, MOST_ROUND)
-            if not others and None not in (workers, size) and output not in (settings, source):
-                return Replay(settings, source, output, workers, size)
+            if not others and None not in (format, workers, size) and output not in (settings, source):
+                return Replay(settings, source, output, format, workers, size)
     return None
 
 

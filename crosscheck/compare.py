@@ -5,11 +5,12 @@ usage: compare.py PROGRAM [ROUNDS [SEED]]
 Each round makes settings and a capture of 300 frames, at times 2,000: packets of the site, packets in tunnels that
 tell status bits, nonces and versions, replies to what the router asked and probed, Map-Requests of all kinds and
 other control messages, in both families and mostly in several instances, many of them spoiled or late, some a minute
-or ten behind the frame before; then such a capture that fits a router with workers, at times cut short, which the
-program replays with 1 to 16 of these and rounds of 1 to 4,096 frames; and then 40 settings files with spoiled values.
-Without workers the program must say and write what the plain router does, and with them what its own numbers make of
-that. Before these it replays worked frames with two workers, a hundred times. It ends with status 1 at the first
-difference.
+or ten behind the frame before; then the same frames as a pcapng file, whose interfaces may be VLANs, which must end as
+they do in records; 20 such files of some of the frames, most of them at fault; then such a capture that fits a router
+with workers, of either format and at times cut short, which the program replays with 1 to 16 of these and rounds of 1
+to 4,096 frames; and then 40 settings files with spoiled values. Without workers the program must say and write what
+the plain router does, and with them what its own numbers make of that. Before these it replays worked frames with two
+workers, a hundred times. It ends with status 1 at the first difference, and leaves its files.
 """
 import os
 import random
@@ -18,12 +19,17 @@ import subprocess
 import sys
 import tempfile
 import tomllib
+from typing import NamedTuple
 
 import plain
 import rounds
 import settings as rules
 import worked_rounds
+from captures import frames_of
+from captures_ng import reader_of
+from commands import Format
 from makers import framed, packet, settings, spoiled_settings
+from makers_ng import spoiled, written
 from sites import Site
 from talk import Talk
 from wire import contents, existing
@@ -33,6 +39,8 @@ FEW, MANY = 300, 2000
 SIZES = [1, 2, 3, 4, 6, 10, 20, 60, 256, 4096]
 # How often worked frames are replayed.
 WORKED = 100
+# Pcapng files of a round that may be at fault, and the most frames of each.
+SPOILED, SHORT = 20, 30
 
 
 def unrelated(r, link, unit):
@@ -57,10 +65,15 @@ def frames(r, text, link, unit, size=1):
 
 def capture(r, text, path, make=frames):
     link, order, unit = r.choice([1, 1, 101]), r.choice("<>"), r.choice([1, 1, 1000])
+    write_records(path, link, make(r, text, link, unit), order, unit)
+
+
+def write_records(path, link, pairs, order="<", unit=1):
+    """A capture of pairs of a moment and octets."""
     with open(path, "wb") as file:
         magic = 0xA1B23C4D if unit == 1 else 0xA1B2C3D4
         file.write(struct.pack(order + "IHHIIII", magic, 2, 4, 0, 0, 0, link))
-        for moment, octets in make(r, text, link, unit):
+        for moment, octets in pairs:
             seconds, rest = divmod(moment, 10**9)
             file.write(struct.pack(order + "IIII", seconds, rest // unit, len(octets), 9) + octets)
 
@@ -74,28 +87,84 @@ def write(path, text):
         file.write(text)
 
 
+def some_frames(r, path):
+    """Some of a capture's frames in a row, now and then as if they were of the other link."""
+    frames = list(frames_of(path))
+    at = r.randrange(len(frames) + 1)
+    return [(moment, link if r.random() < 0.9 else r.choice([1, 101]), octets)
+            for moment, link, octets in frames[at:at + r.randrange(SHORT)]]
+
+
+def write_octets(path, octets):
+    with open(path, "wb") as file:
+        file.write(octets)
+
+
+class Input(NamedTuple):
+    """A capture and its format."""
+    path: str
+    format: Format = Format.CLASSIC
+
+    def words(self):
+        word, interfaces = self.format.value
+        more = () if self.format is Format.CLASSIC else ("--format", word, "--interfaces", interfaces)
+        return "--in", self.path, *more
+
+    def read(self, path):
+        return reader_of(self.format)(path)
+
+
 class Round:
     """The files of a round, and the program."""
 
     def __init__(self, program, folder):
         self.program, self.end = program, None
-        names = ("settings.toml", "capture.pcap", "ours.pcap", "plain.pcap")
-        self.settings, self.capture, self.ours, self.theirs = (os.path.join(folder, name) for name in names)
+        names = ("settings.toml", "capture.pcap", "capture.pcapng", "ours.pcap", "plain.pcap")
+        self.settings, self.capture, self.blocks, self.ours, self.theirs = (
+            os.path.join(folder, name) for name in names)
+        self.input = Input(self.capture)
+
+    def take_capture(self, *parts):
+        """Makes a capture, which is replayed from now on."""
+        self.input = Input(self.capture)
+        capture(*parts[:2], self.capture, *parts[2:])
+
+    def take_blocks(self, r, octets):
+        """A pcapng file is replayed from now on."""
+        self.input = Input(self.blocks, r.choice([Format.NG, Format.NG_VLANS]))
+        write_octets(self.blocks, octets)
 
     def words(self, *more):
         """The words of a replay; there is no output yet."""
         for name in (self.ours, self.theirs):
             if os.path.exists(name):
                 os.remove(name)
-        return "replay", "--settings", self.settings, "--in", self.capture, "--out", self.ours, *more
+        return "replay", "--settings", self.settings, *self.input.words(), "--out", self.ours, *more
 
     def same_replay(self):
         ours = run(self.program, *self.words())
-        theirs = plain.said(plain.replay, self.settings, self.capture, self.theirs)
+        theirs = plain.said(plain.replay, self.settings, self.input.path, self.theirs, plain.played, self.input.read)
         return ours == theirs and contents(self.ours) == contents(self.theirs)
 
     def same_show(self):
         return run(self.program, "show", "--in", self.capture) == plain.said(plain.show, self.capture)
+
+    def same_in_blocks(self, r):
+        """Whether the capture's frames end in blocks as they do in records, where interfaces may be VLANs."""
+        made = written(r, frames_of(self.capture))
+        self.take_blocks(r, made.octets())
+        read = made.frames(self.input.format is Format.NG_VLANS)
+        in_blocks = run(self.program, *self.words()), contents(self.ours)
+        self.input, blocks = Input(self.capture), self.input
+        write_records(self.capture, read[0][1] if read else 1, [(moment, octets) for moment, _, octets in read])
+        in_records = run(self.program, *self.words()), contents(self.ours)
+        self.input = blocks
+        return in_blocks == in_records and self.same_replay()
+
+    def same_spoiled(self, r):
+        """Whether a pcapng file ends alike that has some of the capture's frames, and may be at fault."""
+        self.take_blocks(r, spoiled(r, some_frames(r, self.capture)))
+        return self.same_replay()
 
     def same_settings(self, r):
         text = spoiled_settings(r)
@@ -117,7 +186,7 @@ class Round:
     def is_lawful(self, workers, size):
         """Whether the program ends as its own numbers say; else it is said why not."""
         self.end = self.ended(workers, size)
-        found = rounds.fault(self.settings, self.capture, size, self.end)
+        found = rounds.fault(self.settings, self.input.path, size, self.end, self.input.read)
         if found:
             print(f"with {workers} workers and rounds of {size} the report is\n{self.end[1]}but\n{found}", end="")
         return not found
@@ -125,32 +194,34 @@ class Round:
     def worked(self):
         """Whether worked frames end in one of the ways that are worked out, each time."""
         write(self.settings, worked_rounds.SETTINGS)
-        with open(self.capture, "wb") as file:
-            file.write(worked_rounds.CAPTURE)
+        write_octets(self.capture, worked_rounds.CAPTURE)
         wanted, size = worked_rounds.ends(), worked_rounds.SIZE
         return all(self.is_lawful(worked_rounds.WORKERS, size) and self.end in wanted for _ in range(WORKED))
 
     def lawful_rounds(self, r, text, make=frames):
         """Whether a replay of frames that fit rounds of a size ends as it may."""
         size = r.choice([*SIZES, r.randint(1, 4096)])
-        capture(r, text, self.capture, lambda *parts: make(*parts, size))
+        self.take_capture(r, text, lambda *parts: make(*parts, size))
+        if r.random() < 0.3:
+            self.take_blocks(r, written(r, frames_of(self.capture)).octets())
         if r.random() < 0.2:
-            os.truncate(self.capture, max(0, os.path.getsize(self.capture) - r.randint(1, 200)))
+            os.truncate(self.input.path, max(0, os.path.getsize(self.input.path) - r.randint(1, 200)))
         return self.is_lawful(r.randint(1, 16), size)
 
     def agrees(self, r):
         text = settings(r)
         write(self.settings, text)
-        capture(r, text, self.capture)
-        return (self.same_replay() and self.same_show() and self.lawful_rounds(r, text)
+        self.take_capture(r, text)
+        return (self.same_replay() and self.same_show() and self.same_in_blocks(r)
+                and all(self.same_spoiled(r) for _ in range(SPOILED)) and self.lawful_rounds(r, text)
                 and all(self.same_settings(r) for _ in range(40)))
-
 
     def left(self, words):
         """Leaves the files of what differs, and ends."""
-        print(words)
-        for name in (self.settings, self.capture):
-            os.replace(name, os.path.basename(name))
+        print(f"{words}, with {' '.join(os.path.basename(word) for word in self.input.words())}")
+        for name in (self.settings, self.capture, self.blocks):
+            if os.path.exists(name):
+                os.replace(name, os.path.basename(name))
         sys.exit(1)
 
 

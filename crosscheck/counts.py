@@ -1,5 +1,5 @@
 #!/usr/bin/env python3
-"""Counts what the captures that compare.py makes reach in the plain router: verdicts, entries and packets.
+"""Counts what the captures that compare.py makes reach in the plain router: verdicts, entries, packets; faults of files.
 
 usage: counts.py [ROUNDS [SEED]]
 It ends with status 1 where one of the kinds that are to come doesn't.
@@ -12,11 +12,13 @@ import sys
 import tempfile
 
 import settings as rules
-from captures import frames_of
-from compare import capture
+from captures import CaptureFault, frames_of
+from captures_ng import SIMPLE, Reader
+from compare import SPOILED, capture, some_frames
 from journal import Probed
 from lisp import ECHO, NONCE, VERSIONS
 from makers import settings
+from makers_ng import spoiled, written
 from router import Router
 from sites import Site
 from wire import number
@@ -25,12 +27,17 @@ from wire import number
 NOTICES = "Ask", "Refresh", "ToldBits", "WantedEcho", "HeardEcho", "HeardData", "Solicit", "EchoDue"
 ENTRIES = ("Learned", "Asked", "Retried", "Answered", "Probed", "ProbeAnswered", "Bits", "EchoStarted", "EchoHeard",
            "DataFrom", "EchoWanted", "Solicited")
+# But for that of a file of too many blocks or frames.
+FAULTS = ("bad-interface", "bad-length", "bad-link-type", "bad-magic", "bad-moment", "bad-option", "bad-version",
+          "cut-block", "old-packet", "span-too-long", "too-long", "too-many-interfaces")
 TO_COME = [
     *(f"notice {name} kept" for name in NOTICES), *(f"notice {name} without effect" for name in NOTICES[:-1]),
     *(f"entry {name}" for name in ENTRIES), "verdict drop 6 dest-version-newer", "verdict drop 7 source-version-older",
     "packet into a tunnel", "packet into a tunnel with versions", "packet into a tunnel that asks for an echo",
     "packet into a tunnel with an echo", "packet for a mapping with a deaf locator", "request",
-    "request for a solicitation", "request to refresh a mapping", "solicitation", "probe", "reply", "reply to a probe"]
+    "request for a solicitation", "request to refresh a mapping", "solicitation", "probe", "reply", "reply to a probe",
+    *(f"pcapng fault {word}" for word in FAULTS), "pcapng file of some frames without a fault", "pcapng simple packet",
+    "pcapng frame tagged by its interface", "pcapng big-endian section"]
 
 
 def verdict_kind(verdict):
@@ -98,9 +105,36 @@ class Counted(Router):
         return super().usable(moment, mapping)
 
 
+# Pcapng files.
+
+
+def fault_of(octets):
+    """The word of a pcapng file's fault, or None."""
+    try:
+        for _ in Reader(octets, False).frames():
+            pass
+    except CaptureFault as fault:
+        return str(fault).split()[0]
+    return None
+
+
+def counted_blocks(r, path, counts):
+    """Counts what pcapng files of a capture's frames have."""
+    made = written(r, frames_of(path))
+    simple = {SIMPLE.to_bytes(4, order) for order in ("little", "big")}
+    counts["pcapng simple packet"] += sum(block[:4] in simple for block in made.blocks)
+    counts["pcapng big-endian section"] += sum(block[:12].endswith(b"\x1a\x2b\x3c\x4d") for block in made.blocks)
+    tagged = zip(made.frames(True), made.frames(False))
+    counts["pcapng frame tagged by its interface"] += sum(ours != theirs for ours, theirs in tagged)
+    for _ in range(SPOILED):
+        word = fault_of(spoiled(r, some_frames(r, path)))
+        counts[f"pcapng fault {word}" if word else "pcapng file of some frames without a fault"] += 1
+
+
 def counted(r, folder, counts):
     text, path = settings(r), os.path.join(folder, "capture.pcap")
     capture(r, text, path)
+    counted_blocks(random.Random(r.random()), path, counts)
     try:
         router = Counted(Site(text.encode()), counts)
     except rules.Fault:

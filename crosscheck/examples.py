@@ -15,15 +15,24 @@ from wire import contents
 
 EXAMPLES = os.path.join(os.path.dirname(os.path.dirname(os.path.abspath(__file__))), "examples")
 WAYS = REPLAY, f"{REPLAY} --workers 2 --round 1"
+# Where the one name isn't there the other one is: the name of the capture, and what the words say of it.
+CAPTURE, BLOCKS = ("capture.pcap", ()), ("capture.pcapng", ("--format", "ng"))
+
+
+def capture_of(folder):
+    """The path of an example's capture, and the words of its format."""
+    name, words = next(one for one in (CAPTURE, BLOCKS) if os.path.exists(os.path.join(folder, one[0])))
+    return os.path.join(folder, name), words
 
 
 def example(folder):
     """An example as a row."""
     def octets(name):
         return contents(os.path.join(folder, name))
-    files = {"settings": octets("settings.toml"), "in": octets("capture.pcap")}
+    capture, more = capture_of(folder)
+    files = {"settings": octets("settings.toml"), "in": contents(capture)}
     report, output = octets("expected.txt").decode(), octets("expected.pcap")
-    runs = [Run(words.split(), files, 0, report, output) for words in WAYS]
+    runs = [Run([*words.split(), *more], files, 0, report, output) for words in WAYS]
     return Row("examples", os.path.basename(folder), "", runs)
 
 

@@ -7,6 +7,7 @@ have, and what is behind it any. As a program it has each front of the worked re
 each with another last octet, and sees that just those are taken that one of these reports begins with; and likewise
 outputs. It ends with status 1 where one isn't.
 """
+import functools
 import os
 import struct
 import sys
@@ -26,11 +27,11 @@ def is_front(report, output, right):
     return right[1].startswith(report) and (output is None or (right[2] or b"").startswith(output))
 
 
-def moments_of(capture):
+def moments_of(capture, read):
     """The moments of a capture's frames, those before its fault."""
     moments = []
     try:
-        moments += (moment for moment, _, _ in frames_of(capture))
+        moments += (moment for moment, _, _ in read(capture))
     except CaptureFault:
         pass
     return moments
@@ -46,23 +47,24 @@ def written_at(output):
 
 
 class Lawful:
-    """The ends that a replay of these files may have, with so many workers and frames a round."""
+    """The ends that a replay of these files may have, with so many workers and frames a round; the capture is read so."""
 
-    def __init__(self, settings, capture, workers=0, size=256):
-        self.settings, self.capture, self.size = settings, capture, size
-        self.moments = moments_of(capture)
+    def __init__(self, settings, capture, workers=0, size=256, read=frames_of):
+        self.settings, self.capture, self.size, self.read = settings, capture, size, read
+        self.moments = moments_of(capture, read)
         self.one = None if workers else self.ended(plain.replay)
 
     def ended(self, replay, *how):
         with tempfile.TemporaryDirectory() as folder:
             path = os.path.join(folder, "out")
-            return *plain.ended(replay, self.settings, self.capture, path, *how), existing(path)
+            call = functools.partial(replay, read=self.read)
+            return *plain.ended(call, self.settings, self.capture, path, *how), existing(path)
 
     def has_end(self, end):
         """Whether a replay may end so where nothing is refused and nothing fails."""
         if self.one:
             return end == self.one
-        return not rounds.fault(self.settings, self.capture, self.size, end)
+        return not rounds.fault(self.settings, self.capture, self.size, end, self.read)
 
     def has_front(self, report, output):
         """Whether a replay that is cut short may have said and written so much."""

@@ -14,11 +14,13 @@ import subprocess
 import sys
 import tempfile
 
+from captures_ng import reader_of
+from commands import Format
+from examples import EXAMPLES, capture_of
 from fronts import Lawful, is_front
 from wire import existing
 
 HERE = os.path.dirname(os.path.abspath(__file__))
-EXAMPLES = os.path.join(os.path.dirname(HERE), "examples")
 MEMORY, SIZE = 5, 4
 
 
@@ -74,12 +76,14 @@ class Refusals:
 def refusals(program, folder):
     shim, output = os.path.join(folder, "refuse.so"), os.path.join(folder, "out.pcap")
     subprocess.run(["cc", "-shared", "-fPIC", "-o", shim, os.path.join(HERE, "refuse.c"), "-ldl"], check=True)
-    for name in "site", "cache", "ticks", "echoes":
-        settings, capture = (os.path.join(EXAMPLES, name, file) for file in ("settings.toml", "capture.pcap"))
-        replay = [program, "replay", "--settings", settings, "--in", capture, "--out", output]
+    for name in "site", "cache", "ticks", "echoes", "ng":
+        example = os.path.join(EXAMPLES, name)
+        settings, (capture, more) = os.path.join(example, "settings.toml"), capture_of(example)
+        read = reader_of(Format.NG if more else Format.CLASSIC)
+        replay = [program, "replay", "--settings", settings, "--in", capture, "--out", output, *more]
         shared = [*replay, "--workers", "2", "--round", str(SIZE)]
-        yield Refusals(f"replay of {name}", shim, replay, output, Lawful(settings, capture))
-        yield Refusals("the same with 2 workers", shim, shared, output, Lawful(settings, capture, 2, SIZE))
+        yield Refusals(f"replay of {name}", shim, replay, output, Lawful(settings, capture, read=read))
+        yield Refusals("the same with 2 workers", shim, shared, output, Lawful(settings, capture, 2, SIZE, read))
         yield Refusals(f"show of {name}", shim, [program, "show", "--in", capture], output)
     yield Refusals("trial 3", shim, [program, "trial", "3"], output)
 

@@ -11,7 +11,7 @@ frames with workers, as compare.py has them. It ends with status 1 at the first 
 """
 import struct
 
-from compare import Round, capture, main, write
+from compare import Round, main, write
 from fitting import longer, randomly, record, shorter
 from journal import SECOND, Learned
 from makers import HOMES, MANY, OTHERS, OWN, first_keys, mapping, raw, version
@@ -205,7 +205,7 @@ class NestedRound(Round):
         site = Site(text.encode())
         count = PROBING if site.probe else FRAMES
         make = lambda r, _, link, unit, size=1: Nested(r, site, link, unit, eids, size).frames(count)
-        capture(r, text, self.capture, make)
+        self.take_capture(r, text, make)
         return self.same_replay() and self.lawful_rounds(r, text, make)
 
 

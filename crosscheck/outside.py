@@ -2,6 +2,7 @@
 """Runs the program where the outside fails, without workers and with two: its disk, its pipe, its files, its calls.
 
 usage: outside.py PROGRAM
+A third way is without workers, by a pcapng file of the same frames.
 It needs a C compiler, and for a full disk the rights to mount a file system. The files are those of exchange.py, so
 large that they are read and written in pieces. A run must end with status 4, and what it said and wrote must be a front
 of a right report and output, with no packet whose frame wasn't said; or it must end as if nothing had failed. By kind:
@@ -21,6 +22,7 @@ import errno
 import fcntl
 import itertools
 import os
+import random
 import struct
 import subprocess
 import sys
@@ -29,6 +31,10 @@ import termios
 import threading
 import time
 
+import makers_ng
+from captures import frames_of
+from captures_ng import reader_of
+from commands import Format
 from exchange import SETTINGS, capture
 from fronts import Lawful
 from wire import existing
@@ -36,7 +42,9 @@ from wire import existing
 HERE = os.path.dirname(os.path.abspath(__file__))
 PAGE, PIECE = 4096, 65536
 HOST = 4
-WAYS = {"no workers": ((), 0, 256), "2 workers": (("--workers", "2", "--round", "16"), 2, 16)}
+# Words, and by what these ends are judged: workers, the frames of a round, and how the capture is read.
+WAYS = {"no workers": ((), 0, 256), "2 workers": (("--workers", "2", "--round", "16"), 2, 16),
+        "pcapng": (("--format", "ng"), 0, 256, reader_of(Format.NG))}
 
 
 def written(path, octets):
@@ -76,8 +84,10 @@ class Outside:
         self.more, *how = WAYS[way]
         self.how = how
         self.settings = written(self.path("settings"), SETTINGS.encode())
-        self.whole = capture()
-        self.capture, self.output = written(self.path("in"), self.whole), self.path("out")
+        self.capture, self.output = written(self.path("in"), capture()), self.path("out")
+        if way == "pcapng":
+            written(self.capture, makers_ng.written(random.Random(1), list(frames_of(self.capture))).octets())
+        self.whole = existing(self.capture)
         self.lawful = Lawful(self.settings, self.capture, *how)
 
     def path(self, name):
@@ -205,8 +215,12 @@ def missing_files(outside):
     for name in "settings", "capture", "output":
         for path in missing, outside.folder:
             status, report, _, _ = outside.run(**{name: path})
-            is_right = status == HOST and report == "" and existing(outside.output) is None
-            kind.judge(is_right and not os.path.exists(missing), status, f"{name} {path}")
+            output = existing(outside.output)
+            # A folder opens as a file does, and of pcapng no octet is read before the output is made.
+            is_late = (outside.way, name, path) == ("pcapng", "capture", outside.folder)
+            is_right = outside.is_right(status, report, output) if is_late else output is None
+            is_right = is_right and status == HOST and report == "" and not os.path.exists(missing)
+            kind.judge(is_right, status, f"{name} {path}")
     return kind
 
 

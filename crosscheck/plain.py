@@ -1,9 +1,10 @@
 #!/usr/bin/env python3
 """A plain router, written from the standards and docs/DECISIONS.md, beside the proved program.
 
-usage: plain.py replay SETTINGS CAPTURE OUTPUT | plain.py show CAPTURE
-It prints the report, for a replay with lawful settings and a capture with a lawful header writes the output, and ends
-with the status of such a run. What is TOML is judged by Python's reader of it (TOML 1.0).
+usage: plain.py replay SETTINGS CAPTURE OUTPUT [FORMAT [INTERFACES]] | plain.py show CAPTURE
+FORMAT and INTERFACES are the values of --format and --interfaces. It prints the report, for a replay with lawful
+settings and a capture with a lawful header writes the output (of a pcapng file no block is judged before that), and
+ends with the status of such a run. What is TOML is judged by Python's reader of it (TOML 1.0).
 """
 import contextlib
 import io
@@ -11,6 +12,8 @@ import sys
 
 import settings as rules
 from captures import CaptureFault, frames_of, output_header, output_record
+from captures_ng import reader_of
+from commands import format_of
 from journal import SECOND
 from messages import Request, message_of
 from router import Router
@@ -41,12 +44,12 @@ def last_line(count, written, router):
     return f"end frames={count} written={written} entries={len(router.journal)}"
 
 
-def replay(settings, capture, output, play=played):
-    """Replays a capture by a call that plays its frames through a router."""
+def replay(settings, capture, output, play=played, read=frames_of):
+    """Replays a capture, by a call that reads its frames and one that plays them through a router."""
     try:
         with open(settings, "rb") as file:
             router = Router(Site(file.read()))
-        frames = frames_of(capture)
+        frames = read(capture)
         with open(output, "wb") as file:
             file.write(output_header())
             play(router, frames, file)
@@ -124,5 +127,9 @@ def said(call, *words):
     return ended(call, *words)[1]
 
 
+def replayed(settings, capture, output, word="classic", interfaces="none"):
+    return replay(settings, capture, output, read=reader_of(format_of(word, interfaces)))
+
+
 if __name__ == "__main__":
-    sys.exit({"replay": replay, "show": show}[sys.argv[1]](*sys.argv[2:]))
+    sys.exit({"replay": replayed, "show": show}[sys.argv[1]](*sys.argv[2:]))

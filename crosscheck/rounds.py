@@ -7,6 +7,7 @@ extend the journal in order; each data packet is decided by the journal's first 
 first frame or behind one of the further seconds and messages; then all that is noticed is noted at the last frame's
 moment. As a program it takes any of these numbers for each data packet, and without workers it is the plain router.
 """
+import functools
 import os
 import random
 import re
@@ -15,7 +16,8 @@ import tempfile
 from typing import NamedTuple
 
 import plain
-from captures import CaptureFault, output_record
+from captures import CaptureFault, frames_of, output_record
+from captures_ng import reader_of
 from commands import Replay, Show, command_of
 from differing import difference, output_lines
 from router import Router
@@ -128,9 +130,9 @@ def played(router, frames, file, size, choose, kind=Round):
     print(plain.last_line(count, written, router))
 
 
-def replay(settings, capture, output, *how):
+def replay(settings, capture, output, *how, read=frames_of):
     """Replays a capture by rounds of a size, with a choice of numbers."""
-    return plain.replay(settings, capture, output, lambda *parts: played(*parts, *how))
+    return plain.replay(settings, capture, output, lambda *parts: played(*parts, *how), read)
 
 
 class Stepwise(Router):
@@ -199,13 +201,14 @@ def reported(report):
     return choose
 
 
-def fault(settings, capture, size, end):
+def fault(settings, capture, size, end, read=frames_of):
     """Why no router with rounds of that size ends so, with a status, a report and an output or None; or no words."""
     status, report, output = end
     with tempfile.TemporaryDirectory() as folder:
         path = os.path.join(folder, "out")
         try:
-            wanted = *plain.ended(replay, settings, capture, path, size, reported(report)), existing(path)
+            call = functools.partial(replay, read=read)
+            wanted = *plain.ended(call, settings, capture, path, size, reported(report)), existing(path)
         except Unlawful as found:
             return f"  {found}\n"
     if wanted == end:
@@ -226,9 +229,10 @@ def main():
     if type(command) is not Replay:
         print("usage")
         return 1
+    read = reader_of(command.format)
     if command.workers == 0:
-        return plain.replay(*command[:3])
-    return replay(*command[:3], command.round, at_random(random.Random()))
+        return plain.replay(*command[:3], read=read)
+    return replay(*command[:3], command.round, at_random(random.Random()), read=read)
 
 
 if __name__ == "__main__":

@@ -2,10 +2,10 @@
 """Judges rows with known answers, octet by octet, by the plain router or by a program.
 
 usage: rows.py [PROGRAM] [ROWS.toml ..] | rows.py --print [ROWS.toml ..]
-With no files these are all of crates/conformance/data, and behind them the rows of limits.py. The names of shared.toml
-there can be used in each file. A program is run with the words of each run in a folder that has its files. It prints
-a line a row, and of one that differs what is wanted and what came; and it ends with status 1 where one does. With
---print it prints the rows whole: their words, settings, frames and what they must end with.
+With no files these are all of crates/conformance/data, and behind them the rows of limits.py and limits_ng.py. The
+names of shared.toml there can be used in each file. A program is run with the words of each run in a folder that has
+its files. It prints a line a row, and of one that differs what is wanted and what came; and it ends with status 1 where
+one does. With --print it prints the rows whole: their words, settings, frames and what they must end with.
 
 Left out are runs of which a call of the desk fails; with a program those on a steady desk too, and with the plain
 router a trial of more than 2,000 mappings.
@@ -16,9 +16,11 @@ import sys
 import tempfile
 
 import limits
+import limits_ng
 import plain
 import rounds
 import trial
+from captures_ng import reader_of
 from commands import Replay, Trial, command_of
 from differing import difference, output_lines
 from rounds import Unforced, forced
@@ -69,9 +71,10 @@ class Plain:
 
 def replay_of(command):
     """The call that replays: with workers each data packet must have one number that it may have."""
+    read = reader_of(command.format)
     if command.workers == 0:
-        return plain.replay
-    return lambda *paths: rounds.replay(*paths, command.round, forced)
+        return lambda *paths: plain.replay(*paths, read=read)
+    return lambda *paths: rounds.replay(*paths, command.round, forced, read=read)
 
 
 def tried(count, folder):
@@ -127,7 +130,7 @@ def main():
     is_print = words[:1] == ["--print"]
     paths = [word for word in words[is_print:] if word.endswith(".toml")]
     programs = [word for word in words[is_print:] if not word.endswith(".toml")]
-    rows = [*rows_of(paths)] if paths else [*rows_of(files_of_rows()), *limits.rows()]
+    rows = [*rows_of(paths)] if paths else [*rows_of(files_of_rows()), *limits.rows(), *limits_ng.rows()]
     if is_print:
         print("\n".join(f"== {row.file}: {row.name} ==\n" + "".join(map(run_text, row.runs)) for row in rows), end="")
         return

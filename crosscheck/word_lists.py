@@ -1,5 +1,5 @@
 """Lists of words with the command that each gives, or None; and lists made from a number by changing lawful ones."""
-from commands import Replay, Show, Trial
+from commands import Format, Replay, Show, Trial
 
 # The names of a settings file, a capture and an output.
 FILES = "s", "i", "o"
@@ -11,7 +11,16 @@ NO_NUMBERS = ["", "00", "01", "+1", "-1", "-0", " 1", "1 ", "1\n", "1e3", "1.0",
 TOO_LARGE = ["65537", "4294967297", "18446744073709551617", "1" + 29 * "0"]
 NO_NAMES = ["", "-", "--", "---in", "-in", "in", "—in", "--i", "--In", "--IN", "--in ", " --in", "--in=", "--in=i",
             "--input", "--speed", "--help"]
-NAMES, VALUES = ["--settings", "--in", "--out", "--workers", "--round"], [*FILES, "x", "0", "1", "20", "in"]
+# What names no format, and doesn't say what interfaces are.
+NO_FORMATS = ["", "-", "--", "-ng", "0", "1", "n", "g", "Ng", "NG", "ng ", " ng", "ng\n", "ngg", "ng,vlan", "pcap",
+              "pcapng", "Classic", "classi", "classics", "VLAN", "Vlan", "vla", "vlans", " vlan", "None", "non", "nones",
+              "x", "--in"]
+# Pairs that name one of the formats.
+FORMATS = [[], [["--format", "classic"]], [["--format", "ng"]], [["--interfaces", "none"]],
+           [["--format", "classic"], ["--interfaces", "none"]], [["--format", "ng"], ["--interfaces", "none"]],
+           [["--format", "ng"], ["--interfaces", "vlan"]]]
+NAMES = ["--settings", "--in", "--out", "--format", "--interfaces", "--workers", "--round"]
+VALUES = [*FILES, "x", "0", "1", "20", "in", "classic", "ng", "none", "vlan"]
 NUMBERS = [*NO_NUMBERS, *TOO_LARGE, "0", "1", "16", "17", "4096", "4097", "50001"]
 WORDS = [*NUMBERS, *NO_NAMES, *NAMES, *VALUES, "replay", "show", "trial"]
 LETTERS = "-= 019siI٣"
@@ -38,6 +47,7 @@ def lawful():
     yield replay("--round", "4096", "--workers", "16"), WHOLE._replace(workers=16, round=4096)
     yield "replay --workers 0 --out o --round 10 --in i --settings s".split(), WHOLE._replace(round=10)
     yield "replay --workers 3 --out o --round 10 --in i --settings s".split(), WHOLE._replace(workers=3, round=10)
+    yield from of_a_format()
     yield replay(settings="i"), Replay("i", "i", "o")
     yield replay(settings="./o", source="x y"), Replay("./o", "x y", "o")
     for output in "I", "S", "O", "./o", "./i", "i ", "ii", "s=s", "o--", "=", " ", "replay", "out", "0", "٣", "ö":
@@ -46,6 +56,20 @@ def lawful():
         yield ["show", "--in", source], Show(source)
     for count in 1, 9, 10, MOST_TRIED, 49_999, 50_000:
         yield ["trial", str(count)], Trial(count)
+
+
+def of_a_format():
+    ng, vlans = WHOLE._replace(format=Format.NG), WHOLE._replace(format=Format.NG_VLANS)
+    for more in "--format classic", "--interfaces none", "--format classic --interfaces none":
+        yield replay(*more.split()), WHOLE
+    for more in "--format ng", "--format ng --interfaces none", "--interfaces none --format ng":
+        yield replay(*more.split()), ng
+    for more in "--format ng --interfaces vlan", "--interfaces vlan --format ng":
+        yield replay(*more.split()), vlans
+    yield "replay --format ng --out o --in i --settings s".split(), ng
+    yield "replay --interfaces vlan --out o --in i --format ng --settings s".split(), vlans
+    yield replay(*"--format ng --workers 3 --interfaces vlan --round 10".split()), vlans._replace(workers=3, round=10)
+    yield replay(settings="ng", source="vlan", output="none"), Replay("ng", "vlan", "none")
 
 
 def of_no_command():
@@ -68,11 +92,11 @@ def of_no_replay():
         yield from ([*front, *some, *rest] for some in put)
         yield from ([*front, name, wrong, *rest] for wrong in ("", "-", "--", "-x", "-1", name, f"-{value}"))
         yield from ([*words, name, again] for again in (value, "x"))
-    for name, value in ("--workers", "0"), ("--round", "1"):
+    for name, value in ("--format", "ng"), ("--interfaces", "none"), ("--workers", "0"), ("--round", "1"):
         for some in [name], [name, value, name, value], [f"{name}={value}"], [value, name], [name + "s", value]:
             yield [*words, *some]
             yield [*words[:1], *some, *words[1:]]
-    for name in [*NO_NAMES, "--settings", "--n", "--format"]:
+    for name in [*NO_NAMES, "--settings", "--n", "--formats"]:
         yield [*words, name, "1"]
         yield [*words[:3], name, *words[4:]]
         yield [*words, "--workers", "0", "--round", "1", name, "1"]
@@ -82,6 +106,23 @@ def of_no_replay():
     yield from (replay(output="i"), replay(output="s"), replay(source="o"), replay(settings="o"))
     yield from (replay(source="s", output="s"), replay(source="ö", output="ö"))
     yield "replay --out i --in i --settings s".split()
+
+
+def of_no_format():
+    for word in [*NO_FORMATS, "none", "vlan"]:
+        yield replay("--format", word)
+        yield replay("--format", word, "--interfaces", "none")
+        yield replay("--interfaces", "vlan", "--format", word)
+    for word in [*NO_FORMATS, "classic", "ng"]:
+        yield replay("--interfaces", word)
+        yield replay("--format", "ng", "--interfaces", word)
+    # Interfaces are VLANs in one of the formats alone.
+    for more in "", "--format classic", "--workers 3", "--format classic --round 10":
+        yield replay(*more.split(), "--interfaces", "vlan")
+        yield replay("--interfaces", "vlan", *more.split())
+    for more in "none", "vlan":
+        yield replay("--format", "ng", "--interfaces", more, "--interfaces", "vlan")
+        yield replay("--format", "classic", "--interfaces", more, "--format", "ng")
 
 
 def of_no_number():
@@ -100,7 +141,8 @@ def of_no_show_or_trial():
         yield ["show", *words]
     yield from (["show", "--in", value] for value in ("", "-", "--", "-i", "-1", "--in"))
     yield from (["show", name, "i"] for name in [*NO_NAMES, "--out", "--settings"])
-    for name, value in ("--settings", "s"), ("--out", "o"), ("--workers", "0"), ("--round", "1"), ("--n", "5"):
+    for name, value in (("--settings", "s"), ("--out", "o"), ("--format", "ng"), ("--interfaces", "none"),
+                        ("--workers", "0"), ("--round", "1"), ("--n", "5")):
         yield ["show", "--in", "i", name, value]
         yield ["show", name, value, "--in", "i"]
     for words in ([], ["trial"], ["i"], ["5", "5"], ["5", ""], ["", "5"], ["--", "5"], ["--n", "5"], ["--n=5"], ["n=5"],
@@ -111,7 +153,7 @@ def of_no_show_or_trial():
 def table():
     """Each word list, and what it gives."""
     yield from lawful()
-    for part in of_no_command, of_no_replay, of_no_number, of_no_show_or_trial:
+    for part in of_no_command, of_no_replay, of_no_format, of_no_number, of_no_show_or_trial:
         yield from ((words, None) for words in part())
 
 
@@ -124,6 +166,7 @@ def no_texts():
         yield replay(output=octets)
         yield replay(output=b"o" + octets)
         yield replay("--round", b"1" + octets)
+        yield replay("--format", b"ng" + octets)
         yield replay(b"--round" + octets, "1")
         yield ["show", "--in", octets]
         yield [b"show" + octets, "--in", "i"]
@@ -143,6 +186,7 @@ def started(r):
     found = [["--settings", "s"], ["--in", "i"], ["--out", r.choice("ooox")]]
     found += [["--workers", str(r.choice([0, 1, 9, 10, 16, r.randint(0, 16)]))]] * (r.random() < 0.4)
     found += [["--round", str(r.choice([1, 9, 10, 256, 4096, r.randint(1, 4096)]))]] * (r.random() < 0.4)
+    found += r.choice(FORMATS) if r.random() < 0.5 else []
     r.shuffle(found)
     return ["replay", *(word for pair in found for word in pair)]
 

@@ -14,7 +14,8 @@ import subprocess
 import sys
 import tempfile
 
-from commands import Show, Trial, command_of
+from captures import output_header
+from commands import Format, Show, Trial, command_of
 from word_lists import FILES, MOST_TRIED, made, no_texts, table
 from wire import contents
 
@@ -37,7 +38,10 @@ class Program:
 
     def __init__(self, path, folder):
         self.path, self.folder = path, os.path.join(folder, "files")
-        self.right = contents(os.path.join(FIRST, "expected.txt")), contents(os.path.join(FIRST, "expected.pcap"))
+        # The answers to a replay of the files that are there. One that takes the capture for pcapng has made the
+        # output before it finds that it is none.
+        self.right = 0, contents(os.path.join(FIRST, "expected.txt")), contents(os.path.join(FIRST, "expected.pcap"))
+        self.refused = 3, b"capture bad-magic\n", output_header()
 
     def run(self, words):
         """Its status, its report, and the file `o`; the status is None where it doesn't end."""
@@ -60,7 +64,8 @@ class Program:
             line = f"trial {command.count} frames={command.count + 1} written={command.count} "
             return status == 0 and report.startswith(line.encode()) and report.count(b"\n") == 1
         if command[:3] == FILES:
-            return (status, report, output) == (0, *self.right)
+            answer = self.right if command.format is Format.CLASSIC else self.refused
+            return (status, report, output) == answer
         if command == Show("i"):
             return status == 0 and report.endswith(b"\nend frames=1\n")
         return status in ANSWERS and report != USAGE

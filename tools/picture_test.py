@@ -67,9 +67,12 @@ def replayed(program, settings, capture, folder, *words):
 
 def examples(program, folder):
     for name in sorted(os.listdir(EXAMPLES)):
-        files = [os.path.join(EXAMPLES, name, file) for file in ("settings.toml", "capture.pcap")]
-        yield name, replayed(program, *files, folder)
-        yield f"{name}-rounds", replayed(program, *files, folder, "--workers", "2", "--round", "4")
+        example = os.path.join(EXAMPLES, name)
+        is_ng = os.path.exists(os.path.join(example, "capture.pcapng"))
+        files = [os.path.join(example, file) for file in ("settings.toml", "capture.pcapng" if is_ng else "capture.pcap")]
+        words = ["--format", "ng"] if is_ng else []
+        yield name, replayed(program, *files, folder, *words)
+        yield f"{name}-rounds", replayed(program, *files, folder, *words, "--workers", "2", "--round", "4")
 
 
 def large(program, folder, frames):
