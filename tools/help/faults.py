@@ -21,7 +21,8 @@ SENTENCES = {
         "too-many": "the list at this key has more items than it may have",
     },
     "capture": {
-        "bad-magic": "the file doesn't begin as a capture in the pcap format does; pcapng isn't read",
+        "bad-magic": "the file doesn't begin as a capture in the pcap format does; a pcapng file is replayed with "
+                     "--format ng",
         "bad-version": "the capture is of another version of pcap than 2.4",
         "bad-link": "the frames of the capture are neither Ethernet nor raw IP",
         "cut-header": "the file has {} octets, fewer than the header of a capture",
@@ -31,21 +32,48 @@ SENTENCES = {
         "span-too-long": "record {} is more than 1,000,000 s past all before it",
         "too-many-records": "the capture has more than 1,000,000,000 records",
     },
+    # Of a capture that is read by --format ng.
+    "pcapng": {
+        "bad-magic": "the file or a later section of it doesn't begin as pcapng does; a capture in the pcap format is "
+                     "replayed without --format ng",
+        "cut-block": "the file ends within the block that begins at octet {}",
+        "bad-length": "the block that begins at octet {} has a wrong length, two that differ, or a packet that doesn't "
+                      "fit in it",
+        "too-long": "the block that begins at octet {}, or its packet, has {} octets: more than 1,048,576, or than "
+                    "262,144",
+        "old-packet": "the block that begins at octet {} is an obsolete packet block; editcap -F pcapng makes a file "
+                      "without these",
+        "bad-version": "the section that begins at octet {} is of another major version of pcapng than 1",
+        "bad-option": "the interface that is described at octet {} has an option that doesn't fit, a unit of time that "
+                      "is none or below 10^-19 or 2^-63 s, or added seconds that aren't 8 octets",
+        "too-many-interfaces": "the interface that is described at octet {} is one more than the 4,095 of a section",
+        "bad-interface": "the packet in the block at octet {} is of an interface that its section didn't describe "
+                         "before",
+        "bad-link-type": "the packet in the block at octet {} is of an interface that is neither Ethernet nor raw IP",
+        "bad-moment": "the packet in the block at octet {} has a time before 1970, or 2^32 s behind that or later",
+        "span-too-long": "frame {} is more than 1,000,000 s past all before it",
+        "too-many-records": "the file has more than 1,000,000,000 frames, or than 4,000,000,000 blocks",
+    },
 }
 LINE = re.compile(rb"(?:^|\n)((?:settings|capture) [^\n]*)\n$")
 # A file that is no folder, under which none can be made.
 EMPTY, NOWHERE = "/dev/null", "/dev/null/lispr"
 
 
-def sentence(line):
-    """The plain sentence for a last line, or None."""
+def sentence(line, words):
+    """The plain sentence for a last line of a run with these words, or None."""
     kind, _, rest = line.partition(" ")
     word, *others = rest.split(" ")
-    known = SENTENCES[kind]
+    known = SENTENCES["pcapng" if kind == "capture" and is_pcapng(words) else kind]
     try:
         return known.get(rest, known.get(word, "")).format(*others) or None
     except IndexError:
         return None
+
+
+def is_pcapng(words):
+    """Whether the words say that the capture is a pcapng file."""
+    return value_of("--format", words) == "ng"
 
 
 def line_of_report():
@@ -59,13 +87,16 @@ def line_of_report():
     return found.group(1) if found else None
 
 
-def again(words):
-    """The program's words to read the same settings, or the same capture, once more, and make nothing; or None."""
+def again(kind, words):
+    """The files to be read once more for a last line of that kind, and the program's words that do it and make none."""
     settings, capture = value_of("--settings", words), value_of("--in", words)
-    return {
-        "settings": (settings, ["replay", "--settings", settings, "--in", EMPTY, "--out", NOWHERE]),
-        "capture": (capture, ["show", "--in", capture]),
-    }
+    if kind == "settings":
+        return [settings], ["replay", "--settings", settings, "--in", EMPTY, "--out", NOWHERE]
+    if is_pcapng(words):
+        # Nothing but a replay reads that format.
+        files = [settings, capture]
+        return files, ["replay", "--settings", settings, "--in", capture, "--out", EMPTY, "--format", "ng"]
+    return [capture], ["show", "--in", capture]
 
 
 def tail_of(command):
@@ -82,8 +113,8 @@ def tail_of(command):
 
 def line_again(kind, status, program, words):
     """The last line that the program says for the same file, or None."""
-    name, words = again(words)[kind]
-    if not name or not os.path.isfile(name):
+    files, words = again(kind, words)
+    if not all(name and os.path.isfile(name) for name in files):
         return None
     tail, ended = tail_of([program, *words])
     found = LINE.search(tail) if ended == status else None

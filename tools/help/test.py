@@ -101,6 +101,7 @@ WORDS = [
     (["--help"], "README.md, at Words"),
     (["-h"], "lispr trial N"),
     (["replay", "--help"], "lispr trial N"),
+    (["replay"], "[--format classic|ng] [--interfaces none|vlan]"),
     (["play"], "play is no command"),
     ([""], "'' is no command"),
     (["trial"], "trial lacks its number"),
@@ -118,6 +119,13 @@ WORDS = [
     (["replay", "--in", "--out", "x"], "--in has no value: behind it comes --out"),
     (["replay", "--in", "a", "--in", "b"], "--in stands twice"),
     (["replay", "--in", "a", "--out", "b"], "--settings lacks"),
+    ([*REPLAY, "--format"], "--format has no value"),
+    ([*REPLAY, "--format=ng"], "the value is a word of its own, --format ng"),
+    ([*REPLAY, "--format", "pcapng"], "--format is classic or ng, and not pcapng"),
+    ([*REPLAY, "--format", "ng", "--interfaces", "VLAN"], "--interfaces is none or vlan, and not VLAN"),
+    ([*REPLAY, "--interfaces", "vlan"], "--interfaces vlan goes with --format ng alone"),
+    ([*REPLAY, "--interfaces", "vlan", "--format", "classic"], "--interfaces vlan goes with --format ng alone"),
+    (["show", "--in", "i.pcap", "--format", "ng"], "--format is no option of show"),
     ([*REPLAY, "--workers", "17"], "--workers is a number from 0 to 16"),
     ([*REPLAY, "--round", "0"], "--round is a number from 1 to 4,096"),
     ([*REPLAY, "--round", "9" * 5000], "--round is a number from 1 to 4,096"),
@@ -210,7 +218,7 @@ def in_file(words, folder, status):
 
 
 CAPTURES = [
-    (bytes(24), "bad-magic", "pcapng isn't read"),
+    (bytes(24), "bad-magic", "a pcapng file is replayed with --format ng"),
     (header(version=3), "bad-version", "another version of pcap than 2.4"),
     (header(link=9), "bad-link", "neither Ethernet nor raw IP"),
     (b"abc", "cut-header 3", "the file has 3 octets"),
@@ -236,12 +244,78 @@ def test_captures():
     return len(CAPTURES)
 
 
+def block(kind, body=b"", again=None):
+    size = len(body) + 12
+    return struct.pack("<II", kind, size) + body + struct.pack("<I", again or size)
+
+
+def section(version=1):
+    return block(0x0A0D0D0A, struct.pack("<IHHQ", 0x1A2B3C4D, version, 0, 0))
+
+
+def interface(link=101, options=b""):
+    return block(1, struct.pack("<HHI", link, 0, 0) + options)
+
+
+def packet(size=0, time=0, number=0, kept=None):
+    fields = struct.pack("<IIIII", number, time >> 32, time % 2**32, size if kept is None else kept, size)
+    return block(6, fields + bytes(size))
+
+
+BLOCKS = [
+    (header(), "bad-magic", "in the pcap format is replayed without --format ng"),
+    (section() + b"abc", "cut-block 28", "ends within the block that begins at octet 28"),
+    (section() + block(5, b"", 16), "bad-length 28", "at octet 28 has a wrong length, two that differ"),
+    (section() + interface() + packet(kept=1), "bad-length 48", "at octet 48 has a wrong length"),
+    (section() + block(1, bytes(2**20)), "too-long 28 1048588", "at octet 28, or its packet, has 1048588 octets: more"),
+    (section() + interface() + packet(262148), "too-long 48 262148", "or its packet, has 262148 octets: more than"),
+    (section() + block(2), "old-packet 28", "at octet 28 is an obsolete packet block"),
+    (section(2), "bad-version 0", "at octet 0 is of another major version of pcapng than 1"),
+    (section() + interface(options=b"\x09\0\x01\0\x14\0\0\0"), "bad-option 28", "at octet 28 has an option that"),
+    (section() + interface() * 4096, "too-many-interfaces 81928", "at octet 81928 is one more than the 4,095"),
+    (section() + interface() + packet(number=1), "bad-interface 48", "at octet 48 is of an interface that its section"),
+    (section() + interface(9) + packet(), "bad-link-type 48", "at octet 48 is of an interface that is neither"),
+    (section() + interface() + packet(time=2**32 * 10**6), "bad-moment 48", "at octet 48 has a time before 1970, or"),
+    (section() + interface() + packet() + packet(time=10**12 + 1), "span-too-long 2", "frame 2 is more than"),
+]
+
+
+def test_blocks():
+    """Each word of a pcapng file that is refused has a sentence of its own."""
+    with files() as folder:
+        for octets, line, part in BLOCKS:
+            write(os.path.join(folder, "i.pcap"), octets)
+            for said, told in (both([*REPLAY, "--format", "ng"], folder)[1:],
+                               *in_file([*REPLAY, "--format", "ng"], folder, 3)):
+                check(said.splitlines()[-1] == b"capture " + line.encode(), line, said[-100:])
+                check(f"lispr: capture {line}" in told and part in told, line, told)
+    return len(BLOCKS)
+
+
+def test_formats():
+    """What is refused as pcapng isn't read as another format for its last line."""
+    ng = [*REPLAY, "--format", "ng"]
+    with files() as folder:
+        for words in ([*REPLAY, "--format", "classic"], [*REPLAY, "--interfaces", "none"]):
+            check(both(words, folder)[0] == 0, words)
+        # Four octets, of which the first block lacks the others, and the header of a classic capture too.
+        write(os.path.join(folder, "i.pcap"), b"\n\r\r\n")
+        for words in (ng, [*ng, "--interfaces", "none"], [*ng, "--interfaces", "vlan"]):
+            for said, told in (both(words, folder)[1:], *in_file(words, folder, 3)):
+                check(said == b"capture cut-block 0\n", words, said)
+                check("lispr: capture cut-block 0" in told, words, told)
+
+
+# The kinds of words, by the types of the faults that have them.
+FAULTS = {"SettingsFault": "settings", "CaptureFault": "capture", "NgFault": "pcapng"}
+
+
 def test_table():
     """The table has the words that the definitions have."""
-    words = {"settings": set(), "capture": set()}
-    for kind, word in re.findall(r"^(settings_text|fault_text) .*?codes \"([a-z-]+)", read(LINES).decode().replace(
-            "\n    named", " named"), re.MULTILINE):
-        words["settings" if kind == "settings_text" else "capture"].add(word)
+    text, words = read(LINES).decode().replace("\n    named", " named"), {kind: set() for kind in FAULTS.values()}
+    for name, fault in re.findall(r"^abbrev pub (\w+_text) : (\w+) → List ℕ$", text, re.MULTILINE):
+        if fault in FAULTS:
+            words[FAULTS[fault]] |= set(re.findall(rf"^{name} .*?codes \"([a-z-]+)", text, re.MULTILINE))
     known = {kind: {word.split(" ")[0] for word in table} for kind, table in SENTENCES.items()}
     check(words == known, "words of faults", words, known)
 

@@ -4,13 +4,17 @@ import re
 
 from text import shown
 
+# Each form, with what is done behind it, in lines.
 FORMS = {
-    "replay": ("replay --settings F --in F --out F [--workers W] [--round N]", "the capture of --in is replayed"),
+    "replay": ("replay --settings F --in F --out F",
+               "[--format classic|ng] [--interfaces none|vlan] [--workers W] [--round N]",
+               "the capture of --in is replayed"),
     "show": ("show --in F", "its messages are shown"),
     "trial": ("trial N", "an input of N mappings is made and replayed, N from 1 to 50,000"),
 }
-# What must be there, and the numbers that may be, each with its least and greatest.
+# What must be there; what may be, one of two words; and the numbers that may be, each with its least and greatest.
 NEEDED = {"replay": ("--settings", "--in", "--out"), "show": ("--in",)}
+CHOICES = {"replay": {"--format": ("classic", "ng"), "--interfaces": ("none", "vlan")}, "show": {}}
 NUMBERS = {"replay": {"--workers": (0, 16), "--round": (1, 4096)}, "show": {}}
 MAPPINGS = 1, 50_000
 HELP = "--help", "-h"
@@ -36,9 +40,14 @@ def number_fault(what, word, least, greatest):
     return f"{what} is a number from {least:,} to {greatest:,}, in digits without leading zeros: {shown(word)} isn't"
 
 
+def choice_fault(name, word, first, second):
+    """Why a word is neither of two, or None."""
+    return None if word in (first, second) else f"{name} is {first} or {second}, and not {shown(word)}"
+
+
 def name_fault(command, name, earlier):
     """Why a word is no option's name where it stands, or None."""
-    known = NEEDED[command] + tuple(NUMBERS[command])
+    known = NEEDED[command] + tuple(CHOICES[command]) + tuple(NUMBERS[command])
     if name in earlier:
         return f"{name} stands twice"
     if name in known:
@@ -62,19 +71,33 @@ def value_fault(name, value):
     return None
 
 
+def meaning_fault(command, name, value):
+    """Why a value is none of those that an option takes, or None."""
+    if name in CHOICES[command]:
+        return choice_fault(name, value, *CHOICES[command][name])
+    if name in NUMBERS[command]:
+        return number_fault(name, value, *NUMBERS[command][name])
+    return None
+
+
 def options_fault(command, words):
     """What is wrong with options, one after another, or None."""
     earlier = []
     for i in range(0, len(words), 2):
         name, value = words[i], words[i + 1] if i + 1 < len(words) else None
-        fault = name_fault(command, name, earlier) or value_fault(name, value)
-        if not fault and name in NUMBERS[command]:
-            fault = number_fault(name, value, *NUMBERS[command][name])
+        fault = name_fault(command, name, earlier) or value_fault(name, value) or meaning_fault(command, name, value)
         if fault:
             return fault
         earlier.append(name)
     lacking = [name for name in NEEDED[command] if name not in earlier]
     return f"{lacking[0]} lacks" if lacking else None
+
+
+def interfaces_fault(words):
+    """That interfaces are to be VLANs in a format that has none, or None."""
+    if value_of("--interfaces", words) == "vlan" and value_of("--format", words) != "ng":
+        return "--interfaces vlan goes with --format ng alone: a classic capture has no interfaces"
+    return None
 
 
 def same_fault(words):
@@ -110,13 +133,15 @@ def words_fault(words):
         return f"{shown(command)} is no command"
     if command == "trial":
         return trial_fault(rest)
-    return options_fault(command, rest) or same_fault(words)
+    return options_fault(command, rest) or interfaces_fault(words) or same_fault(words)
 
 
 def forms(words, top):
-    """The forms, with a line each, and where more is said; of a command that is plain, its own form alone."""
+    """The forms, and where more is said; of a command that is plain, its own form alone."""
     named = words[0] if words and words[0] in FORMS and not is_asking(words) else None
-    width = max(len(form) for form, _ in FORMS.values())
-    lines = [f"  lispr {form.ljust(width)}  {what}" for name, (form, what) in FORMS.items() if named in (None, name)]
+    lines = []
+    for name, (first, *others) in FORMS.items():
+        if named in (None, name):
+            lines += [f"  lispr {first}", *(f"      {other}" for other in others)]
     more = f"more: {shown(os.path.join(top, 'README.md'))}, at Words, A settings file, How to read a line, Statuses"
     return ["words:", *lines, more]
