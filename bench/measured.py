@@ -35,6 +35,22 @@ def measured(out, command):
     return Run(took, used.ru_utime, used.ru_stime, used.ru_maxrss / 1024, os.waitstatus_to_exitcode(status))
 
 
+def last_line(path):
+    """The last line of a report, or nothing."""
+    with open(path, "rb") as file:
+        file.seek(max(0, os.path.getsize(path) - 200))
+        return " ".join(file.read().decode().splitlines()[-1:])
+
+
+def tell_best(found, lines, first, items):
+    """Prints the best of the runs of each name; and what is said of the first one, and of each of which other things are."""
+    for name, runs in found.items():
+        best = min(runs, key=lambda run: run.took)._replace(memory=max(run.memory for run in runs))
+        print(f"  {name}: {best.text(items)}")
+        if name == first or lines[name] != lines[first]:
+            print(f"    {lines[name]}")
+
+
 def main():
     name, items, out, *command = sys.argv[1:]
     print(f"{name}: {measured(out, command).text(items)}")

@@ -13,7 +13,7 @@ import os
 import struct
 import sys
 
-from measured import measured
+from measured import last_line, measured, tell_best
 
 MICRO = 10**6
 ATTACHMENT = "[[attachment]]\nvlan = 1\niid = 0\n"
@@ -91,12 +91,6 @@ def kept(folder, names):
         os.replace(f"{folder}/{name}", f"{folder}/classic_{name}")
 
 
-def last_line(path):
-    with open(path, "rb") as file:
-        file.seek(max(0, os.path.getsize(path) - 200))
-        return " ".join(file.read().decode().splitlines()[-1:])
-
-
 def replay(program, folder, count, runs):
     found, said, names = {}, {}, ("report", "out.pcap")
     for _ in range(runs):
@@ -109,11 +103,7 @@ def replay(program, folder, count, runs):
                 kept(folder, names)
             elif not all(are_alike(f"{folder}/{one}", f"{folder}/classic_{one}") for one in names):
                 said[name] += ", and the report or the output isn't that of the classic capture"
-    for name, all_runs in found.items():
-        best = min(all_runs, key=lambda run: run.took)._replace(memory=max(run.memory for run in all_runs))
-        print(f"  {name}: {best.text(count)}")
-        if name == CLASSIC or said[name] != said[CLASSIC]:
-            print(f"    {said[name]}")
+    tell_best(found, said, CLASSIC, count)
 
 
 def main():

@@ -13,7 +13,7 @@ import random
 import struct
 import sys
 
-from measured import measured
+from measured import last_line, measured, tell_best
 from packets import nonce_at, udp_packet
 
 PLAIN, WORKERS, SIZES = "no workers ", (1, 2, 4), (64, 256, 4096)
@@ -84,12 +84,6 @@ def choices():
             yield f"{workers} by {size:5,} ", ["--workers", str(workers), "--round", str(size)]
 
 
-def last_line(path):
-    with open(path, "rb") as file:
-        file.seek(max(0, os.path.getsize(path) - 200))
-        return file.read().decode().splitlines()[-1:]
-
-
 def replay(program, folder, count, runs):
     front = [program, "replay", "--settings", f"{folder}/settings.toml", "--in", f"{folder}/capture.pcap",
              "--out", f"{folder}/out.pcap"]
@@ -98,11 +92,7 @@ def replay(program, folder, count, runs):
         for name, words in choices():
             found.setdefault(name, []).append(measured(f"{folder}/report", front + words))
             lines[name] = last_line(f"{folder}/report")
-    for name, all_runs in found.items():
-        best = min(all_runs, key=lambda run: run.took)._replace(memory=max(run.memory for run in all_runs))
-        print(f"  {name}: {best.text(count)}")
-        if name == PLAIN or lines[name] != lines[PLAIN]:
-            print(f"    {' '.join(lines[name])}")
+    tell_best(found, lines, PLAIN, count)
 
 
 def main():
