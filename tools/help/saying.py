@@ -23,7 +23,7 @@ def fault_lines(kind, status, program, words):
     line = last_line(kind, status, program, words)
     if line is None:
         return [REFUSED[kind] + "; the last line of the report says why"]
-    lines = [shown(line), sentence(line, words) or "README.md says more, at Statuses"]
+    lines = [shown(line), sentence(line, words) or "docs/REPORT.md says more, at Statuses"]
     if kind == "settings":
         lines += place_texts(line, value_of("--settings", words))
     return lines

@@ -98,7 +98,7 @@ def files():
 
 WORDS = [
     ([], "lispr show --in F"),
-    (["--help"], "README.md, at Words"),
+    (["--help"], "docs/WORDS.md, and beside it SETTINGS.md and REPORT.md"),
     (["-h"], "lispr trial N"),
     (["replay", "--help"], "lispr trial N"),
     (["replay"], "[--format classic|ng] [--interfaces none|vlan]"),
