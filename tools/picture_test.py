@@ -102,6 +102,7 @@ def made_reports(many):
     to_many = [f"encapsulated 192.0.2.1 198.51.{i // 200}.{1 + i % 200} 50000" for i in range(600)]
     yield "locators", "".join(made(2_000, 3, to_many, 1))
     yield "fault", "".join(list(made(20, 4, KINDS, 10**10))[:-1]) + "capture cut-record 4321\n"
+    yield "block", "".join(list(made(20, 7, KINDS, 10**10))[:-1]) + "capture bad-version 4321\n"
     yield "cut", "".join(made(500, 5, KINDS, 10**8))[:-60]
     yield "long-ago", "".join(made(50, 6, KINDS, 10**16))
 
