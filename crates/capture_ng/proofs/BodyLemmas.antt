@@ -1,5 +1,5 @@
 -- What the body of a block says is told by the block's own octets.
-use Rattle.std.proofs.Common.{◌≡◌, ◌≤◌, ◌+◌, ◌-◌, ◌*◌, ◌^◌, ◌++◌, ◌==◌, nat_le, nat_lt, max, ℕ, IsTrue, Bool, true, false, List, [], ◌∷◌, drop, take, length, Option, Some, None, is_some, unwrap_or, slice_get, refl, sym, ap, ◌∙◌, arith}
+use Rattle.std.proofs.Common.{◌≡◌, ◌≤◌, ◌+◌, ◌-◌, ◌*◌, ◌^◌, ◌++◌, nat_le, max, ℕ, IsTrue, Bool, true, false, List, [], ◌∷◌, drop, take, Option, Some, None, is_some, unwrap_or, slice_get, refl, ap, ◌∙◌, arith}
 use Rattle.std.specs.Option.{option_map, option_and_then}
 use Rattle.std.proofs.lemmas.Bool.{leb-true}
 use Rattle.std.proofs.lemmas.List.{take-take}
@@ -9,7 +9,6 @@ use Rattle.octets.specs.Rules.{first_failing}
 use Rattle.capture_io.proofs.Fronts.{number-take}
 use Rattle.capture_io.specs.Capture.{in_span, number}
 use Rattle.capture_io.specs.Limits.{most_frame_octets}
-use Rattle.capture_io.specs.declared.link.Link.{Link}
 use Rattle.capture_io.specs.declared.order.Order.{Order}
 use Rattle.capture_ng.specs.Blocks.{is_packet, is_read, least_length}
 use Rattle.capture_ng.specs.Faults.{body_rules, interface_rules, packet_rules, seen_rules}

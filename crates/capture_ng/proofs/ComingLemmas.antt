@@ -1,8 +1,10 @@
 -- Octets that come piece by piece.
-use Rattle.std.proofs.Common.{◌≡◌, ◌≤◌, ◌<◌, ◌+◌, ◌-◌, ℕ, List, drop, take, length, min, Option, Some, None, refl, subst, sym, ap, ◌∙◌, arith}
+use Rattle.std.proofs.Common.{◌≡◌, ◌≤◌, ◌<◌, ◌+◌, ◌-◌, ◌++◌, ℕ, List, drop, take, length, min, replicate, Option, Some, None, refl, subst, sym, ap, ◌∙◌, arith, inl, inr}
 use Rattle.std.specs.Option.{option_map, IfSome}
-use Rattle.std.proofs.lemmas.Bool.{le-leb, lt-leb}
-use Rattle.std.proofs.lemmas.List.{length-drop, take_all}
+use Rattle.std.proofs.lemmas.Bool.{cases_lt, le-leb, lt-leb}
+use Rattle.std.proofs.lemmas.List.{drop_at, length-drop, length-take, take-append-le, take-take, take_all, take_at}
+use Rattle.std.proofs.Math.Seq.{take-add}
+use borrow.Rule.Slice.PartMut.{put_mid, post_of}
 use Rattle.desk.specs.World.{World, after_read, left_of, Fills}
 use Rattle.desk.proofs.Reading.{IfSome_both, left_on, read_nothing, reads_on}
 use Rattle.capture_io.proofs.Fronts.{number-take}
@@ -94,3 +96,53 @@ pub last_told : (id size s n : ℕ) (start mid new : Option World) → 4 ≤ siz
 last_told id size s n start mid new some all whole first second =
     let sum : s + n ≡ size = omega arith in
     subst (λ (k : ℕ). new ≡ option_map (after_read id k) start) sum (reads_on id s n start mid new first second)
+
+-- a part of a buffer that was filled
+part_comes : (left buf part post : List ℕ) (from size n : ℕ) → from ≤ length buf → length part ≡ size → n ≡ min (length part) (length left) → take n part ≡ take n left
+    → take (from + n) (take from buf ++ (part ++ post)) ≡ take from buf ++ take size left
+part_comes left buf part post from size n within all count came =
+    let len : length (take from buf) ≡ from = omega (arith, length-take from buf) in
+    let most : n ≤ length part = omega (arith, count) in
+    rw (take-add from n (take from buf ++ (part ++ post)), take_at (take from buf) (part ++ post) from len, drop_at (take from buf) (part ++ post) from len, take-append-le n part post most)
+    (ap (λ (l : List ℕ). take from buf ++ l) (came ∙ cut left size n (subst (λ (k : ℕ). n ≡ min k (length left)) all count)))
+  where
+    cut : (left : List ℕ) (size n : ℕ) → n ≡ min size (length left) → take n left ≡ take size left
+    cut left size n count =
+        elim (cases_lt (length left) size) [
+          | inl short ↦ (take_all n left (omega (arith, short, count)) ∙ sym (take_all size left (omega (arith, short))))
+          | inr long ↦ (let same : n ≡ size = omega (arith, long, count) in ap (λ (k : ℕ). take k left) same)
+        ]
+
+pub part_filled : (id from size n : ℕ) (told : Option World) (buf part : List ℕ) → from ≤ length buf → length part ≡ size
+    → IfSome told (λ w. Fills (left_of id w) n part)
+    → IfSome told (λ w. take (from + n) (put_mid from size buf part) ≡ take from buf ++ take size (left_of id w))
+part_filled id from size n told buf part within all came =
+    IfSome_both told came came (λ w fills _. part_comes (left_of id w) buf part (post_of from size buf) from size n within all fills.count fills.octets)
+
+-- what stands before the part stays
+pub part_front : (buf part : List ℕ) (from size : ℕ) → from ≤ length buf → take from (put_mid from size buf part) ≡ take from buf
+part_front buf part from size within = take_at (take from buf) (part ++ post_of from size buf) from (omega (arith, length-take from buf))
+
+-- octets that are more than others begin with these
+pub front_first : (old new : List ℕ) (count n : ℕ) → count ≤ length old → take count new ≡ take count old → take (length (take count old)) (take (count + n) new) ≡ take count old
+front_first old new count n within same =
+    let len : length (take count old) ≡ count = omega (arith, length-take count old) in
+    ap (λ (k : ℕ). take k (take (count + n) new)) len ∙ take-take count (count + n) new (omega arith) ∙ same
+
+-- room was added behind octets
+pub grown : (first slice old made : List ℕ) (whole fresh : ℕ) → length first ≤ whole → made ≡ first → old ≡ take whole made ++ replicate fresh 0 → slice ≡ old → take (length first) slice ≡ first
+grown first slice old made whole fresh room is laid same =
+    ap (λ (l : List ℕ). take (length first) l) (same ∙ laid ∙ ap (λ (l : List ℕ). take whole l ++ replicate fresh 0) is ∙ ap (λ (l : List ℕ). l ++ replicate fresh 0) (take_all whole first room))
+    ∙ take_at first (replicate fresh 0) (length first) refl
+
+-- octets that were lent whole came back
+pub lent : (n size : ℕ) (part rest : List ℕ) → length part ≡ size → take n (take size (part ++ rest)) ≡ take n part
+lent n size part rest all = ap (λ (l : List ℕ). take n l) (take_at part rest size all)
+
+-- the octets with those of the file behind them
+pub behind_came : (id from n size wide : ℕ) (told : Option World) (first old new items : List ℕ) → from ≡ length first → take (length first) old ≡ first → wide ≡ size
+    → IfSome told (λ w. take (from + n) new ≡ take from old ++ take wide (left_of id w)) → items ≡ take (from + n) new
+    → IfSome told (λ w. items ≡ first ++ take size (left_of id w))
+behind_came id from n size wide told first old new items place was all came cut =
+    IfSome_both told came came (λ w is _. cut ∙ is ∙ ap (λ (k : ℕ). take k old ++ take wide (left_of id w)) place
+    ∙ ap (λ (l : List ℕ). l ++ take wide (left_of id w)) was ∙ ap (λ (k : ℕ). first ++ take k (left_of id w)) all)

@@ -1,5 +1,5 @@
 -- What a reader finds, block by block, against what it passed.
-use Rattle.std.proofs.Common.{◌≡◌, ◌≤◌, ◌<◌, ◌+◌, ℕ, Bool, true, false, List, [], ◌∷◌, drop, take, length, Option, Some, None, Result, Ok, Err, unwrap_or, refl, subst, sym, ap, ◌∙◌, arith}
+use Rattle.std.proofs.Common.{◌≡◌, ◌≤◌, ◌+◌, ℕ, Bool, Global, Vec, false, List, [], ◌∷◌, drop, Option, Some, None, Result, Ok, Err, unwrap_or, refl, subst, sym, ap, ◌∙◌, arith}
 use Rattle.std.specs.Option.{option_map, IfSome, MatchOption}
 use Rattle.std.proofs.lemmas.List.{drop-drop}
 use Rattle.desk.specs.World.{World, after_read, left_of}
@@ -97,23 +97,19 @@ past-found id vlans start now old at e past is =
     IfSome_both start past.found (left_on id past.taken start now (λ left. found vlans at left ≡ e) past.told is) (λ w so_far here. so_far ∙ ap (λ (f : Found). further past.taken f) here)
 
 -- a block, of a desk that may tell its octets
-pub front_of : (id : ℕ) (now : Option World) (at : Position) (o : Option (Head × List ℕ)) (head : Head) (octets slice : List ℕ) → o ≡ Some (head, octets) → slice ≡ octets
-    → IfSome now (λ w. MatchOption o ((left_of id w ≡ []) × (None ≡ end_fault at)) (λ block. IsFront at (left_of id w) block.0 block.1))
-    → IfSome now (λ w. IsFront at (left_of id w) head slice)
-front_of id now at o head octets slice is same front =
-    let here : IfSome now (λ w. IsFront at (left_of id w) head octets) =
-    subst (λ (b : Option (Head × List ℕ)). IfSome now (λ w. MatchOption b ((left_of id w ≡ []) × (None ≡ end_fault at)) (λ block. IsFront at (left_of id w) block.0 block.1))) is front in
-    subst (λ (l : List ℕ). IfSome now (λ w. IsFront at (left_of id w) head l)) (sym same) here
+pub front_of : (id : ℕ) (now : Option World) (at : Position) (o : Option (Head × Vec ℕ Global)) (head : Head) (octets : Vec ℕ Global) → o ≡ Some (head, octets)
+    → IfSome now (λ w. MatchOption o ((left_of id w ≡ []) × (None ≡ end_fault at)) (λ block. IsFront at (left_of id w) block.0 block.1.items))
+    → IfSome now (λ w. IsFront at (left_of id w) head octets.items)
+front_of id now at o head octets is front =
+    subst (λ (b : Option (Head × Vec ℕ Global)). IfSome now (λ w. MatchOption b ((left_of id w ≡ []) × (None ≡ end_fault at)) (λ block. IsFront at (left_of id w) block.0 block.1.items))) is front
 
-pub held_of : (at : Position) (o : Option (Head × List ℕ)) (head : Head) (octets slice : List ℕ) → o ≡ Some (head, octets) → slice ≡ octets
-    → IfSome o (λ block. IsHeld at block.0 block.1) → IsHeld at head slice
-held_of at o head octets slice is same held =
-    let here : IsHeld at head octets = subst (λ (b : Option (Head × List ℕ)). IfSome b (λ block. IsHeld at block.0 block.1)) is held in
-    subst (λ (l : List ℕ). IsHeld at head l) (sym same) here
+pub held_of : (at : Position) (o : Option (Head × Vec ℕ Global)) (head : Head) (octets : Vec ℕ Global) → o ≡ Some (head, octets)
+    → IfSome o (λ block. IsHeld at block.0 block.1.items) → IsHeld at head octets.items
+held_of at o head octets is held = subst (λ (b : Option (Head × Vec ℕ Global)). IfSome b (λ block. IsHeld at block.0 block.1.items)) is held
 
-pub size_of : (id : ℕ) (now new : Option World) (o : Option (Head × List ℕ)) (head : Head) (octets : List ℕ) → o ≡ Some (head, octets)
+pub size_of : (id : ℕ) (now new : Option World) (o : Option (Head × Vec ℕ Global)) (head : Head) (octets : Vec ℕ Global) → o ≡ Some (head, octets)
     → new ≡ option_map (after_read id (block_size o)) now → new ≡ option_map (after_read id head.length) now
-size_of id now new o head octets is told = subst (λ (b : Option (Head × List ℕ)). new ≡ option_map (after_read id (block_size b)) now) is told
+size_of id now new o head octets is told = subst (λ (b : Option (Head × Vec ℕ Global)). new ≡ option_map (after_read id (block_size b)) now) is told
 
 -- what a block that breaks no rule is found to be
 pub found_block : (id : ℕ) (vlans : Bool) (now : Option World) (at next : Position) (head : Head) (octets : List ℕ) (o : Option Frame)
@@ -156,12 +152,12 @@ refused_found id vlans start now old at head octets fault past front held fails 
     past-found id vlans start now old at (stopped (Some fault) at) past (IfSome_both now front front (λ w is same. front-refused vlans at (left_of id w) octets head fault is held (fails inside))))
 
 -- the end, and what is found there
-pub end_found : (id : ℕ) (vlans : Bool) (start now : Option World) (old at : Position) (o : Option (Head × List ℕ)) (past : IsPast id vlans start now old at) → o ≡ None
-    → IfSome now (λ w. MatchOption o ((left_of id w ≡ []) × (None ≡ end_fault at)) (λ block. IsFront at (left_of id w) block.0 block.1))
+pub end_found : (id : ℕ) (vlans : Bool) (start now : Option World) (old at : Position) (o : Option (Head × Vec ℕ Global)) (past : IsPast id vlans start now old at) → o ≡ None
+    → IfSome now (λ w. MatchOption o ((left_of id w ≡ []) × (None ≡ end_fault at)) (λ block. IsFront at (left_of id w) block.0 block.1.items))
     → IfSome start (λ w. found vlans old (left_of id w) ≡ further past.taken (stopped None at))
 end_found id vlans start now old at o past is ends =
     let here : IfSome now (λ w. (left_of id w ≡ []) × (None ≡ end_fault at)) =
-    subst (λ (b : Option (Head × List ℕ)). IfSome now (λ w. MatchOption b ((left_of id w ≡ []) × (None ≡ end_fault at)) (λ block. IsFront at (left_of id w) block.0 block.1))) is ends in
+    subst (λ (b : Option (Head × Vec ℕ Global)). IfSome now (λ w. MatchOption b ((left_of id w ≡ []) × (None ≡ end_fault at)) (λ block. IsFront at (left_of id w) block.0 block.1.items))) is ends in
     past-found id vlans start now old at (stopped None at) past (IfSome_both now here here (λ w at_end same. found-none vlans at (left_of id w) at_end.0 at_end.1))
 
 -- a frame, and what is found then
@@ -197,11 +193,11 @@ pub fault_stands : (id : ℕ) (vlans : Bool) (start : Option World) (old at next
 fault_stands id vlans start old at next fault taken same is = IfSome_both start is is (λ w here other inside. same ∙ sym (ap (λ (f : Found). f.position) (here inside)))
 
 -- the desk at the end
-pub end_told : (id : ℕ) (vlans : Bool) (start now new : Option World) (old at : Position) (o : Option (Head × List ℕ)) (past : IsPast id vlans start now old at) → o ≡ None
+pub end_told : (id : ℕ) (vlans : Bool) (start now new : Option World) (old at : Position) (o : Option (Head × Vec ℕ Global)) (past : IsPast id vlans start now old at) → o ≡ None
     → new ≡ option_map (after_read id (block_size o)) now → IfSome start (λ w. found vlans old (left_of id w) ≡ further past.taken (stopped None at))
     → new ≡ option_map (after_found id vlans old) start
 end_told id vlans start now new old at o past none told is =
-    let here : new ≡ option_map (after_read id 0) now = subst (λ (b : Option (Head × List ℕ)). new ≡ option_map (after_read id (block_size b)) now) none told in
+    let here : new ≡ option_map (after_read id 0) now = subst (λ (b : Option (Head × Vec ℕ Global)). new ≡ option_map (after_read id (block_size b)) now) none told in
     found_told id vlans start new old (further past.taken (stopped None at)) is (reads_on id past.taken 0 start now new past.told here)
 
 -- a frame that may come at a position may come where it was reached without one

@@ -1,5 +1,5 @@
 -- The frame of a packet block, as a reader puts it together.
-use Rattle.std.proofs.Common.{◌≡◌, ◌≤◌, ◌<◌, ◌+◌, ◌++◌, ◌&&◌, nat_lt, max, ℕ, Bool, true, false, IsTrue, List, drop, take, length, Option, Some, None, unwrap_or, slice_get, slice_index, Fits, w8, if◌then◌else◌, refl, sym, ap, ◌∙◌, arith, inl, inr}
+use Rattle.std.proofs.Common.{◌≡◌, ◌≤◌, ◌<◌, ◌+◌, ◌++◌, ◌&&◌, nat_lt, max, ℕ, Bool, true, false, List, drop, take, length, Option, Some, None, unwrap_or, slice_get, slice_index, Fits, w8, if◌then◌else◌, refl, sym, ap, ◌∙◌, arith, inl, inr}
 use Rattle.std.specs.Option.{option_map, option_and_then}
 use Rattle.std.specs.List.{All}
 use Rattle.std.proofs.lemmas.Bool.{cases_Bool, ltb-true}
@@ -40,6 +40,9 @@ length-tagged : (vlan : ℕ) (octets : List ℕ) → length (tagged vlan octets)
 length-tagged vlan octets =
     let tag : List ℕ = big_octets 2 0x8100 ++ big_octets 2 vlan in
     omega (arith, length-append (take 12 octets) (tag ++ drop 12 octets), length-append tag (drop 12 octets), length-take 12 octets, length-drop 12 octets)
+
+pub tagged_most : (vlan : ℕ) (octets frame : List ℕ) → frame ≡ tagged vlan octets → length frame ≤ length octets + 4
+tagged_most vlan octets frame is = omega (arith, length-tagged vlan octets, ap (λ (l : List ℕ). length l) is)
 
 frame_short : (vlans test : Bool) (vlan : ℕ) (octets : List ℕ) → length octets ≤ most_frame_octets → length (if vlans && test then tagged vlan octets else octets) ≤ most_octets vlans
 frame_short true true vlan octets short = omega (arith, short, length-tagged vlan octets)

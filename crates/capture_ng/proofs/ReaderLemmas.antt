@@ -1,7 +1,7 @@
 -- The frames that are left behind an answer of a reader.
 use Rattle.std.proofs.Common.{◌≡◌, ℕ, Bool, false, List, drop, Option, Some, None, Result, Ok, Err, refl, subst, sym, ap, ◌∙◌}
 use Rattle.std.specs.Option.{option_map, IfNone, IfSome}
-use Rattle.desk.specs.World.{World, after_read, left_of}
+use Rattle.desk.specs.World.{World, left_of}
 use Rattle.desk.proofs.Reading.{left-after_read}
 use Rattle.capture_io.specs.Frame.{Frame}
 use Rattle.capture_io.specs.Run.{goes_on}

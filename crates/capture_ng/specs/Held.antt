@@ -29,6 +29,6 @@ next_fault at [] = end_fault at
 next_fault at (x ∷ left) = block_fault at (x ∷ left)
 
 -- how many octets a block took, where there is one
-abbrev pub block_size : Option (Head × List ℕ) → ℕ
+abbrev pub block_size : {T : Type 0} → Option (Head × T) → ℕ
 block_size None = 0
 block_size (Some block) = block.0.length

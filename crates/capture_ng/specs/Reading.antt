@@ -1,5 +1,5 @@
 -- A reader of a pcapng capture, as contracts see it.
-use Rattle.std.specs.Prelude.{◌≡◌, ◌≤◌, ◌<◌, ◌+◌, ℕ, Bool, true, false, List, length, Option, Some, None, unwrap_or}
+use Rattle.std.specs.Prelude.{◌≡◌, ◌≤◌, ◌<◌, ◌+◌, ℕ, Bool, true, false, length, Option, Some, None, unwrap_or}
 use Rattle.std.specs.List.{All}
 use Rattle.desk.specs.World.{World, after_read, left_of}
 use Rattle.capture_io.specs.Frame.{Frame}

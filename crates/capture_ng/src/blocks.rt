@@ -1,5 +1,5 @@
 // Blocks, read to their ends.
-ghost use Rattle.std.specs.Prelude.{◌≡◌, ◌≤◌, ◌+◌, ◌-◌, ◌++◌, length, take, option_map, IfOk, IfErr, IfSome, IsErrOf, IsTrue, MatchOption, None, Some, OnOk, [], false};
+ghost use Rattle.std.specs.Prelude.{◌≡◌, ◌≤◌, ◌+◌, ◌-◌, ◌++◌, length, take, option_map, IfOk, IfErr, IfSome, IsErrOf, IsTrue, MatchOption, None, Some, [], false};
 ghost use Rattle.octets.specs.Causes.{Rose};
 ghost use Rattle.desk.specs.declared.fault.DeskFault.TheVariants.{Failed};
 ghost use Rattle.desk.specs.Causes.{HasCause, StaysSteady};
@@ -12,12 +12,12 @@ ghost use Rattle.capture_ng.specs.declared.fault.NgFault.TheVariants.{Host};
 
 use crate::NgFault;
 use crate::bodies::whole_fault;
-use crate::coming::{read_end, read_first, read_more};
+use crate::coming::{read_behind, read_end};
+use crate::first::{First, read_first};
 use crate::head::Head;
 use crate::heads::{is_read, read_head};
 use crate::position::Position;
 use desk::{Desk, DeskFault, FileId};
-use octets::Octets;
 use std::alloc::Global;
 
 /// The block that comes next, read to its end, or none at the end of the file: its head, and its octets,
@@ -27,11 +27,11 @@ pub fn read_block<D: Desk>(
     desk: &mut D,
     id: FileId,
     at: &Position,
-) -> Result<Option<(Head, Octets)>, NgFault>
+) -> Result<Option<(Head, Vec<u8>)>, NgFault>
     ensures front { IfOk result (λ o. IfSome (D.told desk.old) (λ w.
         MatchOption o ((left_of id.number w ≡ []) × (None ≡ end_fault at.now))
-        (λ block. IsFront at.now (left_of id.number w) block.0 block.1))) }
-    ensures held { IfOk result (λ o. IfSome o (λ block. IsHeld at.now block.0 block.1)) }
+        (λ block. IsFront at.now (left_of id.number w) block.0 block.1.items))) }
+    ensures held { IfOk result (λ o. IfSome o (λ block. IsHeld at.now block.0 block.1.items)) }
     ensures fault { IfErr result (λ f. is_outside_fault f ≡ false →
         IfSome (D.told desk.old) (λ w. Some f ≡ next_fault at.now (left_of id.number w))) }
     ensures told { IfOk result (λ o.
@@ -43,12 +43,12 @@ pub fn read_block<D: Desk>(
     ensures steady { StaysSteady (D.steady desk.old) (D.steady desk.new)
         (IsGiven id.number to_read (D.given desk.old)) (IsErrOf result Host) }
 {
-    let mut octets = read_first(alloc, desk, id)?;
-    if octets.len() == 0 {
+    let first = read_first(alloc, desk, id)?;
+    if first.len() == 0 {
         return at_end(at);
     }
-    let head = read_head(at, octets.as_slice())?;
-    let last = read_rest(alloc, desk, id, head, &mut octets)?;
+    let head = read_head(at, first.as_slice())?;
+    let Rest { octets, last } = read_rest(alloc, desk, id, head, &first)?;
     if let Some(fault) = whole_fault(at, head, last) {
         return Err(fault);
     }
@@ -56,7 +56,7 @@ pub fn read_block<D: Desk>(
 }
 
 // What is answered where no octet is left: the empty file is cut.
-fn at_end(at: &Position) -> Result<Option<(Head, Octets)>, NgFault>
+fn at_end(at: &Position) -> Result<Option<(Head, Vec<u8>)>, NgFault>
     ensures end { IfOk result (λ o. (o ≡ None) × (None ≡ end_fault at.now)) }
     ensures fault { IfErr result (λ f. (is_outside_fault f ≡ false) × (Some f ≡ end_fault at.now)) }
 {
@@ -66,36 +66,49 @@ fn at_end(at: &Position) -> Result<Option<(Head, Octets)>, NgFault>
     }
 }
 
-// Reads a block to its end behind its first octets, to which the others are added where its body is read.
-// The number in its last four octets, where all came.
+// A block that was read to its end: all of its octets, where its body is read, and the number in its last
+// four, where these came.
+#[derive(Drop)]
+struct Rest {
+    octets: Vec<u8>,
+    last: Option<u32>,
+}
+
+// Reads a block to its end behind its first octets.
 fn read_rest<D: Desk>(
     alloc: Global,
     desk: &mut D,
     id: FileId,
     head: Head,
-    octets: &mut Octets,
-) -> Result<Option<u32>, DeskFault>
-    requires { length octets.old + 4 ≤ head.length }
-    ensures last { IfOk result (λ last. IfSome (D.told desk.old) (λ w.
-        last ≡ last_number head.order (head.length - length octets.old) (left_of id.number w))) }
-    ensures octets { IfOk result (λ last. IfSome (D.told desk.old) (λ w. IsTrue (is_read head.kind) →
-        octets.new ≡ octets.old ++ take (head.length - length octets.old) (left_of id.number w))) }
-    ensures whole { IfOk result (λ last. IfSome last (λ number. IsTrue (is_read head.kind) →
-        length octets.new ≡ head.length)) }
-    ensures told { IfOk result (λ last. IfSome last (λ number. D.told desk.new
-        ≡ option_map (after_read id.number (head.length - length octets.old)) (D.told desk.old))) }
+    first: &First,
+) -> Result<Rest, DeskFault>
+    requires { length first.now + 4 ≤ head.length }
+    ensures last { IfOk result (λ rest. IfSome (D.told desk.old) (λ w.
+        rest.last ≡ last_number head.order (head.length - length first.now) (left_of id.number w))) }
+    ensures octets { IfOk result (λ rest. IfSome (D.told desk.old) (λ w.
+        IsTrue (is_read head.kind) → rest.octets.items
+        ≡ first.now ++ take (head.length - length first.now) (left_of id.number w))) }
+    ensures whole { IfOk result (λ rest. IfSome rest.last (λ number. IsTrue (is_read head.kind) →
+        length rest.octets.items ≡ head.length)) }
+    ensures told { IfOk result (λ rest. IfSome rest.last (λ number. D.told desk.new
+        ≡ option_map (after_read id.number (head.length - length first.now)) (D.told desk.old))) }
     ensures shown { shown (D.told desk.new) ≡ shown (D.told desk.old) }
     ensures given { D.given desk.new ≡ D.given desk.old }
     ensures cause { HasCause (D.faults desk.old) (D.faults desk.new) result }
     ensures steady { StaysSteady (D.steady desk.old) (D.steady desk.new)
         (IsGiven id.number to_read (D.given desk.old)) (IsErrOf result Failed) }
 {
-    let size = head.length - octets.len() as u32;
+    let size = head.length - first.len() as u32;
     if !is_read(head.kind) {
-        return read_end(alloc, desk, id, head.order, size);
+        let last = read_end(alloc, desk, id, head.order, size)?;
+        return Ok(Rest {
+            octets: Vec::new(alloc),
+            last,
+        });
     }
-    read_more(alloc, desk, id, size, octets)?;
-    Ok(last_of(head, octets.as_slice()))
+    let octets = read_behind(alloc, desk, id, first.as_slice(), size)?;
+    let last = last_of(head, &octets);
+    Ok(Rest { octets, last })
 }
 
 // The number in the last four octets of a block, where these came.

@@ -1,75 +1,74 @@
 // Octets of a block, as they come.
-ghost use Rattle.std.specs.Prelude.{◌≡◌, ◌≤◌, ◌+◌, ◌-◌, ◌++◌, ◌&&◌, length, nat_le, take, option_map, IfOk, IfSome, IsErrOf, OnOk};
+ghost use Rattle.std.specs.Prelude.{◌≡◌, ◌≤◌, ◌+◌, ◌-◌, ◌++◌, length, take, option_map, IfOk, IfSome, IsErrOf};
 ghost use Rattle.desk.specs.declared.fault.DeskFault.TheVariants.{Failed};
 ghost use Rattle.desk.specs.Causes.{HasCause, StaysSteady};
 ghost use Rattle.desk.specs.World.{left_of, after_read, to_read, shown, IsGiven};
-ghost use Rattle.capture_ng.specs.Blocks.{begins_section, first_size, last_number};
+ghost use Rattle.capture_ng.specs.Blocks.{last_number};
 ghost use Rattle.capture_ng.specs.Coming.{HasCome};
 
-use crate::heads::begins_section;
 use capture_io::Order;
 use desk::{Desk, DeskFault, FileId, read_full};
-use octets::Octets;
 use std::alloc::Global;
 
 // How many octets that are passed over are in memory at a time.
 const PIECE: usize = 4096;
 
-/// Adds so many octets of the file to the front, or fewer where it ends before.
-pub fn read_more<D: Desk>(
+/// Fills a part of a buffer from the file, as far as the file goes, and says how many octets came.
+pub fn fill_part<D: Desk>(
     alloc: Global,
     desk: &mut D,
     id: FileId,
+    buf: &mut [u8],
+    from: usize,
+    to: usize,
+) -> Result<usize, DeskFault>
+    requires part { from ≤ to }
+    requires within { to ≤ length buf.old }
+    ensures octets { IfOk result (λ n. IfSome (D.told desk.old) (λ w.
+        take (from + n) buf.new ≡ take from buf.old ++ take (to - from) (left_of id.number w))) }
+    ensures front { IfOk result (λ n. take from buf.new ≡ take from buf.old) }
+    ensures most { IfOk result (λ n. n ≤ to - from) }
+    ensures len { length buf.new ≡ length buf.old }
+    ensures told { IfOk result (λ n.
+        D.told desk.new ≡ option_map (after_read id.number n) (D.told desk.old)) }
+    ensures shown { shown (D.told desk.new) ≡ shown (D.told desk.old) }
+    ensures given { D.given desk.new ≡ D.given desk.old }
+    ensures cause { HasCause (D.faults desk.old) (D.faults desk.new) result }
+    ensures steady { StaysSteady (D.steady desk.old) (D.steady desk.new)
+        (IsGiven id.number to_read (D.given desk.old)) (IsErrOf result Failed) }
+{
+    let n = read_full(alloc, desk, id, &mut buf[from..to])?;
+    Ok(n)
+}
+
+/// The octets, and behind them so many of the file, or fewer where it ends before.
+pub fn read_behind<D: Desk>(
+    alloc: Global,
+    desk: &mut D,
+    id: FileId,
+    first: &[u8],
     size: u32,
-    front: &mut Octets,
-) -> Result<(), DeskFault>
-    ensures octets { OnOk result (IfSome (D.told desk.old) (λ w.
-        front.new ≡ front.old ++ take size (left_of id.number w))) }
-    ensures told { OnOk result (D.told desk.new
-        ≡ option_map (after_read id.number (length front.new - length front.old)) (D.told desk.old)) }
-    ensures most { OnOk result (length front.new ≤ length front.old + size) }
-    ensures front { OnOk result (take (length front.old) front.new ≡ front.old) }
-    ensures more { OnOk result (length front.old ≤ length front.new) }
+) -> Result<Vec<u8>, DeskFault>
+    requires { length first.now ≤ 12 }
+    ensures octets { IfOk result (λ o. IfSome (D.told desk.old) (λ w.
+        o.items ≡ first.now ++ take size (left_of id.number w))) }
+    ensures most { IfOk result (λ o. length o.items ≤ length first.now + size) }
+    ensures told { IfOk result (λ o. D.told desk.new
+        ≡ option_map (after_read id.number (length o.items - length first.now)) (D.told desk.old)) }
     ensures shown { shown (D.told desk.new) ≡ shown (D.told desk.old) }
     ensures given { D.given desk.new ≡ D.given desk.old }
     ensures cause { HasCause (D.faults desk.old) (D.faults desk.new) result }
     ensures steady { StaysSteady (D.steady desk.old) (D.steady desk.new)
         (IsGiven id.number to_read (D.given desk.old)) (IsErrOf result Failed) }
 {
-    let mut piece = vec![in alloc; 0u8; size as usize]?;
-    let n = read_full(alloc, desk, id, &mut piece)?;
-    front.append(&piece[..n])?;
-    Ok(())
-}
-
-/// The first octets of a block: twelve of a section header, eight of any other, or fewer where the file
-/// ends before.
-pub fn read_first<D: Desk>(alloc: Global, desk: &mut D, id: FileId) -> Result<Octets, DeskFault>
-    ensures octets { IfOk result (λ first. IfSome (D.told desk.old) (λ w.
-        first ≡ take (first_size (left_of id.number w)) (left_of id.number w))) }
-    ensures most { IfOk result (λ first. length first ≤ first_size first) }
-    ensures told { IfOk result (λ first.
-        D.told desk.new ≡ option_map (after_read id.number (length first)) (D.told desk.old)) }
-    ensures shown { shown (D.told desk.new) ≡ shown (D.told desk.old) }
-    ensures given { D.given desk.new ≡ D.given desk.old }
-    ensures cause { HasCause (D.faults desk.old) (D.faults desk.new) result }
-    ensures steady { StaysSteady (D.steady desk.old) (D.steady desk.new)
-        (IsGiven id.number to_read (D.given desk.old)) (IsErrOf result Failed) }
-{
-    let mut first = Octets::new(alloc);
-    read_more(alloc, desk, id, 8, &mut first)?;
-    if !is_longer_head(first.as_slice()) {
-        return Ok(first);
-    }
-    read_more(alloc, desk, id, 4, &mut first)?;
-    Ok(first)
-}
-
-// Eight octets that begin a section header.
-fn is_longer_head(octets: &[u8]) -> bool
-    ensures { result ≡ (nat_le 8 (length octets.now) && begins_section octets.now) }
-{
-    octets.len() >= 8 && begins_section(octets)
+    let place = first.len();
+    let whole = place + size as usize;
+    let mut octets = Vec::with_capacity(alloc, whole)?;
+    octets.extend_from_slice(first)?;
+    octets.resize(whole, 0)?;
+    let n = fill_part(alloc, desk, id, octets.as_mut_slice(), place, whole)?;
+    octets.truncate(place + n);
+    Ok(octets)
 }
 
 /// Reads past so many octets; the number in the last four of them, where all came.

@@ -41,7 +41,7 @@ pub fn find_frame<D: Desk>(
         (IsGiven id.number to_read (D.given desk.old)) (IsErrOf result Host) }
 {
     while let Some((head, octets)) = read_block(alloc, desk, id, at)? {
-        if let Some(frame) = take_block(alloc, vlans, at, head, octets.as_slice())? {
+        if let Some(frame) = take_block(alloc, vlans, at, head, octets)? {
             return Ok(Some(frame));
         }
     }

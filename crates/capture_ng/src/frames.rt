@@ -26,24 +26,25 @@ pub fn read_packet(
     vlans: bool,
     at: &Position,
     head: Head,
-    octets: &[u8],
+    octets: Vec<u8>,
 ) -> Result<Frame, NgFault>
     requires fields { packet_place head + 4 ≤ head.length }
-    requires whole { length octets.now ≡ head.length }
+    requires whole { length octets.items ≡ head.length }
     requires count { at.now.count < most_records }
-    ensures rules { IfOk result (λ f. first_failing (packet_rules at.now head octets.now) ≡ None) }
+    ensures rules { IfOk result (λ f. first_failing (packet_rules at.now head octets.items) ≡ None) }
     ensures frame { IfOk result (λ f. Some f ≡ option_map (frame_of vlans)
-        (option_and_then (packet_of at.now head octets.now) (interface_of at.now head octets.now))) }
+        (option_and_then (packet_of at.now head octets.items) (interface_of at.now head octets.items))) }
     ensures next { IfOk result (IsNext vlans at.now) }
     ensures fault { IfErr result (λ fault. is_outside_fault fault ≡ false →
-        Some fault ≡ first_failing (packet_rules at.now head octets.now)) }
+        Some fault ≡ first_failing (packet_rules at.now head octets.items)) }
     ensures host { IsErrOf result Host → ⊥ }
 {
-    let number = interface_number(head, octets);
+    let block = octets.as_slice();
+    let number = interface_number(head, block);
     let Some(interface) = interface_at(at, number) else {
         return Err(NgFault::BadInterface(at.place));
     };
-    let seen = read_seen(at, head, interface, octets)?;
+    let seen = read_seen(at, head, interface, block)?;
     let kept = kept_octets(head, seen.kept, octets);
     let octets = frame_octets(alloc, vlans, number, seen.link, kept)?;
     Ok(Frame {
@@ -63,14 +64,17 @@ fn interface_at(at: &Position, number: u32) -> Option<Interface>
     at.interfaces.as_slice().get(number as usize).copied()
 }
 
-// The octets that a packet block keeps of its packet.
-fn kept_octets(head: Head, kept: u32, octets: &[u8]) -> &[u8]
-    requires { packet_place head + kept ≤ length octets.now }
-    ensures { result.now ≡ take kept (drop (packet_place head) octets.now) }
+// The octets that a packet block keeps of its packet, in the room of the block's.
+fn kept_octets(head: Head, kept: u32, octets: Vec<u8>) -> Vec<u8>
+    requires { packet_place head + kept ≤ length octets.items }
+    ensures value { result.items ≡ take kept (drop (packet_place head) octets.items) }
+    ensures most { length result.items ≤ kept }
 {
-    let (_, behind) = octets.split_at(packet_place(head) as usize);
-    let (kept, _) = behind.split_at(kept as usize);
-    kept
+    let mut octets = octets;
+    let place = packet_place(head) as usize;
+    octets.copy_within(place..place + kept as usize, 0);
+    octets.truncate(kept as usize);
+    octets
 }
 
 // The octets of a frame: those that were kept, with a tag where its interface is a VLAN.
@@ -79,16 +83,26 @@ fn frame_octets(
     vlans: bool,
     number: u32,
     link: Link,
-    kept: &[u8],
+    kept: Vec<u8>,
 ) -> Result<Octets, NoMemory>
     requires { number < 65536 }
     ensures value { IfOk result (λ o. o ≡
-        (if vlans && (nat_lt 0 number && is_untagged link kept.now) then tagged number kept.now
-        else kept.now)) }
+        (if vlans && (nat_lt 0 number && is_untagged link kept.items) then tagged number kept.items
+        else kept.items)) }
+    ensures most { IfOk result (λ o. length o ≤ length kept.items + 4) }
     ensures octets { IfOk result (All (λ octet. octet < 256)) }
 {
-    if vlans && (number > 0 && is_untagged(link, kept)) {
-        return tagged(alloc, number as u16, kept);
+    let octets = kept.as_slice();
+    if gets_tag(vlans, number, link, octets) {
+        return tagged(alloc, number as u16, octets);
     }
-    Octets::copied(alloc, kept)
+    Ok(Octets::from_vec(kept))
+}
+
+// Whether a frame gets the number of its interface as its tag; and that they are octets.
+fn gets_tag(vlans: bool, number: u32, link: Link, octets: &[u8]) -> bool
+    ensures value { result ≡ (vlans && (nat_lt 0 number && is_untagged link octets.now)) }
+    ensures octets { All (λ octet. octet < 256) octets.now }
+{
+    vlans && (number > 0 && is_untagged(link, octets))
 }

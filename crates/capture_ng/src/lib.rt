@@ -7,6 +7,7 @@ mod coming;
 mod examples;
 mod fault;
 mod finding;
+mod first;
 mod frames;
 mod head;
 mod heads;

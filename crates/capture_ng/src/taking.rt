@@ -28,29 +28,29 @@ pub fn take_block(
     vlans: bool,
     at: &mut Position,
     head: Head,
-    octets: &[u8],
+    octets: Vec<u8>,
 ) -> Result<Option<Frame>, NgFault>
-    requires { IsHeld at.old head octets.now }
+    requires { IsHeld at.old head octets.items }
     ensures rules { IfOk result (λ o.
-        first_failing (body_rules head.kind at.old head octets.now) ≡ None) }
-    ensures position { IfOk result (λ o. at.new ≡ after_block head.kind at.old head octets.now) }
+        first_failing (body_rules head.kind at.old head octets.items) ≡ None) }
+    ensures position { IfOk result (λ o. at.new ≡ after_block head.kind at.old head octets.items) }
     ensures frame { IfOk result (λ o.
-        o ≡ option_map (frame_of vlans) (packet_in at.old head octets.now)) }
+        o ≡ option_map (frame_of vlans) (packet_in at.old head octets.items)) }
     ensures next { IfOk result (λ o. IfSome o (IsNext vlans at.old)) }
     ensures count { IfOk result (λ o. IsCounted o at.old at.new) }
     ensures blocks { IfOk result (λ o. at.new.blocks ≡ at.old.blocks + 1) }
     ensures fault { IfErr result (λ fault. is_outside_fault fault ≡ false →
-        Some fault ≡ first_failing (body_rules head.kind at.old head octets.now)) }
+        Some fault ≡ first_failing (body_rules head.kind at.old head octets.items)) }
     ensures host { IsErrOf result Host → ⊥ }
     ensures err { IfErr result (λ fault. at.new ≡ at.old) }
 {
     match head.kind {
         Kind::SectionHeader => {
-            begin_section(at, head, octets)?;
+            begin_section(at, head, &octets)?;
             Ok(None)
         }
         Kind::InterfaceDescription => {
-            add_interface(at, head, octets)?;
+            add_interface(at, head, &octets)?;
             Ok(None)
         }
         Kind::SimplePacket => Ok(Some(take_packet(alloc, vlans, at, head, octets)?)),
@@ -112,22 +112,22 @@ fn take_packet(
     vlans: bool,
     at: &mut Position,
     head: Head,
-    octets: &[u8],
+    octets: Vec<u8>,
 ) -> Result<Frame, NgFault>
     requires fields { packet_place head + 4 ≤ head.length }
-    requires whole { length octets.now ≡ head.length }
+    requires whole { length octets.items ≡ head.length }
     requires count { at.old.count < most_records }
     requires room { at.old.blocks < most_blocks }
-    ensures rules { IfOk result (λ f. first_failing (packet_rules at.old head octets.now) ≡ None) }
+    ensures rules { IfOk result (λ f. first_failing (packet_rules at.old head octets.items) ≡ None) }
     ensures position { IfOk result (λ f. at.new ≡ counted (passed at.old head)
-        (option_and_then (packet_of at.old head octets.now) (interface_of at.old head octets.now))) }
+        (option_and_then (packet_of at.old head octets.items) (interface_of at.old head octets.items))) }
     ensures frame { IfOk result (λ f. Some f ≡ option_map (frame_of vlans)
-        (option_and_then (packet_of at.old head octets.now) (interface_of at.old head octets.now))) }
+        (option_and_then (packet_of at.old head octets.items) (interface_of at.old head octets.items))) }
     ensures next { IfOk result (IsNext vlans at.old) }
     ensures count { IfOk result (λ f. IsCounted (Some f) at.old at.new) }
     ensures blocks { IfOk result (λ f. at.new.blocks ≡ at.old.blocks + 1) }
     ensures fault { IfErr result (λ fault. is_outside_fault fault ≡ false →
-        Some fault ≡ first_failing (packet_rules at.old head octets.now)) }
+        Some fault ≡ first_failing (packet_rules at.old head octets.items)) }
     ensures host { IsErrOf result Host → ⊥ }
     ensures err { IfErr result (λ fault. at.new ≡ at.old) }
 {

@@ -1,4 +1,4 @@
-use Rattle.std.proofs.Common.{◌≡◌, ◌∙◌, ◌+◌, Option, Some, None, Ok, refl, subst, sym, ap, unwrap_or, rules, arith}
+use Rattle.std.proofs.Common.{◌∙◌, ◌+◌, Option, Some, None, Ok, refl, subst, sym, ap, arith}
 use Rattle.std.proofs.lemmas.Result.{err_from_is_err_and}
 use Rattle.capture_io.specs.Frame.{Frame}
 use Rattle.desk.proofs.Reading.{reads_on}
@@ -31,15 +31,15 @@ returns-in_err-head-clause-fault g c =
 pub returns-in_err-frame-clause-answer : goal.returns-in_err-frame-clause-answer
 returns-in_err-frame-clause-answer g c =
     let p = err_from_is_err_and c.from_residual-in_err-frame.result c.from_residual-in_err-frame.ensures.1 in
-    let is = refused_found c.args.id.number c.args.vlans (g.D.Desk.told c.args.desk.now) (g.D.Desk.told c.loop-head.desk) c.args.at.now c.loop-head.at c.in-Some.head c.as_slice.result.now c.in_err-frame.field-0.0 c.loop-head.invariant.past
-    (front_of c.args.id.number (g.D.Desk.told c.loop-head.desk) c.loop-head.at c.in_ok-head.field-0 c.in-Some.head c.in-Some.octets c.as_slice.result.now c.in-Some.is c.as_slice.ensures c.in_ok-head.ensures.front) (held_of c.loop-head.at c.in_ok-head.field-0 c.in-Some.head c.in-Some.octets c.as_slice.result.now c.in-Some.is c.as_slice.ensures c.in_ok-head.ensures.held) c.in_err-frame.ensures.fault in
+    let is = refused_found c.args.id.number c.args.vlans (g.D.Desk.told c.args.desk.now) (g.D.Desk.told c.loop-head.desk) c.args.at.now c.loop-head.at c.in-Some.head c.in-Some.octets.items c.in_err-frame.field-0.0 c.loop-head.invariant.past
+    (front_of c.args.id.number (g.D.Desk.told c.loop-head.desk) c.loop-head.at c.in_ok-head.field-0 c.in-Some.head c.in-Some.octets c.in-Some.is c.in_ok-head.ensures.front) (held_of c.loop-head.at c.in_ok-head.field-0 c.in-Some.head c.in-Some.octets c.in-Some.is c.in_ok-head.ensures.held) c.in_err-frame.ensures.fault in
     rw (p.1, p.2) (fault_answers c.args.id.number c.args.vlans (g.D.Desk.told c.args.desk.now) c.args.at.now c.loop-head.at c.in_err-frame.field-0.0 c.loop-head.invariant.past.taken is)
 
 pub returns-in_err-frame-clause-position : goal.returns-in_err-frame-clause-position
 returns-in_err-frame-clause-position g c =
     let p = err_from_is_err_and c.from_residual-in_err-frame.result c.from_residual-in_err-frame.ensures.1 in
-    let is = refused_found c.args.id.number c.args.vlans (g.D.Desk.told c.args.desk.now) (g.D.Desk.told c.loop-head.desk) c.args.at.now c.loop-head.at c.in-Some.head c.as_slice.result.now c.in_err-frame.field-0.0 c.loop-head.invariant.past
-    (front_of c.args.id.number (g.D.Desk.told c.loop-head.desk) c.loop-head.at c.in_ok-head.field-0 c.in-Some.head c.in-Some.octets c.as_slice.result.now c.in-Some.is c.as_slice.ensures c.in_ok-head.ensures.front) (held_of c.loop-head.at c.in_ok-head.field-0 c.in-Some.head c.in-Some.octets c.as_slice.result.now c.in-Some.is c.as_slice.ensures c.in_ok-head.ensures.held) c.in_err-frame.ensures.fault in
+    let is = refused_found c.args.id.number c.args.vlans (g.D.Desk.told c.args.desk.now) (g.D.Desk.told c.loop-head.desk) c.args.at.now c.loop-head.at c.in-Some.head c.in-Some.octets.items c.in_err-frame.field-0.0 c.loop-head.invariant.past
+    (front_of c.args.id.number (g.D.Desk.told c.loop-head.desk) c.loop-head.at c.in_ok-head.field-0 c.in-Some.head c.in-Some.octets c.in-Some.is c.in_ok-head.ensures.front) (held_of c.loop-head.at c.in_ok-head.field-0 c.in-Some.head c.in-Some.octets c.in-Some.is c.in_ok-head.ensures.held) c.in_err-frame.ensures.fault in
     rw (p.1, p.2) (fault_stands c.args.id.number c.args.vlans (g.D.Desk.told c.args.desk.now) c.args.at.now c.loop-head.at c.take_block.new.at c.in_err-frame.field-0.0 c.loop-head.invariant.past.taken c.in_err-frame.ensures.err is)
 
 pub returns-in_err-frame-clause-fault : goal.returns-in_err-frame-clause-fault
@@ -49,8 +49,8 @@ returns-in_err-frame-clause-fault g c =
 
 pub returns-in-Some-2-clause-answer : goal.returns-in-Some-2-clause-answer
 returns-in-Some-2-clause-answer g c =
-    let here = found_block c.args.id.number c.args.vlans (g.D.Desk.told c.loop-head.desk) c.loop-head.at c.take_block.new.at c.in-Some.head c.as_slice.result.now (Some c.in-Some-2.frame)
-    (front_of c.args.id.number (g.D.Desk.told c.loop-head.desk) c.loop-head.at c.in_ok-head.field-0 c.in-Some.head c.in-Some.octets c.as_slice.result.now c.in-Some.is c.as_slice.ensures c.in_ok-head.ensures.front) (held_of c.loop-head.at c.in_ok-head.field-0 c.in-Some.head c.in-Some.octets c.as_slice.result.now c.in-Some.is c.as_slice.ensures c.in_ok-head.ensures.held)
+    let here = found_block c.args.id.number c.args.vlans (g.D.Desk.told c.loop-head.desk) c.loop-head.at c.take_block.new.at c.in-Some.head c.in-Some.octets.items (Some c.in-Some-2.frame)
+    (front_of c.args.id.number (g.D.Desk.told c.loop-head.desk) c.loop-head.at c.in_ok-head.field-0 c.in-Some.head c.in-Some.octets c.in-Some.is c.in_ok-head.ensures.front) (held_of c.loop-head.at c.in_ok-head.field-0 c.in-Some.head c.in-Some.octets c.in-Some.is c.in_ok-head.ensures.held)
     c.in_ok-frame.ensures.rules c.in_ok-frame.ensures.position (sym c.in-Some-2.is ∙ c.in_ok-frame.ensures.frame) in
     let is = frame_found c.args.id.number c.args.vlans (g.D.Desk.told c.args.desk.now) (g.D.Desk.told c.loop-head.desk) c.args.at.now c.loop-head.at c.take_block.new.at c.in-Some-2.frame c.in-Some.head.length c.loop-head.invariant.past here in
     let taken = c.loop-head.invariant.past.taken + c.in-Some.head.length in
@@ -58,8 +58,8 @@ returns-in-Some-2-clause-answer g c =
 
 pub returns-in-Some-2-clause-position : goal.returns-in-Some-2-clause-position
 returns-in-Some-2-clause-position g c =
-    let here = found_block c.args.id.number c.args.vlans (g.D.Desk.told c.loop-head.desk) c.loop-head.at c.take_block.new.at c.in-Some.head c.as_slice.result.now (Some c.in-Some-2.frame)
-    (front_of c.args.id.number (g.D.Desk.told c.loop-head.desk) c.loop-head.at c.in_ok-head.field-0 c.in-Some.head c.in-Some.octets c.as_slice.result.now c.in-Some.is c.as_slice.ensures c.in_ok-head.ensures.front) (held_of c.loop-head.at c.in_ok-head.field-0 c.in-Some.head c.in-Some.octets c.as_slice.result.now c.in-Some.is c.as_slice.ensures c.in_ok-head.ensures.held)
+    let here = found_block c.args.id.number c.args.vlans (g.D.Desk.told c.loop-head.desk) c.loop-head.at c.take_block.new.at c.in-Some.head c.in-Some.octets.items (Some c.in-Some-2.frame)
+    (front_of c.args.id.number (g.D.Desk.told c.loop-head.desk) c.loop-head.at c.in_ok-head.field-0 c.in-Some.head c.in-Some.octets c.in-Some.is c.in_ok-head.ensures.front) (held_of c.loop-head.at c.in_ok-head.field-0 c.in-Some.head c.in-Some.octets c.in-Some.is c.in_ok-head.ensures.held)
     c.in_ok-frame.ensures.rules c.in_ok-frame.ensures.position (sym c.in-Some-2.is ∙ c.in_ok-frame.ensures.frame) in
     let is = frame_found c.args.id.number c.args.vlans (g.D.Desk.told c.args.desk.now) (g.D.Desk.told c.loop-head.desk) c.args.at.now c.loop-head.at c.take_block.new.at c.in-Some-2.frame c.in-Some.head.length c.loop-head.invariant.past here in
     let taken = c.loop-head.invariant.past.taken + c.in-Some.head.length in
@@ -67,8 +67,8 @@ returns-in-Some-2-clause-position g c =
 
 pub returns-in-Some-2-clause-told : goal.returns-in-Some-2-clause-told
 returns-in-Some-2-clause-told g c =
-    let here = found_block c.args.id.number c.args.vlans (g.D.Desk.told c.loop-head.desk) c.loop-head.at c.take_block.new.at c.in-Some.head c.as_slice.result.now (Some c.in-Some-2.frame)
-    (front_of c.args.id.number (g.D.Desk.told c.loop-head.desk) c.loop-head.at c.in_ok-head.field-0 c.in-Some.head c.in-Some.octets c.as_slice.result.now c.in-Some.is c.as_slice.ensures c.in_ok-head.ensures.front) (held_of c.loop-head.at c.in_ok-head.field-0 c.in-Some.head c.in-Some.octets c.as_slice.result.now c.in-Some.is c.as_slice.ensures c.in_ok-head.ensures.held)
+    let here = found_block c.args.id.number c.args.vlans (g.D.Desk.told c.loop-head.desk) c.loop-head.at c.take_block.new.at c.in-Some.head c.in-Some.octets.items (Some c.in-Some-2.frame)
+    (front_of c.args.id.number (g.D.Desk.told c.loop-head.desk) c.loop-head.at c.in_ok-head.field-0 c.in-Some.head c.in-Some.octets c.in-Some.is c.in_ok-head.ensures.front) (held_of c.loop-head.at c.in_ok-head.field-0 c.in-Some.head c.in-Some.octets c.in-Some.is c.in_ok-head.ensures.held)
     c.in_ok-frame.ensures.rules c.in_ok-frame.ensures.position (sym c.in-Some-2.is ∙ c.in_ok-frame.ensures.frame) in
     let is = frame_found c.args.id.number c.args.vlans (g.D.Desk.told c.args.desk.now) (g.D.Desk.told c.loop-head.desk) c.args.at.now c.loop-head.at c.take_block.new.at c.in-Some-2.frame c.in-Some.head.length c.loop-head.invariant.past here in
     let taken = c.loop-head.invariant.past.taken + c.in-Some.head.length in
@@ -82,8 +82,8 @@ returns-in-Some-2-clause-next g c =
 
 pub loop-head-preserved : goal.loop-head-preserved
 loop-head-preserved g c =
-    let here = found_block c.args.id.number c.args.vlans (g.D.Desk.told c.loop-head.desk) c.loop-head.at c.take_block.new.at c.in-Some.head c.as_slice.result.now (None)
-    (front_of c.args.id.number (g.D.Desk.told c.loop-head.desk) c.loop-head.at c.in_ok-head.field-0 c.in-Some.head c.in-Some.octets c.as_slice.result.now c.in-Some.is c.as_slice.ensures c.in_ok-head.ensures.front) (held_of c.loop-head.at c.in_ok-head.field-0 c.in-Some.head c.in-Some.octets c.as_slice.result.now c.in-Some.is c.as_slice.ensures c.in_ok-head.ensures.held)
+    let here = found_block c.args.id.number c.args.vlans (g.D.Desk.told c.loop-head.desk) c.loop-head.at c.take_block.new.at c.in-Some.head c.in-Some.octets.items (None)
+    (front_of c.args.id.number (g.D.Desk.told c.loop-head.desk) c.loop-head.at c.in_ok-head.field-0 c.in-Some.head c.in-Some.octets c.in-Some.is c.in_ok-head.ensures.front) (held_of c.loop-head.at c.in_ok-head.field-0 c.in-Some.head c.in-Some.octets c.in-Some.is c.in_ok-head.ensures.held)
     c.in_ok-frame.ensures.rules c.in_ok-frame.ensures.position (sym c.in_default-2.is ∙ c.in_ok-frame.ensures.frame) in
     let stays = subst (λ (o : Option Frame). IsCounted o c.loop-head.at c.take_block.new.at) c.in_default-2.is c.in_ok-frame.ensures.count in
     record {
