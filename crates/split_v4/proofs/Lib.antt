@@ -1,0 +1,11 @@
+pub mod OptionLemmas
+pub mod CutLemmas
+pub mod SizeLemmas
+pub mod Zeros
+pub mod PartLemmas
+pub mod LeavingLemmas
+pub mod FactLemmas
+pub mod JoinLemmas
+pub mod FlagLemmas
+pub mod CopyLemmas
+pub mod OrderLemmas

@@ -1,0 +1,5 @@
+pub mod Examples
+pub mod Halves
+pub mod Joining
+pub mod Limits
+pub mod Options
