@@ -1,5 +1,5 @@
 -- What a reader of a classic capture gives next, and what is left behind it.
-use Rattle.std.proofs.Common.{◌≡◌, ◌+◌, ℕ, List, length, drop, Option, Some, None, Result, Ok, Err, false, refl, ap, sym, subst, ◌∙◌}
+use Rattle.std.proofs.Common.{◌≡◌, ◌+◌, ℕ, List, length, Option, Some, None, Result, Ok, Err, false, refl, ap, sym, subst, ◌∙◌}
 use Rattle.std.specs.Option.{option_map, IfNone, IfSome, IsSomeAnd}
 use Rattle.desk.specs.World.{World, after_read, left_of}
 use Rattle.desk.proofs.Reading.{left-after_read}

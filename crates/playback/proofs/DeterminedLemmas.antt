@@ -3,7 +3,7 @@ use Rattle.std.proofs.Common.{◌≡◌, ℕ, List, [], ◌∷◌, ◌++◌, Opt
 use Rattle.std.proofs.lemmas.List.{append-nil}
 use Rattle.desk.specs.World.{World, Shown}
 use Rattle.capture_io.specs.Frame.{Frame}
-use Rattle.capture_events.specs.Came.{Came}
+use Rattle.playback.specs.Arrivals.{Arrived}
 use Rattle.playback.specs.Determined.{CutPlay, EndPlay}
 use Rattle.capture_events.specs.Events.{Determined, End, Event, Happens, Outcome, Pause, Played, Step, events, followed, happened, played, records_of}
 use Rattle.playback.specs.Front.{Cut, CutRun, IsFront}
@@ -48,7 +48,7 @@ module _ {S : Type 0} (step : S → Event → Outcome S) where
         }
 
     -- a play of these frames that is cut short
-    cut-frames : (run : InputRun) (frames : List Frame) (all : List Step) (now : Option World) → happened all ≡ events frames → IsFront frames run.frames → Came frames
+    cut-frames : (run : InputRun) (frames : List Frame) (all : List Step) (now : Option World) → happened all ≡ events frames → IsFront frames run.frames → Arrived frames
         → Cut (Determined step) start file old all now → CutPlay step start file old run now
     cut-frames run frames all now same within came cut =
         let some = happened cut.first in

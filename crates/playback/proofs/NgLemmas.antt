@@ -1,5 +1,5 @@
 -- What a reader of a pcapng capture gives next, and what is left behind it.
-use Rattle.std.proofs.Common.{◌≡◌, ℕ, List, length, Option, Some, None, Result, Ok, Err, Bool, true, false, arith, refl, ap}
+use Rattle.std.proofs.Common.{◌≡◌, Option, Some, None, Result, Ok, Err, Bool, true, false, arith, refl, ap}
 use Rattle.std.specs.Option.{IfNone, IfSome, IsSomeAnd}
 use Rattle.desk.specs.World.{World, left_of, shown}
 use Rattle.capture_io.specs.Frame.{Frame}
@@ -9,8 +9,8 @@ use Rattle.capture_ng.specs.Frames.{read_on}
 use Rattle.capture_ng.specs.Reading.{NgReading, IsCounted, IsNext as IsNextNg}
 use Rattle.capture_ng.specs.declared.fault.NgFault.{NgFault}
 use Rattle.playback.specs.Input.{InputRun, IsNext, behind, input_run}
+use Rattle.playback.specs.Limits.{most_records}
 use Rattle.playback.specs.declared.fault.InputFault.TheVariants.{Ng}
-use Rattle.playback.specs.declared.progress.Progress.{Progress}
 
 -- what a reader has still to give in a world
 abbrev left : NgReading → World → InputRun
@@ -50,9 +50,9 @@ comes-fault old new fault (Some w) None none rests same own = cc
 comes-fault old new fault (Some w) (Some v) none rests same own = ap (input_run Ng) (opened old.fault none rests own)
 
 -- a frame, with a tag or without
-pub is-next : (vlans : Bool) (r : NgReading) (f : Frame) → IsNextNg vlans r.position f → IsNext (record { frames = r.position.count; moment = r.position.greatest }) f
-is-next true r f next = record { number = next.number; most = next.most; later = next.later; moment = next.moment; size = next.size; octets = next.octets }
-is-next false r f next = let size = next.size in record { number = next.number; most = next.most; later = next.later; moment = next.moment; size = omega (arith, size); octets = next.octets }
+pub is-next : (vlans : Bool) (r : NgReading) (f : Frame) → IsNextNg vlans r.position f → IsNext most_records (record { frames = r.position.count; moment = r.position.greatest }) f
+is-next true r f next = record { number = next.number; few = next.most; later = next.later; moment = next.moment; size = next.size; octets = next.octets }
+is-next false r f next = let size = next.size in record { number = next.number; few = next.most; later = next.later; moment = next.moment; size = omega (arith, size); octets = next.octets }
 
 -- how far it has come
 pub is-behind : (r : NgReading) (f : Frame) (old : NgReading) → IsCounted (Some f) old.position r.position → record { frames = r.position.count; moment = r.position.greatest } ≡ behind f

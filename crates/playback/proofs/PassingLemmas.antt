@@ -1,5 +1,5 @@
 -- The frames of a capture one after another: which came and were played, and what is left.
-use Rattle.std.proofs.Common.{◌≡◌, ◌≤◌, ℕ, ◌+◌, length, List, [], ◌∷◌, ◌++◌, drop, Option, Some, None, Result, Ok, Err, append_assoc, refl, sym, ap, ap₂, ◌∙◌, subst, inl, inr, arith, unwrap_or}
+use Rattle.std.proofs.Common.{◌≡◌, ◌≤◌, ℕ, length, List, [], ◌∷◌, ◌++◌, Option, Some, None, Result, Ok, Err, append_assoc, refl, sym, ap, ap₂, ◌∙◌, subst, inl, inr, arith, unwrap_or}
 use Rattle.std.specs.List.{All}
 use Rattle.std.proofs.lemmas.List.{append-nil, length-append}
 use Rattle.std.proofs.lemmas.List.Elements.{All-append, All-cons, All-nil}
@@ -8,11 +8,12 @@ use Rattle.std.specs.Result.{IfOk, OnErr, OnOk}
 use Rattle.desk.specs.World.{World, Shown, found_at, left_of, shown, shown_of}
 use Rattle.capture_io.specs.Frame.{Frame}
 use Rattle.capture_io.specs.Run.{AreLater, before, ended}
-use Rattle.capture_events.specs.Came.{Came, IsRead}
+use Rattle.capture_events.specs.Came.{IsRead}
+use Rattle.playback.specs.Arrivals.{Arrived}
 use Rattle.capture_events.specs.Events.{AreStepsOf, End, Event, GoesOn, Outcome, Pause, Step, events, events_after, events_of, followed, happened, idle, records_of, steps_of}
 use Rattle.playback.specs.Front.{Breaks, Cut, CutRun, Stands}
-use Rattle.playback.specs.Input.{IfFrame, InputRun, IsNext, Comes, beginning, behind, left_in}
-use Rattle.playback.specs.Limits.{most_records}
+use Rattle.playback.specs.Input.{InputRun, IsNext, beginning, behind, left_in}
+use Rattle.playback.specs.Limits.{most_frames}
 use Rattle.playback.specs.Passing.{IsOver, Passed}
 use Rattle.playback.specs.Playing.{handed_on, with_output, GathersOne, HasPlayed, KeepsReaders}
 use Rattle.playback.specs.declared.fault.InputFault.{InputFault}
@@ -48,8 +49,19 @@ StaysLeft left = (a b : World) → KeepsReaders (Some a) (Some b) → left b ≡
 pub left_in-stays : {R : Type 0} (id : R → ℕ) (run : R → List ℕ → InputRun) (reader : R) → StaysLeft (left_in id run reader)
 left_in-stays id run reader a b keeps = ap (run reader) (left-kept (id reader) a b keeps)
 
+-- a frame that may come next where fewer come may come where more do
+pub next-within : (most : ℕ) (at : Progress) (f : Frame) → most ≤ most_frames → IsNext most at f → IsNext most_frames at f
+next-within most at f few next = record {
+  number = next.number;
+  few = omega (arith, few, next.few);
+  later = next.later;
+  moment = next.moment;
+  size = next.size;
+  octets = next.octets;
+}
+
 -- a frame that came next was read
-pub was-read : (at : Progress) (f : Frame) → IsNext at f → IsRead f
+pub was-read : (at : Progress) (f : Frame) → IsNext most_frames at f → IsRead f
 was-read at f next = record { moment = next.moment; octets = next.octets }
 
 -- the frames with the one that was read
@@ -121,7 +133,7 @@ module _ {S : Type 0} (does : S → Step → Outcome S → Type 0) (file : Optio
 
   -- the frames that came so far
   came-so-far : (start : S) (run : InputRun) (old : Shown) (left : World → InputRun) (at : Progress) (state : S) (output : Output) (now : Option World) (w : World)
-      → (p : Passed does file start run old left at state output now w) → Came p.frames
+      → (p : Passed does file start run old left at state output now w) → Arrived p.frames
   came-so-far start run old left at state output now w p =
       let count = p.count in
       let most = p.most in
@@ -132,11 +144,11 @@ module _ {S : Type 0} (does : S → Step → Outcome S → Type 0) (file : Optio
       }
 
   -- with a frame more
-  came-then : (frames : List Frame) (at : Progress) (f : Frame) → IsNext at f → All IsRead frames → at.frames ≡ length frames
-      → ((more : List Frame) → AreLater (unwrap_or at.moment 0) more → AreLater 0 (frames ++ more)) → Came (frames ++ f ∷ [])
+  came-then : (frames : List Frame) (at : Progress) (f : Frame) → IsNext most_frames at f → All IsRead frames → at.frames ≡ length frames
+      → ((more : List Frame) → AreLater (unwrap_or at.moment 0) more → AreLater 0 (frames ++ more)) → Arrived (frames ++ f ∷ [])
   came-then frames at f next read count later =
       let number = next.number in
-      let most = next.most in
+      let most = next.few in
       let sum = length-append frames (f ∷ []) in
       record {
         read = all-read frames f read (was-read at f next);
@@ -146,7 +158,7 @@ module _ {S : Type 0} (does : S → Step → Outcome S → Type 0) (file : Optio
 
   -- a frame came and was played
   pub passing-on : (start : S) (run left rest : World → InputRun) (at : Progress) (state next : S) (old mid read now : Option World) (one two : Output) (f : Frame)
-      → Passing start run left at state one old mid → IsBehind f left rest mid read → StaysLeft rest → IsNext at f
+      → Passing start run left at state one old mid → IsBehind f left rest mid read → StaysLeft rest → IsNext most_frames at f
       → shown read ≡ shown mid → KeepsReaders read now
       → ((first : S) (shown_first : Shown) (past : List Step) → Stands does first file shown_first past state one read
       → Stands does first file shown_first (past ++ steps_of (events_of at.moment f)) next two now)
@@ -162,7 +174,7 @@ module _ {S : Type 0} (does : S → Step → Outcome S → Type 0) (file : Optio
       let still = stands_shown does start file (shown_of w) passing.steps state one (Some v) (Some r) same passing.stands in
       let count = passing.count in
       let number = is.number in
-      let most = is.most in
+      let most = is.few in
       let sum = length-append frames (f ∷ []) in
       record {
         frames = frames ++ f ∷ [];
@@ -194,7 +206,7 @@ module _ {S : Type 0} (does : S → Step → Outcome S → Type 0) (file : Optio
 
   -- one while a frame is played
   pub cut_playing : (start : S) (run left rest : World → InputRun) (at : Progress) (state : S) (old mid read now : Option World) (output : Output) (f : Frame)
-      → Passing start run left at state output old mid → IsBehind f left rest mid read → IsNext at f → shown read ≡ shown mid
+      → Passing start run left at state output old mid → IsBehind f left rest mid read → IsNext most_frames at f → shown read ≡ shown mid
       → ((first : S) (shown_first : Shown) (past : List Step) → Stands does first file shown_first past state output read
       → Cut does first file shown_first (past ++ steps_of (events_of at.moment f)) now)
       → IfSome old (λ w. CutRun does start file (shown_of w) (run w) now)
@@ -248,7 +260,7 @@ module _ {S : Type 0} (does : S → Step → Outcome S → Type 0) (file : Optio
       let came = came-so-far start (run w) (shown_of w) left at state output (Some v) v passing in
       record {
         fault_is = ap (λ (r : InputRun). r.fault) (sym over) ∙ passing.fault;
-        came = subst Came all came;
+        came = subst Arrived all came;
         count_is = passing.count ∙ ap length all;
         steps = passing.steps;
         steps_are = subst (λ (l : List Frame). AreStepsOf l passing.steps) all passing.steps_are;

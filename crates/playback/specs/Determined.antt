@@ -2,7 +2,7 @@
 use Rattle.std.specs.Prelude.{◌≡◌, ℕ, List, Option, Some}
 use Rattle.desk.specs.World.{World, Shown, shown}
 use Rattle.capture_io.specs.Frame.{Frame}
-use Rattle.capture_events.specs.Came.{Came}
+use Rattle.playback.specs.Arrivals.{Arrived}
 use Rattle.capture_events.specs.Events.{Determined, Event, Outcome, Played, Step, events, happened, played, records_of}
 use Rattle.playback.specs.Front.{CutRun, IsFront}
 use Rattle.playback.specs.Input.{InputRun}
@@ -12,7 +12,7 @@ use Rattle.playback.specs.declared.plays.Ending.{Ending}
 module _ {S : Type 0} (step : S → Event → Outcome S) (start : S) (file : Option ℕ) (old : Shown) where
   -- a capture of that run was played to its end, and left a state
   pub record EndPlay (run : InputRun) (ending : Ending) (after : S) (now : Option World) : Type 0 where
-    pub came : Came run.frames
+    pub came : Arrived run.frames
     pub ends : Ends (outcome_of step start run) run ending
     pub shown : shown now ≡ Some (with_outcome file (outcome_of step start run) old)
     pub left : after ≡ (outcome_of step start run).after
@@ -22,7 +22,7 @@ module _ {S : Type 0} (step : S → Event → Outcome S) (start : S) (file : Opt
   pub record CutPlay (run : InputRun) (now : Option World) : Type 0 where
     pub frames : List Frame
     pub within : IsFront frames run.frames
-    pub came : Came frames
+    pub came : Arrived frames
     pub first : List Event
     pub front : IsFront first (events frames)
     pub lines : List ℕ

@@ -3,7 +3,7 @@ use Rattle.std.specs.Prelude.{◌≡◌, ℕ, ◌+◌, List, [], ◌∷◌, ◌+
 use Rattle.std.specs.Result.{MatchResult}
 use Rattle.desk.specs.World.{World, Shown, shown}
 use Rattle.capture_io.specs.Frame.{Frame}
-use Rattle.capture_events.specs.Came.{Came}
+use Rattle.playback.specs.Arrivals.{Arrived}
 use Rattle.capture_events.specs.Events.{AreStepsOf, End, Outcome, Played, Step, records_of}
 use Rattle.playback.specs.Input.{InputRun}
 use Rattle.playback.specs.Playing.{after_output, handed_on, with_output, with_outcome}
@@ -65,7 +65,7 @@ module _ {S : Type 0} (does : S → Step → Outcome S → Type 0) (start : S) (
   pub record CutRun (run : InputRun) (now : Option World) : Type 0 where
     pub frames : List Frame
     pub within : IsFront frames run.frames
-    pub came : Came frames
+    pub came : Arrived frames
     pub steps : List Step
     pub steps_are : AreStepsOf frames steps
     pub cut : Cut steps now ⊎ ((frames ≡ run.frames) × Cut (steps ++ End ∷ []) now)

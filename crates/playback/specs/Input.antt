@@ -4,7 +4,7 @@ use Rattle.std.specs.List.{All}
 use Rattle.desk.specs.World.{World, left_of}
 use Rattle.capture_io.specs.Frame.{Frame}
 use Rattle.capture_io.specs.Run.{Run, before, ended}
-use Rattle.playback.specs.Limits.{most_arrival_octets, most_records}
+use Rattle.playback.specs.Limits.{most_arrival_octets}
 use Rattle.playback.specs.declared.fault.InputFault.{InputFault}
 use Rattle.playback.specs.declared.progress.Progress.{Progress}
 use Rattle.playback.specs.declared.reader.Next.{Next}
@@ -26,10 +26,10 @@ beginning = record { frames = 0; moment = None }
 abbrev pub behind : Frame → Progress
 behind f = record { frames = f.number; moment = Some f.moment }
 
--- a frame that a reader may give next, whatever its file holds
-pub record IsNext (at : Progress) (f : Frame) : Type 0 where
+-- a frame that a reader which gives at most so many may give next, whatever its file holds
+pub record IsNext (most : ℕ) (at : Progress) (f : Frame) : Type 0 where
   pub number : f.number ≡ at.frames + 1
-  pub most : f.number ≤ most_records
+  pub few : f.number ≤ most
   pub later : unwrap_or at.moment 0 ≤ f.moment
   pub moment : f.moment < 2 ^ 32 * 1000000000
   pub size : length f.octets ≤ most_arrival_octets

@@ -1,3 +1,4 @@
+pub mod Arrivals
 pub mod Determined
 pub mod Front
 pub mod Input

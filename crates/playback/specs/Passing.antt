@@ -5,11 +5,12 @@ use Rattle.std.specs.Result.{MatchResult}
 use Rattle.desk.specs.World.{World, Shown, shown_of}
 use Rattle.capture_io.specs.Frame.{Frame}
 use Rattle.capture_io.specs.Run.{AreLater}
-use Rattle.capture_events.specs.Came.{Came, IsRead}
+use Rattle.capture_events.specs.Came.{IsRead}
+use Rattle.playback.specs.Arrivals.{Arrived}
 use Rattle.capture_events.specs.Events.{AreStepsOf, Outcome, Step, events, events_after}
 use Rattle.playback.specs.Front.{CutRun, Stands}
 use Rattle.playback.specs.Input.{InputRun, beginning}
-use Rattle.playback.specs.Limits.{most_records}
+use Rattle.playback.specs.Limits.{most_frames}
 use Rattle.playback.specs.declared.fault.InputFault.{InputFault}
 use Rattle.playback.specs.declared.output.Output.{Output}
 use Rattle.playback.specs.declared.plays.Play.{Play}
@@ -21,7 +22,7 @@ use Rattle.playback.specs.declared.progress.Progress.{Progress}
 pub record IsBetween {R : Type 0} (is_open : R → Type 0) (progress_of : R → Progress) (play : Play R) : Type 0 where
   pub open_still : is_open play.reader
   pub progress : progress_of play.reader ≡ play.progress
-  pub most : play.progress.frames ≤ most_records
+  pub most : play.progress.frames ≤ most_frames
 
 -- it reads the same file, and writes into the same file
 pub record IsSamePlay {R : Type 0} (id_of : R → ℕ) (before after : Play R) : Type 0 where
@@ -53,7 +54,7 @@ module _ {S : Type 0} (does : S → Step → Outcome S → Type 0) where
     pub read : All IsRead frames
     pub later : (more : List Frame) → AreLater (unwrap_or at.moment 0) more → AreLater 0 (frames ++ more)
     pub count : at.frames ≡ length frames
-    pub most : at.frames ≤ most_records
+    pub most : at.frames ≤ most_frames
     pub joins : (more : List Frame) → events (frames ++ more) ≡ events frames ++ events_after at.moment more
     pub steps : List Step
     pub steps_are : AreStepsOf frames steps
@@ -69,7 +70,7 @@ module _ {S : Type 0} (does : S → Step → Outcome S → Type 0) where
   -- all frames of a run came and were played, with pauses among their events, and then came its end or its fault
   pub record IsOver (file : Option ℕ) (start : S) (run : InputRun) (old : Shown) (count : ℕ) (fault : Option InputFault) (state : S) (output : Output) (now : Option World) : Type 0 where
     pub fault_is : fault ≡ run.fault
-    pub came : Came run.frames
+    pub came : Arrived run.frames
     pub count_is : count ≡ length run.frames
     pub steps : List Step
     pub steps_are : AreStepsOf run.frames steps

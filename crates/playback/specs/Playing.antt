@@ -2,7 +2,7 @@
 use Rattle.std.specs.Prelude.{◌≡◌, ℕ, ◌+◌, ◌||◌, nat_le, Bool, List, [], ◌∷◌, ◌++◌, length, Option, Some, None, option_map}
 use Rattle.desk.specs.declared.file.NamedFile.{NamedFile}
 use Rattle.desk.specs.World.{World, Direction, Shown, changed_at, extended, shown, to_write, IsGiven}
-use Rattle.capture_events.specs.Came.{Came}
+use Rattle.playback.specs.Arrivals.{Arrived}
 use Rattle.capture_events.specs.Events.{AreStepsOf, End, Event, Outcome, Played, Step, events, played, records_of}
 use Rattle.playback.specs.Input.{InputRun}
 use Rattle.playback.specs.Limits.{piece_octets}
@@ -77,7 +77,7 @@ pub record HasPlayed {S : Type 0} (does : S → Step → Outcome S → Type 0) (
   pub steps_are : AreStepsOf run.frames steps
   pub outcome : Outcome S
   pub played : Played does start (steps ++ End ∷ []) outcome
-  pub came : Came run.frames
+  pub came : Arrived run.frames
   pub ends : Ends outcome run ending
   pub shown : shown now ≡ Some (with_outcome file outcome old)
   pub left : after ≡ outcome.after

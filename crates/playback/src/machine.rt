@@ -1,7 +1,7 @@
 // What is done for the events of a capture.
 ghost use Rattle.std.specs.Prelude.{◌≡◌, ◌<◌, ◌≤◌, ◌+◌, ◌*◌, ◌^◌, ℕ, Bool, false, Some, length, unwrap_or, IfOk, OnOk};
 ghost use Rattle.capture_events.specs.Events.{Arrival, Happens, Outcome, Step, Tick};
-ghost use Rattle.playback.specs.Limits.{most_arrival_octets, most_records};
+ghost use Rattle.playback.specs.Limits.{most_arrival_octets, most_frames};
 ghost use Rattle.playback.specs.Playing.{GathersOne};
 ghost use Rattle.playback.specs.declared.progress.Progress.{Progress};
 
@@ -38,7 +38,7 @@ pub trait Machine {
         requires ready { IsReady progress output.old.written self.old }
         requires not_full { full (state self.old) ≡ false }
         requires later { unwrap_or progress.moment 0 < second * 1000000000 }
-        requires most { progress.frames ≤ most_records }
+        requires most { progress.frames ≤ most_frames }
         ensures ready { OnOk result (IsReady
             (record { frames = progress.frames; moment = Some (second * 1000000000) })
             output.new.written self.new) }
@@ -58,7 +58,7 @@ pub trait Machine {
         requires not_full { full (state self.old) ≡ false }
         requires next { frame.number ≡ progress.frames + 1 }
         requires later { unwrap_or progress.moment 0 ≤ frame.moment }
-        requires most { frame.number ≤ most_records }
+        requires most { frame.number ≤ most_frames }
         requires moment { frame.moment < 2 ^ 32 * 1000000000 }
         requires size { length frame.octets ≤ most_arrival_octets }
         ensures ready { OnOk result (IsReady

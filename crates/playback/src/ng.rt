@@ -9,6 +9,7 @@ impl FrameReader for NgReader {
     ghost use Rattle.std.specs.Prelude.{◌≡◌, None};
     ghost use Rattle.capture_ng.specs.Frames.{read_on};
     ghost use Rattle.playback.specs.Input.{input_run};
+    ghost use Rattle.playback.specs.Limits.{most_records};
     ghost use Rattle.playback.specs.declared.fault.InputFault.TheVariants.{Ng};
 
     ghost id = { λ r. r.id };
@@ -16,6 +17,8 @@ impl FrameReader for NgReader {
     ghost run = { λ r left. input_run Ng (read_on r.vlans r.position left) };
 
     ghost progress = { λ r. record { frames = r.position.count; moment = r.position.greatest } };
+
+    ghost most = { most_records };
 
     ghost IsOpen = { λ r. r.fault ≡ None };
 

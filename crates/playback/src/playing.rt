@@ -6,7 +6,7 @@ ghost use Rattle.desk.specs.World.{to_read, shown_of, IsGiven};
 ghost use Rattle.capture_events.specs.Events.{events_of, idle, steps_of, End};
 ghost use Rattle.playback.specs.Front.{CutRun, Goes};
 ghost use Rattle.playback.specs.Input.{beginning, left_in};
-ghost use Rattle.playback.specs.Limits.{most_arrival_octets, most_records};
+ghost use Rattle.playback.specs.Limits.{most_arrival_octets, most_frames};
 ghost use Rattle.playback.specs.Playing.{HasPlayed, KeepsReaders, MayWrite};
 
 use crate::machine::Machine;
@@ -31,6 +31,7 @@ pub fn play<D: Desk, M: Machine, R: FrameReader>(
 ) -> Result<Ending, DeskFault>
     requires open { R.IsOpen reader }
     requires begins { R.progress reader ≡ beginning }
+    requires few { R.most ≤ most_frames }
     requires ready { M.IsReady beginning 0 machine.old }
     requires not_full { (state : M.State) → M.full state ≡ false }
     requires rests { (state : M.State) → M.Does state End (idle state) }
@@ -70,7 +71,7 @@ pub(crate) fn play_frame<D: Desk, M: Machine>(
     requires not_full { M.full (M.state machine.old) ≡ false }
     requires next { frame.number ≡ progress.frames + 1 }
     requires later { unwrap_or progress.moment 0 ≤ frame.moment }
-    requires most { frame.number ≤ most_records }
+    requires most { frame.number ≤ most_frames }
     requires moment { frame.moment < 2 ^ 32 * 1000000000 }
     requires size { length frame.octets ≤ most_arrival_octets }
     ensures ready { OnOk result (M.IsReady

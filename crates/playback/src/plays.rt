@@ -1,10 +1,11 @@
 // A play of a capture, from pause to pause.
-ghost use Rattle.std.specs.Prelude.{◌≡◌, ◌<◌, false, true, IfOk, IsErrOf, OnErr, OnOk};
+ghost use Rattle.std.specs.Prelude.{◌≡◌, ◌<◌, ◌≤◌, false, true, IfOk, IsErrOf, OnErr, OnOk};
 ghost use Rattle.desk.specs.declared.fault.DeskFault.TheVariants.{Failed};
 ghost use Rattle.desk.specs.Causes.{HasCause, StaysSteady};
 ghost use Rattle.desk.specs.World.{to_read, IsGiven};
 ghost use Rattle.playback.specs.Front.{Breaks};
 ghost use Rattle.playback.specs.Input.{beginning, left_in};
+ghost use Rattle.playback.specs.Limits.{most_frames};
 ghost use Rattle.playback.specs.Passing.{file_of, IfFull, IsBegun, IsBetween, IsSamePlay, PassesOn};
 ghost use Rattle.playback.specs.Playing.{handed_on, MayWrite};
 
@@ -74,6 +75,7 @@ impl<R: FrameReader> Play<R> {
         machine: &mut M,
     ) -> Result<Turn, DeskFault>
         requires between { IsBetween R.IsOpen R.progress self.old }
+        requires few { R.most ≤ most_frames }
         requires ready { M.IsReady self.old.progress self.old.output.written machine.old }
         requires not_full { M.full (M.state machine.old) ≡ false }
         ensures file { self.new.file ≡ self.old.file }

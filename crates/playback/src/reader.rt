@@ -29,6 +29,9 @@ pub trait FrameReader: Drop {
     /// The frames that it gave.
     ghost progress: { Self → Progress };
 
+    /// How many frames it gives at most.
+    ghost most: { ℕ };
+
     /// It gave frames alone so far.
     ghost IsOpen: { Self → Type 0 };
 
@@ -37,7 +40,7 @@ pub trait FrameReader: Drop {
         requires open { IsOpen self.old }
         ensures comes { IfOk result (λ next. IfSome (D.told desk.old) (λ w.
             Comes next (left_in id run self.old w) (left_in id run self.new) (D.told desk.new))) }
-        ensures frame { IfOk result (λ next. IfFrame next (IsNext (progress self.old))) }
+        ensures frame { IfOk result (λ next. IfFrame next (IsNext most (progress self.old))) }
         ensures id { IfOk result (λ next. id self.new ≡ id self.old) }
         ensures progress { IfOk result (λ next. IfFrame next (λ f. progress self.new ≡ behind f)) }
         ensures open { IfOk result (λ next. IfFrame next (λ _. IsOpen self.new)) }

@@ -4,7 +4,7 @@ ghost use Rattle.desk.specs.declared.fault.DeskFault.TheVariants.{Failed};
 ghost use Rattle.desk.specs.Causes.{HasCause, StaysSteady};
 ghost use Rattle.capture_events.specs.Events.{second_of, steps_of, ticks, Happens, Tick};
 ghost use Rattle.playback.specs.Front.{Goes};
-ghost use Rattle.playback.specs.Limits.{most_records};
+ghost use Rattle.playback.specs.Limits.{most_frames};
 ghost use Rattle.playback.specs.Playing.{KeepsReaders, MayWrite};
 
 use crate::machine::Machine;
@@ -27,7 +27,7 @@ pub(crate) fn play_seconds<D: Desk, M: Machine>(
     requires ready { M.IsReady progress output.old.written machine.old }
     requires not_full { M.full (M.state machine.old) ≡ false }
     requires later { unwrap_or progress.moment 0 ≤ moment }
-    requires most { progress.frames ≤ most_records }
+    requires most { progress.frames ≤ most_frames }
     requires moment { moment < 2 ^ 32 * 1000000000 }
     ensures ready { IfOk result (λ reached. M.IsReady reached output.new.written machine.new) }
     ensures not_full { OnOk result (M.full (M.state machine.new) ≡ false) }
@@ -68,7 +68,7 @@ fn play_second<D: Desk, M: Machine>(
     requires ready { M.IsReady progress output.old.written machine.old }
     requires not_full { M.full (M.state machine.old) ≡ false }
     requires later { unwrap_or progress.moment 0 < second * 1000000000 }
-    requires most { progress.frames ≤ most_records }
+    requires most { progress.frames ≤ most_frames }
     ensures ready { OnOk result (M.IsReady
         (record { frames = progress.frames; moment = Some (second * 1000000000) })
         output.new.written machine.new) }

@@ -11,7 +11,7 @@ use Rattle.capture_io.specs.Output.{packet_record}
 use Rattle.command_words.specs.Limits.{most_round_frames}
 use Rattle.lisp_settings.specs.declared.settings.Settings.{Settings}
 use Rattle.capture_events.specs.Events.{Outcome, Packet, events_after, idle, records_of, second_of}
-use Rattle.playback.specs.Limits.{most_arrival_octets, most_records}
+use Rattle.playback.specs.Limits.{most_arrival_octets, most_frames}
 use Rattle.playback.specs.Playing.{GathersOne}
 use Rattle.playback.specs.declared.progress.Progress.{Progress}
 use Rattle.playback.specs.declared.output.Output.{Output}
@@ -254,7 +254,7 @@ ready-second settings parts p g octets frames second written moment may later =
 
 -- a frame was kept
 pub ready-frame : (settings : Settings) (parts : Parts) (p : Publication) (g : Gathering) (octets frames written : ℕ) (moment : Option ℕ) (frame : Frame)
-    → MayGather settings parts p g octets (record { frames = frames; moment = moment }) written → is_due g ≡ false → frame.number ≡ frames + 1 → frame.number ≤ most_records
+    → MayGather settings parts p g octets (record { frames = frames; moment = moment }) written → is_due g ≡ false → frame.number ≡ frames + 1 → frame.number ≤ most_frames
     → unwrap_or moment 0 ≤ frame.moment → frame.moment < 2 ^ 32 * 1000000000 → length frame.octets ≤ most_arrival_octets → AreOctets frame.octets
     → MayGather settings parts p (record g { frames = g.frames ++ frame ∷ [] }) (octets + length frame.octets) (record { frames = frame.number; moment = Some frame.moment }) written
 ready-frame settings parts p g octets frames written moment frame may due next most later early short are =

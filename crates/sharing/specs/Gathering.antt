@@ -5,7 +5,7 @@ use Rattle.capture_io.specs.Frame.{Frame}
 use Rattle.lisp_settings.specs.Lawful.{IsLawful}
 use Rattle.lisp_settings.specs.declared.settings.Settings.{Settings}
 use Rattle.capture_events.specs.Events.{AreStepsOf, Arrival, End, Happens, Outcome, Pause, Played, Step, Tick, idle, second_of}
-use Rattle.playback.specs.Limits.{most_arrival_octets, most_records}
+use Rattle.playback.specs.Limits.{most_arrival_octets, most_frames}
 use Rattle.playback.specs.declared.progress.Progress.{Progress}
 use Rattle.router_log.specs.declared.entry.Entry.{Entry}
 use Rattle.router_model.specs.Cut.{empty, is_full, with_frames}
@@ -117,7 +117,7 @@ pub record MayGather (settings : Settings) (parts : Parts) (p : Publication) (g 
   pub gathered : AreGathered g octets
   pub size : (1 ≤ g.size) × (g.size ≤ most_round_frames)
   pub frames : length g.frames ≤ progress.frames
-  pub most : progress.frames ≤ most_records
+  pub most : progress.frames ≤ most_frames
   pub reached : unwrap_or (moment_after g.previous g.frames) 0 ≤ unwrap_or progress.moment 0
   pub count : parts.count ≤ most_mappings + most_entries * worked_events progress.frames g
   pub packets : written ≤ most_entries * worked_events progress.frames g

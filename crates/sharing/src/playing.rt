@@ -7,6 +7,7 @@ ghost use Rattle.desk.specs.World.{to_read, to_write, shown_of, IsGiven};
 ghost use Rattle.lisp_settings.specs.Lawful.{IsLawful};
 ghost use Rattle.playback.specs.Front.{CutRun};
 ghost use Rattle.playback.specs.Input.{beginning, left_in};
+ghost use Rattle.playback.specs.Limits.{most_frames};
 ghost use Rattle.playback.specs.Playing.{HasPlayed};
 ghost use Rattle.sharing.specs.Gathering.{InRounds, MayGather, gathering_of};
 ghost use Rattle.sharing.specs.Sharing.{HasShared, HasSharedPart};
@@ -46,6 +47,7 @@ pub fn play_rounds<R: Threads + Wait + Sync, D: Desk, G: Gate, I: FrameReader>(
     requires round { (1 ≤ crew.now.round) × (crew.now.round ≤ most_round_frames) }
     requires open { I.IsOpen reader }
     requires begins { I.progress reader ≡ beginning }
+    requires few { I.most ≤ most_frames }
     requires lawful { IsLawful settings.now }
     ensures shared { IfOk result (λ ended. IfSome (D.told desk.old) (λ w.
         HasShared crew.now.round settings.now (Some file.number) (shown_of w)
@@ -79,6 +81,7 @@ fn play_on<R: Threads + Wait + Sync, D: Desk, G: Gate, I: FrameReader>(
     requires workers { crew.now.workers ≤ most_workers }
     requires open { I.IsOpen reader }
     requires begins { I.progress reader ≡ beginning }
+    requires few { I.most ≤ most_frames }
     requires none { router.old.frames.items ≡ [] }
     requires ready { MayGather router.old.settings.now router.old.table.parts router.old.published
         (gathering_of router.old.settings.now router.old.published.batches router.old.size router.old.previous router.old.frames.items)

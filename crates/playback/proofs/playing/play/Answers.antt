@@ -1,5 +1,4 @@
 use Rattle.std.specs.Option.{option_map}
-use Rattle.desk.specs.World.{World}
 use Rattle.desk.specs.declared.desk.FileId.{FileId}
 use Rattle.capture_events.specs.Events.{End}
 use Rattle.playback.specs.Input.{left_in}

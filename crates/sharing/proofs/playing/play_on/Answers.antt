@@ -1,5 +1,4 @@
 use Rattle.std.proofs.Common.{◌≡◌, ◌∙◌, Some, ap, refl, arith}
-use Rattle.desk.specs.World.{World}
 use Rattle.capture_events.specs.Events.{Pause}
 use Rattle.playback.specs.Input.{left_in}
 use Rattle.playback.specs.Passing.{file_of}

@@ -1,6 +1,6 @@
 use Rattle.std.proofs.Common.{◌≡◌, ◌≤◌, ◌-◌, false, Some, IsTrue}
 use Rattle.playback.specs.Input.{left_in}
-use Rattle.playback.specs.Limits.{most_records}
+use Rattle.playback.specs.Limits.{most_frames}
 use Rattle.playback.specs.Passing.{IsBetween, IsPassing}
 use Rattle.sharing.specs.Gathering.{InRounds, MayGather, gathering_of, is_due}
 use Rattle.sharing.proofs.playing.play_on.Given as goal
@@ -21,4 +21,4 @@ invariant-loop-play g l = record {
 }
 
 abbrev pub decreases-loop-play : goal.decreases-loop-play
-decreases-loop-play g l = most_records - l.play.progress.frames
+decreases-loop-play g l = most_frames - l.play.progress.frames

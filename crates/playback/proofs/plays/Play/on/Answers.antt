@@ -1,9 +1,8 @@
-use Rattle.std.proofs.Common.{◌≡◌, ◌∙◌, Some, None, ap, refl, sym, arith, rules}
+use Rattle.std.proofs.Common.{◌∙◌, Some, None, ap, refl, sym, arith, rules}
 use Rattle.capture_io.specs.Frame.{Frame}
-use Rattle.desk.specs.World.{World}
-use Rattle.playback.specs.Input.{InputRun, behind, left_in}
+use Rattle.playback.specs.Input.{behind, left_in}
 use Rattle.playback.specs.Passing.{file_of}
-use Rattle.playback.proofs.PassingLemmas.{cut_playing, cut_reading, left_in-stays, passing-on, passing-over}
+use Rattle.playback.proofs.PassingLemmas.{cut_playing, cut_reading, left_in-stays, next-within, passing-on, passing-over}
 use Rattle.playback.proofs.plays.Play.on.Goals as goal
 
 pub loop-frame-init : goal.loop-frame-init
@@ -26,12 +25,12 @@ loop-frame-preserved g c =
     let read = c.in_ok-frame.ensures in
     let left = left_in g.R.FrameReader.id g.R.FrameReader.run in
     let comes = rw c.in-Frame.is at read.comes in
-    let next = rw inv.between.progress at (rw c.in-Frame.is at read.frame) in
+    let next = next-within g.R.FrameReader.most play.progress c.in-Frame.frame c.requires.few (rw inv.between.progress at (rw c.in-Frame.is at read.frame)) in
     let done = c.in_ok-is_full-in-Frame.ensures in
     let view = c.frame.view_is in
     let number = ap (λ (f : Frame). f.number) view in
     let moment = ap (λ (f : Frame). f.moment) view in
-    let most = next.most in
+    let most = next.few in
     let counted = next.number in
     record {
       between = record {
@@ -59,7 +58,7 @@ returns-then-is_full-clause-passes g c = λ start run old is.
     let read = c.in_ok-frame.ensures in
     let left = left_in g.R.FrameReader.id g.R.FrameReader.run in
     let comes = rw c.in-Frame.is at read.comes in
-    let next = rw inv.between.progress at (rw c.in-Frame.is at read.frame) in
+    let next = next-within g.R.FrameReader.most play.progress c.in-Frame.frame c.requires.few (rw inv.between.progress at (rw c.in-Frame.is at read.frame)) in
     let done = c.in_ok-is_full-in-Frame.ensures in
     let view = c.frame.view_is in
     let number = ap (λ (f : Frame). f.number) view in
@@ -84,7 +83,7 @@ returns-in_err-is_full-in-Frame-clause-passes g c = λ start run old is.
     let read = c.in_ok-frame.ensures in
     let left = left_in g.R.FrameReader.id g.R.FrameReader.run in
     let comes = rw c.in-Frame.is at read.comes in
-    let next = rw inv.between.progress at (rw c.in-Frame.is at read.frame) in
+    let next = next-within g.R.FrameReader.most play.progress c.in-Frame.frame c.requires.few (rw inv.between.progress at (rw c.in-Frame.is at read.frame)) in
     let cut = cut_playing g.M.Machine.Does (file_of play) start run (left play.reader) (left c.next_frame.new.self) play.progress (g.M.Machine.state c.loop-frame.machine)
     old (g.D.Desk.told c.loop-frame.desk) (g.D.Desk.told c.next_frame.new.desk) (g.D.Desk.told c.play_frame.new.desk) play.output c.in-Frame.frame (inv.passing start run old is) comes next
     read.shown c.in_err-is_full-in-Frame.ensures.goes in

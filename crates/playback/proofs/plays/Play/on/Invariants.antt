@@ -1,7 +1,7 @@
 use Rattle.std.proofs.Common.{◌≡◌, ◌≤◌, ◌-◌, false, IsTrue, Option}
 use Rattle.desk.specs.World.{World}
 use Rattle.playback.specs.Input.{InputRun, left_in}
-use Rattle.playback.specs.Limits.{most_records}
+use Rattle.playback.specs.Limits.{most_frames}
 use Rattle.playback.specs.Passing.{IsBetween, IsPassing, IsSamePlay}
 use Rattle.playback.proofs.plays.Play.on.Given as goal
 
@@ -21,4 +21,4 @@ invariant-loop-frame g l = record {
 }
 
 abbrev pub decreases-loop-frame : goal.decreases-loop-frame
-decreases-loop-frame g l = most_records - l.self.progress.frames
+decreases-loop-frame g l = most_frames - l.self.progress.frames
