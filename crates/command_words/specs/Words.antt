@@ -4,8 +4,9 @@ use Rattle.std.specs.List.{list_all, list_any}
 use Rattle.std.specs.Str.{bytes_eq}
 use Rattle.std.specs.Str.Parse.{digits_value}
 use Rattle.command_words.specs.Limits.{default_round_frames, most_round_frames, most_trial_mappings, most_workers}
-use Rattle.command_words.specs.declared.input_format.InputFormat.{InputFormat}
-use Rattle.command_words.specs.declared.input_format.InputFormat.TheVariants.{Classic, Ng}
+use Rattle.command_words.specs.declared.intake.InputFormat.{InputFormat}
+use Rattle.command_words.specs.declared.intake.InputFormat.TheVariants.{Classic, Ng}
+use Rattle.command_words.specs.declared.intake.Intake.{Intake}
 use Rattle.command_words.specs.declared.words.Words.{Words}
 use Rattle.command_words.specs.declared.words.Words.TheVariants.{Replay, Show, Trial}
 
@@ -92,13 +93,30 @@ format_of word interfaces = do
   format ← named_format word
   with_interfaces interfaces format
 
+-- ### how a capture is taken in
+
+-- whether large packets are split, as this word says; without the word they aren't
+abbrev pub split_of : Option (List ℕ) → Option Bool
+split_of None = Some false
+split_of (Some word) =
+    if bytes_eq word (codes "on") then Some true
+    else if bytes_eq word (codes "off") then Some false
+    else None
+
+-- the same with the format, by options
+abbrev pub intake_of : List (List ℕ) → Option Intake
+intake_of options = do
+  format ← format_of (value_of (codes "--format") options) (value_of (codes "--interfaces") options)
+  split ← split_of (value_of (codes "--split") options)
+  Some (record { format = format; split = split })
+
 -- ### commands
 
 -- the names of the options of a replay, and of a show
 abbrev pub replay_names : List (List ℕ)
 replay_names =
     codes "--settings" ∷ codes "--in" ∷ codes "--out" ∷ codes "--format" ∷ codes "--interfaces"
-    ∷ codes "--workers" ∷ codes "--round" ∷ []
+    ∷ codes "--split" ∷ codes "--workers" ∷ codes "--round" ∷ []
 
 abbrev pub show_names : List (List ℕ)
 show_names = codes "--in" ∷ []
@@ -108,22 +126,22 @@ abbrev pub options_of : List (List ℕ) → List (List ℕ) → Option (List (Li
 options_of names words = if are_options names words then Some words else None
 
 -- the replay of these words, unless the output is one of the other files
-abbrev pub unless_over : List ℕ → List ℕ → List ℕ → InputFormat → ℕ → ℕ → Option Words
-unless_over settings input output format workers round =
+abbrev pub unless_over : List ℕ → List ℕ → List ℕ → Intake → ℕ → ℕ → Option Words
+unless_over settings input output intake workers round =
     if bytes_eq output input || bytes_eq output settings then None
-    else Some (Replay settings input output format workers round)
+    else Some (Replay settings input output intake workers round)
 
--- `--settings F --in F --out F [--format classic|ng] [--interfaces none|vlan] [--workers N] [--round N]`
+-- `--settings F --in F --out F [--format classic|ng] [--interfaces none|vlan] [--split on|off] [--workers N] [--round N]`
 abbrev pub replay_of : List (List ℕ) → Option Words
 replay_of words = do
   options ← options_of replay_names words
   settings ← value_of (codes "--settings") options
   input ← value_of (codes "--in") options
   output ← value_of (codes "--out") options
-  format ← format_of (value_of (codes "--format") options) (value_of (codes "--interfaces") options)
+  intake ← intake_of options
   workers ← number_or 0 most_workers 0 (value_of (codes "--workers") options)
   round ← number_or 1 most_round_frames default_round_frames (value_of (codes "--round") options)
-  unless_over settings input output format workers round
+  unless_over settings input output intake workers round
 
 -- `--in F`
 abbrev pub show_of : List (List ℕ) → Option Words
@@ -142,7 +160,7 @@ trial_of (number ∷ (other ∷ more)) = None
 
 -- the numbers are within their limits
 abbrev pub AreWithinLimits : Words → Type 0
-AreWithinLimits (Replay settings input output format workers round) =
+AreWithinLimits (Replay settings input output intake workers round) =
     (workers ≤ most_workers) × ((1 ≤ round) × (round ≤ most_round_frames))
 AreWithinLimits (Show input) = Unit {0}
 AreWithinLimits (Trial n) = n ≤ most_trial_mappings

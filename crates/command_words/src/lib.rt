@@ -1,12 +1,12 @@
 //! The words after the program's name: what they say, or that they are of no form.
 #![tactic(auto)]
 
-mod input_format;
+mod intake;
 mod limits;
 mod options;
 mod words;
 
-pub use input_format::InputFormat;
+pub use intake::{InputFormat, Intake};
 pub use limits::{
     DEFAULT_ROUND_FRAMES, MOST_ROUND_FRAMES, MOST_TRIAL_MAPPINGS, MOST_WORKERS, limits_are,
 };

@@ -4,8 +4,8 @@ ghost use Rattle.command_words.specs.Limits.{default_round_frames, most_round_fr
 ghost use Rattle.command_words.specs.Words.{are_options, number_or, replay_names, replay_of, show_of, trial_of, value_of, words_of, AreWithinLimits};
 ghost use Rattle.command_words.specs.declared.words.WordsFault.TheVariants.{Usage, Memory};
 
-use crate::InputFormat;
-use crate::input_format::format_of;
+use crate::Intake;
+use crate::intake::intake_of;
 use crate::limits::{DEFAULT_ROUND_FRAMES, MOST_ROUND_FRAMES, MOST_TRIAL_MAPPINGS, MOST_WORKERS};
 use crate::options::{are_options, number_in, number_or, value_of};
 use octets::NoMemory;
@@ -56,7 +56,7 @@ pub enum Words {
         settings: Text,
         input: Text,
         output: Text,
-        format: InputFormat,
+        intake: Intake,
         workers: u8,
         round: u16,
     },
@@ -117,7 +117,7 @@ fn read_replay(alloc: Global, words: &[Word]) -> Result<Words, WordsFault>
     let settings = value_of("--settings", words).ok_or(WordsFault::Usage)?;
     let input = value_of("--in", words).ok_or(WordsFault::Usage)?;
     let output = value_of("--out", words).ok_or(WordsFault::Usage)?;
-    let format = format_of(words).ok_or(WordsFault::Usage)?;
+    let intake = intake_of(words).ok_or(WordsFault::Usage)?;
     let workers = workers_of(words).ok_or(WordsFault::Usage)?;
     let round = round_of(words).ok_or(WordsFault::Usage)?;
     if output == input || output == settings {
@@ -128,7 +128,7 @@ fn read_replay(alloc: Global, words: &[Word]) -> Result<Words, WordsFault>
         settings,
         input,
         output,
-        format,
+        intake,
         workers: workers as u8,
         round: round as u16,
     })
@@ -143,6 +143,7 @@ fn are_replay_options(words: &[Word]) -> bool
         "--out",
         "--format",
         "--interfaces",
+        "--split",
         "--workers",
         "--round",
     ];

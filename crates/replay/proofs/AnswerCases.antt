@@ -6,12 +6,12 @@ use Rattle.std.specs.Option.{option_map, IfSome}
 use Rattle.std.specs.Result.{IfOk, OnOk}
 use Rattle.std.proofs.lemmas.List.{append-nil, map-append}
 use Rattle.desk.specs.declared.file.NamedFile.{NamedFile}
-use Rattle.desk.specs.World.{World, Shown, content, left_of, found_at, extended, after_say, after_make, after_write, shown, shown_of}
+use Rattle.desk.specs.World.{World, Shown, left_of, found_at, extended, after_say, after_make, after_write, shown, shown_of}
 use Rattle.desk.proofs.Entries.{changed_at-more}
 use Rattle.capture_io.specs.Output.{out_header}
 use Rattle.lisp_settings.specs.Lawful.{IsLawful}
 use Rattle.lisp_settings.specs.declared.settings.Settings.{Settings}
-use Rattle.capture_events.specs.Came.{Came}
+use Rattle.playback.specs.Arrivals.{Arrived}
 use Rattle.capture_events.specs.Events.{Determined, Outcome, records_of}
 use Rattle.playback.specs.Input.{InputRun}
 use Rattle.playback.specs.Playing.{outcome_of, with_outcome, Ends, HasPlayed}
@@ -22,11 +22,10 @@ use Rattle.router_model.specs.Journal.{Journal, statics}
 use Rattle.router_model.specs.Lifting.{outcome_tabled}
 use Rattle.router_model.specs.Parts.{Parts, parts_in, table}
 use Rattle.router_model.specs.Plain.{Router, after_event}
-use Rattle.router_model.proofs.RunLemmas.{capture-replays}
+use Rattle.replay.proofs.ArrivalLemmas.{arrived-replays}
 use Rattle.replay.specs.Answer.{Answer, answer, answer_by, after_words, closing, replayed, told_off, status_of, made_files, Gives, after_opening, messages_shown}
-use Rattle.replay.specs.Opening.{Opened, run_in}
+use Rattle.replay.specs.Opening.{Opened}
 use Rattle.replay.specs.Readings.{replay_of, HasReplayed, HasReplayedBy, HasReplayedFile}
-use Rattle.replay.specs.declared.input.Input.{Input}
 use Rattle.replay.specs.declared.replaying.Counts.{Counts}
 use Rattle.replay.specs.Lines.{count_line, end_line, fault_line}
 use Rattle.replay.specs.Show.{showing}
@@ -96,40 +95,40 @@ has_replayed outcome id name run w (Some v) ending entries fresh ends frames cou
     }
 
 -- the same, over what the desk tells
-frames_replayed : (settings : Settings) (id : ℕ) (reader : Input) (name : List ℕ) (old made new : Option World) (ending : Ending) (entries : ℕ)
+frames_replayed : (settings : Settings) (id : ℕ) (from : ℕ) (rest : List ℕ → InputRun) (name : List ℕ) (old made new : Option World) (ending : Ending) (entries : ℕ)
     → IfSome old (λ w. found_at id w.writers ≡ None) → made ≡ option_map (λ w. after_write id out_header (after_make id name w)) old
-    → IfSome made (λ w. Ends (replay_of settings (run_in reader w)) (run_in reader w) ending)
-    → IfSome made (λ w. shown new ≡ Some (with_outcome (Some id) (replay_of settings (run_in reader w)) (shown_of w)))
-    → IfSome made (λ w. entries ≡ length (replay_of settings (run_in reader w)).after.memory)
-    → IfSome old (λ w. HasReplayed settings name (run_in reader w) (counts_of ending entries) (shown_of w) (shown new))
-frames_replayed settings id reader name None made new ending entries fresh makes ends frames count = tt
-frames_replayed settings id reader name (Some w) made new ending entries fresh makes ends frames count =
-    has_replayed (replay_of settings (run_in reader w)) id name (run_in reader w) w new ending entries fresh (rw makes at ends) (rw makes at frames) (rw makes at count)
+    → IfSome made (λ w. Ends (replay_of settings (rest (left_of from w))) (rest (left_of from w)) ending)
+    → IfSome made (λ w. shown new ≡ Some (with_outcome (Some id) (replay_of settings (rest (left_of from w))) (shown_of w)))
+    → IfSome made (λ w. entries ≡ length (replay_of settings (rest (left_of from w))).after.memory)
+    → IfSome old (λ w. HasReplayed settings name (rest (left_of from w)) (counts_of ending entries) (shown_of w) (shown new))
+frames_replayed settings id from rest name None made new ending entries fresh makes ends frames count = tt
+frames_replayed settings id from rest name (Some w) made new ending entries fresh makes ends frames count =
+    has_replayed (replay_of settings (rest (left_of from w))) id name (rest (left_of from w)) w new ending entries fresh (rw makes at ends) (rw makes at frames) (rw makes at count)
 
 -- the frames of a file, by a table
 abbrev table_of : Settings → Parts → InputRun → Outcome (Router Parts)
 table_of settings parts run = outcome_of (after_event table) (router_of settings parts) run
 
 -- of frames that came the table of the static mappings says and writes what the plain router does
-as_plain : (settings : Settings) (run : InputRun) (parts : Parts) → IsLawful settings → parts ≡ parts_in settings (statics settings) → Came run.frames
+as_plain : (settings : Settings) (run : InputRun) (parts : Parts) → IsLawful settings → parts ≡ parts_in settings (statics settings) → Arrived run.frames
     → table_of settings parts run ≡ outcome_tabled (replay_of settings run)
-as_plain settings run parts lawful begins came = rw begins (capture-replays settings run.frames lawful came).0
+as_plain settings run parts lawful begins came = rw begins (arrived-replays settings run.frames lawful came)
 
 -- what a table leaves is what the plain router does
-pub table_replayed : (settings : Settings) (id : ℕ) (reader : Input) (name : List ℕ) (old made new : Option World) (ending : Ending) (entries : ℕ) (parts after : Parts) (kept : Settings)
+pub table_replayed : (settings : Settings) (id : ℕ) (from : ℕ) (rest : List ℕ → InputRun) (name : List ℕ) (old made new : Option World) (ending : Ending) (entries : ℕ) (parts after : Parts) (kept : Settings)
     → IsLawful settings → parts ≡ parts_in settings (statics settings)
     → IfSome old (λ w. found_at id w.writers ≡ None) → made ≡ option_map (λ w. after_write id out_header (after_make id name w)) old
-    → IfSome made (λ w. HasPlayed (Determined (after_event table)) (router_of settings parts) (Some id) (shown_of w) (run_in reader w) ending (router_of kept after) new)
+    → IfSome made (λ w. HasPlayed (Determined (after_event table)) (router_of settings parts) (Some id) (shown_of w) (rest (left_of from w)) ending (router_of kept after) new)
     → entries ≡ after.count
-    → IfSome old (λ w. HasReplayed settings name (run_in reader w) (counts_of ending entries) (shown_of w) (shown new))
-table_replayed settings id reader name old None new ending entries parts after kept lawful begins fresh makes played count =
-    frames_replayed settings id reader name old None new ending entries fresh makes tt tt tt
-table_replayed settings id reader name old (Some w) new ending entries parts after kept lawful begins fresh makes played count =
-    let run = run_in reader w in
+    → IfSome old (λ w. HasReplayed settings name (rest (left_of from w)) (counts_of ending entries) (shown_of w) (shown new))
+table_replayed settings id from rest name old None new ending entries parts after kept lawful begins fresh makes played count =
+    frames_replayed settings id from rest name old None new ending entries fresh makes tt tt tt
+table_replayed settings id from rest name old (Some w) new ending entries parts after kept lawful begins fresh makes played count =
+    let run = rest (left_of from w) in
     let ended = end-play (after_event table) (router_of settings parts) (Some id) (shown_of w) run ending (router_of kept after) new played in
     let same : table_of settings parts run ≡ outcome_tabled (replay_of settings run) = as_plain settings run parts lawful begins ended.came in
     let goes : Ends (outcome_tabled (replay_of settings run)) run ending = subst (λ (o : Outcome (Router Parts)). Ends o run ending) same ended.ends in
-    frames_replayed settings id reader name old (Some w) new ending entries fresh makes
+    frames_replayed settings id from rest name old (Some w) new ending entries fresh makes
     (record { fault = goes.fault; frames = goes.frames; written = goes.written })
     (subst (λ (o : Outcome (Router Parts)). shown new ≡ Some (with_outcome (Some id) o (shown_of w))) same ended.shown)
     (count ∙ ap (λ (r : Router Parts). r.memory.count) (ended.left ∙ ap (λ (o : Outcome (Router Parts)). o.after) same))
@@ -209,12 +208,12 @@ gives_shown run w (Some v) new ending s ends frames said is =
     })
 
 -- the same, over what the desk tells
-pub messages_answered : (reader : Input) (old now new : Option World) (ending : Ending) (s : Status)
-    → IfSome old (λ w. HasPlayed (Determined showing) tt None (shown_of w) (run_in reader w) ending tt now)
+pub messages_answered : (left : World → InputRun) (old now new : Option World) (ending : Ending) (s : Status)
+    → IfSome old (λ w. HasPlayed (Determined showing) tt None (shown_of w) (left w) ending tt now)
     → new ≡ option_map (after_say (closing ending.fault (count_line ending.frames))) now → s ≡ status_of ending.fault
-    → IfSome old (λ w. Gives (messages_shown (run_in reader w)) s (shown_of w) (shown new))
-messages_answered reader None now new ending s played said is = tt
-messages_answered reader (Some w) now new ending s played said is =
-    let run = run_in reader w in
+    → IfSome old (λ w. Gives (messages_shown (left w)) s (shown_of w) (shown new))
+messages_answered left None now new ending s played said is = tt
+messages_answered left (Some w) now new ending s played said is =
+    let run = left w in
     let ended = end-play showing tt None (shown_of w) run ending tt now played in
     gives_shown run w now new ending s ended.ends ended.shown said is

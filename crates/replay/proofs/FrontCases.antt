@@ -1,15 +1,13 @@
 -- A run that is cut short, case by case, and how steps of a run make its beginning.
-use Rattle.std.proofs.Common.{◌≡◌, ◌≤◌, ◌+◌, ◌*◌, ◌^◌, ℕ, List, [], ◌∷◌, ◌++◌, length, take, Option, Some, None, Result, Ok, Err, append_assoc, refl, sym, ap, subst, ◌∙◌, inl, inr, arith}
-use Rattle.std.specs.List.{All}
+use Rattle.std.proofs.Common.{◌≡◌, ℕ, List, [], ◌∷◌, ◌++◌, length, take, Option, Some, None, Result, Ok, Err, append_assoc, refl, sym, ap, subst, ◌∙◌, inl, inr}
 use Rattle.std.specs.Option.{option_map, IfSome}
-use Rattle.std.proofs.lemmas.Option.{IfSome_then}
 use Rattle.std.proofs.Math.Seq.{take-append_seam}
-use Rattle.std.proofs.lemmas.List.{append-nil, length-append, map-append}
+use Rattle.std.proofs.lemmas.List.{append-nil, map-append}
 use Rattle.command_words.specs.Words.{words_of}
 use Rattle.command_words.specs.declared.words.Words.{Words}
 use Rattle.command_words.specs.declared.words.Words.TheVariants.{Replay, Show, Trial}
 use Rattle.desk.specs.declared.file.NamedFile.{NamedFile}
-use Rattle.desk.specs.World.{World, Shown, content, left_of, found_at, extended, after_open, after_read, after_make, after_write, shown, shown_of}
+use Rattle.desk.specs.World.{World, Shown, content, left_of, found_at, extended, after_make, after_write, shown, shown_of}
 use Rattle.desk.proofs.Entries.{changed_at-more}
 use Rattle.capture_io.specs.Frame.{Frame}
 use Rattle.capture_io.specs.Output.{out_header}
@@ -17,9 +15,8 @@ use Rattle.lisp_settings.specs.Lawful.{IsLawful}
 use Rattle.lisp_settings.specs.Settings.{settings_of}
 use Rattle.lisp_settings.specs.declared.fault.SettingsFault.{SettingsFault}
 use Rattle.lisp_settings.specs.declared.settings.Settings.{Settings}
-use Rattle.capture_events.specs.Came.{Came}
 use Rattle.capture_events.specs.Events.{Determined, Event, Outcome, events, events_after, events_of, played, records_of}
-use Rattle.command_words.specs.declared.input_format.InputFormat.TheVariants.{Classic}
+use Rattle.command_words.specs.declared.intake.InputFormat.TheVariants.{Classic}
 use Rattle.playback.specs.Front.{CutRun, IsFront}
 use Rattle.playback.specs.Input.{InputRun}
 use Rattle.playback.specs.Playing.{outcome_of, with_outcome, with_output, Ends, HasPlayed}
@@ -29,20 +26,16 @@ use Rattle.playback.proofs.DeterminedLemmas.{cut-play, end-play}
 use Rattle.playback.proofs.OutputLemmas.{with_output-none}
 use Rattle.playback.proofs.FrontLemmas.{front-all, front-behind, front-front, front-lines, front-more, front-octets, front-same, front-take}
 use Rattle.router_model.specs.Journal.{Journal, statics}
-use Rattle.router_model.specs.Lifting.{AreInOrder, event_moment, outcome_tabled}
 use Rattle.router_model.specs.Parts.{Parts, parts_in, table}
 use Rattle.router_model.specs.Plain.{Router, after_event, plain, started}
-use Rattle.router_model.proofs.ReplayLemmas.{events-order, table-replays}
-use Rattle.router_model.proofs.RunLemmas.{count, in_order}
-use Rattle.router_model.proofs.StaticsLemmas.{length-statics}
+use Rattle.replay.proofs.ArrivalLemmas.{tabled}
 use Rattle.replay.specs.Answer.{Answer, after_opening, answer_by, closing, made_files, messages_shown, replayed}
 use Rattle.replay.specs.Front.{AreFronts, EndsFront, MakesPart, Part, SaysPart, part, part_after_opening, part_after_settings, part_after_words, part_by, replayed_part, shown_part}
 use Rattle.replay.specs.Lines.{count_line, end_line, fault_line}
-use Rattle.replay.specs.Opening.{Opened, opened, run_in}
+use Rattle.replay.specs.Opening.{Arriving, Opened, arriving, opened}
 use Rattle.replay.specs.Readings.{replay_of, HasReplayed, HasReplayedBy, HasReplayedFile}
 use Rattle.replay.specs.Show.{showing}
 use Rattle.replay.specs.Taking.{router_of}
-use Rattle.replay.specs.declared.input.Input.{Input}
 use Rattle.replay.specs.declared.replaying.Counts.{Counts}
 
 -- before the first event nothing was said
@@ -64,13 +57,13 @@ replay-zero settings output what = opening-zero (replayed_part settings output) 
 pub show-zero : (what : Opened) → (part_after_opening shown_part what 0).said ≡ []
 show-zero what = opening-zero shown_part what shown-zero
 
-pub settings-zero : (output : List ℕ) (what : Opened) (r : Result Settings SettingsFault) → (part_after_settings output what r 0).said ≡ []
-settings-zero output what (Ok settings) = replay-zero settings output what
+pub settings-zero : (output : List ℕ) (what : Arriving) (r : Result Settings SettingsFault) → (part_after_settings output what r 0).said ≡ []
+settings-zero output what (Ok settings) = replay-zero settings output (what settings)
 settings-zero output what (Err fault) = refl
 
 pub words-zero : (files : List NamedFile) (words : Option Words) → (part_after_words files words 0).said ≡ []
 words-zero files None = refl
-words-zero files (Some (Replay settings input output format workers round)) = settings-zero output (opened format (content input files)) (settings_of (content settings files))
+words-zero files (Some (Replay settings input output intake workers round)) = settings-zero output (arriving intake (content input files)) (settings_of (content settings files))
 words-zero files (Some (Show input)) = show-zero (opened Classic (content input files))
 words-zero files (Some (Trial n)) = refl
 
@@ -140,27 +133,6 @@ front-events frames all is = subst (λ (l : List Frame). IsFront (events frames)
 -- the first of them, by their number
 pub by-count : {X : Type 0} (first all : List X) → IsFront first all → take (length first) all ≡ first
 by-count {X} first all is = ap (λ (l : List X). take (length first) l) (sym is.1) ∙ take-append_seam first is.0
-
--- the first events are in order
-order-front : (m : ℕ) (first more : List Event) → AreInOrder m (first ++ more) → AreInOrder m first
-order-front m [] more order = tt
-order-front m (event ∷ first) more order = (order.0, (order.1.0, order-front (event_moment event) first more order.1.1))
-
--- for the first events of frames that came, a table says and writes what the plain router does
-tabled : (settings : Settings) (parts : Parts) (frames : List Frame) (first : List Event) → IsLawful settings → parts ≡ parts_in settings (statics settings)
-    → Came frames → IsFront first (events frames)
-    → played (after_event table) (router_of settings parts) first ≡ outcome_tabled (played plain (started settings) first)
-tabled settings parts frames first lawful begins came front =
-    let whole = events-order frames (in_order 0 frames came.read came.later) in
-    let order = order-front 0 first front.0 (subst (λ (l : List Event). AreInOrder 0 l) (sym front.1) whole) in
-    let most = count frames came.read came.later in
-    let few = came.few in
-    let places = ap length front.1 in
-    let shares = length-append first front.0 in
-    let fixed = length-statics settings in
-    let mappings = lawful.few_mappings in
-    let room : length (statics settings) + 2048 * length first ≤ 2 ^ 62 = omega (arith, most, few, places, shares, fixed, mappings) in
-    rw begins (table-replays settings first order room).0
 
 -- what is shown of octets that were said and written into the file that was made
 part-shown : (id : ℕ) (name lines header octets : List ℕ) (w : World) → found_at id w.writers ≡ None
@@ -234,21 +206,21 @@ play_front settings name run id w new parts lawful begins fresh cut_run =
     (front-front cut.lines (played plain (started settings) some).lines (replay_of settings run).lines said (front-lines plain (started settings) some all within)) reported written
 
 -- the same, over what the desk tells
-pub table_front : (settings : Settings) (id : ℕ) (reader : Input) (name : List ℕ) (old made new : Option World) (parts : Parts) → IsLawful settings → parts ≡ parts_in settings (statics settings)
+pub table_front : (settings : Settings) (id : ℕ) (from : ℕ) (rest : List ℕ → InputRun) (name : List ℕ) (old made new : Option World) (parts : Parts) → IsLawful settings → parts ≡ parts_in settings (statics settings)
     → IfSome old (λ w. found_at id w.writers ≡ None) → made ≡ option_map (λ w. after_write id out_header (after_make id name w)) old
-    → IfSome made (λ w. CutRun (Determined (after_event table)) (router_of settings parts) (Some id) (shown_of w) (run_in reader w) new)
-    → IfSome old (λ w. EndsFront (replayed settings name (run_in reader w)) (replayed_part settings name (run_in reader w)) (shown_of w) new)
-table_front settings id reader name None made new parts lawful begins fresh makes cut = tt
-table_front settings id reader name (Some w) made new parts lawful begins fresh makes cut =
-    play_front settings name (run_in reader w) id w new parts lawful begins fresh (rw makes at cut)
+    → IfSome made (λ w. CutRun (Determined (after_event table)) (router_of settings parts) (Some id) (shown_of w) (rest (left_of from w)) new)
+    → IfSome old (λ w. EndsFront (replayed settings name (rest (left_of from w))) (replayed_part settings name (rest (left_of from w))) (shown_of w) new)
+table_front settings id from rest name None made new parts lawful begins fresh makes cut = tt
+table_front settings id from rest name (Some w) made new parts lawful begins fresh makes cut =
+    play_front settings name (rest (left_of from w)) id w new parts lawful begins fresh (rw makes at cut)
 
 -- want of memory behind the header
-pub header_front : (settings : Settings) (id : ℕ) (reader : Input) (name : List ℕ) (old made : Option World)
+pub header_front : (settings : Settings) (id : ℕ) (left : World → InputRun) (name : List ℕ) (old made : Option World)
     → IfSome old (λ w. found_at id w.writers ≡ None) → made ≡ option_map (λ w. after_write id out_header (after_make id name w)) old
-    → IfSome old (λ w. EndsFront (replayed settings name (run_in reader w)) (replayed_part settings name (run_in reader w)) (shown_of w) made)
-header_front settings id reader name None made fresh makes = tt
-header_front settings id reader name (Some w) made fresh makes =
-    let run = run_in reader w in
+    → IfSome old (λ w. EndsFront (replayed settings name (left w)) (replayed_part settings name (left w)) (shown_of w) made)
+header_front settings id left name None made fresh makes = tt
+header_front settings id left name (Some w) made fresh makes =
+    let run = left w in
     let file = after_write id out_header (after_make id name w) in
     let same : shown made ≡ Some (with_output (Some id) [] [] (shown_of file)) = ap shown makes ∙ ap Some (sym (with_output-none (Some id) (shown_of file))) in
     replay_front settings name run id w made [] [] [] fresh same (events run.frames, refl) ((replay_of settings run).lines, refl) ([], refl) ([], refl)
@@ -283,10 +255,10 @@ unfolding replayed replayed_part
 plain_make settings name run w new makes =
     make_front (replay_of settings run) (λ k. played plain (started settings) (take k (events run.frames))) name run w new refl makes
 
-pub output_front : (settings : Settings) (reader : Input) (name : List ℕ) (old new : Option World) → MakesPart name old new
-    → IfSome old (λ w. EndsFront (replayed settings name (run_in reader w)) (replayed_part settings name (run_in reader w)) (shown_of w) new)
-output_front settings reader name None new makes = tt
-output_front settings reader name (Some w) new makes = plain_make settings name (run_in reader w) w new makes
+pub output_front : (settings : Settings) (left : World → InputRun) (name : List ℕ) (old new : Option World) → MakesPart name old new
+    → IfSome old (λ w. EndsFront (replayed settings name (left w)) (replayed_part settings name (left w)) (shown_of w) new)
+output_front settings left name None new makes = tt
+output_front settings left name (Some w) new makes = plain_make settings name (left w) w new makes
 
 -- a file of that name was made, and then its header was written in part
 pub makes_part : (id : ℕ) (name header : List ℕ) (old made new : Option World) → header ≡ out_header → IfSome old (λ w. found_at id w.writers ≡ None)
@@ -386,12 +358,12 @@ shown_front run w new first lines octets same within said reported =
       written = tt;
     })
 
-pub messages_front : (reader : Input) (old new : Option World)
-    → IfSome old (λ w. CutRun (Determined showing) tt None (shown_of w) (run_in reader w) new)
-    → IfSome old (λ w. EndsFront (messages_shown (run_in reader w)) (shown_part (run_in reader w)) (shown_of w) new)
-messages_front reader None new cut = tt
-messages_front reader (Some w) new cut_run =
-    let run = run_in reader w in
+pub messages_front : (left : World → InputRun) (old new : Option World)
+    → IfSome old (λ w. CutRun (Determined showing) tt None (shown_of w) (left w) new)
+    → IfSome old (λ w. EndsFront (messages_shown (left w)) (shown_part (left w)) (shown_of w) new)
+messages_front left None new cut = tt
+messages_front left (Some w) new cut_run =
+    let run = left w in
     let cut = cut-play showing tt None (shown_of w) run new cut_run in
     let within = front-events cut.frames run.frames cut.within in
     shown_front run w new cut.first cut.lines cut.octets cut.shown (front-front cut.first (events cut.frames) (events run.frames) cut.front within)
@@ -423,13 +395,13 @@ last_front run w (Some v) new ending ends frames says =
       written = tt;
     })
 
-pub line_front : (reader : Input) (old mid new : Option World) (ending : Ending)
-    → IfSome old (λ w. HasPlayed (Determined showing) tt None (shown_of w) (run_in reader w) ending tt mid)
+pub line_front : (left : World → InputRun) (old mid new : Option World) (ending : Ending)
+    → IfSome old (λ w. HasPlayed (Determined showing) tt None (shown_of w) (left w) ending tt mid)
     → SaysPart (closing ending.fault (count_line ending.frames)) mid new
-    → IfSome old (λ w. EndsFront (messages_shown (run_in reader w)) (shown_part (run_in reader w)) (shown_of w) new)
-line_front reader None mid new ending has says = tt
-line_front reader (Some w) mid new ending has says =
-    let run = run_in reader w in
+    → IfSome old (λ w. EndsFront (messages_shown (left w)) (shown_part (left w)) (shown_of w) new)
+line_front left None mid new ending has says = tt
+line_front left (Some w) mid new ending has says =
+    let run = left w in
     let ended = end-play showing tt None (shown_of w) run ending tt mid has in
     last_front run w mid new ending ended.ends ended.shown says
 

@@ -1,11 +1,13 @@
 pub mod AnswerCases
-pub mod OpeningLemmas
+pub mod ArrivalLemmas
 pub mod FrontCases
 pub mod MessageLemmas
+pub mod OpeningLemmas
 pub mod PieceLemmas
 pub mod ReplayLemmas
 pub mod SharedCases
 pub mod SharedFrontCases
 pub mod ShowLemmas
+pub mod SplittingLemmas
 pub mod SteadyLemmas
 pub mod TrialLemmas

@@ -2,8 +2,8 @@
 use Rattle.std.proofs.Common.{◌≡◌, ℕ, Bool, List, [], drop, false, Option, Some, None, Result, Ok, Err, refl, sym, ap, subst, ◌∙◌}
 use Rattle.std.specs.Option.{option_map, IfSome, IsSomeAnd, unwrap_or}
 use Rattle.octets.specs.Rules.{first_failing}
-use Rattle.command_words.specs.declared.input_format.InputFormat.{InputFormat}
-use Rattle.command_words.specs.declared.input_format.InputFormat.TheVariants as format
+use Rattle.command_words.specs.declared.intake.InputFormat.{InputFormat}
+use Rattle.command_words.specs.declared.intake.InputFormat.TheVariants as format
 use Rattle.desk.specs.World.{World, Shown, content, left_of, found_at, after_open, after_read, shown, shown_of}
 use Rattle.desk.proofs.Entries.{found_at-more}
 use Rattle.desk.proofs.Reading.{left-after_read}
@@ -20,7 +20,9 @@ use Rattle.capture_ng.specs.Reading.{NgReading, beginning as ng_beginning}
 use Rattle.playback.specs.Input.{InputRun, input_run}
 use Rattle.playback.specs.declared.fault.InputFault.{InputFault}
 use Rattle.playback.specs.declared.fault.InputFault.TheVariants as of
-use Rattle.replay.specs.Opening.{Opened, Opens, behind_header, opened, run_in}
+use Rattle.lisp_settings.specs.declared.settings.Settings.{Settings}
+use Rattle.replay.specs.Opening.{Opened, Opens, behind_header, opened, run_in, taken}
+use Rattle.replay.specs.Splitting.{taken_run}
 use Rattle.replay.specs.declared.input.Input.{Input}
 use Rattle.replay.specs.declared.input.Input.TheVariants as input
 
@@ -123,3 +125,17 @@ opened-stops P what f (Some w) (Some v) is same holds =
 pub itself : (now : Option World) (f : InputFault) → IfSome now (λ v. (f ≡ f) × (shown now ≡ Some (shown_of v)))
 itself None f = tt
 itself (Some v) f = (refl, refl)
+
+-- what comes of a run that is left
+pub taken-goes : (split : Bool) (settings : Settings) (what : World → Opened) (left : World → InputRun) (old now : Option World)
+    → IfSome old (λ w. IsSomeAnd now (λ v. what w ≡ Ok (left v)))
+    → IfSome old (λ w. IsSomeAnd now (λ v. taken split settings (what w) ≡ Ok (taken_run split settings (left v))))
+taken-goes split settings what left None now is = tt
+taken-goes split settings what left (Some w) None is = absurd is
+taken-goes split settings what left (Some w) (Some v) is = ap (taken split settings) is
+
+-- and of a fault
+pub taken-stops : (split : Bool) (settings : Settings) (what : World → Opened) (f : InputFault) (old : Option World)
+    → IfSome old (λ w. what w ≡ Err f) → IfSome old (λ w. taken split settings (what w) ≡ Err f)
+taken-stops split settings what f None is = tt
+taken-stops split settings what f (Some w) is = ap (taken split settings) is

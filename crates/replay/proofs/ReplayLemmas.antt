@@ -175,13 +175,13 @@ packets-later frames before after sent earlier second later few some is =
     rw same (omega (arith, past, few, some, is))
 
 -- they are counted in 64 bits
-pub packets-left : (frames written moment : ℕ) → frames ≤ 1000000000 → moment < 2 ^ 32 * 1000000000 → written ≤ most_event_packets * (frames + second_of moment) → written < 2 ^ 48
+pub packets-left : (frames written moment : ℕ) → frames ≤ 2000000000 → moment < 2 ^ 32 * 1000000000 → written ≤ most_event_packets * (frames + second_of moment) → written < 2 ^ 48
 packets-left frames written moment most early few =
     let past = second-later moment (2 ^ 32) early in
     omega (arith, past, most, few)
 
 -- there is room for more
-pub room-left : (frames count moment : ℕ) → frames ≤ 1000000000 → moment < 2 ^ 32 * 1000000000 → count ≤ 65536 + 256 * frames + 1040 * second_of moment → count < 2 ^ 60
+pub room-left : (frames count moment : ℕ) → frames ≤ 2000000000 → moment < 2 ^ 32 * 1000000000 → count ≤ 65536 + 256 * frames + 1040 * second_of moment → count < 2 ^ 60
 room-left frames count moment most early few =
     let past = second-later moment (2 ^ 32) early in
     omega (arith, past, most, few)

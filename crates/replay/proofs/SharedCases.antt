@@ -3,10 +3,10 @@ use Rattle.std.proofs.Common.{◌≡◌, ◌≤◌, ◌∙◌, zero, suc, ℕ, f
 use Rattle.std.specs.Option.{option_map, IfSome, IsSomeAnd}
 use Rattle.std.specs.Result.{IfOk, OnOk}
 use Rattle.command_words.specs.Words.{words_of}
-use Rattle.command_words.specs.declared.input_format.InputFormat.{InputFormat}
+use Rattle.command_words.specs.declared.intake.Intake.{Intake}
 use Rattle.command_words.specs.declared.words.Words.{Words}
 use Rattle.command_words.specs.declared.words.Words.TheVariants.{Replay, Show, Trial}
-use Rattle.desk.specs.World.{World, Shown, content, found_at, after_say, after_make, after_write, shown, shown_of}
+use Rattle.desk.specs.World.{left_of, World, Shown, content, found_at, after_say, after_make, after_write, shown, shown_of}
 use Rattle.desk.specs.declared.file.NamedFile.{NamedFile}
 use Rattle.capture_io.specs.Output.{out_header}
 use Rattle.lisp_settings.specs.Settings.{settings_of}
@@ -19,14 +19,13 @@ use Rattle.replay.specs.Answer.{Gives, Leaves, after_opening, after_settings, af
 use Rattle.sharing.specs.Sharing as sharing
 use Rattle.sharing.specs.declared.playing.RoundsEnding.{RoundsEnding}
 use Rattle.replay.specs.Lines.{end_line, fault_line, settings_line}
-use Rattle.replay.specs.Opening.{Opened, opened, run_in}
+use Rattle.replay.specs.Opening.{Arriving, Opened, arriving}
 use Rattle.replay.specs.Readings.{HasReplayedInRounds}
 use Rattle.replay.specs.Shared.{GivesAfter, GivesFor, GivesWith, MayHave, Shares, SharesBy, SharesOf, after_settings_by, after_words_by, answer_with, are_some, frames_by, has_workers, shared}
-use Rattle.replay.specs.declared.input.Input.{Input}
 use Rattle.replay.specs.declared.replaying.Counts.{Counts}
 use Rattle.replay.specs.declared.status.Status.{Status}
 use Rattle.replay.specs.declared.status.Status.TheVariants as status
-use Rattle.replay.proofs.AnswerCases.{closed, counts_of, gives_as, has_replayed, said_line, shown_stays}
+use Rattle.replay.proofs.AnswerCases.{closed, counts_of, gives_as, has_replayed, said_line}
 
 -- what a play of rounds leaves, before its last line
 run_shared : (settings : Settings) (size id : ℕ) (name : List ℕ) (run : InputRun) (w : World) (new : Option World) (ended : RoundsEnding)
@@ -40,13 +39,13 @@ run_shared settings size id name run w new ended fresh played =
     }
 
 -- the same, over what the desk tells
-pub frames_shared : (settings : Settings) (size id : ℕ) (reader : Input) (name : List ℕ) (old made new : Option World) (ended : RoundsEnding)
+pub frames_shared : (settings : Settings) (size id : ℕ) (from : ℕ) (rest : List ℕ → InputRun) (name : List ℕ) (old made new : Option World) (ended : RoundsEnding)
     → IfSome old (λ w. found_at id w.writers ≡ None) → made ≡ option_map (λ w. after_write id out_header (after_make id name w)) old
-    → IfSome made (λ w. sharing.HasShared size settings (Some id) (shown_of w) (run_in reader w) ended new)
-    → IfSome old (λ w. HasReplayedInRounds size settings name (run_in reader w) (counts_of ended.ending ended.entries) (shown_of w) (shown new))
-frames_shared settings size id reader name None made new ended fresh makes played = tt
-frames_shared settings size id reader name (Some w) made new ended fresh makes played =
-    run_shared settings size id name (run_in reader w) w new ended fresh (rw makes at played)
+    → IfSome made (λ w. sharing.HasShared size settings (Some id) (shown_of w) (rest (left_of from w)) ended new)
+    → IfSome old (λ w. HasReplayedInRounds size settings name (rest (left_of from w)) (counts_of ended.ending ended.entries) (shown_of w) (shown new))
+frames_shared settings size id from rest name None made new ended fresh makes played = tt
+frames_shared settings size id from rest name (Some w) made new ended fresh makes played =
+    run_shared settings size id name (rest (left_of from w)) w new ended fresh (rw makes at played)
 
 -- the answer to a capture that was replayed
 shared-closed : (size : ℕ) (settings : Settings) (output : List ℕ) (run : InputRun) (counts : Counts) (old : Shown) (mid new : Option World) (s : Status)
@@ -78,13 +77,13 @@ input_refused size settings output fault (Some w) new s said is =
 -- ### by the words
 
 -- settings that have a fault, and those that have none
-pub shares_refused : (size : ℕ) (output : List ℕ) (input : Opened) (text : List ℕ) (fault : SettingsFault) (s : Status) (old : Shown) (new : Option Shown) → Err fault ≡ settings_of text
+pub shares_refused : (size : ℕ) (output : List ℕ) (input : Arriving) (text : List ℕ) (fault : SettingsFault) (s : Status) (old : Shown) (new : Option Shown) → Err fault ≡ settings_of text
     → Gives (told_off status.Settings (settings_line fault)) s old new → Shares size output input text s old new
 shares_refused size output input text fault s old new is gives =
     subst (λ (r : Result Settings SettingsFault). SharesBy size output input r s old new) is (record { ns = []; lawful = refl; gives = gives })
 
-pub shares_by : (size : ℕ) (settings : Settings) (output : List ℕ) (input : Opened) (text : List ℕ) (s : Status) (old : Shown) (new : Option Shown) → Ok settings ≡ settings_of text
-    → SharesOf size settings output input s old new → Shares size output input text s old new
+pub shares_by : (size : ℕ) (settings : Settings) (output : List ℕ) (input : Arriving) (text : List ℕ) (s : Status) (old : Shown) (new : Option Shown) → Ok settings ≡ settings_of text
+    → SharesOf size settings output (input settings) s old new → Shares size output input text s old new
 shares_by size settings output input text s old new is shares =
     subst (λ (r : Result Settings SettingsFault). SharesBy size output input r s old new) is (record { ns = shares.ns; lawful = shares.lawful; gives = shares.gives })
 
@@ -94,12 +93,12 @@ plain-opening : (size : ℕ) (ns : List (List ℕ)) (output : List ℕ) (setting
 plain-opening size ns output settings (Ok run) = refl
 plain-opening size ns output settings (Err fault) = refl
 
-pub plain-settings : (size : ℕ) (ns : List (List ℕ)) (output : List ℕ) (input : Opened) (r : Result Settings SettingsFault)
+pub plain-settings : (size : ℕ) (ns : List (List ℕ)) (output : List ℕ) (input : Arriving) (r : Result Settings SettingsFault)
     → after_settings_by (frames_by zero size ns output) input r ≡ after_settings output input r
 plain-settings size ns output input (Err fault) = refl
-plain-settings size ns output input (Ok settings) = plain-opening size ns output settings input
+plain-settings size ns output input (Ok settings) = plain-opening size ns output settings (input settings)
 
-pub for_plain : (workers size : ℕ) (output : List ℕ) (input : Opened) (text : List ℕ) (s : Status) (old : Shown) (new : Option Shown) → workers ≡ zero
+pub for_plain : (workers size : ℕ) (output : List ℕ) (input : Arriving) (text : List ℕ) (s : Status) (old : Shown) (new : Option Shown) → workers ≡ zero
     → Gives (after_settings output input (settings_of text)) s old new → GivesFor workers size output input text s old new
 for_plain workers size output input text s old new none gives =
     rw none (record { ns = []; lawful = refl; gives = gives_as _ _ s old new (sym (plain-settings size [] output input (settings_of text))) gives })
@@ -110,12 +109,12 @@ shared-opening : (workers size : ℕ) (ns : List (List ℕ)) (output : List ℕ)
 shared-opening workers size ns output settings (Ok run) = refl
 shared-opening workers size ns output settings (Err fault) = refl
 
-pub shared-settings : (workers size : ℕ) (ns : List (List ℕ)) (output : List ℕ) (input : Opened) (r : Result Settings SettingsFault)
+pub shared-settings : (workers size : ℕ) (ns : List (List ℕ)) (output : List ℕ) (input : Arriving) (r : Result Settings SettingsFault)
     → after_settings_by (shared output size ns) input r ≡ after_settings_by (frames_by (suc workers) size ns output) input r
 shared-settings workers size ns output input (Err fault) = refl
-shared-settings workers size ns output input (Ok settings) = shared-opening workers size ns output settings input
+shared-settings workers size ns output input (Ok settings) = shared-opening workers size ns output settings (input settings)
 
-pub for_shared : (workers size : ℕ) (output : List ℕ) (input : Opened) (text : List ℕ) (s : Status) (old : Shown) (new : Option Shown) → 1 ≤ workers
+pub for_shared : (workers size : ℕ) (output : List ℕ) (input : Arriving) (text : List ℕ) (s : Status) (old : Shown) (new : Option Shown) → 1 ≤ workers
     → Shares size output input text s old new → GivesFor workers size output input text s old new
 for_shared zero size output input text s old new some shares = let none : ⊥ = omega (arith, some) in absurd none
 for_shared (suc workers) size output input text s old new some shares =
@@ -141,15 +140,15 @@ same-opening workers size ns output settings (Err fault) = refl
 same-opening zero size ns output settings (Ok run) = refl
 same-opening (suc workers) size ns output settings (Ok run) = refl
 
-same-settings : (workers size : ℕ) (ns : List (List ℕ)) (output : List ℕ) (input : Opened) (r : Result Settings SettingsFault)
+same-settings : (workers size : ℕ) (ns : List (List ℕ)) (output : List ℕ) (input : Arriving) (r : Result Settings SettingsFault)
     → (after_settings_by (frames_by workers size ns output) input r).status ≡ (after_settings output input r).status
 same-settings workers size ns output input (Err fault) = refl
-same-settings workers size ns output input (Ok settings) = same-opening workers size ns output settings input
+same-settings workers size ns output input (Ok settings) = same-opening workers size ns output settings (input settings)
 
 same-words : (files : List NamedFile) (ns : List (List ℕ)) (words : Option Words) → (after_words_by files ns words).status ≡ (after_words files words).status
 same-words files ns None = refl
-same-words files ns (Some (Replay settings input output format workers round)) =
-    same-settings workers round ns output (opened format (content input files)) (settings_of (content settings files))
+same-words files ns (Some (Replay settings input output intake workers round)) =
+    same-settings workers round ns output (arriving intake (content input files)) (settings_of (content settings files))
 same-words files ns (Some (Show input)) = refl
 same-words files ns (Some (Trial n)) = refl
 
@@ -160,8 +159,8 @@ status-with words files s old new gives = gives.gives.status ∙ same-words file
 -- without forwarders the answer is that of the plain router
 pub plain-words : (files : List NamedFile) (ns : List (List ℕ)) (words : Option Words) → has_workers words ≡ false → after_words_by files ns words ≡ after_words files words
 plain-words files ns None none = refl
-plain-words files ns (Some (Replay settings input output format zero round)) none = plain-settings round ns output (opened format (content input files)) (settings_of (content settings files))
-plain-words files ns (Some (Replay settings input output format (suc workers) round)) none = cc
+plain-words files ns (Some (Replay settings input output intake zero round)) none = plain-settings round ns output (arriving intake (content input files)) (settings_of (content settings files))
+plain-words files ns (Some (Replay settings input output intake (suc workers) round)) none = cc
 plain-words files ns (Some (Show input)) none = refl
 plain-words files ns (Some (Trial n)) none = refl
 
@@ -192,9 +191,9 @@ shared-left r words (Some w) new none shared = ok_then r _ shared (λ s gives. (
 
 -- ### of what words say
 
-pub after_replay : (files : List NamedFile) (settings input output : List ℕ) (format : InputFormat) (workers round : ℕ) (s : Status) (old : Shown) (new : Option Shown)
-    → GivesFor workers round output (opened format (content input files)) (content settings files) s old new → GivesAfter files (Some (Replay settings input output format workers round)) s old new
-after_replay files settings input output format workers round s old new gives = record { ns = gives.ns; lawful = gives.lawful; gives = gives.gives }
+pub after_replay : (files : List NamedFile) (settings input output : List ℕ) (intake : Intake) (workers round : ℕ) (s : Status) (old : Shown) (new : Option Shown)
+    → GivesFor workers round output (arriving intake (content input files)) (content settings files) s old new → GivesAfter files (Some (Replay settings input output intake workers round)) s old new
+after_replay files settings input output intake workers round s old new gives = record { ns = gives.ns; lawful = gives.lawful; gives = gives.gives }
 
 pub none-asked : (workers : ℕ) → are_some workers ≡ false → workers ≡ 0
 none-asked zero none = refl

@@ -5,7 +5,7 @@ use Rattle.std.proofs.lemmas.Option.{IfSome_then}
 use Rattle.command_words.specs.Words.{words_of}
 use Rattle.command_words.specs.declared.words.Words.{Words}
 use Rattle.command_words.specs.declared.words.Words.TheVariants.{Replay, Show, Trial}
-use Rattle.desk.specs.World.{World, Shown, content, found_at, after_make, after_write, shown, shown_of}
+use Rattle.desk.specs.World.{left_of, World, Shown, content, found_at, after_make, after_write, shown, shown_of}
 use Rattle.desk.specs.declared.file.NamedFile.{NamedFile}
 use Rattle.capture_io.specs.Frame.{Frame}
 use Rattle.capture_io.specs.Output.{out_header}
@@ -23,14 +23,13 @@ use Rattle.sharing.specs.Sharing.{HasSharedPart, first_rounds}
 use Rattle.replay.specs.Answer.{Answer, after_opening, after_settings, after_words, answer, closing, told_off}
 use Rattle.replay.specs.Front.{EndsFront, MakesPart, Part, SaysPart, part, part_after_opening, part_after_settings, part_after_words, replayed_part}
 use Rattle.replay.specs.Lines.{end_line, fault_line, settings_line}
-use Rattle.replay.specs.Opening.{Opened, opened, run_in}
+use Rattle.replay.specs.Opening.{Arriving, Opened, arriving}
 use Rattle.replay.specs.Readings.{HasReplayedBy, HasReplayedInRounds}
 use Rattle.replay.specs.Shared.{AreChosen, AreNumbers, AreNumbersOf, MayHave, after_settings_by, after_words_by, answer_with, has_workers, shared}
 use Rattle.replay.specs.SharedFront.{EndsAfter, EndsBy, EndsFor, EndsInRounds, EndsInRoundsBy, EndsOf, EndsRun, EndsWith, part_after_settings_by, part_after_words_by, part_with, parts_by, shared_part}
-use Rattle.replay.specs.declared.input.Input.{Input}
 use Rattle.replay.specs.declared.replaying.Counts.{Counts}
 use Rattle.replay.specs.declared.status.Status.TheVariants as status
-use Rattle.replay.proofs.FrontCases.{by-count, frames_front, front_as, front_line, front_read, front_says, front_still, last_line_front, opening-zero, make_front, replayed-zero, words-zero}
+use Rattle.replay.proofs.FrontCases.{by-count, frames_front, front_as, front_line, front_says, front_still, last_line_front, opening-zero, make_front, replayed-zero, words-zero}
 use Rattle.replay.proofs.SharedCases.{plain-settings, plain-words, shared-settings}
 
 -- ### there are numbers
@@ -42,17 +41,17 @@ opening-numbers : (settings : Settings) (size : ℕ) (input : Opened) → (ns : 
 opening-numbers settings size (Err fault) = ([], refl)
 opening-numbers settings size (Ok run) = run-numbers settings size run
 
-settings-numbers : (size : ℕ) (input : Opened) (r : Result Settings SettingsFault) → (ns : List (List ℕ)) × AreNumbers size ns input r
+settings-numbers : (size : ℕ) (input : Arriving) (r : Result Settings SettingsFault) → (ns : List (List ℕ)) × AreNumbers size ns input r
 settings-numbers size input (Err fault) = ([], refl)
-settings-numbers size input (Ok settings) = opening-numbers settings size input
+settings-numbers size input (Ok settings) = opening-numbers settings size (input settings)
 
-chosen-numbers : (workers size : ℕ) (input : Opened) (r : Result Settings SettingsFault) → (ns : List (List ℕ)) × AreChosen workers size ns input r
+chosen-numbers : (workers size : ℕ) (input : Arriving) (r : Result Settings SettingsFault) → (ns : List (List ℕ)) × AreChosen workers size ns input r
 chosen-numbers zero size input r = ([], refl)
 chosen-numbers (suc workers) size input r = settings-numbers size input r
 
 words-numbers : (files : List NamedFile) (words : Option Words) → (ns : List (List ℕ)) × MayHave files ns words
 words-numbers files None = ([], refl)
-words-numbers files (Some (Replay settings input output format workers round)) = chosen-numbers workers round (opened format (content input files)) (settings_of (content settings files))
+words-numbers files (Some (Replay settings input output intake workers round)) = chosen-numbers workers round (arriving intake (content input files)) (settings_of (content settings files))
 words-numbers files (Some (Show input)) = ([], refl)
 words-numbers files (Some (Trial n)) = ([], refl)
 
@@ -74,18 +73,18 @@ run-zero output size ns settings run = refl
 input-zero : (size : ℕ) (settings : Settings) (ns : List (List ℕ)) (output : List ℕ) (input : Opened) → (part_after_opening (shared_part output size ns settings) input 0).said ≡ []
 input-zero size settings ns output input = opening-zero (shared_part output size ns settings) input (run-zero output size ns settings)
 
-by-zero : (size : ℕ) (ns : List (List ℕ)) (output : List ℕ) (input : Opened) (r : Result Settings SettingsFault) → (part_after_settings_by (shared_part output size ns) input r 0).said ≡ []
+by-zero : (size : ℕ) (ns : List (List ℕ)) (output : List ℕ) (input : Arriving) (r : Result Settings SettingsFault) → (part_after_settings_by (shared_part output size ns) input r 0).said ≡ []
 by-zero size ns output input (Err fault) = refl
-by-zero size ns output input (Ok settings) = input-zero size settings ns output input
+by-zero size ns output input (Ok settings) = input-zero size settings ns output (input settings)
 
-chosen-zero : (workers size : ℕ) (ns : List (List ℕ)) (output : List ℕ) (input : Opened) (r : Result Settings SettingsFault) → (part_after_settings_by (parts_by workers size ns output) input r 0).said ≡ []
+chosen-zero : (workers size : ℕ) (ns : List (List ℕ)) (output : List ℕ) (input : Arriving) (r : Result Settings SettingsFault) → (part_after_settings_by (parts_by workers size ns output) input r 0).said ≡ []
 chosen-zero workers size ns output input (Err fault) = refl
-chosen-zero zero size ns output input (Ok settings) = opening-zero (parts_by zero size ns output settings) input (replayed-zero settings output)
-chosen-zero (suc workers) size ns output input (Ok settings) = opening-zero (parts_by (suc workers) size ns output settings) input (run-zero output size ns settings)
+chosen-zero zero size ns output input (Ok settings) = opening-zero (parts_by zero size ns output settings) (input settings) (replayed-zero settings output)
+chosen-zero (suc workers) size ns output input (Ok settings) = opening-zero (parts_by (suc workers) size ns output settings) (input settings) (run-zero output size ns settings)
 
 after-zero : (files : List NamedFile) (ns : List (List ℕ)) (words : Option Words) → (part_after_words_by files ns words 0).said ≡ []
 after-zero files ns None = refl
-after-zero files ns (Some (Replay settings input output format workers round)) = chosen-zero workers round ns output (opened format (content input files)) (settings_of (content settings files))
+after-zero files ns (Some (Replay settings input output intake workers round)) = chosen-zero workers round ns output (arriving intake (content input files)) (settings_of (content settings files))
 after-zero files ns (Some (Show input)) = words-zero files (Some (Show input))
 after-zero files ns (Some (Trial n)) = refl
 
@@ -96,12 +95,12 @@ with-zero words files ns = after-zero files ns (words_of words)
 -- ### frames
 
 -- the output was made only in part, or not at all
-pub shares_output : (settings : Settings) (size : ℕ) (reader : Input) (name : List ℕ) (old new : Option World) → MakesPart name old new
-    → IfSome old (λ w. EndsRun size settings name (run_in reader w) (shown_of w) new)
+pub shares_output : (settings : Settings) (size : ℕ) (left : World → InputRun) (name : List ℕ) (old new : Option World) → MakesPart name old new
+    → IfSome old (λ w. EndsRun size settings name (left w) (shown_of w) new)
 unfolding shared shared_part
-shares_output settings size reader name None new makes = tt
-shares_output settings size reader name (Some w) new makes =
-    let run = run_in reader w in
+shares_output settings size left name None new makes = tt
+shares_output settings size left name (Some w) new makes =
+    let run = left w in
     let numbers = run-numbers settings size run in
     record { ns = numbers.0; lawful = numbers.1; ends = make_front (rounds settings run.frames size numbers.0) (first_rounds settings run.frames size numbers.0) name run w new refl makes }
 
@@ -116,13 +115,13 @@ run_part settings size id name run w new fresh part = record {
       part.said part.sent part.reported part.written;
 }
 
-pub shares_part : (settings : Settings) (size id : ℕ) (reader : Input) (name : List ℕ) (old made new : Option World)
+pub shares_part : (settings : Settings) (size id : ℕ) (from : ℕ) (rest : List ℕ → InputRun) (name : List ℕ) (old made new : Option World)
     → IfSome old (λ w. found_at id w.writers ≡ None) → made ≡ option_map (λ w. after_write id out_header (after_make id name w)) old
-    → IfSome made (λ w. HasSharedPart size settings (Some id) (shown_of w) (run_in reader w) new)
-    → IfSome old (λ w. EndsRun size settings name (run_in reader w) (shown_of w) new)
-shares_part settings size id reader name None made new fresh makes part = tt
-shares_part settings size id reader name (Some w) made new fresh makes part =
-    run_part settings size id name (run_in reader w) w new fresh (rw makes at part)
+    → IfSome made (λ w. HasSharedPart size settings (Some id) (shown_of w) (rest (left_of from w)) new)
+    → IfSome old (λ w. EndsRun size settings name (rest (left_of from w)) (shown_of w) new)
+shares_part settings size id from rest name None made new fresh makes part = tt
+shares_part settings size id from rest name (Some w) made new fresh makes part =
+    run_part settings size id name (rest (left_of from w)) w new fresh (rw makes at part)
 
 -- ### a file
 
@@ -169,7 +168,7 @@ shares_fault size settings output fault (Some w) new says = record {
 -- ### settings
 
 -- they weren't read
-pub shares_unloaded : (size : ℕ) (output : List ℕ) (what : World → Opened) (text : List ℕ) (old new : Option World) → shown new ≡ shown old
+pub shares_unloaded : (size : ℕ) (output : List ℕ) (what : World → Arriving) (text : List ℕ) (old new : Option World) → shown new ≡ shown old
     → IfSome old (λ w. EndsInRounds size output (what w) (content text w.files) (shown_of w) new)
 shares_unloaded size output what text old new same =
     by-numbers _ (λ w ns. after_settings_by (shared output size ns) (what w) (settings_of (content text w.files))) (λ w ns. part_after_settings_by (shared_part output size ns) (what w) (settings_of (content text w.files))) old new
@@ -178,13 +177,13 @@ shares_unloaded size output what text old new same =
     old new (λ w. by-zero size (pick w) output (what w) (settings_of (content text w.files))) same)
 
 -- they have none
-pub shares_settings : (size : ℕ) (settings : Settings) (output : List ℕ) (input : Opened) (text : List ℕ) (old : Shown) (new : Option World) → Ok settings ≡ settings_of text
-    → EndsOf size settings output input old new → EndsInRounds size output input text old new
+pub shares_settings : (size : ℕ) (settings : Settings) (output : List ℕ) (input : Arriving) (text : List ℕ) (old : Shown) (new : Option World) → Ok settings ≡ settings_of text
+    → EndsOf size settings output (input settings) old new → EndsInRounds size output input text old new
 shares_settings size settings output input text old new is ends =
     subst (λ (r : Result Settings SettingsFault). EndsInRoundsBy size output input r old new) is (record { ns = ends.ns; lawful = ends.lawful; ends = ends.ends })
 
 -- or a fault, and a part of its line was said
-pub shares_settings_line : (size : ℕ) (output : List ℕ) (what : World → Opened) (text : List ℕ) (fault : SettingsFault) (old mid new : Option World) → shown mid ≡ shown old
+pub shares_settings_line : (size : ℕ) (output : List ℕ) (what : World → Arriving) (text : List ℕ) (fault : SettingsFault) (old mid new : Option World) → shown mid ≡ shown old
     → IfSome old (λ w. Err fault ≡ settings_of (content text w.files)) → SaysPart (settings_line fault) mid new
     → IfSome old (λ w. EndsInRounds size output (what w) (content text w.files) (shown_of w) new)
 shares_settings_line size output what text fault old mid new same value says =
@@ -202,19 +201,19 @@ plain-part-opening : (size : ℕ) (ns : List (List ℕ)) (output : List ℕ) (se
 plain-part-opening size ns output settings (Ok run) = refl
 plain-part-opening size ns output settings (Err fault) = refl
 
-plain-part : (size : ℕ) (ns : List (List ℕ)) (output : List ℕ) (input : Opened) (r : Result Settings SettingsFault)
+plain-part : (size : ℕ) (ns : List (List ℕ)) (output : List ℕ) (input : Arriving) (r : Result Settings SettingsFault)
     → part_after_settings_by (parts_by zero size ns output) input r ≡ part_after_settings output input r
 plain-part size ns output input (Err fault) = refl
-plain-part size ns output input (Ok settings) = plain-part-opening size ns output settings input
+plain-part size ns output input (Ok settings) = plain-part-opening size ns output settings (input settings)
 
 plain-part-words : (files : List NamedFile) (ns : List (List ℕ)) (words : Option Words) → has_workers words ≡ false → part_after_words_by files ns words ≡ part_after_words files words
 plain-part-words files ns None none = refl
-plain-part-words files ns (Some (Replay settings input output format zero round)) none = plain-part round ns output (opened format (content input files)) (settings_of (content settings files))
-plain-part-words files ns (Some (Replay settings input output format (suc workers) round)) none = cc
+plain-part-words files ns (Some (Replay settings input output intake zero round)) none = plain-part round ns output (arriving intake (content input files)) (settings_of (content settings files))
+plain-part-words files ns (Some (Replay settings input output intake (suc workers) round)) none = cc
 plain-part-words files ns (Some (Show input)) none = refl
 plain-part-words files ns (Some (Trial n)) none = refl
 
-pub ends_plain : (workers size : ℕ) (output : List ℕ) (input : Opened) (text : List ℕ) (old : Shown) (new : Option World) → workers ≡ zero
+pub ends_plain : (workers size : ℕ) (output : List ℕ) (input : Arriving) (text : List ℕ) (old : Shown) (new : Option World) → workers ≡ zero
     → EndsFront (after_settings output input (settings_of text)) (part_after_settings output input (settings_of text)) old new → EndsFor workers size output input text old new
 ends_plain workers size output input text old new none ends =
     rw none (record { ns = []; lawful = refl; ends = front_as _ _ _ _ old new (sym (plain-settings size [] output input (settings_of text))) (sym (plain-part size [] output input (settings_of text))) ends })
@@ -225,12 +224,12 @@ shared-part-opening : (workers size : ℕ) (ns : List (List ℕ)) (output : List
 shared-part-opening workers size ns output settings (Ok run) = refl
 shared-part-opening workers size ns output settings (Err fault) = refl
 
-shared-part-settings : (workers size : ℕ) (ns : List (List ℕ)) (output : List ℕ) (input : Opened) (r : Result Settings SettingsFault)
+shared-part-settings : (workers size : ℕ) (ns : List (List ℕ)) (output : List ℕ) (input : Arriving) (r : Result Settings SettingsFault)
     → part_after_settings_by (shared_part output size ns) input r ≡ part_after_settings_by (parts_by (suc workers) size ns output) input r
 shared-part-settings workers size ns output input (Err fault) = refl
-shared-part-settings workers size ns output input (Ok settings) = shared-part-opening workers size ns output settings input
+shared-part-settings workers size ns output input (Ok settings) = shared-part-opening workers size ns output settings (input settings)
 
-pub ends_shared : (workers size : ℕ) (output : List ℕ) (input : Opened) (text : List ℕ) (old : Shown) (new : Option World) → 1 ≤ workers
+pub ends_shared : (workers size : ℕ) (output : List ℕ) (input : Arriving) (text : List ℕ) (old : Shown) (new : Option World) → 1 ≤ workers
     → EndsInRounds size output input text old new → EndsFor workers size output input text old new
 ends_shared zero size output input text old new some ends = let none : ⊥ = omega (arith, some) in absurd none
 ends_shared (suc workers) size output input text old new some ends = record {

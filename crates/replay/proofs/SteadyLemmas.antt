@@ -1,7 +1,7 @@
 -- What a steady desk owes, from one call to the next.
-use Rattle.std.proofs.Common.{◌≡◌, ℕ, List, [], ◌∷◌, ◌++◌, eqb, Option, Some, None, is_some, IsTrue, ap, subst, inl, inr}
+use Rattle.std.proofs.Common.{◌≡◌, ℕ, List, [], ◌∷◌, ◌++◌, eqb, Option, Some, None, is_some, IsTrue, subst, inl, inr}
 use Rattle.std.proofs.lemmas.Bool.{cases_Bool}
-use Rattle.desk.specs.World.{World, Direction, to_read, Shown, found_at, there, shown, shown_of, IsGiven, IsThere}
+use Rattle.desk.specs.World.{World, Direction, Shown, found_at, there, shown, shown_of, IsGiven, IsThere}
 use Rattle.desk.proofs.Entries.{found_at-more}
 
 -- an id stays given

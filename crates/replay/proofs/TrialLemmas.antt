@@ -3,7 +3,7 @@ use Rattle.std.proofs.Common.{◌≡◌, ℕ, List, [], ◌∷◌, ◌++◌, tru
 use Rattle.octets.specs.Rules.{first_failing}
 use Rattle.capture_io.specs.Capture.{header_rules}
 use Rattle.capture_io.specs.Frames.{capture}
-use Rattle.command_words.specs.declared.input_format.InputFormat.TheVariants as format
+use Rattle.command_words.specs.declared.intake.InputFormat.TheVariants as format
 use Rattle.capture_io.specs.Output.{out_header}
 use Rattle.capture_io.specs.declared.fault.CaptureFault.{CaptureFault}
 use Rattle.desk.specs.Shelf.{file_of, made_last}

@@ -11,13 +11,13 @@ use Rattle.lisp_settings.specs.Settings.{settings_of}
 use Rattle.lisp_settings.specs.declared.fault.SettingsFault.{SettingsFault}
 use Rattle.lisp_settings.specs.declared.settings.Settings.{Settings}
 use Rattle.capture_events.specs.Events.{Outcome, events, played, records_of}
-use Rattle.command_words.specs.declared.input_format.InputFormat.TheVariants.{Classic}
+use Rattle.command_words.specs.declared.intake.InputFormat.TheVariants.{Classic}
 use Rattle.playback.specs.Input.{InputRun}
 use Rattle.playback.specs.declared.fault.InputFault.{InputFault}
 use Rattle.router_model.specs.Journal.{Journal}
 use Rattle.router_model.specs.Plain.{Router, plain, started}
 use Rattle.replay.specs.Lines.{count_line, end_line, fault_line, settings_line}
-use Rattle.replay.specs.Opening.{Opened, opened}
+use Rattle.replay.specs.Opening.{Arriving, Opened, arriving, opened}
 use Rattle.replay.specs.Show.{showing}
 use Rattle.replay.specs.Trial.{trial_text}
 use Rattle.replay.specs.declared.status.Status.{Status}
@@ -73,15 +73,15 @@ after_opening frames (Err fault) = told_off Capture (fault_line fault)
 after_opening frames (Ok run) = frames run
 
 -- the answer to a replay of a capture, by its settings
-abbrev pub after_settings : List ℕ → Opened → Result Settings SettingsFault → Answer
+abbrev pub after_settings : List ℕ → Arriving → Result Settings SettingsFault → Answer
 after_settings output input (Err fault) = told_off BadSettings (settings_line fault)
-after_settings output input (Ok settings) = after_opening (replayed settings output) input
+after_settings output input (Ok settings) = after_opening (replayed settings output) (input settings)
 
 -- the answer to what words say
 abbrev pub after_words : List NamedFile → Option Words → Answer
 after_words files None = told_off Usage (codes "usage\n")
-after_words files (Some (Replay settings input output format workers round)) =
-    after_settings output (opened format (content input files)) (settings_of (content settings files))
+after_words files (Some (Replay settings input output intake workers round)) =
+    after_settings output (arriving intake (content input files)) (settings_of (content settings files))
 after_words files (Some (Show input)) = after_opening messages_shown (opened Classic (content input files))
 after_words files (Some (Trial n)) = told_off Done (trial_text n)
 
@@ -91,7 +91,7 @@ answer words files = after_words files (words_of words)
 
 -- the files that words name to be read
 abbrev pub names_read : Option Words → List (List ℕ)
-names_read (Some (Replay settings input output format workers round)) = settings ∷ input ∷ []
+names_read (Some (Replay settings input output intake workers round)) = settings ∷ input ∷ []
 names_read (Some (Show input)) = input ∷ []
 names_read _ = []
 

@@ -10,13 +10,13 @@ use Rattle.lisp_settings.specs.Settings.{settings_of}
 use Rattle.lisp_settings.specs.declared.fault.SettingsFault.{SettingsFault}
 use Rattle.lisp_settings.specs.declared.settings.Settings.{Settings}
 use Rattle.capture_events.specs.Events.{Outcome, events, played, records_of}
-use Rattle.command_words.specs.declared.input_format.InputFormat.TheVariants.{Classic}
+use Rattle.command_words.specs.declared.intake.InputFormat.TheVariants.{Classic}
 use Rattle.playback.specs.Front.{IsFront}
 use Rattle.playback.specs.Input.{InputRun}
 use Rattle.router_model.specs.Journal.{Journal}
 use Rattle.router_model.specs.Plain.{Router, plain, started}
 use Rattle.replay.specs.Answer.{Answer, made_files}
-use Rattle.replay.specs.Opening.{Opened, opened}
+use Rattle.replay.specs.Opening.{Arriving, Opened, arriving, opened}
 use Rattle.replay.specs.Show.{showing}
 
 -- what was said, and the file that was made, if one was
@@ -51,14 +51,14 @@ part_after_opening frames (Err fault) = no_part
 part_after_opening frames (Ok run) = frames run
 
 -- by the settings of a replay
-abbrev pub part_after_settings : List ℕ → Opened → Result Settings SettingsFault → ℕ → Part
+abbrev pub part_after_settings : List ℕ → Arriving → Result Settings SettingsFault → ℕ → Part
 part_after_settings output input (Err fault) = no_part
-part_after_settings output input (Ok settings) = part_after_opening (replayed_part settings output) input
+part_after_settings output input (Ok settings) = part_after_opening (replayed_part settings output) (input settings)
 
 -- by what words say
 abbrev pub part_after_words : List NamedFile → Option Words → ℕ → Part
-part_after_words files (Some (Replay settings input output format workers round)) =
-    part_after_settings output (opened format (content input files)) (settings_of (content settings files))
+part_after_words files (Some (Replay settings input output intake workers round)) =
+    part_after_settings output (arriving intake (content input files)) (settings_of (content settings files))
 part_after_words files (Some (Show input)) = part_after_opening shown_part (opened Classic (content input files))
 part_after_words files _ = no_part
 

@@ -6,6 +6,7 @@ pub mod Opening
 pub mod Readings
 pub mod Shared
 pub mod Show
+pub mod Splitting
 pub mod Taking
 pub mod Trial
 pub mod SharedFront

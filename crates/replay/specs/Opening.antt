@@ -1,18 +1,21 @@
 -- What is read of a capture, by its format.
-use Rattle.std.specs.Prelude.{◌≡◌, List, ℕ, Option, Some, None, Result, Ok, Err, IsSomeAnd}
+use Rattle.std.specs.Prelude.{◌≡◌, Bool, List, ℕ, Option, Some, None, Result, Ok, Err, IsSomeAnd}
 use Rattle.octets.specs.Rules.{first_failing}
-use Rattle.command_words.specs.declared.input_format.InputFormat.{InputFormat}
-use Rattle.command_words.specs.declared.input_format.InputFormat.TheVariants as format
+use Rattle.command_words.specs.declared.intake.InputFormat.{InputFormat}
+use Rattle.command_words.specs.declared.intake.InputFormat.TheVariants as format
+use Rattle.command_words.specs.declared.intake.Intake.{Intake}
 use Rattle.capture_io.specs.Capture.{header_rules}
 use Rattle.desk.specs.World.{World}
 use Rattle.capture_io.specs.Frames.{capture, read_on}
 use Rattle.capture_io.specs.declared.fault.CaptureFault.{CaptureFault}
 use Rattle.capture_ng.specs.Frames.{read_on as ng_read_on}
 use Rattle.capture_ng.specs.Position.{begin}
+use Rattle.lisp_settings.specs.declared.settings.Settings.{Settings}
 use Rattle.playback.specs.Input.{InputRun, input_run, left_in}
 use Rattle.playback.specs.declared.fault.InputFault.{InputFault}
 use Rattle.playback.specs.declared.fault.InputFault.TheVariants as fault
 use Rattle.playback.specs.declared.progress.Progress.{Progress}
+use Rattle.replay.specs.Splitting.{taken_run}
 use Rattle.replay.specs.declared.input.Input.{Input}
 use Rattle.replay.specs.declared.input.Input.TheVariants as input
 
@@ -29,6 +32,19 @@ behind_header (Some f) run = Err (fault.Classic f)
 abbrev pub opened : InputFormat → List ℕ → Opened
 opened format.Classic file = behind_header (first_failing (header_rules file)) (input_run fault.Classic (capture file))
 opened (format.Ng vlans) file = Ok (input_run fault.Ng (ng_read_on vlans begin file))
+
+-- the same as it comes to the router
+abbrev pub taken : Bool → Settings → Opened → Opened
+taken split settings (Ok run) = Ok (taken_run split settings run)
+taken split settings (Err f) = Err f
+
+-- what comes of a capture, by the settings
+abbrev pub Arriving : Type 0
+Arriving = Settings → Opened
+
+-- what comes of a capture that is taken in so
+abbrev pub arriving : Intake → List ℕ → Arriving
+arriving intake file settings = taken intake.split settings (opened intake.format file)
 
 -- ### a capture that is read
 

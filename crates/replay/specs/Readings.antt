@@ -1,5 +1,5 @@
 -- What is read of files, and what is left before a last line: for contracts of parts alone, no clause of `run` needs it.
-use Rattle.std.specs.Prelude.{◌≡◌, ◌<◌, ◌⊎◌, ◌++◌, ◌∷◌, [], ℕ, List, length, Option, Some, None, Result, Ok, Err, IsSomeAnd}
+use Rattle.std.specs.Prelude.{◌≡◌, ◌<◌, ◌⊎◌, ◌++◌, ◌∷◌, [], ℕ, List, length, Option, Some, Result, Ok, Err, IsSomeAnd}
 use Rattle.desk.specs.World.{Shown}
 use Rattle.capture_io.specs.Output.{out_header}
 use Rattle.lisp_settings.specs.Limits.{most_text_octets}

@@ -1,5 +1,5 @@
 -- What a run with forwarders answers, by its words, the files, and the numbers that its report shows.
-use Rattle.std.specs.Prelude.{◌≡◌, ℕ, zero, suc, Bool, true, false, List, [], Option, Some, None, Result, Ok, Err}
+use Rattle.std.specs.Prelude.{◌≡◌, ℕ, zero, suc, Bool, true, false, List, [], Option, Some, Result, Ok, Err}
 use Rattle.command_words.specs.Words.{words_of}
 use Rattle.command_words.specs.declared.words.Words.{Words}
 use Rattle.command_words.specs.declared.words.Words.TheVariants.{Replay}
@@ -12,7 +12,7 @@ use Rattle.playback.specs.Input.{InputRun}
 use Rattle.router_model.specs.Rounds.{Lawful, rounds}
 use Rattle.replay.specs.Answer.{Answer, Gives, after_opening, after_words, answer_by, replayed, told_off}
 use Rattle.replay.specs.Lines.{settings_line}
-use Rattle.replay.specs.Opening.{Opened, opened}
+use Rattle.replay.specs.Opening.{Arriving, Opened, arriving}
 use Rattle.replay.specs.declared.status.Status.{Status}
 use Rattle.replay.specs.declared.status.Status.TheVariants.{Settings as BadSettings}
 
@@ -21,9 +21,9 @@ unfoldable pub shared : List ℕ → ℕ → List (List ℕ) → Settings → In
 shared output size ns settings run = answer_by (rounds settings run.frames size ns) output run
 
 -- the answer to a replay, by its settings
-abbrev pub after_settings_by : (Settings → InputRun → Answer) → Opened → Result Settings SettingsFault → Answer
+abbrev pub after_settings_by : (Settings → InputRun → Answer) → Arriving → Result Settings SettingsFault → Answer
 after_settings_by frames input (Err fault) = told_off BadSettings (settings_line fault)
-after_settings_by frames input (Ok settings) = after_opening (frames settings) input
+after_settings_by frames input (Ok settings) = after_opening (frames settings) (input settings)
 
 -- with so many forwarders, of which there may be none
 abbrev pub frames_by : ℕ → ℕ → List (List ℕ) → List ℕ → Settings → InputRun → Answer
@@ -32,8 +32,8 @@ frames_by (suc workers) size ns output settings run = shared output size ns sett
 
 -- the answer to what words say: without forwarders that of the plain router
 abbrev pub after_words_by : List NamedFile → List (List ℕ) → Option Words → Answer
-after_words_by files ns (Some (Replay settings input output format workers round)) =
-    after_settings_by (frames_by workers round ns output) (opened format (content input files)) (settings_of (content settings files))
+after_words_by files ns (Some (Replay settings input output intake workers round)) =
+    after_settings_by (frames_by workers round ns output) (arriving intake (content input files)) (settings_of (content settings files))
 after_words_by files ns words = after_words files words
 
 -- the answer to words, where these files are there
@@ -46,19 +46,19 @@ AreNumbersOf settings size ns (Err fault) = ns ≡ []
 AreNumbersOf settings size ns (Ok run) = Lawful settings run.frames size ns
 
 -- where the settings have none
-abbrev pub AreNumbers : ℕ → List (List ℕ) → Opened → Result Settings SettingsFault → Type 0
+abbrev pub AreNumbers : ℕ → List (List ℕ) → Arriving → Result Settings SettingsFault → Type 0
 AreNumbers size ns input (Err fault) = ns ≡ []
-AreNumbers size ns input (Ok settings) = AreNumbersOf settings size ns input
+AreNumbers size ns input (Ok settings) = AreNumbersOf settings size ns (input settings)
 
 -- without forwarders none are chosen
-abbrev pub AreChosen : ℕ → ℕ → List (List ℕ) → Opened → Result Settings SettingsFault → Type 0
+abbrev pub AreChosen : ℕ → ℕ → List (List ℕ) → Arriving → Result Settings SettingsFault → Type 0
 AreChosen zero size ns input settings = ns ≡ []
 AreChosen (suc workers) size ns input settings = AreNumbers size ns input settings
 
 -- numbers that a run of words may have
 abbrev pub MayHave : List NamedFile → List (List ℕ) → Option Words → Type 0
-MayHave files ns (Some (Replay settings input output format workers round)) =
-    AreChosen workers round ns (opened format (content input files)) (settings_of (content settings files))
+MayHave files ns (Some (Replay settings input output intake workers round)) =
+    AreChosen workers round ns (arriving intake (content input files)) (settings_of (content settings files))
 MayHave files ns words = ns ≡ []
 
 -- a run of what words say ends by an answer with numbers that it may have, and leaves what that says
@@ -80,16 +80,16 @@ pub record SharesOf (size : ℕ) (settings : Settings) (output : List ℕ) (inpu
   pub gives : Gives (after_opening (shared output size ns settings) input) s old new
 
 -- the same by the settings, and by their text
-pub record SharesBy (size : ℕ) (output : List ℕ) (input : Opened) (settings : Result Settings SettingsFault) (s : Status) (old : Shown) (new : Option Shown) : Type 0 where
+pub record SharesBy (size : ℕ) (output : List ℕ) (input : Arriving) (settings : Result Settings SettingsFault) (s : Status) (old : Shown) (new : Option Shown) : Type 0 where
   pub ns : List (List ℕ)
   pub lawful : AreNumbers size ns input settings
   pub gives : Gives (after_settings_by (shared output size ns) input settings) s old new
 
-abbrev pub Shares : ℕ → List ℕ → Opened → List ℕ → Status → Shown → Option Shown → Type 0
+abbrev pub Shares : ℕ → List ℕ → Arriving → List ℕ → Status → Shown → Option Shown → Type 0
 Shares size output input text s old new = SharesBy size output input (settings_of text) s old new
 
 -- with so many forwarders
-pub record GivesFor (workers size : ℕ) (output : List ℕ) (input : Opened) (text : List ℕ) (s : Status) (old : Shown) (new : Option Shown) : Type 0 where
+pub record GivesFor (workers size : ℕ) (output : List ℕ) (input : Arriving) (text : List ℕ) (s : Status) (old : Shown) (new : Option Shown) : Type 0 where
   pub ns : List (List ℕ)
   pub lawful : AreChosen workers size ns input (settings_of text)
   pub gives : Gives (after_settings_by (frames_by workers size ns output) input (settings_of text)) s old new
@@ -101,5 +101,5 @@ are_some (suc workers) = true
 
 -- words that ask for forwarders
 abbrev pub has_workers : Option Words → Bool
-has_workers (Some (Replay settings input output format workers round)) = are_some workers
+has_workers (Some (Replay settings input output intake workers round)) = are_some workers
 has_workers words = false

@@ -13,7 +13,7 @@ use Rattle.router_model.specs.Rounds.{Lawful}
 use Rattle.sharing.specs.Sharing.{first_rounds}
 use Rattle.replay.specs.Answer.{Answer, after_opening}
 use Rattle.replay.specs.Front.{EndsFront, Part, no_part, part_after_opening, part_after_words, part_by, replayed_part}
-use Rattle.replay.specs.Opening.{Opened, opened}
+use Rattle.replay.specs.Opening.{Arriving, Opened, arriving}
 use Rattle.replay.specs.Shared.{AreChosen, AreNumbers, AreNumbersOf, MayHave, after_settings_by, after_words_by, answer_with, frames_by, shared}
 
 -- for so many rounds of a capture that is replayed into a file with these numbers: their lines, and the file with their
@@ -22,9 +22,9 @@ unfoldable pub shared_part : List ℕ → ℕ → List (List ℕ) → Settings �
 shared_part output size ns settings run count = part_by (first_rounds settings run.frames size ns count) output
 
 -- by the settings of a replay
-abbrev pub part_after_settings_by : (Settings → InputRun → ℕ → Part) → Opened → Result Settings SettingsFault → ℕ → Part
+abbrev pub part_after_settings_by : (Settings → InputRun → ℕ → Part) → Arriving → Result Settings SettingsFault → ℕ → Part
 part_after_settings_by frames input (Err fault) = no_part
-part_after_settings_by frames input (Ok settings) = part_after_opening (frames settings) input
+part_after_settings_by frames input (Ok settings) = part_after_opening (frames settings) (input settings)
 
 -- with so many forwarders, of which there may be none
 abbrev pub parts_by : ℕ → ℕ → List (List ℕ) → List ℕ → Settings → InputRun → ℕ → Part
@@ -33,8 +33,8 @@ parts_by (suc workers) size ns output settings run = shared_part output size ns 
 
 -- by what words say: without forwarders for so many events
 abbrev pub part_after_words_by : List NamedFile → List (List ℕ) → Option Words → ℕ → Part
-part_after_words_by files ns (Some (Replay settings input output format workers round)) =
-    part_after_settings_by (parts_by workers round ns output) (opened format (content input files)) (settings_of (content settings files))
+part_after_words_by files ns (Some (Replay settings input output intake workers round)) =
+    part_after_settings_by (parts_by workers round ns output) (arriving intake (content input files)) (settings_of (content settings files))
 part_after_words_by files ns words = part_after_words files words
 
 -- what words have said and made for so many rounds of their capture
@@ -58,18 +58,18 @@ EndsAfter files words old new =
     EndsBy (λ ns. MayHave files ns words) (λ ns. after_words_by files ns words) (λ ns. part_after_words_by files ns words) old new
 
 -- of a replay with so many forwarders
-abbrev pub EndsFor : ℕ → ℕ → List ℕ → Opened → List ℕ → Shown → Option World → Type 0
+abbrev pub EndsFor : ℕ → ℕ → List ℕ → Arriving → List ℕ → Shown → Option World → Type 0
 EndsFor workers size output input text old new =
     EndsBy (λ ns. AreChosen workers size ns input (settings_of text)) (λ ns. after_settings_by (frames_by workers size ns output) input (settings_of text))
     (λ ns. part_after_settings_by (parts_by workers size ns output) input (settings_of text)) old new
 
 -- in rounds, by the settings
-abbrev pub EndsInRoundsBy : ℕ → List ℕ → Opened → Result Settings SettingsFault → Shown → Option World → Type 0
+abbrev pub EndsInRoundsBy : ℕ → List ℕ → Arriving → Result Settings SettingsFault → Shown → Option World → Type 0
 EndsInRoundsBy size output input settings old new =
     EndsBy (λ ns. AreNumbers size ns input settings) (λ ns. after_settings_by (shared output size ns) input settings)
     (λ ns. part_after_settings_by (shared_part output size ns) input settings) old new
 
-abbrev pub EndsInRounds : ℕ → List ℕ → Opened → List ℕ → Shown → Option World → Type 0
+abbrev pub EndsInRounds : ℕ → List ℕ → Arriving → List ℕ → Shown → Option World → Type 0
 EndsInRounds size output input text old new = EndsInRoundsBy size output input (settings_of text) old new
 
 -- of a capture, by what is read of it

@@ -5,12 +5,14 @@ ghost use Rattle.desk.specs.declared.fault.DeskFault.TheVariants.{Failed};
 ghost use Rattle.desk.specs.Causes.{HasCause, StaysSteady};
 ghost use Rattle.desk.specs.World.{content, to_read, shown, shown_of, IsGiven, IsThere};
 ghost use Rattle.lisp_settings.specs.Lawful.{IsLawful};
-ghost use Rattle.playback.specs.Input.{beginning};
+ghost use Rattle.playback.specs.Input.{beginning, left_in};
+ghost use Rattle.playback.specs.Limits.{most_frames};
 ghost use Rattle.replay.specs.Answer.{is_end, is_of_form};
-ghost use Rattle.replay.specs.Opening.{id_of, opened, progress_of, run_in, IsOpen};
+ghost use Rattle.replay.specs.Opening.{arriving, id_of, progress_of, run_in, IsOpen};
 ghost use Rattle.replay.specs.Readings.{HasReplayedInRounds};
 ghost use Rattle.replay.specs.Shared.{Shares, SharesOf};
-ghost use Rattle.replay.specs.SharedFront.{EndsInRounds, EndsOf};
+ghost use Rattle.replay.specs.SharedFront.{EndsInRounds, EndsOf, EndsRun};
+ghost use Rattle.replay.specs.Splitting.{taken_run};
 
 use crate::Status;
 use crate::input::{Input, open_input};
@@ -18,9 +20,11 @@ use crate::last_lines::{close, end_line, refuse_capture, refuse_settings};
 use crate::output_file::make_output;
 use crate::replaying::Counts;
 use crate::settings_file::load_settings;
-use command_words::InputFormat;
+use crate::splitting::Splitting;
+use command_words::Intake;
 use desk::{Desk, DeskFault};
 use lisp_settings::Settings;
+use playback::FrameReader;
 use sharing::{Crew, Gate, play_rounds};
 use std::alloc::Global;
 use std::sync::Wait;
@@ -32,25 +36,25 @@ pub(crate) fn share_capture<R: Threads + Wait + Sync, D: Desk, G: Gate>(
     alloc: Global,
     desk: &mut D,
     settings: &str,
-    format: InputFormat,
+    intake: Intake,
     input: &str,
     output: &str,
 ) -> Result<Status, DeskFault>
     requires workers { (1 ≤ crew.now.workers) × (crew.now.workers ≤ most_workers) }
     requires round { (1 ≤ crew.now.round) × (crew.now.round ≤ most_round_frames) }
     ensures answer { IfOk result (λ s. IfSome (D.told desk.old) (λ w.
-        Shares crew.now.round output.now (opened format (content input.now w.files)) (content settings.now w.files)
+        Shares crew.now.round output.now (arriving intake (content input.now w.files)) (content settings.now w.files)
         s (shown_of w) (shown (D.told desk.new)))) }
     ensures form { IfOk result (λ s. IsTrue (is_of_form s)) }
     ensures front { OnErr result (IfSome (D.told desk.old) (λ w.
-        EndsInRounds crew.now.round output.now (opened format (content input.now w.files)) (content settings.now w.files)
+        EndsInRounds crew.now.round output.now (arriving intake (content input.now w.files)) (content settings.now w.files)
         (shown_of w) (D.told desk.new))) }
     ensures cause { HasCause (D.faults desk.old) (D.faults desk.new) result }
     ensures steady { StaysSteady (D.steady desk.old) (D.steady desk.new)
         (IsThere settings.now (D.told desk.old) × IsThere input.now (D.told desk.old)) (IsErrOf result Failed) }
 {
     match load_settings(alloc, desk, settings)? {
-        Ok(settings) => share_by(crew, alloc, desk, &settings, format, input, output),
+        Ok(settings) => share_by(crew, alloc, desk, &settings, intake, input, output),
         Err(fault) => refuse_settings(alloc, desk, &fault),
     }
 }
@@ -60,7 +64,7 @@ fn share_by<R: Threads + Wait + Sync, D: Desk, G: Gate>(
     alloc: Global,
     desk: &mut D,
     settings: &Settings,
-    format: InputFormat,
+    intake: Intake,
     input: &str,
     output: &str,
 ) -> Result<Status, DeskFault>
@@ -68,18 +72,18 @@ fn share_by<R: Threads + Wait + Sync, D: Desk, G: Gate>(
     requires round { (1 ≤ crew.now.round) × (crew.now.round ≤ most_round_frames) }
     requires lawful { IsLawful settings.now }
     ensures answer { IfOk result (λ s. IfSome (D.told desk.old) (λ w.
-        SharesOf crew.now.round settings.now output.now (opened format (content input.now w.files))
+        SharesOf crew.now.round settings.now output.now (arriving intake (content input.now w.files) settings.now)
         s (shown_of w) (shown (D.told desk.new)))) }
     ensures end { IfOk result (λ s. IsTrue (is_end s)) }
     ensures front { OnErr result (IfSome (D.told desk.old) (λ w.
-        EndsOf crew.now.round settings.now output.now (opened format (content input.now w.files))
+        EndsOf crew.now.round settings.now output.now (arriving intake (content input.now w.files) settings.now)
         (shown_of w) (D.told desk.new))) }
     ensures cause { HasCause (D.faults desk.old) (D.faults desk.new) result }
     ensures steady { StaysSteady (D.steady desk.old) (D.steady desk.new)
         (IsThere input.now (D.told desk.old)) (IsErrOf result Failed) }
 {
-    match open_input(alloc, desk, format, input)? {
-        Ok(reader) => share_input(crew, alloc, desk, settings, reader, output),
+    match open_input(alloc, desk, intake.format, input)? {
+        Ok(reader) => share_input(crew, alloc, desk, settings, intake.split, reader, output),
         Err(fault) => refuse_capture(alloc, desk, fault),
     }
 }
@@ -90,6 +94,7 @@ fn share_input<R: Threads + Wait + Sync, D: Desk, G: Gate>(
     alloc: Global,
     desk: &mut D,
     settings: &Settings,
+    split: bool,
     reader: Input,
     output: &str,
 ) -> Result<Status, DeskFault>
@@ -99,25 +104,28 @@ fn share_input<R: Threads + Wait + Sync, D: Desk, G: Gate>(
     requires begins { progress_of reader ≡ beginning }
     requires lawful { IsLawful settings.now }
     ensures answer { IfOk result (λ s. IfSome (D.told desk.old) (λ w.
-        SharesOf crew.now.round settings.now output.now (Ok (run_in reader w)) s (shown_of w) (shown (D.told desk.new)))) }
+        SharesOf crew.now.round settings.now output.now (Ok (taken_run split settings.now (run_in reader w)))
+        s (shown_of w) (shown (D.told desk.new)))) }
     ensures end { IfOk result (λ s. IsTrue (is_end s)) }
     ensures front { OnErr result (IfSome (D.told desk.old) (λ w.
-        EndsOf crew.now.round settings.now output.now (Ok (run_in reader w)) (shown_of w) (D.told desk.new))) }
+        EndsOf crew.now.round settings.now output.now (Ok (taken_run split settings.now (run_in reader w)))
+        (shown_of w) (D.told desk.new))) }
     ensures cause { HasCause (D.faults desk.old) (D.faults desk.new) result }
     ensures steady { StaysSteady (D.steady desk.old) (D.steady desk.new)
         (IsGiven (id_of reader) to_read (D.given desk.old)) (IsErrOf result Failed) }
 {
-    let counts = share_frames(crew, alloc, desk, settings, reader, output)?;
+    let counts = share_taken(crew, alloc, desk, settings, split, reader, output)?;
     let line = end_line(alloc, counts.frames, counts.written, counts.entries)?;
     close(alloc, desk, counts.fault, line.as_slice())
 }
 
-// Replays a capture that was opened into the output, but for the last line.
-fn share_frames<R: Threads + Wait + Sync, D: Desk, G: Gate>(
+// Replays a capture that was opened into the output, with its large packets split or not, but for the last line.
+fn share_taken<R: Threads + Wait + Sync, D: Desk, G: Gate>(
     crew: &Crew<'_, R, G>,
     alloc: Global,
     desk: &mut D,
     settings: &Settings,
+    split: bool,
     reader: Input,
     output: &str,
 ) -> Result<Counts, DeskFault>
@@ -127,13 +135,45 @@ fn share_frames<R: Threads + Wait + Sync, D: Desk, G: Gate>(
     requires begins { progress_of reader ≡ beginning }
     requires lawful { IsLawful settings.now }
     ensures answer { IfOk result (λ counts. IfSome (D.told desk.old) (λ w.
-        HasReplayedInRounds crew.now.round settings.now output.now (run_in reader w) counts
+        HasReplayedInRounds crew.now.round settings.now output.now (taken_run split settings.now (run_in reader w)) counts
         (shown_of w) (shown (D.told desk.new)))) }
     ensures front { OnErr result (IfSome (D.told desk.old) (λ w.
-        EndsOf crew.now.round settings.now output.now (Ok (run_in reader w)) (shown_of w) (D.told desk.new))) }
+        EndsRun crew.now.round settings.now output.now (taken_run split settings.now (run_in reader w))
+        (shown_of w) (D.told desk.new))) }
     ensures cause { HasCause (D.faults desk.old) (D.faults desk.new) result }
     ensures steady { StaysSteady (D.steady desk.old) (D.steady desk.new)
         (IsGiven (id_of reader) to_read (D.given desk.old)) (IsErrOf result Failed) }
+{
+    if split {
+        let reader = Splitting::new(settings, reader);
+        return share_frames(crew, alloc, desk, settings, reader, output);
+    }
+    share_frames(crew, alloc, desk, settings, reader, output)
+}
+
+// Replays a capture of which no frame was read into the output, but for the last line.
+fn share_frames<R: Threads + Wait + Sync, D: Desk, G: Gate, I: FrameReader>(
+    crew: &Crew<'_, R, G>,
+    alloc: Global,
+    desk: &mut D,
+    settings: &Settings,
+    reader: I,
+    output: &str,
+) -> Result<Counts, DeskFault>
+    requires workers { (1 ≤ crew.now.workers) × (crew.now.workers ≤ most_workers) }
+    requires round { (1 ≤ crew.now.round) × (crew.now.round ≤ most_round_frames) }
+    requires open { I.IsOpen reader }
+    requires begins { I.progress reader ≡ beginning }
+    requires few { I.most ≤ most_frames }
+    requires lawful { IsLawful settings.now }
+    ensures answer { IfOk result (λ counts. IfSome (D.told desk.old) (λ w.
+        HasReplayedInRounds crew.now.round settings.now output.now (left_in I.id I.run reader w) counts
+        (shown_of w) (shown (D.told desk.new)))) }
+    ensures front { OnErr result (IfSome (D.told desk.old) (λ w.
+        EndsRun crew.now.round settings.now output.now (left_in I.id I.run reader w) (shown_of w) (D.told desk.new))) }
+    ensures cause { HasCause (D.faults desk.old) (D.faults desk.new) result }
+    ensures steady { StaysSteady (D.steady desk.old) (D.steady desk.new)
+        (IsGiven (I.id reader) to_read (D.given desk.old)) (IsErrOf result Failed) }
 {
     let file = make_output(alloc, desk, output)?;
     let ended = play_rounds(crew, alloc, desk, settings, reader, file)?;

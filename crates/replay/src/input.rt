@@ -3,7 +3,7 @@ ghost use Rattle.std.specs.Prelude.{◌≡◌, IfOk, IfSome, IsErrOf};
 ghost use Rattle.desk.specs.declared.fault.DeskFault.TheVariants.{Failed};
 ghost use Rattle.desk.specs.Causes.{HasCause, StaysSteady};
 ghost use Rattle.desk.specs.World.{content, left_of, to_read, shown, IsGiven, IsThere};
-ghost use Rattle.command_words.specs.declared.input_format.InputFormat.TheVariants.{Classic};
+ghost use Rattle.command_words.specs.declared.intake.InputFormat.TheVariants.{Classic};
 ghost use Rattle.playback.specs.Input.{beginning};
 ghost use Rattle.replay.specs.Opening.{id_of, opened, progress_of, IsOpen, Opens};
 
@@ -22,6 +22,7 @@ pub(crate) enum Input {
 }
 
 impl FrameReader for Input {
+    ghost use Rattle.playback.specs.Limits.{most_records};
     ghost use Rattle.replay.specs.Opening.{id_of, progress_of, run_of, IsOpen};
 
     ghost id = { id_of };
@@ -29,6 +30,8 @@ impl FrameReader for Input {
     ghost run = { run_of };
 
     ghost progress = { progress_of };
+
+    ghost most = { most_records };
 
     ghost IsOpen = { IsOpen };
 

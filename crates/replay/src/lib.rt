@@ -11,6 +11,7 @@ mod replaying;
 mod running;
 mod settings_file;
 mod showing;
+mod splitting;
 mod status;
 mod taking;
 mod trying;

@@ -6,28 +6,31 @@ ghost use Rattle.desk.specs.World.{content, to_read, shown, shown_of, IsGiven, I
 ghost use Rattle.lisp_settings.specs.Lawful.{IsLawful};
 ghost use Rattle.lisp_settings.specs.Settings.{settings_of};
 ghost use Rattle.capture_events.specs.Events.{second_of, Determined};
-ghost use Rattle.playback.specs.Input.{beginning};
+ghost use Rattle.playback.specs.Input.{beginning, left_in};
+ghost use Rattle.playback.specs.Limits.{most_frames};
 ghost use Rattle.router_model.specs.Limits.{most_heard, most_mappings, most_ticked};
 ghost use Rattle.router_model.specs.Parts.{Parts, table};
 ghost use Rattle.router_model.specs.Plain.{Router, after_event};
 ghost use Rattle.replay.specs.Taking.{most_packets, router_of};
 ghost use Rattle.replay.specs.Answer.{after_opening, after_settings, is_end, is_of_form, replayed, Gives};
 ghost use Rattle.replay.specs.Front.{part_after_opening, part_after_settings, replayed_part, EndsFront};
-ghost use Rattle.replay.specs.Opening.{id_of, opened, progress_of, run_in, IsOpen};
+ghost use Rattle.replay.specs.Opening.{arriving, id_of, progress_of, run_in, IsOpen};
 ghost use Rattle.replay.specs.Readings.{HasReplayed, HasReplayedFile};
+ghost use Rattle.replay.specs.Splitting.{taken_run};
 
 use crate::Status;
 use crate::input::{Input, open_input};
 use crate::last_lines::{close, end_line, refuse_capture, refuse_settings};
 use crate::output_file::make_output;
 use crate::settings_file::load_settings;
+use crate::splitting::Splitting;
 use crate::taking::{take_frame, take_second};
 use capture_io::Frame;
-use command_words::InputFormat;
+use command_words::Intake;
 use desk::{Desk, DeskFault};
 use lisp_settings::Settings;
 use octets::NoMemory;
-use playback::{InputFault, Machine, Output, Progress, play};
+use playback::{FrameReader, InputFault, Machine, Output, Progress, play};
 use router_core::Table;
 use std::alloc::Global;
 
@@ -93,16 +96,16 @@ pub(crate) fn replay_capture<D: Desk>(
     alloc: Global,
     desk: &mut D,
     settings: &str,
-    format: InputFormat,
+    intake: Intake,
     input: &str,
     output: &str,
 ) -> Result<Status, DeskFault>
     ensures answer { IfOk result (λ s. IfSome (D.told desk.old) (λ w.
-        Gives (after_settings output.now (opened format (content input.now w.files))
+        Gives (after_settings output.now (arriving intake (content input.now w.files))
         (settings_of (content settings.now w.files))) s (shown_of w) (shown (D.told desk.new)))) }
     ensures form { IfOk result (λ s. IsTrue (is_of_form s)) }
     ensures front { OnErr result (IfSome (D.told desk.old) (λ w.
-        let what = opened format (content input.now w.files) in
+        let what = arriving intake (content input.now w.files) in
         EndsFront (after_settings output.now what (settings_of (content settings.now w.files)))
         (part_after_settings output.now what (settings_of (content settings.now w.files))) (shown_of w) (D.told desk.new))) }
     ensures cause { HasCause (D.faults desk.old) (D.faults desk.new) result }
@@ -110,7 +113,7 @@ pub(crate) fn replay_capture<D: Desk>(
         (IsThere settings.now (D.told desk.old) × IsThere input.now (D.told desk.old)) (IsErrOf result Failed) }
 {
     match load_settings(alloc, desk, settings)? {
-        Ok(settings) => replay_by(alloc, desk, &settings, format, input, output),
+        Ok(settings) => replay_by(alloc, desk, &settings, intake, input, output),
         Err(fault) => refuse_settings(alloc, desk, &fault),
     }
 }
@@ -119,24 +122,24 @@ fn replay_by<D: Desk>(
     alloc: Global,
     desk: &mut D,
     settings: &Settings,
-    format: InputFormat,
+    intake: Intake,
     input: &str,
     output: &str,
 ) -> Result<Status, DeskFault>
     requires { IsLawful settings.now }
     ensures answer { IfOk result (λ s. IfSome (D.told desk.old) (λ w.
-        Gives (after_opening (replayed settings.now output.now) (opened format (content input.now w.files)))
+        Gives (after_opening (replayed settings.now output.now) (arriving intake (content input.now w.files) settings.now))
         s (shown_of w) (shown (D.told desk.new)))) }
     ensures end { IfOk result (λ s. IsTrue (is_end s)) }
     ensures front { OnErr result (IfSome (D.told desk.old) (λ w.
-        let what = opened format (content input.now w.files) in
+        let what = arriving intake (content input.now w.files) settings.now in
         EndsFront (after_opening (replayed settings.now output.now) what)
         (part_after_opening (replayed_part settings.now output.now) what) (shown_of w) (D.told desk.new))) }
     ensures cause { HasCause (D.faults desk.old) (D.faults desk.new) result }
     ensures steady { StaysSteady (D.steady desk.old) (D.steady desk.new)
         (IsThere input.now (D.told desk.old)) (IsErrOf result Failed) }
 {
-    match replay_file(alloc, desk, settings, format, input, output)? {
+    match replay_file(alloc, desk, settings, intake, input, output)? {
         Ok(counts) => {
             let line = end_line(alloc, counts.frames, counts.written, counts.entries)?;
             close(alloc, desk, counts.fault, line.as_slice())
@@ -151,33 +154,37 @@ pub(crate) fn replay_file<D: Desk>(
     alloc: Global,
     desk: &mut D,
     settings: &Settings,
-    format: InputFormat,
+    intake: Intake,
     input: &str,
     output: &str,
 ) -> Result<Result<Counts, InputFault>, DeskFault>
     requires { IsLawful settings.now }
     ensures answer { IfOk result (λ counts. IfSome (D.told desk.old) (λ w.
-        HasReplayedFile settings.now output.now (opened format (content input.now w.files)) counts
+        HasReplayedFile settings.now output.now (arriving intake (content input.now w.files) settings.now) counts
         (shown_of w) (shown (D.told desk.new)))) }
     ensures front { OnErr result (IfSome (D.told desk.old) (λ w.
-        let what = opened format (content input.now w.files) in
+        let what = arriving intake (content input.now w.files) settings.now in
         EndsFront (after_opening (replayed settings.now output.now) what)
         (part_after_opening (replayed_part settings.now output.now) what) (shown_of w) (D.told desk.new))) }
     ensures cause { HasCause (D.faults desk.old) (D.faults desk.new) result }
     ensures steady { StaysSteady (D.steady desk.old) (D.steady desk.new)
         (IsThere input.now (D.told desk.old)) (IsErrOf result Failed) }
 {
-    match open_input(alloc, desk, format, input)? {
-        Ok(reader) => Ok(Ok(replay_frames(alloc, desk, settings, reader, output)?)),
+    match open_input(alloc, desk, intake.format, input)? {
+        Ok(reader) => {
+            let counts = replay_taken(alloc, desk, settings, intake.split, reader, output)?;
+            Ok(Ok(counts))
+        }
         Err(fault) => Ok(Err(fault)),
     }
 }
 
-// Replays a capture that was opened into the output, but for the last line.
-fn replay_frames<D: Desk>(
+// Replays a capture that was opened into the output, with its large packets split or not, but for the last line.
+fn replay_taken<D: Desk>(
     alloc: Global,
     desk: &mut D,
     settings: &Settings,
+    split: bool,
     reader: Input,
     output: &str,
 ) -> Result<Counts, DeskFault>
@@ -185,13 +192,43 @@ fn replay_frames<D: Desk>(
     requires begins { progress_of reader ≡ beginning }
     requires lawful { IsLawful settings.now }
     ensures answer { IfOk result (λ counts. IfSome (D.told desk.old) (λ w.
-        HasReplayed settings.now output.now (run_in reader w) counts (shown_of w) (shown (D.told desk.new)))) }
+        HasReplayed settings.now output.now (taken_run split settings.now (run_in reader w)) counts
+        (shown_of w) (shown (D.told desk.new)))) }
     ensures front { OnErr result (IfSome (D.told desk.old) (λ w.
-        EndsFront (replayed settings.now output.now (run_in reader w))
-        (replayed_part settings.now output.now (run_in reader w)) (shown_of w) (D.told desk.new))) }
+        let run = taken_run split settings.now (run_in reader w) in
+        EndsFront (replayed settings.now output.now run) (replayed_part settings.now output.now run) (shown_of w) (D.told desk.new))) }
     ensures cause { HasCause (D.faults desk.old) (D.faults desk.new) result }
     ensures steady { StaysSteady (D.steady desk.old) (D.steady desk.new)
         (IsGiven (id_of reader) to_read (D.given desk.old)) (IsErrOf result Failed) }
+{
+    if split {
+        let reader = Splitting::new(settings, reader);
+        return replay_frames(alloc, desk, settings, reader, output);
+    }
+    replay_frames(alloc, desk, settings, reader, output)
+}
+
+// Replays a capture of which no frame was read into the output, but for the last line.
+fn replay_frames<D: Desk, R: FrameReader>(
+    alloc: Global,
+    desk: &mut D,
+    settings: &Settings,
+    reader: R,
+    output: &str,
+) -> Result<Counts, DeskFault>
+    requires open { R.IsOpen reader }
+    requires begins { R.progress reader ≡ beginning }
+    requires few { R.most ≤ most_frames }
+    requires lawful { IsLawful settings.now }
+    ensures answer { IfOk result (λ counts. IfSome (D.told desk.old) (λ w.
+        HasReplayed settings.now output.now (left_in R.id R.run reader w) counts
+        (shown_of w) (shown (D.told desk.new)))) }
+    ensures front { OnErr result (IfSome (D.told desk.old) (λ w.
+        EndsFront (replayed settings.now output.now (left_in R.id R.run reader w))
+        (replayed_part settings.now output.now (left_in R.id R.run reader w)) (shown_of w) (D.told desk.new))) }
+    ensures cause { HasCause (D.faults desk.old) (D.faults desk.new) result }
+    ensures steady { StaysSteady (D.steady desk.old) (D.steady desk.new)
+        (IsGiven (R.id reader) to_read (D.given desk.old)) (IsErrOf result Failed) }
 {
     let file = make_output(alloc, desk, output)?;
     let table = Table::new(alloc, settings)?;

@@ -3,7 +3,7 @@ ghost use Rattle.std.specs.Prelude.{◌≡◌, false, IfOk, IfSome, IsErrOf, IsT
 ghost use Rattle.desk.specs.declared.fault.DeskFault.TheVariants.{Failed};
 ghost use Rattle.desk.specs.Causes.{HasCause, StaysSteady};
 ghost use Rattle.desk.specs.World.{content, to_read, shown, shown_of, IsGiven, IsThere};
-ghost use Rattle.command_words.specs.declared.input_format.InputFormat.TheVariants.{Classic};
+ghost use Rattle.command_words.specs.declared.intake.InputFormat.TheVariants.{Classic};
 ghost use Rattle.capture_events.specs.Events.{Determined};
 ghost use Rattle.playback.specs.Input.{beginning};
 ghost use Rattle.replay.specs.Answer.{after_opening, is_end, messages_shown, Gives};

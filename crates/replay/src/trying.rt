@@ -16,7 +16,7 @@ ghost use Rattle.command_words.specs.Limits.{most_trial_mappings};
 
 use crate::Status;
 use crate::replaying::replay_file;
-use command_words::InputFormat;
+use command_words::{InputFormat, Intake};
 use desk::{Desk, DeskFault, Files, NamedFile, SteadyDesk};
 use locator_choice::octets_hash;
 use octets::{NoMemory, Octets};
@@ -52,14 +52,11 @@ fn replay_trial(alloc: Global, n: u32) -> Result<Octets, NoMemory>
 {
     let settings = trial_settings(alloc, n)?;
     let mut desk = trial_desk(alloc, n)?;
-    match replay_file(
-        alloc,
-        &mut desk,
-        &settings,
-        InputFormat::Classic,
-        INPUT,
-        OUTPUT,
-    ) {
+    let intake = Intake {
+        format: InputFormat::Classic,
+        split: false,
+    };
+    match replay_file(alloc, &mut desk, &settings, intake, INPUT, OUTPUT) {
         Ok(Ok(counts)) => {
             let Some(output) = desk.file(OUTPUT) else {
                 unreachable!()

@@ -59,6 +59,26 @@ fn words_of_a_form_say_their_values(rt: HostRuntime) -> Result<(), Fail> {
             "replay s i o ng-vlan 2 7",
         ),
         (
+            "replay --split on --settings s --in i --out o",
+            "replay s i o classic-split 0 256",
+        ),
+        (
+            "replay --settings s --split off --in i --out o",
+            "replay s i o classic 0 256",
+        ),
+        (
+            "replay --settings s --in i --format ng --out o --split on --workers 3",
+            "replay s i o ng-split 3 256",
+        ),
+        (
+            "replay --settings s --in i --interfaces vlan --split on --format ng --out o",
+            "replay s i o ng-vlan-split 0 256",
+        ),
+        (
+            "replay --settings on --in off --out split --split off",
+            "replay on off split classic 0 256",
+        ),
+        (
             "replay --settings ng --in classic --out vlan",
             "replay ng classic vlan classic 0 256",
         ),

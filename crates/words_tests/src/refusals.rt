@@ -1,5 +1,5 @@
 // Lists of words that are of no form, and that no line of words spells.
-use crate::word_lists::{FORMAT, INTERFACES, REPLAY, ROUND, WORKERS, said, words_in};
+use crate::word_lists::{FORMAT, INTERFACES, REPLAY, ROUND, SPLIT, WORKERS, said, words_in};
 use std::test::Fail;
 
 #[test]
@@ -21,6 +21,7 @@ fn empty_words_blanks_in_words_and_long_lists_are_of_no_form(rt: HostRuntime) ->
         (WORKERS, "", 1),
         (FORMAT, "", 1),
         (INTERFACES, "", 1),
+        (SPLIT, "", 1),
         ("trial", "", 1),
         // A number has no blanks.
         (ROUND, " 1", 1),
@@ -28,10 +29,11 @@ fn empty_words_blanks_in_words_and_long_lists_are_of_no_form(rt: HostRuntime) ->
         (WORKERS, "0 ", 1),
         ("trial", " 5", 1),
         ("trial", "5 ", 1),
-        // Nor has the name of a format.
+        // Nor has the name of a format, or a switch.
         (FORMAT, " ng", 1),
         (FORMAT, "ng ", 1),
         (INTERFACES, "vlan ", 1),
+        (SPLIT, "on ", 1),
         // Two thousand words behind a lawful option.
         ("show --in x", "--junk", 2000),
         ("show --in x", "--in", 2000),

@@ -1,5 +1,5 @@
 // Lists of words, and what they say.
-use command_words::{InputFormat, Word, Words, WordsFault, read_words};
+use command_words::{InputFormat, Intake, Word, Words, WordsFault, read_words};
 use std::alloc::Global;
 use std::test::Fail;
 
@@ -18,6 +18,9 @@ pub const FORMAT: &str = "replay --settings s --in i --out o --format";
 /// Likewise, of a format that has interfaces.
 pub const INTERFACES: &str = "replay --settings s --in i --out o --format ng --interfaces";
 
+/// Likewise, of whether large packets are split.
+pub const SPLIT: &str = "replay --settings s --in i --out o --split";
+
 /// The words between the spaces of a text; two spaces in a row have an empty word between them.
 pub fn words_in(alloc: Global, text: &str) -> Result<Vec<Word>, Fail> {
     let mut words: Vec<Word> = Vec::new(alloc);
@@ -27,7 +30,7 @@ pub fn words_in(alloc: Global, text: &str) -> Result<Vec<Word>, Fail> {
     Ok(words)
 }
 
-/// What the words say: the command, the files, the format, and the numbers of workers and of a
+/// What the words say: the command, the files, how the capture is taken in, and the numbers of workers and of a
 /// round's frames.
 pub fn said(alloc: Global, words: &[Word]) -> Result<String, Fail> {
     let text = match read_words(alloc, words) {
@@ -36,14 +39,14 @@ pub fn said(alloc: Global, words: &[Word]) -> Result<String, Fail> {
                 settings,
                 input,
                 output,
-                format,
+                intake,
                 workers,
                 round,
             },
         ) => {
             let (settings, input, output) = (settings.as_str(), input.as_str(), output.as_str());
-            let format = format_word(format);
-            format!(in alloc; "replay {settings} {input} {output} {format} {workers} {round}")?
+            let intake = intake_word(intake);
+            format!(in alloc; "replay {settings} {input} {output} {intake} {workers} {round}")?
         }
         Ok(Words::Show { input }) => format!(in alloc; "show {}", input.as_str())?,
         Ok(Words::Trial { n }) => format!(in alloc; "trial {n}")?,
@@ -53,10 +56,13 @@ pub fn said(alloc: Global, words: &[Word]) -> Result<String, Fail> {
     Ok(text)
 }
 
-fn format_word(format: InputFormat) -> &'static str {
-    match format {
-        InputFormat::Classic => "classic",
-        InputFormat::Ng { vlans: false } => "ng",
-        InputFormat::Ng { vlans: true } => "ng-vlan",
+fn intake_word(intake: Intake) -> &'static str {
+    match (intake.format, intake.split) {
+        (InputFormat::Classic, false) => "classic",
+        (InputFormat::Classic, true) => "classic-split",
+        (InputFormat::Ng { vlans: false }, false) => "ng",
+        (InputFormat::Ng { vlans: false }, true) => "ng-split",
+        (InputFormat::Ng { vlans: true }, false) => "ng-vlan",
+        (InputFormat::Ng { vlans: true }, true) => "ng-vlan-split",
     }
 }

@@ -4,7 +4,7 @@ use Rattle.desk.specs.World.{Shown, World, content, shown, shown_of}
 use Rattle.desk.proofs.Reading.{IfSome_both}
 use Rattle.replay.specs.Answer.{told_off, Gives}
 use Rattle.replay.specs.Lines.{settings_line}
-use Rattle.replay.specs.Opening.{opened}
+use Rattle.replay.specs.Opening.{arriving}
 use Rattle.replay.specs.Shared.{Shares, SharesOf}
 use Rattle.replay.specs.declared.status.Status.{Status}
 use Rattle.replay.specs.declared.status.Status.TheVariants as status
@@ -27,7 +27,7 @@ returns-in-Err-clause-answer g c =
     ok_both c.refuse_settings.result c.refuse_settings.ensures.status c.refuse_settings.ensures.told (λ s is said.
     let gives = shown_stays (λ (o : Shown). Gives (told_off status.Settings refused) status.Settings o (shown new)) old loaded c.in_ok-settings.ensures.shown (said_line status.Settings refused loaded new said) in
     IfSome_both old c.in_ok-settings.ensures.value gives (λ w value given.
-    let what = opened c.args.format (content c.args.input.now w.files) in
+    let what = arriving c.args.intake (content c.args.input.now w.files) in
     let text = content c.args.settings.now w.files in
     subst (λ (x : Status). Shares size c.args.output.now what text x (shown_of w) (shown new)) (sym is)
     (shares_refused size c.args.output.now what text c.in-Err.fault status.Settings (shown_of w) (shown new) (sym c.in-Err.is ∙ value) given)))
@@ -38,20 +38,20 @@ returns-in-Ok-clause-answer g c =
     let new = g.D.Desk.told c.share_by.new.desk in
     let size = c.args.crew.now.round in
     IfOk-weaker c.share_by.result _ _ (λ s answered.
-    let gives = shown_stays (λ (o : Shown). SharesOf size c.in-Ok.settings c.args.output.now (opened c.args.format (content c.args.input.now o.files)) s o (shown new)) old (g.D.Desk.told c.load_settings.new.desk) c.in_ok-settings.ensures.shown answered in
+    let gives = shown_stays (λ (o : Shown). SharesOf size c.in-Ok.settings c.args.output.now (arriving c.args.intake (content c.args.input.now o.files) c.in-Ok.settings) s o (shown new)) old (g.D.Desk.told c.load_settings.new.desk) c.in_ok-settings.ensures.shown answered in
     IfSome_both old c.in_ok-settings.ensures.value gives (λ w value given.
-    shares_by size c.in-Ok.settings c.args.output.now (opened c.args.format (content c.args.input.now w.files)) (content c.args.settings.now w.files) s (shown_of w) (shown new) (sym c.in-Ok.is ∙ value) given)) c.share_by.ensures.answer
+    shares_by size c.in-Ok.settings c.args.output.now (arriving c.args.intake (content c.args.input.now w.files)) (content c.args.settings.now w.files) s (shown_of w) (shown new) (sym c.in-Ok.is ∙ value) given)) c.share_by.ensures.answer
 
 pub returns-in_err-settings-clause-front : goal.returns-in_err-settings-clause-front
 returns-in_err-settings-clause-front g c =
     on_err_always c.from_residual.result
-    (shares_unloaded c.args.crew.now.round c.args.output.now (λ (w : World). opened c.args.format (content c.args.input.now w.files)) c.args.settings.now (g.D.Desk.told c.args.desk.now) (g.D.Desk.told c.load_settings.new.desk) c.in_err-settings.ensures.shown)
+    (shares_unloaded c.args.crew.now.round c.args.output.now (λ (w : World). arriving c.args.intake (content c.args.input.now w.files)) c.args.settings.now (g.D.Desk.told c.args.desk.now) (g.D.Desk.told c.load_settings.new.desk) c.in_err-settings.ensures.shown)
 
 pub returns-in-Err-clause-front : goal.returns-in-Err-clause-front
 returns-in-Err-clause-front g c =
     let old = g.D.Desk.told c.args.desk.now in
     on_err_weaker c.refuse_settings.result (λ says.
-    shares_settings_line c.args.crew.now.round c.args.output.now (λ (w : World). opened c.args.format (content c.args.input.now w.files)) c.args.settings.now c.in-Err.fault old (g.D.Desk.told c.load_settings.new.desk) (g.D.Desk.told c.refuse_settings.new.desk) c.in_ok-settings.ensures.shown
+    shares_settings_line c.args.crew.now.round c.args.output.now (λ (w : World). arriving c.args.intake (content c.args.input.now w.files)) c.args.settings.now c.in-Err.fault old (g.D.Desk.told c.load_settings.new.desk) (g.D.Desk.told c.refuse_settings.new.desk) c.in_ok-settings.ensures.shown
     (IfSome_then old c.in_ok-settings.ensures.value (λ w value. sym c.in-Err.is ∙ value)) says) c.refuse_settings.ensures.part
 
 pub returns-in-Ok-clause-front : goal.returns-in-Ok-clause-front
@@ -60,6 +60,6 @@ returns-in-Ok-clause-front g c =
     let new = g.D.Desk.told c.share_by.new.desk in
     let size = c.args.crew.now.round in
     on_err_weaker c.share_by.result (λ ends.
-    let moved = shown_stays (λ (o : Shown). EndsOf size c.in-Ok.settings c.args.output.now (opened c.args.format (content c.args.input.now o.files)) o new) old (g.D.Desk.told c.load_settings.new.desk) c.in_ok-settings.ensures.shown ends in
+    let moved = shown_stays (λ (o : Shown). EndsOf size c.in-Ok.settings c.args.output.now (arriving c.args.intake (content c.args.input.now o.files) c.in-Ok.settings) o new) old (g.D.Desk.told c.load_settings.new.desk) c.in_ok-settings.ensures.shown ends in
     IfSome_both old c.in_ok-settings.ensures.value moved (λ w value given.
-    shares_settings size c.in-Ok.settings c.args.output.now (opened c.args.format (content c.args.input.now w.files)) (content c.args.settings.now w.files) (shown_of w) new (sym c.in-Ok.is ∙ value) given)) c.share_by.ensures.front
+    shares_settings size c.in-Ok.settings c.args.output.now (arriving c.args.intake (content c.args.input.now w.files)) (content c.args.settings.now w.files) (shown_of w) new (sym c.in-Ok.is ∙ value) given)) c.share_by.ensures.front

@@ -1,7 +1,7 @@
 use Rattle.std.proofs.Common.{Ok, ap, rules}
 use Rattle.std.proofs.lemmas.Result.{IfOk-weaker}
 use Rattle.capture_ng.specs.Reading.{NgReading}
-use Rattle.command_words.specs.declared.input_format.InputFormat.TheVariants as format
+use Rattle.command_words.specs.declared.intake.InputFormat.TheVariants as format
 use Rattle.desk.specs.World.{to_read}
 use Rattle.replay.specs.declared.input.Input.TheVariants as input
 use Rattle.replay.proofs.OpeningLemmas.{named-opens, ng-opens}

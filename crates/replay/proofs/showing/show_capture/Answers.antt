@@ -1,7 +1,7 @@
 use Rattle.std.proofs.Common.{Err, refl, sym, subst}
 use Rattle.std.specs.Option.{IfSome}
 use Rattle.std.proofs.lemmas.Result.{IfOk-weaker, on_err_weaker}
-use Rattle.command_words.specs.declared.input_format.InputFormat.TheVariants.{Classic}
+use Rattle.command_words.specs.declared.intake.InputFormat.TheVariants.{Classic}
 use Rattle.desk.specs.World.{Shown, World, content, shown, shown_of}
 use Rattle.playback.proofs.FrontLemmas.{on_err_always}
 use Rattle.replay.specs.Answer.{Gives, after_opening, messages_shown}

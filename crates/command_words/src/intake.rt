@@ -1,6 +1,6 @@
-// The format of a capture, as words name it.
+// How a capture is taken in, as words say it.
 ghost use Rattle.std.specs.Prelude.{◌≡◌, codes, map, string_bytes, option_map};
-ghost use Rattle.command_words.specs.Words.{format_of, named_format, value_of, with_interfaces, with_vlans};
+ghost use Rattle.command_words.specs.Words.{format_of, intake_of, named_format, split_of, value_of, with_interfaces, with_vlans};
 
 use crate::Word;
 use crate::options::value_of;
@@ -15,9 +15,37 @@ pub enum InputFormat {
     Ng { vlans: bool },
 }
 
-/// The format that the options name. None where a word names none, or a format that has no
+/// How a capture that is replayed is taken in.
+#[derive(Clone, Copy, Debug, PartialEq, Eq)]
+pub struct Intake {
+    pub format: InputFormat,
+    /// Packets that are too large for a tunnel are split in two.
+    pub split: bool,
+}
+
+/// How the options say that a capture is taken in. None where one of them has another value.
+pub fn intake_of(words: &[Word]) -> Option<Intake>
+    ensures { result ≡ intake_of (map string_bytes words.now) }
+{
+    Some(Intake {
+        format: format_of(words)?,
+        split: split_of(value_of("--split", words))?,
+    })
+}
+
+fn split_of(word: Option<&str>) -> Option<bool>
+    ensures { result ≡ split_of (option_map (λ word. word.now) word.entry) }
+{
+    match word {
+        None | Some("off") => Some(false),
+        Some("on") => Some(true),
+        Some(_) => None,
+    }
+}
+
+// The format that the options name. None where a word names none, or a format that has no
 /// interfaces is to have VLANs.
-pub fn format_of(words: &[Word]) -> Option<InputFormat>
+fn format_of(words: &[Word]) -> Option<InputFormat>
     ensures { result ≡ format_of (value_of (codes "--format") (map string_bytes words.now))
         (value_of (codes "--interfaces") (map string_bytes words.now)) }
 {
