@@ -4,6 +4,7 @@ from enum import Enum
 from typing import NamedTuple
 
 NUMBER = re.compile(r"0|[1-9][0-9]*")
+SPLITS = {"on": True, "off": False}
 MOST_WORKERS, MOST_ROUND, MOST_MAPPINGS = 16, 4096, 50_000
 
 
@@ -22,6 +23,7 @@ class Replay(NamedTuple):
     format: Format = Format.CLASSIC
     workers: int = 0
     round: int = 256
+    split: bool = False
 
 
 class Show(NamedTuple):
@@ -60,8 +62,9 @@ def replay_of(words):
             format = format_of(others.pop("--format", "classic"), others.pop("--interfaces", "none"))
             workers = number(others.pop("--workers", "0"), 0, MOST_WORKERS)
             size = number(others.pop("--round", "256"), 1, MOST_ROUND)
-            if not others and None not in (format, workers, size) and output not in (settings, source):
-                return Replay(settings, source, output, format, workers, size)
+            split = SPLITS.get(others.pop("--split", "off"))
+            if not others and None not in (format, workers, size, split) and output not in (settings, source):
+                return Replay(settings, source, output, format, workers, size, split)
     return None
 
 

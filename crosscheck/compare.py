@@ -8,7 +8,8 @@ other control messages, in both families and mostly in several instances, many o
 or ten behind the frame before; then the same frames as a pcapng file, whose interfaces may be VLANs, which must end as
 they do in records; 20 such files of some of the frames, most of them at fault; then such a capture that fits a router
 with workers, of either format and at times cut short, which the program replays with 1 to 16 of these and rounds of 1
-to 4,096 frames; and then 40 settings files with spoiled values. Without workers the program must say and write what
+to 4,096 frames; then frames of which many are large, in both formats, and in such rounds, with `--split on`; and then 40
+settings files with spoiled values. Without workers the program must say and write what
 the plain router does, and with them what its own numbers make of that. Before these it replays worked frames with two
 workers, a hundred times. It ends with status 1 at the first difference, and leaves its files.
 """
@@ -21,11 +22,12 @@ import tempfile
 import tomllib
 from typing import NamedTuple
 
+import large
 import plain
 import rounds
 import settings as rules
 import worked_rounds
-from captures import frames_of
+from captures import CaptureFault, frames_of
 from captures_ng import reader_of
 from commands import Format
 from makers import framed, packet, settings, spoiled_settings
@@ -63,6 +65,14 @@ def frames(r, text, link, unit, size=1):
     return Talk(r, site, link, unit, hurried, size).frames(MANY if hurried else FEW)
 
 
+def large_frames(r, text, link, unit, size=1):
+    """Frames of which many are large, where there is a site."""
+    try:
+        return large.frames(r, Site(text.encode()), link, unit, size)
+    except rules.Fault:
+        return unrelated(r, link, unit)
+
+
 def capture(r, text, path, make=frames):
     link, order, unit = r.choice([1, 1, 101]), r.choice("<>"), r.choice([1, 1, 1000])
     write_records(path, link, make(r, text, link, unit), order, unit)
@@ -87,6 +97,16 @@ def write(path, text):
         file.write(text)
 
 
+def frames_before(path):
+    """The frames of a capture that are before its fault, if it has one."""
+    frames = []
+    try:
+        frames += frames_of(path)
+    except CaptureFault:
+        pass
+    return frames
+
+
 def some_frames(r, path):
     """Some of a capture's frames in a row, now and then as if they were of the other link."""
     frames = list(frames_of(path))
@@ -101,14 +121,15 @@ def write_octets(path, octets):
 
 
 class Input(NamedTuple):
-    """A capture and its format."""
+    """A capture and its format, and whether large packets are split."""
     path: str
     format: Format = Format.CLASSIC
+    split: bool = False
 
     def words(self):
         word, interfaces = self.format.value
         more = () if self.format is Format.CLASSIC else ("--format", word, "--interfaces", interfaces)
-        return "--in", self.path, *more
+        return "--in", self.path, *more, *(("--split", "on") if self.split else ())
 
     def read(self, path):
         return reader_of(self.format)(path)
@@ -143,7 +164,8 @@ class Round:
 
     def same_replay(self):
         ours = run(self.program, *self.words())
-        theirs = plain.said(plain.replay, self.settings, self.input.path, self.theirs, plain.played, self.input.read)
+        theirs = plain.said(plain.replay, self.settings, self.input.path, self.theirs, plain.played, self.input.read,
+                            self.input.split)
         return ours == theirs and contents(self.ours) == contents(self.theirs)
 
     def same_show(self):
@@ -186,7 +208,7 @@ class Round:
     def is_lawful(self, workers, size):
         """Whether the program ends as its own numbers say; else it is said why not."""
         self.end = self.ended(workers, size)
-        found = rounds.fault(self.settings, self.input.path, size, self.end, self.input.read)
+        found = rounds.fault(self.settings, self.input.path, size, self.end, self.input.read, self.input.split)
         if found:
             print(f"with {workers} workers and rounds of {size} the report is\n{self.end[1]}but\n{found}", end="")
         return not found
@@ -198,14 +220,29 @@ class Round:
         wanted, size = worked_rounds.ends(), worked_rounds.SIZE
         return all(self.is_lawful(worked_rounds.WORKERS, size) and self.end in wanted for _ in range(WORKED))
 
-    def lawful_rounds(self, r, text, make=frames):
+    def split(self):
+        """Large packets of what is replayed are split."""
+        self.input = self.input._replace(split=True)
+
+    def same_split(self, r, text):
+        """Whether large packets that are split end alike, in either format."""
+        self.take_capture(r, text, large_frames)
+        self.split()
+        if not self.same_replay():
+            return False
+        self.take_blocks(r, written(r, frames_before(self.capture)).octets())
+        self.split()
+        return self.same_replay()
+
+    def lawful_rounds(self, r, text, make=frames, split=False):
         """Whether a replay of frames that fit rounds of a size ends as it may."""
         size = r.choice([*SIZES, r.randint(1, 4096)])
         self.take_capture(r, text, lambda *parts: make(*parts, size))
         if r.random() < 0.3:
-            self.take_blocks(r, written(r, frames_of(self.capture)).octets())
+            self.take_blocks(r, written(r, frames_before(self.capture)).octets())
         if r.random() < 0.2:
             os.truncate(self.input.path, max(0, os.path.getsize(self.input.path) - r.randint(1, 200)))
+        self.input = self.input._replace(split=split)
         return self.is_lawful(r.randint(1, 16), size)
 
     def agrees(self, r):
@@ -214,6 +251,7 @@ class Round:
         self.take_capture(r, text)
         return (self.same_replay() and self.same_show() and self.same_in_blocks(r)
                 and all(self.same_spoiled(r) for _ in range(SPOILED)) and self.lawful_rounds(r, text)
+                and self.same_split(r, text) and self.lawful_rounds(r, text, large_frames, True)
                 and all(self.same_settings(r) for _ in range(40)))
 
     def left(self, words):

@@ -1,5 +1,6 @@
 #!/usr/bin/env python3
-"""Counts what the captures that compare.py makes reach in the plain router: verdicts, entries, packets; faults of files.
+"""Counts what the captures that compare.py makes reach in the plain router: verdicts, entries, packets; faults of files;
+large packets and their halves.
 
 usage: counts.py [ROUNDS [SEED]]
 It ends with status 1 where one of the kinds that are to come doesn't.
@@ -14,14 +15,15 @@ import tempfile
 import settings as rules
 from captures import CaptureFault, frames_of
 from captures_ng import SIMPLE, Reader
-from compare import SPOILED, capture, some_frames
+from compare import SPOILED, capture, frames_before, large_frames, some_frames
 from journal import Probed
 from lisp import ECHO, NONCE, VERSIONS
 from makers import settings
 from makers_ng import spoiled, written
 from router import Router
 from sites import Site
-from wire import number
+from splitting import halves, leaves, options_of, split_size
+from wire import Packet, Refused, link_payload, number
 
 
 NOTICES = "Ask", "Refresh", "ToldBits", "WantedEcho", "HeardEcho", "HeardData", "Solicit", "EchoDue"
@@ -37,7 +39,15 @@ TO_COME = [
     "packet into a tunnel with an echo", "packet for a mapping with a deaf locator", "request",
     "request for a solicitation", "request to refresh a mapping", "solicitation", "probe", "reply", "reply to a probe",
     *(f"pcapng fault {word}" for word in FAULTS), "pcapng file of some frames without a fault", "pcapng simple packet",
-    "pcapng frame tagged by its interface", "pcapng big-endian section"]
+    "pcapng frame tagged by its interface", "pcapng big-endian section",
+    *(f"halves of {kind}" for kind in (
+        "a packet", "a packet without options", "a packet with options, which stay", "a packet with options, which go",
+        "a packet with options, of which some stay", "a packet with options behind their end", "a fragment",
+        "a fragment with more behind it", "a packet with the reserved flag", "a packet at the last offset",
+        "a packet with octets behind it", "a packet in a VLAN", "a packet that fits over IPv4 alone", "the largest packet")),
+    *(f"no halves of a large packet {why}" for why in (
+        "with DF", "whose options are at fault", "past the last offset", "that doesn't leave the site", "of IPv6")),
+    "half encapsulated", "half that is too large", "half that is a miss", "half natively"]
 
 
 def verdict_kind(verdict):
@@ -131,6 +141,78 @@ def counted_blocks(r, path, counts):
         counts[f"pcapng fault {word}" if word else "pcapng file of some frames without a fault"] += 1
 
 
+# Large packets.
+
+
+def options_kinds(packet):
+    """What becomes of the options of a packet in halves."""
+    octets = packet.octets[20:packet.at]
+    options = options_of(octets)
+    if not octets:
+        return ["a packet without options"]
+    stay = sum(option[0] >> 7 for option in options)
+    how = "of which some stay" if 0 < stay < len(options) else "which stay" if stay else "which go"
+    is_end = any(octets[sum(map(len, options)):])
+    return [f"a packet with options, {how}"] * bool(options) + ["a packet with options behind their end"] * is_end
+
+
+def halves_kinds(vlan, packet, frame, pair):
+    """The kinds of a packet in halves."""
+    field, size = number(packet.octets, 6, 2), len(packet.octets)
+    first = len(pair[0]) - packet.base - packet.at
+    tests = {
+        "a packet": True, "a fragment": field & 0x1FFF, "a fragment with more behind it": field & 0x2000,
+        "a packet with the reserved flag": field & 0x8000, "a packet in a VLAN": vlan,
+        "a packet at the last offset": (field & 0x1FFF) + first // 8 == 8191,
+        "a packet with octets behind it": len(frame) > packet.base + size,
+        "a packet that fits over IPv4 alone": size <= 1464, "the largest packet": size == 65535}
+    return [kind for kind, is_so in tests.items() if is_so] + options_kinds(packet)
+
+
+def why_whole(site, vlan, packet):
+    """Why a large packet has no halves."""
+    if len(packet.source) == 16:
+        return "of IPv6"
+    if not leaves(site, vlan, packet):
+        return "that doesn't leave the site"
+    if number(packet.octets, 6, 2) & 0x4000:
+        return "with DF"
+    return "whose options are at fault" if options_of(packet.octets[20:packet.at]) is None else "past the last offset"
+
+
+def large_kinds(site, link, frame):
+    """The kinds of a frame with a large packet."""
+    try:
+        vlan, place, octets = link_payload(link, frame)
+        packet = Packet(octets, place)
+    except Refused:
+        return []
+    pair = halves(site, link, frame)
+    if pair:
+        return [f"halves of {kind}" for kind in halves_kinds(vlan, packet, frame, pair)]
+    is_large = len(packet.octets) > split_size(site)
+    return [f"no halves of a large packet {why_whole(site, vlan, packet)}"] * is_large
+
+
+def half_kind(verdict):
+    """What becomes of a half."""
+    known = {"encapsulated": "half encapsulated", "20": "half that is too large", "13": "half that is a miss",
+             "native": "half natively"}
+    return next((kind for word, kind in known.items() if word in verdict.split()[:2]), "half with another verdict")
+
+
+def counted_large(r, site, text, path, counts):
+    """Counts what becomes of large packets that are split."""
+    capture(r, text, path, large_frames)
+    router = Router(site)
+    for moment, link, frame in frames_before(path):
+        counts.update(large_kinds(site, link, frame))
+        router.until(moment)
+        pair = halves(site, link, frame)
+        verdicts = [router.take(moment, link, one)[0] for one in pair or [frame]]
+        counts.update(half_kind(verdict) for verdict in verdicts if pair)
+
+
 def counted(r, folder, counts):
     text, path = settings(r), os.path.join(folder, "capture.pcap")
     capture(r, text, path)
@@ -147,6 +229,7 @@ def counted(r, folder, counts):
     counts.update("entry " + type(entry).__name__ for entry in router.journal)
     at_once = collections.Counter(entry.moment for entry in router.journal if type(entry) is Probed)
     counts["second with sixteen probes"] += sum(count == 16 for count in at_once.values())
+    counted_large(random.Random(r.random()), router.site, text, path, counts)
 
 
 def main():

@@ -1,10 +1,10 @@
 #!/usr/bin/env python3
 """A plain router, written from the standards and docs/DECISIONS.md, beside the proved program.
 
-usage: plain.py replay SETTINGS CAPTURE OUTPUT [FORMAT [INTERFACES]] | plain.py show CAPTURE
-FORMAT and INTERFACES are the values of --format and --interfaces. It prints the report, for a replay with lawful
-settings and a capture with a lawful header writes the output (of a pcapng file no block is judged before that), and
-ends with the status of such a run. What is TOML is judged by Python's reader of it (TOML 1.0).
+usage: plain.py replay SETTINGS CAPTURE OUTPUT [FORMAT [INTERFACES [SPLIT]]] | plain.py show CAPTURE
+FORMAT, INTERFACES and SPLIT are the values of --format, --interfaces and --split. It prints the report, for a replay
+with lawful settings and a capture with a lawful header writes the output (of a pcapng file no block is judged before
+that), and ends with the status of such a run. What is TOML is judged by Python's reader of it (TOML 1.0).
 """
 import contextlib
 import io
@@ -13,11 +13,12 @@ import sys
 import settings as rules
 from captures import CaptureFault, frames_of, output_header, output_record
 from captures_ng import reader_of
-from commands import format_of
+from commands import SPLITS, format_of
 from journal import SECOND
 from messages import Request, message_of
 from router import Router
 from sites import Site
+from splitting import split_all
 from wire import Packet, Refused, link_payload, need
 
 
@@ -44,15 +45,15 @@ def last_line(count, written, router):
     return f"end frames={count} written={written} entries={len(router.journal)}"
 
 
-def replay(settings, capture, output, play=played, read=frames_of):
-    """Replays a capture, by a call that reads its frames and one that plays them through a router."""
+def replay(settings, capture, output, play=played, read=frames_of, split=False):
+    """Replays a capture, by a call that reads its frames and one that plays them through a router, or their halves."""
     try:
         with open(settings, "rb") as file:
             router = Router(Site(file.read()))
         frames = read(capture)
         with open(output, "wb") as file:
             file.write(output_header())
-            play(router, frames, file)
+            play(router, split_all(router.site, frames) if split else frames, file)
     except rules.Fault as fault:
         print(f"settings {fault}")
         return 2
@@ -127,8 +128,8 @@ def said(call, *words):
     return ended(call, *words)[1]
 
 
-def replayed(settings, capture, output, word="classic", interfaces="none"):
-    return replay(settings, capture, output, read=reader_of(format_of(word, interfaces)))
+def replayed(settings, capture, output, word="classic", interfaces="none", split="off"):
+    return replay(settings, capture, output, read=reader_of(format_of(word, interfaces)), split=SPLITS[split])
 
 
 if __name__ == "__main__":

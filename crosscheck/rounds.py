@@ -130,9 +130,9 @@ def played(router, frames, file, size, choose, kind=Round):
     print(plain.last_line(count, written, router))
 
 
-def replay(settings, capture, output, *how, read=frames_of):
+def replay(settings, capture, output, *how, read=frames_of, split=False):
     """Replays a capture by rounds of a size, with a choice of numbers."""
-    return plain.replay(settings, capture, output, lambda *parts: played(*parts, *how), read)
+    return plain.replay(settings, capture, output, lambda *parts: played(*parts, *how), read, split)
 
 
 class Stepwise(Router):
@@ -201,13 +201,13 @@ def reported(report):
     return choose
 
 
-def fault(settings, capture, size, end, read=frames_of):
+def fault(settings, capture, size, end, read=frames_of, split=False):
     """Why no router with rounds of that size ends so, with a status, a report and an output or None; or no words."""
     status, report, output = end
     with tempfile.TemporaryDirectory() as folder:
         path = os.path.join(folder, "out")
         try:
-            call = functools.partial(replay, read=read)
+            call = functools.partial(replay, read=read, split=split)
             wanted = *plain.ended(call, settings, capture, path, size, reported(report)), existing(path)
         except Unlawful as found:
             return f"  {found}\n"
@@ -231,8 +231,8 @@ def main():
         return 1
     read = reader_of(command.format)
     if command.workers == 0:
-        return plain.replay(*command[:3], read=read)
-    return replay(*command[:3], command.round, at_random(random.Random()), read=read)
+        return plain.replay(*command[:3], read=read, split=command.split)
+    return replay(*command[:3], command.round, at_random(random.Random()), read=read, split=command.split)
 
 
 if __name__ == "__main__":

@@ -71,10 +71,10 @@ class Plain:
 
 def replay_of(command):
     """The call that replays: with workers each data packet must have one number that it may have."""
-    read = reader_of(command.format)
+    how = {"read": reader_of(command.format), "split": command.split}
     if command.workers == 0:
-        return lambda *paths: plain.replay(*paths, read=read)
-    return lambda *paths: rounds.replay(*paths, command.round, forced, read=read)
+        return lambda *paths: plain.replay(*paths, **how)
+    return lambda *paths: rounds.replay(*paths, command.round, forced, **how)
 
 
 def tried(count, folder):

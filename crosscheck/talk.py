@@ -305,6 +305,9 @@ class Talk:
         tag = struct.pack(">HH", 0x8100, vlan) if vlan or r.random() < 0.5 else b""
         return bytes(12) + tag + struct.pack(">H", 0x0800) + octets
 
+    def take(self, frame):
+        self.router.take(self.now, self.link, frame)
+
     def frames(self, count):
         """Moments as the capture has them, some behind the greatest before, and frames."""
         for i in range(count):
@@ -316,5 +319,5 @@ class Talk:
             self.now = max(self.now, moment)
             self.router.until(self.now)
             frame = self.tagged(make())
-            self.router.take(self.now, self.link, frame)
+            self.take(frame)
             yield self.now - (self.rounded(self.r.randrange(2 * SECOND)) if late else 0), frame

@@ -15,12 +15,15 @@ NO_NAMES = ["", "-", "--", "---in", "-in", "in", "—in", "--i", "--In", "--IN",
 NO_FORMATS = ["", "-", "--", "-ng", "0", "1", "n", "g", "Ng", "NG", "ng ", " ng", "ng\n", "ngg", "ng,vlan", "pcap",
               "pcapng", "Classic", "classi", "classics", "VLAN", "Vlan", "vla", "vlans", " vlan", "None", "non", "nones",
               "x", "--in"]
+# What doesn't say whether large packets are split.
+NO_SPLITS = ["", "-", "--", "-on", "0", "1", "o", "n", "of", "On", "ON", "Off", "OFF", "oN", "on ", " on", "on\n", "onn",
+             "offf", "no", "yes", "true", "false", "none", "classic", "ng", "vlan", "on,off", "four", "оn", "--in"]
 # Pairs that name one of the formats.
 FORMATS = [[], [["--format", "classic"]], [["--format", "ng"]], [["--interfaces", "none"]],
            [["--format", "classic"], ["--interfaces", "none"]], [["--format", "ng"], ["--interfaces", "none"]],
            [["--format", "ng"], ["--interfaces", "vlan"]]]
-NAMES = ["--settings", "--in", "--out", "--format", "--interfaces", "--workers", "--round"]
-VALUES = [*FILES, "x", "0", "1", "20", "in", "classic", "ng", "none", "vlan"]
+NAMES = ["--settings", "--in", "--out", "--format", "--interfaces", "--split", "--workers", "--round"]
+VALUES = [*FILES, "x", "0", "1", "20", "in", "classic", "ng", "none", "vlan", "on", "off"]
 NUMBERS = [*NO_NUMBERS, *TOO_LARGE, "0", "1", "16", "17", "4096", "4097", "50001"]
 WORDS = [*NUMBERS, *NO_NAMES, *NAMES, *VALUES, "replay", "show", "trial"]
 LETTERS = "-= 019siI٣"
@@ -48,6 +51,7 @@ def lawful():
     yield "replay --workers 0 --out o --round 10 --in i --settings s".split(), WHOLE._replace(round=10)
     yield "replay --workers 3 --out o --round 10 --in i --settings s".split(), WHOLE._replace(workers=3, round=10)
     yield from of_a_format()
+    yield from of_a_split()
     yield replay(settings="i"), Replay("i", "i", "o")
     yield replay(settings="./o", source="x y"), Replay("./o", "x y", "o")
     for output in "I", "S", "O", "./o", "./i", "i ", "ii", "s=s", "o--", "=", " ", "replay", "out", "0", "٣", "ö":
@@ -72,6 +76,25 @@ def of_a_format():
     yield replay(settings="ng", source="vlan", output="none"), Replay("ng", "vlan", "none")
 
 
+def of_a_split():
+    split = WHOLE._replace(split=True)
+    yield replay("--split", "off"), WHOLE
+    yield replay("--split", "on"), split
+    yield "replay --split on --out o --in i --settings s".split(), split
+    yield "replay --settings s --split on --in i --out o".split(), split
+    yield "replay --out o --in i --split off --settings s".split(), WHOLE
+    for more in "--format ng --split on", "--split on --format ng", "--interfaces none --split on --format ng":
+        yield replay(*more.split()), split._replace(format=Format.NG)
+    for more in "--split on --format ng --interfaces vlan", "--interfaces vlan --split on --format ng":
+        yield replay(*more.split()), split._replace(format=Format.NG_VLANS)
+    for more in "--workers 3 --split on --round 10", "--round 10 --format classic --workers 3 --split on":
+        yield replay(*more.split()), split._replace(workers=3, round=10)
+    yield (replay(*"--interfaces vlan --round 1 --split on --workers 16 --format ng".split()),
+           Replay(*FILES, Format.NG_VLANS, 16, 1, True))
+    yield replay(settings="on", source="off", output="split"), Replay("on", "off", "split")
+    yield replay("--split", "on", output="on"), Replay("s", "i", "on", split=True)
+
+
 def of_no_command():
     yield from ([], [""], ["-"], ["--"], ["usage"], ["help"], ["--help"], ["-h"], ["--version"], [*FILES])
     for name in "REPLAY", "Replay", "replays", "repla", " replay", "replay ", "--replay", "show", "trial", "play", "":
@@ -92,11 +115,12 @@ def of_no_replay():
         yield from ([*front, *some, *rest] for some in put)
         yield from ([*front, name, wrong, *rest] for wrong in ("", "-", "--", "-x", "-1", name, f"-{value}"))
         yield from ([*words, name, again] for again in (value, "x"))
-    for name, value in ("--format", "ng"), ("--interfaces", "none"), ("--workers", "0"), ("--round", "1"):
+    for name, value in (("--format", "ng"), ("--interfaces", "none"), ("--split", "on"), ("--split", "off"),
+                        ("--workers", "0"), ("--round", "1")):
         for some in [name], [name, value, name, value], [f"{name}={value}"], [value, name], [name + "s", value]:
             yield [*words, *some]
             yield [*words[:1], *some, *words[1:]]
-    for name in [*NO_NAMES, "--settings", "--n", "--formats"]:
+    for name in [*NO_NAMES, "--settings", "--n", "--formats", "--Split", "--spli", "--splits", "-split"]:
         yield [*words, name, "1"]
         yield [*words[:3], name, *words[4:]]
         yield [*words, "--workers", "0", "--round", "1", name, "1"]
@@ -125,6 +149,19 @@ def of_no_format():
         yield replay("--format", "classic", "--interfaces", more, "--format", "ng")
 
 
+def of_no_split():
+    for word in NO_SPLITS:
+        yield replay("--split", word)
+        yield replay("--split", word, "--format", "ng")
+        yield replay("--workers", "3", "--split", word)
+    for first in "on", "off":
+        yield from (replay("--split", first, "--split", second) for second in ("on", "off"))
+        yield replay("--split", first, "--split")
+        yield ["replay", "--split", first]
+        yield replay("--split", first, output="i")
+        yield replay("--interfaces", "vlan", "--split", first)
+
+
 def of_no_number():
     for value in [*NO_NUMBERS, *TOO_LARGE, "0", "4097", "5000", "10000"]:
         yield replay("--round", value)
@@ -142,18 +179,19 @@ def of_no_show_or_trial():
     yield from (["show", "--in", value] for value in ("", "-", "--", "-i", "-1", "--in"))
     yield from (["show", name, "i"] for name in [*NO_NAMES, "--out", "--settings"])
     for name, value in (("--settings", "s"), ("--out", "o"), ("--format", "ng"), ("--interfaces", "none"),
-                        ("--workers", "0"), ("--round", "1"), ("--n", "5")):
+                        ("--split", "on"), ("--split", "off"), ("--workers", "0"), ("--round", "1"), ("--n", "5")):
         yield ["show", "--in", "i", name, value]
         yield ["show", name, value, "--in", "i"]
     for words in ([], ["trial"], ["i"], ["5", "5"], ["5", ""], ["", "5"], ["--", "5"], ["--n", "5"], ["--n=5"], ["n=5"],
-                  ["5", "--in", "i"], ["--in", "i"], ["5", "--round", "1"], ["--workers", "0", "5"], ["trial", "5"]):
+                  ["5", "--in", "i"], ["--in", "i"], ["5", "--round", "1"], ["--workers", "0", "5"], ["trial", "5"],
+                  ["5", "--split", "on"], ["--split", "off", "5"]):
         yield ["trial", *words]
 
 
 def table():
     """Each word list, and what it gives."""
     yield from lawful()
-    for part in of_no_command, of_no_replay, of_no_format, of_no_number, of_no_show_or_trial:
+    for part in of_no_command, of_no_replay, of_no_format, of_no_split, of_no_number, of_no_show_or_trial:
         yield from ((words, None) for words in part())
 
 
@@ -167,6 +205,7 @@ def no_texts():
         yield replay(output=b"o" + octets)
         yield replay("--round", b"1" + octets)
         yield replay("--format", b"ng" + octets)
+        yield replay("--split", b"on" + octets)
         yield replay(b"--round" + octets, "1")
         yield ["show", "--in", octets]
         yield [b"show" + octets, "--in", "i"]
@@ -187,6 +226,7 @@ def started(r):
     found += [["--workers", str(r.choice([0, 1, 9, 10, 16, r.randint(0, 16)]))]] * (r.random() < 0.4)
     found += [["--round", str(r.choice([1, 9, 10, 256, 4096, r.randint(1, 4096)]))]] * (r.random() < 0.4)
     found += r.choice(FORMATS) if r.random() < 0.5 else []
+    found += [["--split", r.choice(["on", "on", "off"])]] * (r.random() < 0.4)
     r.shuffle(found)
     return ["replay", *(word for pair in found for word in pair)]
 
