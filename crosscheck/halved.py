@@ -4,7 +4,7 @@
 usage: halved.py [PROGRAM [ROUNDS [SEED]]]
 With no program named the plain router is judged. Each round makes settings and a capture from a number, of which many
 frames are large, as compare.py has them; the halves are made by a splitter of its own, which shares nothing with the
-plain router's. Both replays must end alike, also in rounds of one frame with workers, and as pcapng files. It prints how
+plain router's. Both replays must end alike, also in rounds of one frame with workers, as pcapng files. It prints how
 many frames were split, and ends with status 1 where two ends differ.
 """
 import ipaddress
@@ -92,7 +92,8 @@ class Settings:
         is_away = not (dest.is_multicast or dest == ipaddress.ip_address("255.255.255.255") or self.has(iid, dest))
         leaves = iid is not None and is_away and self.has(iid, source) and not {source, dest} & self.own
         kept, words = sides(packet[20:at]), -(-(total - at) // OCTETS)
-        if not leaves or total <= self.most or head.bits[49] == "1" or kept is None or head.whole(51, 64) + words > 8191:
+        is_held = head.bits[49] == "1" or kept is None or head.whole(51, 64) + words > 8191
+        if not leaves or total <= self.most or is_held:
             return [frame]
         cut = at + 8 * words
         first = self.made(packet, packet[20:at], "1", head.whole(51, 64), packet[at:cut])

@@ -1,4 +1,4 @@
-"""Large packets made from a number, among what fits a router: of all sizes around its limits, with options of all kinds."""
+"""Large packets made from a number, among what fits a router: of sizes around its limits, with options of all kinds."""
 import struct
 
 from makers import AWAY, HOMES, framed, host, packet, spoiled, tunnelled
