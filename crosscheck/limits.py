@@ -202,6 +202,46 @@ def rounds_by_octets():
                            full, 65, "--workers 2 --round 4096")
 
 
+# Rounds of halves.
+
+
+def large(size):
+    """A packet of so many octets."""
+    octets = bytearray(shared("packet").ljust(size, b"\0"))
+    octets[2:4] = struct.pack(">H", size)
+    ip_summed(octets, 0)
+    return bytes(octets)
+
+
+def halves_in_rounds(name, shows, frames, first, words):
+    """Misses in rounds, of which the first has so many frames once large packets are split; each frame, and in how many
+    parts it comes."""
+    parts = [i for i, (_, count) in enumerate(frames) for _ in range(count)]
+    lines = [f"{number} {START // SECOND}.{i * MICRO:09} n={int(number > first)} drop 13 miss\n"
+             for number, i in enumerate(parts, 1)]
+    report = "".join(lines) + f"end frames={len(parts)} written=1 entries=1\n"
+    octets = capture_of([(i * MICRO, one) for i, (one, _) in enumerate(frames)])
+    output = capture_of([(parts[first - 1] * MICRO, shared("asked"))])
+    files = {"settings": TEXTS["tenant"].encode(), "in": octets}
+    return Row("limits.py", name, shows, [Run(f"{REPLAY} --split on {words}".split(), files, 0, report, output)])
+
+
+def rounds_by_halves():
+    """Halves of the largest packets, of 65,535 octets, have 65,555; of 255 of these 60,691 are left of 16 MiB."""
+    most, small = large(65535), shared("packet")
+    whole = [(most, 2)] * 255
+    behind = [(most, 2), (small, 1), (small, 1)]
+    left = 2**24 - 255 * 65555 - 32780
+    yield halves_in_rounds("a round of 16 MiB of halves is closed by the next half",
+                           "A first half brings it to 16 MiB, and the second one past these.",
+                           [*whole, (small.ljust(left, b"\0"), 1), *behind], 513, "--workers 2 --round 4096")
+    yield halves_in_rounds("a round is closed between two halves", "The first one brings it an octet past 16 MiB.",
+                           [*whole, (small.ljust(left + 1, b"\0"), 1), *behind], 512, "--workers 2 --round 4096")
+    yield halves_in_rounds("what goes from behind a packet in halves doesn't count for a round",
+                           "Frames of 262,144 octets each, 70 of them, of which 1,520 each are in the halves.",
+                           [(large(1500).ljust(MOST_OCTETS, b"\0"), 2)] * 70, 140, "--workers 2")
+
+
 def rows():
     return [open_requests(), live_mappings(), wanted_echoes(), solicited_peers(), started_echoes(),
-            *rounds_by_size(), *rounds_by_octets()]
+            *rounds_by_size(), *rounds_by_octets(), *rounds_by_halves()]
