@@ -7,14 +7,16 @@ from text import shown
 # Each form, with what is done behind it, in lines.
 FORMS = {
     "replay": ("replay --settings F --in F --out F",
-               "[--format classic|ng] [--interfaces none|vlan] [--workers W] [--round N]",
+               "[--format classic|ng] [--interfaces none|vlan] [--split on|off]",
+               "[--workers W] [--round N]",
                "the capture of --in is replayed"),
     "show": ("show --in F", "its messages are shown"),
     "trial": ("trial N", "an input of N mappings is made and replayed, N from 1 to 50,000"),
 }
 # What must be there; what may be, one of two words; and the numbers that may be, each with its least and greatest.
 NEEDED = {"replay": ("--settings", "--in", "--out"), "show": ("--in",)}
-CHOICES = {"replay": {"--format": ("classic", "ng"), "--interfaces": ("none", "vlan")}, "show": {}}
+CHOICES = {"replay": {"--format": ("classic", "ng"), "--interfaces": ("none", "vlan"), "--split": ("on", "off")},
+           "show": {}}
 NUMBERS = {"replay": {"--workers": (0, 16), "--round": (1, 4096)}, "show": {}}
 MAPPINGS = 1, 50_000
 HELP = "--help", "-h"
