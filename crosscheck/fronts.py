@@ -17,7 +17,9 @@ import plain
 import rounds
 import worked_rounds
 from captures import CaptureFault, frames_of
-from wire import existing
+from sites import Site
+from splitting import split_all
+from wire import contents, existing
 
 SECOND = 10**9
 
@@ -27,11 +29,12 @@ def is_front(report, output, right):
     return right[1].startswith(report) and (output is None or (right[2] or b"").startswith(output))
 
 
-def moments_of(capture, read):
-    """The moments of a capture's frames, those before its fault."""
+def moments_of(settings, capture, read, split):
+    """The moments of a capture's frames, those before its fault, or of their halves."""
     moments = []
     try:
-        moments += (moment for moment, _, _ in read(capture))
+        frames = read(capture)
+        moments += (moment for moment, _, _ in (split_all(Site(contents(settings)), frames) if split else frames))
     except CaptureFault:
         pass
     return moments
@@ -47,24 +50,25 @@ def written_at(output):
 
 
 class Lawful:
-    """The ends that a replay of these files may have, with so many workers and frames a round; the capture is read so."""
+    """The ends that a replay of these files may have, with so many workers and frames a round; the capture is read so,
+    and split or not."""
 
-    def __init__(self, settings, capture, workers=0, size=256, read=frames_of):
-        self.settings, self.capture, self.size, self.read = settings, capture, size, read
-        self.moments = moments_of(capture, read)
+    def __init__(self, settings, capture, workers=0, size=256, read=frames_of, split=False):
+        self.settings, self.capture, self.size, self.how = settings, capture, size, {"read": read, "split": split}
+        self.moments = moments_of(settings, capture, read, split)
         self.one = None if workers else self.ended(plain.replay)
 
     def ended(self, replay, *how):
         with tempfile.TemporaryDirectory() as folder:
             path = os.path.join(folder, "out")
-            call = functools.partial(replay, read=self.read)
+            call = functools.partial(replay, **self.how)
             return *plain.ended(call, self.settings, self.capture, path, *how), existing(path)
 
     def has_end(self, end):
         """Whether a replay may end so where nothing is refused and nothing fails."""
         if self.one:
             return end == self.one
-        return not rounds.fault(self.settings, self.capture, self.size, end, self.read)
+        return not rounds.fault(self.settings, self.capture, self.size, end, **self.how)
 
     def has_front(self, report, output):
         """Whether a replay that is cut short may have said and written so much."""

@@ -1,5 +1,5 @@
 #!/usr/bin/env python3
-"""Refuses each allocation of the program once, in runs over the examples and a trial, with a C compiler's help.
+"""Refuses each allocation of the program once, in runs over examples, large packets, a trial; it needs a C compiler.
 
 usage: memory.py PROGRAM
 A run must end with status 5, and what it said and wrote must be a front of the right report and file, with no packet
@@ -18,6 +18,8 @@ from captures_ng import reader_of
 from commands import Format
 from examples import EXAMPLES, capture_of
 from fronts import Lawful, is_front
+from limits import MILLI, TEXTS, large, shared
+from row_runs import capture_of as captured
 from wire import existing
 
 HERE = os.path.dirname(os.path.abspath(__file__))
@@ -73,6 +75,24 @@ class Refusals:
             passed += end[0] != MEMORY
 
 
+def halves(folder):
+    """Settings, and a capture of large packets to be split, of which the first is asked for, and the last too large."""
+    frames = [(0, large(1500)), (100 * MILLI, shared("reply")), (200 * MILLI, large(1500)), (300 * MILLI, large(2901))]
+    names = [os.path.join(folder, name) for name in ("settings.toml", "in.pcap")]
+    for name, octets in zip(names, (TEXTS["tenant"].encode(), captured(frames))):
+        with open(name, "wb") as file:
+            file.write(octets)
+    return names
+
+
+def replays(program, shim, output, name, files, more, **how):
+    """A replay without workers, and with two."""
+    replay = [program, "replay", "--settings", files[0], "--in", files[1], "--out", output, *more]
+    by_workers = [*replay, "--workers", "2", "--round", str(SIZE)]
+    yield Refusals(f"replay of {name}", shim, replay, output, Lawful(*files, **how))
+    yield Refusals("the same with 2 workers", shim, by_workers, output, Lawful(*files, 2, SIZE, **how))
+
+
 def refusals(program, folder):
     shim, output = os.path.join(folder, "refuse.so"), os.path.join(folder, "out.pcap")
     subprocess.run(["cc", "-shared", "-fPIC", "-o", shim, os.path.join(HERE, "refuse.c"), "-ldl"], check=True)
@@ -80,11 +100,9 @@ def refusals(program, folder):
         example = os.path.join(EXAMPLES, name)
         settings, (capture, more) = os.path.join(example, "settings.toml"), capture_of(example)
         read = reader_of(Format.NG if more else Format.CLASSIC)
-        replay = [program, "replay", "--settings", settings, "--in", capture, "--out", output, *more]
-        shared = [*replay, "--workers", "2", "--round", str(SIZE)]
-        yield Refusals(f"replay of {name}", shim, replay, output, Lawful(settings, capture, read=read))
-        yield Refusals("the same with 2 workers", shim, shared, output, Lawful(settings, capture, 2, SIZE, read))
+        yield from replays(program, shim, output, name, (settings, capture), more, read=read)
         yield Refusals(f"show of {name}", shim, [program, "show", "--in", capture], output)
+    yield from replays(program, shim, output, "large packets", halves(folder), ("--split", "on"), split=True)
     yield Refusals("trial 3", shim, [program, "trial", "3"], output)
 
 
