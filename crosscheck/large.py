@@ -78,6 +78,11 @@ class LargeTalk(Talk):
             return octets
         return spoiled(r, large(r, octets[12:16], octets[16:20]), 0.03)
 
+    def destination(self):
+        """Mostly something whose mapping has a locator that can be used."""
+        usable = [mapping.eid for mapping in self.mapped() if self.router.usable(self.now, mapping)]
+        return self.r.choice(usable) if usable and self.r.random() < 0.7 else super().destination()
+
     def arrived(self):
         return any_large(self.r) if self.r.random() < 0.1 else super().arrived()
 
