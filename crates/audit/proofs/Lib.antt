@@ -1,0 +1,4 @@
+mod CompareLemmas
+mod DifferenceLemmas
+mod LiftLemmas
+mod RequestLemmas

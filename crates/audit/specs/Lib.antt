@@ -1,0 +1,5 @@
+pub mod Compared
+pub mod Lifted
+pub mod Limits
+pub mod Packets
+pub mod Requests

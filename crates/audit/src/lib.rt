@@ -1,0 +1,21 @@
+//! What a router really sent, held against the packets that were due, and the nonces of its own
+//! requests lifted out of it.
+#![tactic(auto)]
+
+mod auditor;
+mod differences;
+mod laws;
+mod lift;
+mod limits;
+mod outcome;
+mod packets;
+mod requests;
+
+pub use auditor::Auditor;
+pub use capture_io::Frame;
+pub use laws::{frames_lift_one_by_one, same_is_equal, steps_compare};
+pub use lift::Lift;
+pub use limits::{MOST_LIFTED, limits_are};
+pub use lisp_settings::{Nonces, Settings};
+pub use octets::NoMemory;
+pub use outcome::Outcome;

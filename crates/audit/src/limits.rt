@@ -1,0 +1,12 @@
+// The limits of an audit.
+ghost use Rattle.std.specs.Prelude.{◌≡◌};
+ghost use Rattle.audit.specs.Limits.{most_lifted};
+ghost use Rattle.audit.specs.declared.limits.TheConstants.{MOST_LIFTED};
+
+/// The most nonces that are lifted out of a capture.
+pub const MOST_LIFTED: usize = 1_000_000;
+
+/// The limits are the defined ones.
+pub fn limits_are()
+    ensures lifted { MOST_LIFTED ≡ most_lifted }
+{}
