@@ -1,5 +1,5 @@
 -- Messages in a packet.
-use Rattle.std.proofs.Common.{◌≡◌, ℕ, ◌+◌, ◌-◌, ◌<◌, ◌^◌, List, length, take, drop, Option, Some, None, Ok, refl, sym, ap, ◌∙◌, arith, length-take, length-drop}
+use Rattle.std.proofs.Common.{◌≡◌, ◌+◌, ◌-◌, ◌<◌, ◌^◌, length, drop, Ok, arith, length-take, length-drop}
 use Rattle.ip_headers.specs.Udp.{payload_in, udp_read}
 use Rattle.ip_headers.specs.declared.header.UdpHeader.{UdpHeader}
 use Rattle.ip_headers.specs.declared.packet.IpPacket.{IpPacket}

@@ -1,5 +1,5 @@
 -- Packets that were due, compared with the records of a capture.
-use Rattle.std.specs.Prelude.{ℕ, suc, ◌<◌, ◌≤◌, ◌+◌, ◌^◌, ◌==◌, Bool, true, false, List, [], ◌∷◌, Option, Some, None, if◌then◌else◌}
+use Rattle.std.specs.Prelude.{ℕ, suc, ◌+◌, ◌==◌, Bool, List, [], ◌∷◌, Option, Some, None, if◌then◌else◌}
 use Rattle.std.specs.Str.{bytes_eq}
 use Rattle.capture_io.specs.Frame.{Frame}
 use Rattle.audit.specs.Packets.{record_packet}
@@ -35,7 +35,7 @@ judged n packet (Some frame) =
     if bytes_eq packet (record_packet frame) then Same (n + 1)
     else Differs (n + 1) (first_difference packet (record_packet frame))
 
--- the outcome so far with one packet more and its record, if there is one; the first departure stays
+-- the outcome so far with one packet more and its record, if it has one; the first departure stays
 abbrev pub expected : Outcome → List ℕ → Option Frame → Outcome
 expected (Same n) packet sent = judged n packet sent
 expected (Differs position place) packet sent = Differs position place

@@ -12,8 +12,8 @@ abbrev pub each_once : List ℕ → List ℕ
 each_once [] = []
 each_once (n ∷ ns) = n ∷ filter (λ other. not (n == other)) (each_once ns)
 
--- the nonces of the Map-Requests that the router sent in frames, each once at its first place, and no
--- more than are lifted
+-- the nonces of the Map-Requests that the router sent in frames, each once at its first place, and
+-- only the first of them (this router's choice)
 abbrev pub lifted : Settings → List Frame → List ℕ
 lifted settings frames = take most_lifted (each_once (filter_map (sent_nonce settings) frames))
 

@@ -42,7 +42,8 @@ request_nonce octets =
 
 -- that of a message whose rules hold
 abbrev pub message_nonce : ℕ → List ℕ → Option ℕ
-message_nonce base octets = none_refused (first_failing (message_rules base octets)) (request_nonce octets)
+message_nonce base octets =
+    none_refused (first_failing (message_rules base octets)) (request_nonce octets)
 
 -- a datagram from or to the port of control messages, and not to that of packets in tunnels
 abbrev pub is_control : UdpHeader → Bool
@@ -75,7 +76,9 @@ by_udp base header packet (Ok udp) = datagram_nonce base header packet udp
 -- that of the message in a packet
 abbrev pub packet_nonce : ℕ → IpHeader → List ℕ → Option ℕ
 packet_nonce base header packet =
-    if has_datagram header then by_udp base header packet (datagram_read base header packet) else None
+    if has_datagram header
+    then by_udp base header packet (datagram_read base header packet)
+    else None
 
 -- that of the message in a packet that comes from an own locator
 abbrev pub own_nonce : List OwnLocator → ℕ → IpHeader → List ℕ → Option ℕ
@@ -85,8 +88,9 @@ own_nonce locators base header packet =
 -- the nonce of the Map-Request that the router sent in a frame, if it did
 unfoldable pub sent_nonce : Settings → Frame → Option ℕ
 sent_nonce settings frame =
+    let octets = link_octets frame in
     none_refused (frame_refusal frame)
-    (own_nonce settings.locators (link_place frame) (header_at (link_octets frame)) (packet_in (link_octets frame)))
+    (own_nonce settings.locators (link_place frame) (header_at octets) (packet_in octets))
 
 -- ### the same, of values
 

@@ -42,7 +42,8 @@ impl Auditor {
     /// has ended. Behind the first departure nothing is compared. Takes no memory.
     pub fn expect(&mut self, packet: &[u8], sent: Option<&Frame>)
         requires { IfSame self.old (λ packets. packets < 2 ^ 63) }
-        ensures { self.new ≡ expected self.old packet.now (option_map (λ frame. frame.now) sent.entry) }
+        ensures { self.new
+            ≡ expected self.old packet.now (option_map (λ frame. frame.now) sent.entry) }
     {
         if let Outcome::Same { packets } = self.so_far {
             self.so_far = judge(packets, packet, sent);

@@ -1,22 +1,30 @@
 // The laws of an audit. Each function only states its law.
-ghost use Rattle.std.specs.Prelude.{◌≡◌, ℕ, List, [], ◌∷◌, ◌++◌, length, map, nat_lt};
+ghost use Rattle.std.specs.Prelude.{◌≡◌, ℕ, List, [], ◌∷◌, ◌++◌, length, map, nat_lt, slice_get};
 ghost use Rattle.capture_io.specs.Frame.{Frame};
 ghost use Rattle.lisp_settings.specs.declared.settings.Settings.{Settings};
-ghost use Rattle.audit.specs.Compared.{all_expected, compared, finished};
+ghost use Rattle.audit.specs.Compared.{all_expected, compared, expected, finished, IfSame};
 ghost use Rattle.audit.specs.Lifted.{lifted, lifted_on};
 ghost use Rattle.audit.specs.Packets.{record_packet};
+ghost use Rattle.audit.specs.declared.outcome.Outcome.{Outcome};
 ghost use Rattle.audit.specs.declared.outcome.Outcome.TheVariants.{Same};
 
 /// Packets that are expected one by one, each with the record at its place, have the outcome of all
-/// together, where the end is told whether there is a further record.
-pub fn steps_compare()
-    ensures { (packets : List (List ℕ)) (frames : List Frame) →
+/// together, where the end is told whether there is a further record. A further packet is expected
+/// with the record at the next place. As long as all are the same, they are counted.
+pub fn packets_compare_one_by_one()
+    ensures all { (packets : List (List ℕ)) (frames : List Frame) →
         finished (all_expected (Same 0) packets frames) (nat_lt (length packets) (length frames))
         ≡ compared packets frames }
+    ensures more { (outcome : Outcome) (packets : List (List ℕ)) (packet : List ℕ)
+        (frames : List Frame) → all_expected outcome (packets ++ packet ∷ []) frames
+        ≡ expected (all_expected outcome packets frames) packet
+        (slice_get frames (length packets)) }
+    ensures count { (packets : List (List ℕ)) (frames : List Frame) →
+        IfSame (all_expected (Same 0) packets frames) (λ n. n ≡ length packets) }
 {}
 
-/// The outcome is that all are the same exactly where the packets of the records are those that were
-/// due, octet by octet and one after another.
+/// The outcome is that all are the same exactly where the packets of the records are those that
+/// were due, one after another and octet by octet.
 pub fn same_is_equal()
     ensures equal { (packets : List (List ℕ)) (frames : List Frame) (n : ℕ) →
         compared packets frames ≡ Same n → packets ≡ map record_packet frames }

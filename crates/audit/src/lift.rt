@@ -41,8 +41,8 @@ impl Lift {
         }
     }
 
-    /// Adds the nonce of the Map-Request that the router of these settings sent in a frame, if it did
-    /// and the nonce isn't there; behind the first 1,000,000 none is added.
+    /// Adds the nonce of the Map-Request that the router of these settings sent in a frame, if it
+    /// did and the nonce isn't there yet. Behind the first 1,000,000 none is added.
     pub fn see(&mut self, alloc: Global, settings: &Settings, frame: &Frame) -> Result<(), NoMemory>
         ensures ok { OnOk result (self.new ≡ lifted_on settings.now self.old frame.now) }
         ensures err { OnErr result (self.new ≡ self.old) }
