@@ -1,4 +1,5 @@
 mod CompareLemmas
 mod DifferenceLemmas
 mod LiftLemmas
+mod PacketLemmas
 mod RequestLemmas

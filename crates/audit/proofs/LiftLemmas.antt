@@ -1,6 +1,6 @@
 -- Numbers, each at its first place alone, with one more.
-use Rattle.std.proofs.Common.{◌≡◌, ℕ, ◌≤◌, ◌<◌, ◌==◌, ◌||◌, not, nat_le, Bool, true, false, cond, List, [], ◌∷◌, ◌++◌, length, take, filter, filter_map, Option, Some, None, refl, sym, ap, ◌∙◌, arith, inl, inr, append-nil, length-append}
-use Rattle.std.specs.List.{cons_option}
+use Rattle.std.proofs.Common.{◌≡◌, ℕ, ◌≤◌, ◌<◌, ◌==◌, ◌||◌, not, nat_eq, nat_le, Bool, true, false, cond, List, [], ◌∷◌, ◌++◌, length, take, filter, filter_map, Option, Some, None, refl, sym, ap, ◌∙◌, arith, inl, inr, append-nil, length-append}
+use Rattle.std.specs.List.{AllByRecursion, IsDistinct, cons_option}
 use Rattle.std.proofs.lemmas.Bool.{cases_Bool, leb-true, leb-false, le-leb, lt-leb}
 use Rattle.std.proofs.lemmas.Bool.Decides.{nat_tests}
 use Rattle.std.proofs.lemmas.List.{length-take, take-append-le, take_all}
@@ -83,6 +83,21 @@ lifted-more most n ns =
       | inr room ↦ ap (λ (among : Bool). take most (cond among (each_once ns) (each_once ns ++ n ∷ []))) (sym (among-once n ns))
           ∙ room-more most n (each_once ns) (leb-false most (length (each_once ns)) room)
     ]
+
+-- where none is the same, all stay
+others-stay : (x : ℕ) (ns : List ℕ) → AllByRecursion (λ y. nat_eq x y ≡ false) ns → filter (λ other. not (x == other)) ns ≡ ns
+others-stay x [] all = refl
+others-stay x (y ∷ ns) all = rw all.0 (ap (λ (others : List ℕ). y ∷ others) (others-stay x ns all.1))
+
+distinct-once : (ns : List ℕ) → IsDistinct nat_eq ns → each_once ns ≡ ns
+unfolding IsDistinct
+distinct-once [] apart = refl
+distinct-once (x ∷ ns) apart =
+    ap (λ (others : List ℕ). x ∷ filter (λ other. not (x == other)) others) (distinct-once ns apart.1) ∙ ap (λ (others : List ℕ). x ∷ others) (others-stay x ns apart.0)
+
+-- numbers that differ, and are few, are all lifted
+pub distinct-lifted : (most : ℕ) (ns : List ℕ) → IsDistinct nat_eq ns → length ns ≤ most → take most (each_once ns) ≡ ns
+distinct-lifted most ns apart few = ap (take most) (distinct-once ns apart) ∙ take_all most ns few
 
 -- what is lifted of one frame more
 pub frames-more : (settings : Settings) (frames : List Frame) (frame : Frame) → lifted settings (frames ++ frame ∷ []) ≡ lifted_on settings (lifted settings frames) frame

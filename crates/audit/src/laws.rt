@@ -1,10 +1,15 @@
 // The laws of an audit. Each function only states its law.
-ghost use Rattle.std.specs.Prelude.{◌≡◌, ℕ, List, [], ◌∷◌, ◌++◌, length, map, nat_lt, slice_get};
+ghost use Rattle.std.specs.Prelude.{◌≡◌, ℕ, ◌≤◌, List, [], ◌∷◌, ◌++◌, filter_map, length, map, nat_eq, nat_lt, slice_get};
+ghost use Rattle.std.specs.List.{IsDistinct};
+ghost use Rattle.ip_headers.specs.Packet.{IsPacket};
 ghost use Rattle.capture_io.specs.Frame.{Frame};
+ghost use Rattle.capture_io.specs.declared.link.Link.TheVariants.{Raw};
 ghost use Rattle.lisp_settings.specs.declared.settings.Settings.{Settings};
 ghost use Rattle.audit.specs.Compared.{all_expected, compared, expected, finished, IfSame};
 ghost use Rattle.audit.specs.Lifted.{lifted, lifted_on};
+ghost use Rattle.audit.specs.Limits.{most_lifted};
 ghost use Rattle.audit.specs.Packets.{record_packet};
+ghost use Rattle.audit.specs.Requests.{sent_nonce};
 ghost use Rattle.audit.specs.declared.outcome.Outcome.{Outcome};
 ghost use Rattle.audit.specs.declared.outcome.Outcome.TheVariants.{Same};
 
@@ -38,4 +43,18 @@ pub fn frames_lift_one_by_one()
     ensures none { (settings : Settings) → lifted settings [] ≡ [] }
     ensures more { (settings : Settings) (frames : List Frame) (frame : Frame) →
         lifted settings (frames ++ frame ∷ []) ≡ lifted_on settings (lifted settings frames) frame }
+{}
+
+/// Nonces that all differ, and are no more than are lifted, are lifted as they are.
+pub fn differing_nonces_are_all_lifted()
+    ensures { (settings : Settings) (frames : List Frame) →
+        IsDistinct nat_eq (filter_map (sent_nonce settings) frames)
+        → length (filter_map (sent_nonce settings) frames) ≤ most_lifted
+        → lifted settings frames ≡ filter_map (sent_nonce settings) frames }
+{}
+
+/// The packet of a record without a link's header that is exactly one packet is all of its octets.
+pub fn raw_packets_are_whole()
+    ensures { (frame : Frame) → frame.link ≡ Raw → IsPacket 0 frame.octets
+        → record_packet frame ≡ frame.octets }
 {}

@@ -13,7 +13,10 @@ mod requests;
 
 pub use auditor::Auditor;
 pub use capture_io::Frame;
-pub use laws::{frames_lift_one_by_one, packets_compare_one_by_one, same_is_equal};
+pub use laws::{
+    differing_nonces_are_all_lifted, frames_lift_one_by_one, packets_compare_one_by_one,
+    raw_packets_are_whole, same_is_equal,
+};
 pub use lift::Lift;
 pub use limits::{MOST_LIFTED, limits_are};
 pub use lisp_settings::{Nonces, Settings};
