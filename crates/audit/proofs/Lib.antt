@@ -2,4 +2,3 @@ mod CompareLemmas
 mod DifferenceLemmas
 mod LiftLemmas
 mod PacketLemmas
-mod RequestLemmas

@@ -1,17 +1,18 @@
 // The nonce of the Map-Request that the router sent in a frame.
 ghost use Rattle.std.specs.Prelude.{◌≡◌, ◌<◌, ◌+◌, ◌^◌, length, IfOk, Ok};
 ghost use Rattle.ip_headers.specs.Udp.{udp_read};
-ghost use Rattle.audit.specs.Requests.{carried_nonce, datagram_nonce, has_datagram, is_control, is_own, message_nonce, nonce_of, own_nonce, packet_nonce, sent_nonce};
+ghost use Rattle.router_core.specs.Seen.{datagram_seen, packet_seen};
+ghost use Rattle.router_model.specs.Course.{arriving, by_port};
+ghost use Rattle.router_model.specs.Site.{is_own};
+ghost use Rattle.audit.specs.Requests.{carried_nonce, course_nonce, datagram_nonce, message_nonce, nonce_of, own_nonce, sent_nonce};
 
-use crate::packets::frame_packet;
 use capture_io::Frame;
-use ip_headers::{
-    Addr, IpHeader, IpPacket, UDP, UdpHeader, check_udp, read_udp, same_address, udp_payload,
-};
+use ip_headers::{Addr, IpPacket, UDP, UdpHeader, check_udp, read_udp, same_address, udp_payload};
 use lisp_header::LISP_DATA_PORT;
 use lisp_settings::{OwnLocator, Settings};
 use map_messages::{Ecm, LISP_CONTROL_PORT, Message, MessageFault, read_message};
 use octets::NoMemory;
+use router_core::{Datagram, frame_packet};
 use std::alloc::Global;
 
 /// The nonce of the Map-Request that the router sent in a frame, encapsulated or not, if it did.
@@ -24,7 +25,7 @@ pub(crate) fn sent_nonce(
     ensures { IfOk result (λ nonce. nonce ≡ sent_nonce settings.now frame.now) }
 {
     match frame_packet(frame) {
-        Ok(packet) => own_nonce(alloc, settings.locators.as_slice(), &packet),
+        Ok((_, packet)) => own_nonce(alloc, settings.locators.as_slice(), packet),
         Err(_) => Ok(None),
     }
 }
@@ -33,10 +34,9 @@ pub(crate) fn sent_nonce(
 fn own_nonce(
     alloc: Global,
     locators: &[OwnLocator],
-    packet: &IpPacket,
+    packet: IpPacket,
 ) -> Result<Option<u64>, NoMemory>
-    ensures { IfOk result (λ nonce. nonce
-        ≡ own_nonce locators.now packet.now.base packet.now.header packet.now.octets.now) }
+    ensures { IfOk result (λ nonce. nonce ≡ own_nonce locators.now (packet_seen packet.entry)) }
 {
     if is_own(locators, packet.header.source()) {
         packet_nonce(alloc, packet)
@@ -55,53 +55,49 @@ fn is_own(locators: &[OwnLocator], address: Addr) -> bool
     same_address(&own.addr, &address) || is_own(others, address)
 }
 
-// That of the message in a packet.
-fn packet_nonce(alloc: Global, packet: &IpPacket) -> Result<Option<u64>, NoMemory>
+// That of a packet that is a control message by the rules for those that come.
+#[tactic(auto, unfolding(router_model::specs::Course::arriving))]
+fn packet_nonce(alloc: Global, packet: IpPacket) -> Result<Option<u64>, NoMemory>
     ensures { IfOk result (λ nonce. nonce
-        ≡ packet_nonce packet.now.base packet.now.header packet.now.octets.now) }
+        ≡ course_nonce (arriving (packet_seen packet.entry))) }
 {
-    if !has_datagram(&packet.header) {
+    if packet.header.is_fragment() || packet.header.protocol() != UDP {
         return Ok(None);
     }
-    match read_udp(packet) {
-        Ok(udp) => datagram_nonce(alloc, packet, &udp),
+    match read_udp(&packet) {
+        Ok(udp) => port_nonce(alloc, packet, udp),
         Err(_) => Ok(None),
     }
 }
 
-fn has_datagram(header: &IpHeader) -> bool
-    ensures { result ≡ has_datagram header.now }
+// That of a datagram from or to the port of control messages, and not to that of packets in tunnels.
+fn port_nonce(alloc: Global, packet: IpPacket, udp: UdpHeader) -> Result<Option<u64>, NoMemory>
+    requires { udp_read packet ≡ Ok udp }
+    ensures { IfOk result (λ nonce. nonce
+        ≡ course_nonce (by_port (packet_seen packet.entry) udp)) }
 {
-    header.protocol() == UDP && !header.is_fragment()
+    if udp.dest == LISP_DATA_PORT {
+        return Ok(None);
+    }
+    if udp.dest == LISP_CONTROL_PORT || udp.source == LISP_CONTROL_PORT {
+        return datagram_nonce(alloc, &Datagram { packet, udp });
+    }
+    Ok(None)
 }
 
 // That of the message in a datagram.
-fn datagram_nonce(
-    alloc: Global,
-    packet: &IpPacket,
-    udp: &UdpHeader,
-) -> Result<Option<u64>, NoMemory>
-    requires { udp_read packet.now ≡ Ok udp.now }
-    ensures { IfOk result (λ nonce. nonce
-        ≡ datagram_nonce packet.now.base packet.now.header packet.now.octets.now udp.now) }
+fn datagram_nonce(alloc: Global, datagram: &Datagram) -> Result<Option<u64>, NoMemory>
+    ensures { IfOk result (λ nonce. nonce ≡ datagram_nonce (datagram_seen datagram.now)) }
 {
-    if !is_control(udp) {
-        return Ok(None);
-    }
+    let (packet, udp) = (&datagram.packet, &datagram.udp);
     match check_udp(packet, udp, false) {
         Ok(()) => message_nonce(alloc, udp_payload(packet, udp), packet.base + udp.at + 8),
         Err(_) => Ok(None),
     }
 }
 
-// It is from or to the port of control messages, and not to that of packets in tunnels.
-fn is_control(udp: &UdpHeader) -> bool
-    ensures { result ≡ is_control udp.now }
-{
-    udp.dest != LISP_DATA_PORT && (udp.dest == LISP_CONTROL_PORT || udp.source == LISP_CONTROL_PORT)
-}
-
 // That of the message at the front of the octets, whose places count from `base`.
+#[tactic(auto, using(router_model::proofs::ReceivedLemmas::message_in_is))]
 fn message_nonce(alloc: Global, octets: &[u8], base: u32) -> Result<Option<u64>, NoMemory>
     requires { base + length octets.now < 2 ^ 32 }
     ensures { IfOk result (λ nonce. nonce ≡ message_nonce base octets.now) }
