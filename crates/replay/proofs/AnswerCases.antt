@@ -1,6 +1,4 @@
 -- The answer, case by case, and how steps of a run make it.
-use Rattle.command_words.specs.Words.{words_of}
-use Rattle.command_words.specs.declared.words.Words.{Words}
 use Rattle.std.proofs.Common.{◌≡◌, ℕ, List, [], ◌∷◌, ◌++◌, length, Option, Some, None, Result, Ok, Err, append_assoc, refl, sym, ap, subst, ◌∙◌}
 use Rattle.std.specs.Option.{option_map, IfSome}
 use Rattle.std.specs.Result.{IfOk, OnOk}
@@ -15,7 +13,6 @@ use Rattle.playback.specs.Arrivals.{Arrived}
 use Rattle.capture_events.specs.Events.{Determined, Outcome, records_of}
 use Rattle.playback.specs.Input.{InputRun}
 use Rattle.playback.specs.Playing.{outcome_of, with_outcome, Ends, HasPlayed}
-use Rattle.playback.specs.declared.fault.InputFault.{InputFault}
 use Rattle.playback.specs.declared.plays.Ending.{Ending}
 use Rattle.playback.proofs.DeterminedLemmas.{end-play}
 use Rattle.router_model.specs.Journal.{Journal, statics}
@@ -23,19 +20,13 @@ use Rattle.router_model.specs.Lifting.{outcome_tabled}
 use Rattle.router_model.specs.Parts.{Parts, parts_in, table}
 use Rattle.router_model.specs.Plain.{Router, after_event}
 use Rattle.replay.proofs.ArrivalLemmas.{arrived-replays}
-use Rattle.replay.specs.Answer.{Answer, answer, answer_by, after_words, closing, replayed, told_off, status_of, made_files, Gives, after_opening, messages_shown}
-use Rattle.replay.specs.Opening.{Opened}
-use Rattle.replay.specs.Readings.{replay_of, HasReplayed, HasReplayedBy, HasReplayedFile}
-use Rattle.replay.specs.declared.replaying.Counts.{Counts}
-use Rattle.replay.specs.Lines.{count_line, end_line, fault_line}
+use Rattle.replay.specs.Answer.{Answer, answer_by, closing, told_off, status_of, made_files, Gives, messages_shown}
+use Rattle.replay.specs.Readings.{replay_of, HasReplayed, HasReplayedBy}
+use Rattle.replay.specs.declared.counts.Counts.{Counts}
+use Rattle.replay.specs.Lines.{count_line, end_line}
 use Rattle.replay.specs.Show.{showing}
 use Rattle.replay.specs.Taking.{router_of}
 use Rattle.replay.specs.declared.status.Status.{Status}
-use Rattle.replay.specs.declared.status.Status.TheVariants as status
-
-pub answer-of : (words : List (List ℕ)) (files : List NamedFile) (said : Option Words) → words_of words ≡ said → answer words files ≡ after_words files said
-unfolding answer
-answer-of words files said is = ap (after_words files) is
 
 -- the same answer by another name
 pub gives_as : (a b : Answer) (s : Status) (old : Shown) (new : Option Shown) → a ≡ b → Gives a s old new → Gives b s old new
@@ -148,37 +139,6 @@ closed outcome output run counts old (Some v) new s has said is =
         made = has.left.made;
       };
     })
-
--- that of the plain router
-replayed-closed : (settings : Settings) (output : List ℕ) (run : InputRun) (s : Status) (old : Shown) (new : Option Shown) → Gives (answer_by (replay_of settings run) output run) s old new → Gives (replayed settings output run) s old new
-unfolding replayed
-replayed-closed settings output run s old new gives = gives
-
--- the answer to a capture that was replayed
-pub file_closed : (settings : Settings) (output : List ℕ) (what : World → Opened) (counts : Counts) (old mid new : Option World) (s : Status)
-    → IfSome old (λ w. HasReplayedFile settings output (what w) (Ok counts) (shown_of w) (shown mid))
-    → new ≡ option_map (after_say (closing counts.fault (end_line counts.frames counts.written counts.entries))) mid → s ≡ status_of counts.fault
-    → IfSome old (λ w. Gives (after_opening (replayed settings output) (what w)) s (shown_of w) (shown new))
-file_closed settings output what counts None mid new s has said is = tt
-file_closed settings output what counts (Some w) mid new s has said is = by (what w) has
-  where
-    by : (o : Opened) → HasReplayedFile settings output o (Ok counts) (shown_of w) (shown mid) → Gives (after_opening (replayed settings output) o) s (shown_of w) (shown new)
-    by (Ok run) done = replayed-closed settings output run s (shown_of w) (shown new) (closed (replay_of settings run) output run counts (shown_of w) mid new s done said is)
-    by (Err fault) done = absurd done
-
--- the answer to one whose header has a fault
-pub file_refused : (settings : Settings) (output : List ℕ) (what : World → Opened) (fault : InputFault) (old mid new : Option World) (s : Status)
-    → IfSome old (λ w. HasReplayedFile settings output (what w) (Err fault) (shown_of w) (shown mid))
-    → new ≡ option_map (after_say (fault_line fault)) mid → s ≡ status.Capture
-    → IfSome old (λ w. Gives (after_opening (replayed settings output) (what w)) s (shown_of w) (shown new))
-file_refused settings output what fault None mid new s has said is = tt
-file_refused settings output what fault (Some w) mid new s has said is = by (what w) has
-  where
-    by : (o : Opened) → HasReplayedFile settings output o (Err fault) (shown_of w) (shown mid) → Gives (after_opening (replayed settings output) o) s (shown_of w) (shown new)
-    by (Ok run) done = absurd done
-    by (Err other) done =
-        let line = shown_stays (λ (o : Shown). Gives (told_off status.Capture (fault_line fault)) status.Capture o (shown new)) (Some w) mid done.1 (said_line status.Capture (fault_line fault) mid new said) in
-        subst (λ (f : InputFault). Gives (told_off status.Capture (fault_line f)) s (shown_of w) (shown new)) done.0 (rw is line)
 
 -- two facts of a value make a third
 pub ok_both : {T E : Type 0} (r : Result T E) {P R : T → Type 0} {Q : Type 0} → IfOk r P → OnOk r Q → ((x : T) → P x → Q → R x) → IfOk r R

@@ -20,7 +20,6 @@ use Rattle.command_words.specs.declared.intake.InputFormat.TheVariants.{Classic}
 use Rattle.playback.specs.Front.{CutRun, IsFront}
 use Rattle.playback.specs.Input.{InputRun}
 use Rattle.playback.specs.Playing.{outcome_of, with_outcome, with_output, Ends, HasPlayed}
-use Rattle.playback.specs.declared.fault.InputFault.{InputFault}
 use Rattle.playback.specs.declared.plays.Ending.{Ending}
 use Rattle.playback.proofs.DeterminedLemmas.{cut-play, end-play}
 use Rattle.playback.proofs.OutputLemmas.{with_output-none}
@@ -29,14 +28,14 @@ use Rattle.router_model.specs.Journal.{Journal, statics}
 use Rattle.router_model.specs.Parts.{Parts, parts_in, table}
 use Rattle.router_model.specs.Plain.{Router, after_event, plain, started}
 use Rattle.replay.proofs.ArrivalLemmas.{tabled}
-use Rattle.replay.specs.Answer.{Answer, after_opening, answer_by, closing, made_files, messages_shown, replayed}
+use Rattle.replay.specs.Answer.{Answer, answer_by, closing, made_files, messages_shown, replayed}
 use Rattle.replay.specs.Front.{AreFronts, EndsFront, MakesPart, Part, SaysPart, part, part_after_opening, part_after_settings, part_after_words, part_by, replayed_part, shown_part}
-use Rattle.replay.specs.Lines.{count_line, end_line, fault_line}
+use Rattle.replay.specs.Lines.{count_line, end_line}
 use Rattle.replay.specs.Opening.{Arriving, Opened, arriving, opened}
-use Rattle.replay.specs.Readings.{replay_of, HasReplayed, HasReplayedBy, HasReplayedFile}
+use Rattle.replay.specs.Readings.{replay_of, HasReplayed, HasReplayedBy}
 use Rattle.replay.specs.Show.{showing}
 use Rattle.replay.specs.Taking.{router_of}
-use Rattle.replay.specs.declared.replaying.Counts.{Counts}
+use Rattle.replay.specs.declared.counts.Counts.{Counts}
 
 -- before the first event nothing was said
 pub replayed-zero : (settings : Settings) (output : List ℕ) (run : InputRun) → (replayed_part settings output run 0).said ≡ []
@@ -66,10 +65,6 @@ words-zero files None = refl
 words-zero files (Some (Replay settings input output intake workers round)) = settings-zero output (arriving intake (content input files)) (settings_of (content settings files))
 words-zero files (Some (Show input)) = show-zero (opened Classic (content input files))
 words-zero files (Some (Trial n)) = refl
-
-pub part-of : (words : List (List ℕ)) (files : List NamedFile) (said : Option Words) → words_of words ≡ said → part words files ≡ part_after_words files said
-unfolding part
-part-of words files said is = ap (part_after_words files) is
 
 -- the same answer and parts by other names
 pub front_as : (a b : Answer) (p q : ℕ → Part) (old : Shown) (new : Option World) → a ≡ b → p ≡ q → EndsFront a p old new → EndsFront b q old new
@@ -269,11 +264,6 @@ makes_part id name header old made new is fresh makes writes = inr (id, writes.0
     twice None = refl
     twice (Some w) = refl
 
--- only reading came between
-pub front_read : (a : World → Answer) (parts : World → ℕ → Part) (old mid new : Option World) → ((w : World) → (parts w 0).said ≡ []) → shown mid ≡ shown old → shown new ≡ shown mid
-    → IfSome old (λ w. EndsFront (a w) (parts w) (shown_of w) new)
-front_read a parts old mid new zeros first next = front_still a parts old new zeros (next ∙ first)
-
 -- a part of a line, behind reading
 pub front_says : (a : World → Answer) (parts : World → ℕ → Part) (line : List ℕ) (old mid new : Option World) → ((w : World) → (parts w 0).said ≡ []) → shown mid ≡ shown old
     → IfSome old (λ w. (a w).said ≡ line) → SaysPart line mid new
@@ -304,7 +294,7 @@ last_line_front outcome parts count output run counts w (Some v) new whole has s
     })
 
 -- of a replay
-closing_front : (settings : Settings) (output : List ℕ) (run : InputRun) (counts : Counts) (w : World) (mid new : Option World) → HasReplayed settings output run counts (shown_of w) (shown mid)
+pub closing_front : (settings : Settings) (output : List ℕ) (run : InputRun) (counts : Counts) (w : World) (mid new : Option World) → HasReplayed settings output run counts (shown_of w) (shown mid)
     → SaysPart (closing counts.fault (end_line counts.frames counts.written counts.entries)) mid new
     → EndsFront (replayed settings output run) (replayed_part settings output run) (shown_of w) new
 unfolding replayed replayed_part
@@ -312,31 +302,6 @@ closing_front settings output run counts w mid new has says =
     let all = events run.frames in
     last_line_front (replay_of settings run) (λ k. played plain (started settings) (take k all)) (length all) output run counts w mid new
     (ap (played plain (started settings)) (by-count all all (front-all all))) has says
-
--- the same of what is read of a capture
-pub file_front : (settings : Settings) (output : List ℕ) (what : World → Opened) (counts : Counts) (old mid new : Option World)
-    → IfSome old (λ w. HasReplayedFile settings output (what w) (Ok counts) (shown_of w) (shown mid))
-    → SaysPart (closing counts.fault (end_line counts.frames counts.written counts.entries)) mid new
-    → IfSome old (λ w. EndsFront (after_opening (replayed settings output) (what w)) (part_after_opening (replayed_part settings output) (what w)) (shown_of w) new)
-file_front settings output what counts None mid new has says = tt
-file_front settings output what counts (Some w) mid new has says = by (what w) has
-  where
-    by : (o : Opened) → HasReplayedFile settings output o (Ok counts) (shown_of w) (shown mid) → EndsFront (after_opening (replayed settings output) o) (part_after_opening (replayed_part settings output) o) (shown_of w) new
-    by (Ok run) done = closing_front settings output run counts w mid new done says
-    by (Err fault) done = absurd done
-
--- a part of the line of a header's fault
-pub refused_front : (settings : Settings) (output : List ℕ) (what : World → Opened) (fault : InputFault) (old mid new : Option World)
-    → IfSome old (λ w. HasReplayedFile settings output (what w) (Err fault) (shown_of w) (shown mid))
-    → SaysPart (fault_line fault) mid new
-    → IfSome old (λ w. EndsFront (after_opening (replayed settings output) (what w)) (part_after_opening (replayed_part settings output) (what w)) (shown_of w) new)
-refused_front settings output what fault None mid new has says = tt
-refused_front settings output what fault (Some w) mid new has says = by (what w) has
-  where
-    by : (o : Opened) → HasReplayedFile settings output o (Err fault) (shown_of w) (shown mid) → EndsFront (after_opening (replayed settings output) o) (part_after_opening (replayed_part settings output) o) (shown_of w) new
-    by (Ok run) done = absurd done
-    by (Err other) done =
-        front_line (after_opening (replayed settings output) (Err other)) (part_after_opening (replayed_part settings output) (Err other)) (fault_line fault) w mid new refl (ap fault_line (sym done.0)) done.1 says
 
 -- a show that was cut short
 shown_front : (run : InputRun) (w : World) (new : Option World) (first : List Event) (lines octets : List ℕ) → shown new ≡ Some (with_output None lines octets (shown_of w))

@@ -1,9 +1,8 @@
--- The answer of a run with forwarders, case by case.
+-- The answer of a run with so many forwarders, case by case.
 use Rattle.std.proofs.Common.{◌≡◌, ◌≤◌, ◌∙◌, zero, suc, ℕ, false, List, [], Option, Some, None, Result, Ok, Err, arith, refl, sym, ap, subst}
 use Rattle.std.specs.Option.{option_map, IfSome, IsSomeAnd}
 use Rattle.std.specs.Result.{IfOk, OnOk}
 use Rattle.command_words.specs.Words.{words_of}
-use Rattle.command_words.specs.declared.intake.Intake.{Intake}
 use Rattle.command_words.specs.declared.words.Words.{Words}
 use Rattle.command_words.specs.declared.words.Words.TheVariants.{Replay, Show, Trial}
 use Rattle.desk.specs.World.{left_of, World, Shown, content, found_at, after_say, after_make, after_write, shown, shown_of}
@@ -15,17 +14,17 @@ use Rattle.lisp_settings.specs.declared.settings.Settings.{Settings}
 use Rattle.playback.specs.Input.{InputRun}
 use Rattle.playback.specs.declared.fault.InputFault.{InputFault}
 use Rattle.router_model.specs.Rounds.{rounds}
-use Rattle.replay.specs.Answer.{Gives, Leaves, after_opening, after_settings, after_words, answer, closing, replayed, status_of, told_off}
+use Rattle.replay.specs.Answer.{Gives, Leaves, after_opening, after_settings, after_words, answer, answer_by, closing, replayed, status_of, told_off}
 use Rattle.sharing.specs.Sharing as sharing
 use Rattle.sharing.specs.declared.playing.RoundsEnding.{RoundsEnding}
 use Rattle.replay.specs.Lines.{end_line, fault_line, settings_line}
 use Rattle.replay.specs.Opening.{Arriving, Opened, arriving}
-use Rattle.replay.specs.Readings.{HasReplayedInRounds}
-use Rattle.replay.specs.Shared.{GivesAfter, GivesFor, GivesWith, MayHave, Shares, SharesBy, SharesOf, after_settings_by, after_words_by, answer_with, are_some, frames_by, has_workers, shared}
-use Rattle.replay.specs.declared.replaying.Counts.{Counts}
+use Rattle.replay.specs.Readings.{HasReplayed, HasReplayedFile, HasReplayedFor, HasReplayedInRounds, outcome_for}
+use Rattle.replay.specs.Shared.{AreChosen, AreChosenOf, GivesAfter, GivesBy, GivesFor, GivesOf, GivesWith, MayHave, after_settings_by, after_words_by, answer_with, frames_by, has_workers, shared}
+use Rattle.replay.specs.declared.counts.Counts.{Counts}
 use Rattle.replay.specs.declared.status.Status.{Status}
 use Rattle.replay.specs.declared.status.Status.TheVariants as status
-use Rattle.replay.proofs.AnswerCases.{closed, counts_of, gives_as, has_replayed, said_line}
+use Rattle.replay.proofs.AnswerCases.{closed, counts_of, gives_as, has_replayed, said_line, shown_stays}
 
 -- what a play of rounds leaves, before its last line
 run_shared : (settings : Settings) (size id : ℕ) (name : List ℕ) (run : InputRun) (w : World) (new : Option World) (ended : RoundsEnding)
@@ -47,45 +46,91 @@ frames_shared settings size id from rest name None made new ended fresh makes pl
 frames_shared settings size id from rest name (Some w) made new ended fresh makes played =
     run_shared settings size id name (rest (left_of from w)) w new ended fresh (rw makes at played)
 
--- the answer to a capture that was replayed
-shared-closed : (size : ℕ) (settings : Settings) (output : List ℕ) (run : InputRun) (counts : Counts) (old : Shown) (mid new : Option World) (s : Status)
-    → HasReplayedInRounds size settings output run counts old (shown mid)
-    → new ≡ option_map (after_say (closing counts.fault (end_line counts.frames counts.written counts.entries))) mid → s ≡ status_of counts.fault
-    → SharesOf size settings output (Ok run) s old (shown new)
-unfolding shared
-shared-closed size settings output run counts old mid new s has said is = record {
-  ns = has.ns;
-  lawful = has.lawful;
-  gives = closed (rounds settings run.frames size has.ns) output run counts old mid new s has.replayed said is;
-}
+-- ### with so many forwarders
 
-pub input_closed : (size : ℕ) (settings : Settings) (output : List ℕ) (run : World → InputRun) (counts : Counts) (old mid new : Option World) (s : Status)
-    → IfSome old (λ w. HasReplayedInRounds size settings output (run w) counts (shown_of w) (shown mid))
+-- none: the frames are replayed plainly
+pub replays_plain : (workers size : ℕ) (settings : Settings) (output : List ℕ) (run : InputRun) (counts : Counts) (old : Shown) (new : Option Shown) → workers ≡ zero
+    → HasReplayed settings output run counts old new → HasReplayedFor workers size settings output run counts old new
+replays_plain workers size settings output run counts old new none has = rw none (record { ns = []; lawful = refl; replayed = has })
+
+-- some: in rounds
+pub replays_rounds : (workers size : ℕ) (settings : Settings) (output : List ℕ) (run : InputRun) (counts : Counts) (old : Shown) (new : Option Shown) → 1 ≤ workers
+    → HasReplayedInRounds size settings output run counts old new → HasReplayedFor workers size settings output run counts old new
+replays_rounds zero size settings output run counts old new some has = let none : ⊥ = omega (arith, some) in absurd none
+replays_rounds (suc workers) size settings output run counts old new some has = record { ns = has.ns; lawful = has.lawful; replayed = has.replayed }
+
+-- the answer is by their outcome
+answer-for : (workers size : ℕ) (ns : List (List ℕ)) (settings : Settings) (output : List ℕ) (run : InputRun)
+    → answer_by (outcome_for workers size ns settings run) output run ≡ frames_by workers size ns output settings run
+unfolding replayed shared
+answer-for zero size ns settings output run = refl
+answer-for (suc workers) size ns settings output run = refl
+
+-- where nothing is replayed there are no numbers
+pub chosen-fault : (workers size : ℕ) (settings : Settings) (fault : InputFault) → AreChosenOf workers size [] settings (Err fault)
+chosen-fault zero size settings fault = refl
+chosen-fault (suc workers) size settings fault = refl
+
+chosen-refused : (workers size : ℕ) (input : Arriving) (fault : SettingsFault) → AreChosen workers size [] input (Err fault)
+chosen-refused zero size input fault = refl
+chosen-refused (suc workers) size input fault = refl
+
+-- the numbers of a capture are those of the replay
+pub chosen-arriving : (workers size : ℕ) (ns : List (List ℕ)) (input : Arriving) (settings : Settings) → AreChosenOf workers size ns settings (input settings) → AreChosen workers size ns input (Ok settings)
+chosen-arriving zero size ns input settings chosen = chosen
+chosen-arriving (suc workers) size ns input settings chosen = chosen
+
+-- the answer to a capture that was replayed
+pub file_closed : (workers size : ℕ) (settings : Settings) (output : List ℕ) (what : World → Opened) (counts : Counts) (old mid new : Option World) (s : Status)
+    → IfSome old (λ w. HasReplayedFile workers size settings output (what w) (Ok counts) (shown_of w) (shown mid))
     → new ≡ option_map (after_say (closing counts.fault (end_line counts.frames counts.written counts.entries))) mid → s ≡ status_of counts.fault
-    → IfSome old (λ w. SharesOf size settings output (Ok (run w)) s (shown_of w) (shown new))
-input_closed size settings output run counts None mid new s has said is = tt
-input_closed size settings output run counts (Some w) mid new s has said is = shared-closed size settings output (run w) counts (shown_of w) mid new s has said is
+    → IfSome old (λ w. GivesOf workers size settings output (what w) s (shown_of w) (shown new))
+file_closed workers size settings output what counts None mid new s has said is = tt
+file_closed workers size settings output what counts (Some w) mid new s has said is = by (what w) has
+  where
+    by : (o : Opened) → HasReplayedFile workers size settings output o (Ok counts) (shown_of w) (shown mid) → GivesOf workers size settings output o s (shown_of w) (shown new)
+    by (Ok run) done = record {
+      ns = done.ns;
+      lawful = done.lawful;
+      gives = gives_as _ _ s (shown_of w) (shown new) (answer-for workers size done.ns settings output run) (closed (outcome_for workers size done.ns settings run) output run counts (shown_of w) mid new s done.replayed said is);
+    }
+    by (Err fault) done = absurd done
 
 -- the answer to one whose header has a fault
-pub input_refused : (size : ℕ) (settings : Settings) (output : List ℕ) (fault : InputFault) (old new : Option World) (s : Status)
-    → new ≡ option_map (after_say (fault_line fault)) old → s ≡ status.Capture
-    → IfSome old (λ w. SharesOf size settings output (Err fault) s (shown_of w) (shown new))
-input_refused size settings output fault None new s said is = tt
-input_refused size settings output fault (Some w) new s said is =
-    rw is (record { ns = []; lawful = refl; gives = said_line status.Capture (fault_line fault) (Some w) new said })
-
--- ### by the words
+pub file_refused : (workers size : ℕ) (settings : Settings) (output : List ℕ) (what : World → Opened) (fault : InputFault) (old mid new : Option World) (s : Status)
+    → IfSome old (λ w. HasReplayedFile workers size settings output (what w) (Err fault) (shown_of w) (shown mid))
+    → new ≡ option_map (after_say (fault_line fault)) mid → s ≡ status.Capture
+    → IfSome old (λ w. GivesOf workers size settings output (what w) s (shown_of w) (shown new))
+file_refused workers size settings output what fault None mid new s has said is = tt
+file_refused workers size settings output what fault (Some w) mid new s has said is = by (what w) has
+  where
+    by : (o : Opened) → HasReplayedFile workers size settings output o (Err fault) (shown_of w) (shown mid) → GivesOf workers size settings output o s (shown_of w) (shown new)
+    by (Ok run) done = absurd done
+    by (Err other) done =
+        let line = shown_stays (λ (o : Shown). Gives (told_off status.Capture (fault_line fault)) status.Capture o (shown new)) (Some w) mid done.1 (said_line status.Capture (fault_line fault) mid new said) in
+        record {
+          ns = [];
+          lawful = chosen-fault workers size settings other;
+          gives = subst (λ (f : InputFault). Gives (told_off status.Capture (fault_line f)) s (shown_of w) (shown new)) done.0 (rw is line);
+        }
 
 -- settings that have a fault, and those that have none
-pub shares_refused : (size : ℕ) (output : List ℕ) (input : Arriving) (text : List ℕ) (fault : SettingsFault) (s : Status) (old : Shown) (new : Option Shown) → Err fault ≡ settings_of text
-    → Gives (told_off status.Settings (settings_line fault)) s old new → Shares size output input text s old new
-shares_refused size output input text fault s old new is gives =
-    subst (λ (r : Result Settings SettingsFault). SharesBy size output input r s old new) is (record { ns = []; lawful = refl; gives = gives })
+abbrev GivesRead : ℕ → ℕ → List ℕ → Arriving → Result Settings SettingsFault → Status → Shown → Option Shown → Type 0
+GivesRead workers size output input r s old new =
+    GivesBy (λ ns. AreChosen workers size ns input r) (λ ns. after_settings_by (frames_by workers size ns output) input r) s old new
 
-pub shares_by : (size : ℕ) (settings : Settings) (output : List ℕ) (input : Arriving) (text : List ℕ) (s : Status) (old : Shown) (new : Option Shown) → Ok settings ≡ settings_of text
-    → SharesOf size settings output (input settings) s old new → Shares size output input text s old new
-shares_by size settings output input text s old new is shares =
-    subst (λ (r : Result Settings SettingsFault). SharesBy size output input r s old new) is (record { ns = shares.ns; lawful = shares.lawful; gives = shares.gives })
+pub gives_refused : (workers size : ℕ) (output : List ℕ) (input : Arriving) (text : List ℕ) (fault : SettingsFault) (s : Status) (old : Shown) (new : Option Shown) → Err fault ≡ settings_of text
+    → Gives (told_off status.Settings (settings_line fault)) s old new → GivesFor workers size output input text s old new
+gives_refused workers size output input text fault s old new is gives =
+    subst (λ (r : Result Settings SettingsFault). GivesRead workers size output input r s old new) is (record { ns = []; lawful = chosen-refused workers size input fault; gives = gives })
+
+pub gives_settings : (workers size : ℕ) (settings : Settings) (output : List ℕ) (input : Arriving) (text : List ℕ) (s : Status) (old : Shown) (new : Option Shown) → Ok settings ≡ settings_of text
+    → GivesOf workers size settings output (input settings) s old new → GivesFor workers size output input text s old new
+gives_settings workers size settings output input text s old new is gives =
+    subst (λ (r : Result Settings SettingsFault). GivesRead workers size output input r s old new) is
+    (record { ns = gives.ns; lawful = chosen-arriving workers size gives.ns input settings gives.lawful; gives = gives.gives })
+
+-- ### by the words
 
 -- without forwarders the frames are replayed plainly
 plain-opening : (size : ℕ) (ns : List (List ℕ)) (output : List ℕ) (settings : Settings) (input : Opened)
@@ -97,28 +142,6 @@ pub plain-settings : (size : ℕ) (ns : List (List ℕ)) (output : List ℕ) (in
     → after_settings_by (frames_by zero size ns output) input r ≡ after_settings output input r
 plain-settings size ns output input (Err fault) = refl
 plain-settings size ns output input (Ok settings) = plain-opening size ns output settings (input settings)
-
-pub for_plain : (workers size : ℕ) (output : List ℕ) (input : Arriving) (text : List ℕ) (s : Status) (old : Shown) (new : Option Shown) → workers ≡ zero
-    → Gives (after_settings output input (settings_of text)) s old new → GivesFor workers size output input text s old new
-for_plain workers size output input text s old new none gives =
-    rw none (record { ns = []; lawful = refl; gives = gives_as _ _ s old new (sym (plain-settings size [] output input (settings_of text))) gives })
-
--- with some in rounds
-shared-opening : (workers size : ℕ) (ns : List (List ℕ)) (output : List ℕ) (settings : Settings) (input : Opened)
-    → after_opening (shared output size ns settings) input ≡ after_opening (frames_by (suc workers) size ns output settings) input
-shared-opening workers size ns output settings (Ok run) = refl
-shared-opening workers size ns output settings (Err fault) = refl
-
-pub shared-settings : (workers size : ℕ) (ns : List (List ℕ)) (output : List ℕ) (input : Arriving) (r : Result Settings SettingsFault)
-    → after_settings_by (shared output size ns) input r ≡ after_settings_by (frames_by (suc workers) size ns output) input r
-shared-settings workers size ns output input (Err fault) = refl
-shared-settings workers size ns output input (Ok settings) = shared-opening workers size ns output settings (input settings)
-
-pub for_shared : (workers size : ℕ) (output : List ℕ) (input : Arriving) (text : List ℕ) (s : Status) (old : Shown) (new : Option Shown) → 1 ≤ workers
-    → Shares size output input text s old new → GivesFor workers size output input text s old new
-for_shared zero size output input text s old new some shares = let none : ⊥ = omega (arith, some) in absurd none
-for_shared (suc workers) size output input text s old new some shares =
-    record { ns = shares.ns; lawful = shares.lawful; gives = gives_as _ _ s old new (shared-settings workers size shares.ns output input (settings_of text)) shares.gives }
 
 -- words without forwarders
 pub by_plain : (files : List NamedFile) (words : Words) (s : Status) (old : Shown) (new : Option Shown) → ((ns : List (List ℕ)) → after_words_by files ns (Some words) ≡ after_words files (Some words))
@@ -188,13 +211,3 @@ pub shared-left : {E : Type 0} (r : Result Status E) (words : List (List ℕ)) (
     → IfOk r (λ s. IfSome told (λ w. GivesWith words w.files s (shown_of w) new)) → OnOk r (IfSome told (λ w. IsSomeAnd new (Leaves (answer words w.files) (shown_of w))))
 shared-left r words None new none shared = ok_then r _ shared (λ s gives. tt)
 shared-left r words (Some w) new none shared = ok_then r _ shared (λ s gives. (plain-with words w.files s (shown_of w) new none gives).left)
-
--- ### of what words say
-
-pub after_replay : (files : List NamedFile) (settings input output : List ℕ) (intake : Intake) (workers round : ℕ) (s : Status) (old : Shown) (new : Option Shown)
-    → GivesFor workers round output (arriving intake (content input files)) (content settings files) s old new → GivesAfter files (Some (Replay settings input output intake workers round)) s old new
-after_replay files settings input output intake workers round s old new gives = record { ns = gives.ns; lawful = gives.lawful; gives = gives.gives }
-
-pub none-asked : (workers : ℕ) → are_some workers ≡ false → workers ≡ 0
-none-asked zero none = refl
-none-asked (suc workers) none = cc

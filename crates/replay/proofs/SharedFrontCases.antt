@@ -1,4 +1,4 @@
--- A run with forwarders that is cut short, case by case.
+-- A run with so many forwarders that is cut short, case by case.
 use Rattle.std.proofs.Common.{◌≡◌, ◌≤◌, zero, suc, ℕ, false, List, [], length, Option, Some, None, Result, Ok, Err, arith, refl, sym, ap, subst}
 use Rattle.std.specs.Option.{option_map, IfSome}
 use Rattle.std.proofs.lemmas.Option.{IfSome_then}
@@ -20,17 +20,17 @@ use Rattle.router_model.specs.Plain.{started}
 use Rattle.router_model.specs.Rounds.{Lawful, rounds, rounds_from}
 use Rattle.router_model.proofs.SingleLemmas.{numbers-exist}
 use Rattle.sharing.specs.Sharing.{HasSharedPart, first_rounds}
-use Rattle.replay.specs.Answer.{Answer, after_opening, after_settings, after_words, answer, closing, told_off}
+use Rattle.replay.specs.Answer.{Answer, after_opening, after_words, answer, closing, replayed, told_off}
 use Rattle.replay.specs.Front.{EndsFront, MakesPart, Part, SaysPart, part, part_after_opening, part_after_settings, part_after_words, replayed_part}
 use Rattle.replay.specs.Lines.{end_line, fault_line, settings_line}
 use Rattle.replay.specs.Opening.{Arriving, Opened, arriving}
-use Rattle.replay.specs.Readings.{HasReplayedBy, HasReplayedInRounds}
-use Rattle.replay.specs.Shared.{AreChosen, AreNumbers, AreNumbersOf, MayHave, after_settings_by, after_words_by, answer_with, has_workers, shared}
-use Rattle.replay.specs.SharedFront.{EndsAfter, EndsBy, EndsFor, EndsInRounds, EndsInRoundsBy, EndsOf, EndsRun, EndsWith, part_after_settings_by, part_after_words_by, part_with, parts_by, shared_part}
-use Rattle.replay.specs.declared.replaying.Counts.{Counts}
+use Rattle.replay.specs.Readings.{HasReplayedBy, HasReplayedFile, HasReplayedFor}
+use Rattle.replay.specs.Shared.{AreChosen, AreNumbers, AreNumbersOf, MayHave, after_settings_by, after_words_by, answer_with, frames_by, has_workers, shared}
+use Rattle.replay.specs.SharedFront.{EndsAfter, EndsBy, EndsFor, EndsOf, EndsRun, EndsWith, part_after_settings_by, part_after_words_by, part_with, parts_by, shared_part}
+use Rattle.replay.specs.declared.counts.Counts.{Counts}
 use Rattle.replay.specs.declared.status.Status.TheVariants as status
-use Rattle.replay.proofs.FrontCases.{by-count, frames_front, front_as, front_line, front_says, front_still, last_line_front, opening-zero, make_front, replayed-zero, words-zero}
-use Rattle.replay.proofs.SharedCases.{plain-settings, plain-words, shared-settings}
+use Rattle.replay.proofs.FrontCases.{by-count, closing_front, frames_front, front_as, front_line, front_says, front_still, last_line_front, opening-zero, make_front, replayed-zero, words-zero}
+use Rattle.replay.proofs.SharedCases.{chosen-arriving, chosen-fault, plain-words}
 
 -- ### there are numbers
 
@@ -69,13 +69,6 @@ by-numbers may a parts (Some w) new numbers ends =
 run-zero : (output : List ℕ) (size : ℕ) (ns : List (List ℕ)) (settings : Settings) (run : InputRun) → (shared_part output size ns settings run 0).said ≡ []
 unfolding shared_part
 run-zero output size ns settings run = refl
-
-input-zero : (size : ℕ) (settings : Settings) (ns : List (List ℕ)) (output : List ℕ) (input : Opened) → (part_after_opening (shared_part output size ns settings) input 0).said ≡ []
-input-zero size settings ns output input = opening-zero (shared_part output size ns settings) input (run-zero output size ns settings)
-
-by-zero : (size : ℕ) (ns : List (List ℕ)) (output : List ℕ) (input : Arriving) (r : Result Settings SettingsFault) → (part_after_settings_by (shared_part output size ns) input r 0).said ≡ []
-by-zero size ns output input (Err fault) = refl
-by-zero size ns output input (Ok settings) = input-zero size settings ns output (input settings)
 
 chosen-zero : (workers size : ℕ) (ns : List (List ℕ)) (output : List ℕ) (input : Arriving) (r : Result Settings SettingsFault) → (part_after_settings_by (parts_by workers size ns output) input r 0).said ≡ []
 chosen-zero workers size ns output input (Err fault) = refl
@@ -123,16 +116,29 @@ shares_part settings size id from rest name None made new fresh makes part = tt
 shares_part settings size id from rest name (Some w) made new fresh makes part =
     run_part settings size id name (rest (left_of from w)) w new fresh (rw makes at part)
 
+-- ### with so many forwarders
+
+-- none: a beginning of the plain router's answer
+pub ends_plain : (workers size : ℕ) (settings : Settings) (output : List ℕ) (run : InputRun) (old : Shown) (new : Option World) → workers ≡ zero
+    → EndsFront (replayed settings output run) (replayed_part settings output run) old new → EndsOf workers size settings output (Ok run) old new
+ends_plain workers size settings output run old new none ends = rw none (record { ns = []; lawful = refl; ends = ends })
+
+-- some: one of that by rounds
+pub ends_rounds : (workers size : ℕ) (settings : Settings) (output : List ℕ) (run : InputRun) (old : Shown) (new : Option World) → 1 ≤ workers
+    → EndsRun size settings output run old new → EndsOf workers size settings output (Ok run) old new
+ends_rounds zero size settings output run old new some ends = let none : ⊥ = omega (arith, some) in absurd none
+ends_rounds (suc workers) size settings output run old new some ends = record { ns = ends.ns; lawful = ends.lawful; ends = ends.ends }
+
 -- ### a file
 
 -- it wasn't opened
-pub shares_unread : (settings : Settings) (size : ℕ) (output : List ℕ) (what : World → Opened) (old new : Option World) → shown new ≡ shown old
-    → IfSome old (λ w. EndsOf size settings output (what w) (shown_of w) new)
-shares_unread settings size output what old new same =
-    by-numbers _ (λ w ns. after_opening (shared output size ns settings) (what w)) (λ w ns. part_after_opening (shared_part output size ns settings) (what w)) old new
-    (λ w. opening-numbers settings size (what w))
-    (λ pick. front_still (λ w. after_opening (shared output size (pick w) settings) (what w)) (λ w. part_after_opening (shared_part output size (pick w) settings) (what w))
-    old new (λ w. input-zero size settings (pick w) output (what w)) same)
+pub file_unread : (workers size : ℕ) (settings : Settings) (output : List ℕ) (what : World → Opened) (old new : Option World) → shown new ≡ shown old
+    → IfSome old (λ w. EndsOf workers size settings output (what w) (shown_of w) new)
+file_unread workers size settings output what old new same =
+    by-numbers _ (λ w ns. after_opening (frames_by workers size ns output settings) (what w)) (λ w ns. part_after_opening (parts_by workers size ns output settings) (what w)) old new
+    (λ w. chosen-numbers workers size (λ _. what w) (Ok settings))
+    (λ pick. front_still (λ w. after_opening (frames_by workers size (pick w) output settings) (what w)) (λ w. part_after_opening (parts_by workers size (pick w) output settings) (what w))
+    old new (λ w. chosen-zero workers size (pick w) output (λ _. what w) (Ok settings)) same)
 
 -- a part of its last line
 run_line : (size : ℕ) (settings : Settings) (output : List ℕ) (run : InputRun) (counts : Counts) (w : World) (mid new : Option World) → (ns : List (List ℕ)) → Lawful settings run.frames size ns
@@ -148,50 +154,74 @@ run_line size settings output run counts w mid new ns lawful has says =
           (ap (λ (l : List (List Frame)). rounds_from (started settings) None l ns) (by-count cuts cuts (front-all cuts))) has says;
     }
 
-pub shares_line : (size : ℕ) (settings : Settings) (output : List ℕ) (run : World → InputRun) (counts : Counts) (old mid new : Option World)
-    → IfSome old (λ w. HasReplayedInRounds size settings output (run w) counts (shown_of w) (shown mid))
+line-for : (workers size : ℕ) (settings : Settings) (output : List ℕ) (run : InputRun) (counts : Counts) (w : World) (mid new : Option World)
+    → HasReplayedFor workers size settings output run counts (shown_of w) (shown mid) → SaysPart (closing counts.fault (end_line counts.frames counts.written counts.entries)) mid new
+    → EndsOf workers size settings output (Ok run) (shown_of w) new
+line-for zero size settings output run counts w mid new has says =
+    ends_plain zero size settings output run (shown_of w) new refl (closing_front settings output run counts w mid new has.replayed says)
+line-for (suc workers) size settings output run counts w mid new has says =
+    ends_rounds (suc workers) size settings output run (shown_of w) new (omega arith) (run_line size settings output run counts w mid new has.ns has.lawful has.replayed says)
+
+pub file_line : (workers size : ℕ) (settings : Settings) (output : List ℕ) (what : World → Opened) (counts : Counts) (old mid new : Option World)
+    → IfSome old (λ w. HasReplayedFile workers size settings output (what w) (Ok counts) (shown_of w) (shown mid))
     → SaysPart (closing counts.fault (end_line counts.frames counts.written counts.entries)) mid new
-    → IfSome old (λ w. EndsRun size settings output (run w) (shown_of w) new)
-shares_line size settings output run counts None mid new has says = tt
-shares_line size settings output run counts (Some w) mid new has says = run_line size settings output (run w) counts w mid new has.ns has.lawful has.replayed says
+    → IfSome old (λ w. EndsOf workers size settings output (what w) (shown_of w) new)
+file_line workers size settings output what counts None mid new has says = tt
+file_line workers size settings output what counts (Some w) mid new has says = by (what w) has
+  where
+    by : (o : Opened) → HasReplayedFile workers size settings output o (Ok counts) (shown_of w) (shown mid) → EndsOf workers size settings output o (shown_of w) new
+    by (Ok run) done = line-for workers size settings output run counts w mid new done says
+    by (Err fault) done = absurd done
 
 -- a part of the line of its header's fault
-pub shares_fault : (size : ℕ) (settings : Settings) (output : List ℕ) (fault : InputFault) (old new : Option World) → SaysPart (fault_line fault) old new
-    → IfSome old (λ w. EndsOf size settings output (Err fault) (shown_of w) new)
-shares_fault size settings output fault None new says = tt
-shares_fault size settings output fault (Some w) new says = record {
-  ns = [];
-  lawful = refl;
-  ends = front_line (told_off status.Capture (fault_line fault)) _ (fault_line fault) w (Some w) new refl refl refl says;
-}
+pub file_fault : (workers size : ℕ) (settings : Settings) (output : List ℕ) (what : World → Opened) (fault : InputFault) (old mid new : Option World)
+    → IfSome old (λ w. HasReplayedFile workers size settings output (what w) (Err fault) (shown_of w) (shown mid))
+    → SaysPart (fault_line fault) mid new
+    → IfSome old (λ w. EndsOf workers size settings output (what w) (shown_of w) new)
+file_fault workers size settings output what fault None mid new has says = tt
+file_fault workers size settings output what fault (Some w) mid new has says = by (what w) has
+  where
+    by : (o : Opened) → HasReplayedFile workers size settings output o (Err fault) (shown_of w) (shown mid) → EndsOf workers size settings output o (shown_of w) new
+    by (Ok run) done = absurd done
+    by (Err other) done = record {
+      ns = [];
+      lawful = chosen-fault workers size settings other;
+      ends = front_line (told_off status.Capture (fault_line other)) _ (fault_line fault) w mid new refl (ap fault_line (sym done.0)) done.1 says;
+    }
 
 -- ### settings
 
 -- they weren't read
-pub shares_unloaded : (size : ℕ) (output : List ℕ) (what : World → Arriving) (text : List ℕ) (old new : Option World) → shown new ≡ shown old
-    → IfSome old (λ w. EndsInRounds size output (what w) (content text w.files) (shown_of w) new)
-shares_unloaded size output what text old new same =
-    by-numbers _ (λ w ns. after_settings_by (shared output size ns) (what w) (settings_of (content text w.files))) (λ w ns. part_after_settings_by (shared_part output size ns) (what w) (settings_of (content text w.files))) old new
-    (λ w. settings-numbers size (what w) (settings_of (content text w.files)))
-    (λ pick. front_still (λ w. after_settings_by (shared output size (pick w)) (what w) (settings_of (content text w.files))) (λ w. part_after_settings_by (shared_part output size (pick w)) (what w) (settings_of (content text w.files)))
-    old new (λ w. by-zero size (pick w) output (what w) (settings_of (content text w.files))) same)
+pub ends_unloaded : (workers size : ℕ) (output : List ℕ) (what : World → Arriving) (text : List ℕ) (old new : Option World) → shown new ≡ shown old
+    → IfSome old (λ w. EndsFor workers size output (what w) (content text w.files) (shown_of w) new)
+ends_unloaded workers size output what text old new same =
+    by-numbers _ (λ w ns. after_settings_by (frames_by workers size ns output) (what w) (settings_of (content text w.files))) (λ w ns. part_after_settings_by (parts_by workers size ns output) (what w) (settings_of (content text w.files))) old new
+    (λ w. chosen-numbers workers size (what w) (settings_of (content text w.files)))
+    (λ pick. front_still (λ w. after_settings_by (frames_by workers size (pick w) output) (what w) (settings_of (content text w.files))) (λ w. part_after_settings_by (parts_by workers size (pick w) output) (what w) (settings_of (content text w.files)))
+    old new (λ w. chosen-zero workers size (pick w) output (what w) (settings_of (content text w.files))) same)
 
 -- they have none
-pub shares_settings : (size : ℕ) (settings : Settings) (output : List ℕ) (input : Arriving) (text : List ℕ) (old : Shown) (new : Option World) → Ok settings ≡ settings_of text
-    → EndsOf size settings output (input settings) old new → EndsInRounds size output input text old new
-shares_settings size settings output input text old new is ends =
-    subst (λ (r : Result Settings SettingsFault). EndsInRoundsBy size output input r old new) is (record { ns = ends.ns; lawful = ends.lawful; ends = ends.ends })
+abbrev EndsRead : ℕ → ℕ → List ℕ → Arriving → Result Settings SettingsFault → Shown → Option World → Type 0
+EndsRead workers size output input r old new =
+    EndsBy (λ ns. AreChosen workers size ns input r) (λ ns. after_settings_by (frames_by workers size ns output) input r)
+    (λ ns. part_after_settings_by (parts_by workers size ns output) input r) old new
+
+pub ends_settings : (workers size : ℕ) (settings : Settings) (output : List ℕ) (input : Arriving) (text : List ℕ) (old : Shown) (new : Option World) → Ok settings ≡ settings_of text
+    → EndsOf workers size settings output (input settings) old new → EndsFor workers size output input text old new
+ends_settings workers size settings output input text old new is ends =
+    subst (λ (r : Result Settings SettingsFault). EndsRead workers size output input r old new) is
+    (record { ns = ends.ns; lawful = chosen-arriving workers size ends.ns input settings ends.lawful; ends = ends.ends })
 
 -- or a fault, and a part of its line was said
-pub shares_settings_line : (size : ℕ) (output : List ℕ) (what : World → Arriving) (text : List ℕ) (fault : SettingsFault) (old mid new : Option World) → shown mid ≡ shown old
+pub ends_refused : (workers size : ℕ) (output : List ℕ) (what : World → Arriving) (text : List ℕ) (fault : SettingsFault) (old mid new : Option World) → shown mid ≡ shown old
     → IfSome old (λ w. Err fault ≡ settings_of (content text w.files)) → SaysPart (settings_line fault) mid new
-    → IfSome old (λ w. EndsInRounds size output (what w) (content text w.files) (shown_of w) new)
-shares_settings_line size output what text fault old mid new same value says =
-    by-numbers _ (λ w ns. after_settings_by (shared output size ns) (what w) (settings_of (content text w.files))) (λ w ns. part_after_settings_by (shared_part output size ns) (what w) (settings_of (content text w.files))) old new
-    (λ w. settings-numbers size (what w) (settings_of (content text w.files)))
-    (λ pick. front_says (λ w. after_settings_by (shared output size (pick w)) (what w) (settings_of (content text w.files))) (λ w. part_after_settings_by (shared_part output size (pick w)) (what w) (settings_of (content text w.files)))
-    (settings_line fault) old mid new (λ w. by-zero size (pick w) output (what w) (settings_of (content text w.files))) same
-    (IfSome_then old value (λ w is. ap (λ (r : Result Settings SettingsFault). (after_settings_by (shared output size (pick w)) (what w) r).said) (sym is))) says)
+    → IfSome old (λ w. EndsFor workers size output (what w) (content text w.files) (shown_of w) new)
+ends_refused workers size output what text fault old mid new same value says =
+    by-numbers _ (λ w ns. after_settings_by (frames_by workers size ns output) (what w) (settings_of (content text w.files))) (λ w ns. part_after_settings_by (parts_by workers size ns output) (what w) (settings_of (content text w.files))) old new
+    (λ w. chosen-numbers workers size (what w) (settings_of (content text w.files)))
+    (λ pick. front_says (λ w. after_settings_by (frames_by workers size (pick w) output) (what w) (settings_of (content text w.files))) (λ w. part_after_settings_by (parts_by workers size (pick w) output) (what w) (settings_of (content text w.files)))
+    (settings_line fault) old mid new (λ w. chosen-zero workers size (pick w) output (what w) (settings_of (content text w.files))) same
+    (IfSome_then old value (λ w is. ap (λ (r : Result Settings SettingsFault). (after_settings_by (frames_by workers size (pick w) output) (what w) r).said) (sym is))) says)
 
 -- ### by the words
 
@@ -212,31 +242,6 @@ plain-part-words files ns (Some (Replay settings input output intake zero round)
 plain-part-words files ns (Some (Replay settings input output intake (suc workers) round)) none = cc
 plain-part-words files ns (Some (Show input)) none = refl
 plain-part-words files ns (Some (Trial n)) none = refl
-
-pub ends_plain : (workers size : ℕ) (output : List ℕ) (input : Arriving) (text : List ℕ) (old : Shown) (new : Option World) → workers ≡ zero
-    → EndsFront (after_settings output input (settings_of text)) (part_after_settings output input (settings_of text)) old new → EndsFor workers size output input text old new
-ends_plain workers size output input text old new none ends =
-    rw none (record { ns = []; lawful = refl; ends = front_as _ _ _ _ old new (sym (plain-settings size [] output input (settings_of text))) (sym (plain-part size [] output input (settings_of text))) ends })
-
--- with some in rounds
-shared-part-opening : (workers size : ℕ) (ns : List (List ℕ)) (output : List ℕ) (settings : Settings) (input : Opened)
-    → part_after_opening (shared_part output size ns settings) input ≡ part_after_opening (parts_by (suc workers) size ns output settings) input
-shared-part-opening workers size ns output settings (Ok run) = refl
-shared-part-opening workers size ns output settings (Err fault) = refl
-
-shared-part-settings : (workers size : ℕ) (ns : List (List ℕ)) (output : List ℕ) (input : Arriving) (r : Result Settings SettingsFault)
-    → part_after_settings_by (shared_part output size ns) input r ≡ part_after_settings_by (parts_by (suc workers) size ns output) input r
-shared-part-settings workers size ns output input (Err fault) = refl
-shared-part-settings workers size ns output input (Ok settings) = shared-part-opening workers size ns output settings (input settings)
-
-pub ends_shared : (workers size : ℕ) (output : List ℕ) (input : Arriving) (text : List ℕ) (old : Shown) (new : Option World) → 1 ≤ workers
-    → EndsInRounds size output input text old new → EndsFor workers size output input text old new
-ends_shared zero size output input text old new some ends = let none : ⊥ = omega (arith, some) in absurd none
-ends_shared (suc workers) size output input text old new some ends = record {
-  ns = ends.ns;
-  lawful = ends.lawful;
-  ends = front_as _ _ _ _ old new (shared-settings workers size ends.ns output input (settings_of text)) (shared-part-settings workers size ends.ns output input (settings_of text)) ends.ends;
-}
 
 -- words without forwarders
 pub ends_after : (files : List NamedFile) (words : Option Words) (old : Shown) (new : Option World) → has_workers words ≡ false → MayHave files [] words

@@ -19,7 +19,7 @@ use Rattle.replay.specs.Answer.{made_files}
 use Rattle.replay.specs.Opening.{behind_header, opened}
 use Rattle.replay.specs.Readings.{replay_of, HasReplayed}
 use Rattle.replay.specs.Trial.{trial_line, trial_text}
-use Rattle.replay.specs.declared.replaying.Counts.{Counts}
+use Rattle.replay.specs.declared.counts.Counts.{Counts}
 
 made_last-one : (name octets : List ℕ) (writers : List (ℕ × NamedFile)) → bytes_eq name name ≡ true → made_files writers ≡ record { name = name; octets = octets } ∷ [] → made_last name writers ≡ Some octets
 made_last-one name octets [] same is = cc

@@ -1,5 +1,5 @@
 -- What is read of files, and what is left before a last line: for contracts of parts alone, no clause of `run` needs it.
-use Rattle.std.specs.Prelude.{◌≡◌, ◌<◌, ◌⊎◌, ◌++◌, ◌∷◌, [], ℕ, List, length, Option, Some, Result, Ok, Err, IsSomeAnd}
+use Rattle.std.specs.Prelude.{◌≡◌, ◌<◌, ◌⊎◌, ◌++◌, ◌∷◌, [], ℕ, zero, suc, List, length, Option, Some, Result, Ok, Err, IsSomeAnd}
 use Rattle.desk.specs.World.{Shown}
 use Rattle.capture_io.specs.Output.{out_header}
 use Rattle.lisp_settings.specs.Limits.{most_text_octets}
@@ -13,7 +13,8 @@ use Rattle.router_model.specs.Plain.{Router, plain, started}
 use Rattle.router_model.specs.Rounds.{Lawful, rounds}
 use Rattle.replay.specs.Answer.{Answer, Leaves, status_of}
 use Rattle.replay.specs.Opening.{Opened}
-use Rattle.replay.specs.declared.replaying.Counts.{Counts}
+use Rattle.replay.specs.Shared.{AreChosenOf}
+use Rattle.replay.specs.declared.counts.Counts.{Counts}
 
 -- the octets are the text, or both are longer than settings may be
 abbrev pub ReadsAs : List ℕ → List ℕ → Type 0
@@ -44,16 +45,29 @@ pub record HasReplayedBy (outcome : Outcome (Router Journal)) (output : List ℕ
 abbrev pub HasReplayed : Settings → List ℕ → InputRun → Counts → Shown → Option Shown → Type 0
 HasReplayed settings output run counts old new = HasReplayedBy (replay_of settings run) output run counts old new
 
--- the same of what is read of a capture: it was replayed, or its header has that fault and nothing was done
-abbrev pub HasReplayedFile : Settings → List ℕ → Opened → Result Counts InputFault → Shown → Option Shown → Type 0
-HasReplayedFile settings output (Ok run) (Ok counts) old new = HasReplayed settings output run counts old new
-HasReplayedFile settings output (Err fault) (Err other) old new = (other ≡ fault) × (new ≡ Some old)
-HasReplayedFile settings output (Ok run) (Err other) old new = ⊥
-HasReplayedFile settings output (Err fault) (Ok counts) old new = ⊥
-
 -- in rounds of a size, with the outcome of numbers that they may have
 pub record HasReplayedInRounds (size : ℕ) (settings : Settings) (output : List ℕ) (run : InputRun) (counts : Counts)
     (old : Shown) (new : Option Shown) : Type 0 where
   pub ns : List (List ℕ)
   pub lawful : Lawful settings run.frames size ns
   pub replayed : HasReplayedBy (rounds settings run.frames size ns) output run counts old new
+
+-- with so many forwarders: the outcome of the plain router, or of rounds
+abbrev pub outcome_for : ℕ → ℕ → List (List ℕ) → Settings → InputRun → Outcome (Router Journal)
+outcome_for zero size ns settings run = replay_of settings run
+outcome_for (suc workers) size ns settings run = rounds settings run.frames size ns
+
+-- a run was replayed with that of numbers that it may have
+pub record HasReplayedFor (workers size : ℕ) (settings : Settings) (output : List ℕ) (run : InputRun) (counts : Counts)
+    (old : Shown) (new : Option Shown) : Type 0 where
+  pub ns : List (List ℕ)
+  pub lawful : AreChosenOf workers size ns settings (Ok run)
+  pub replayed : HasReplayedBy (outcome_for workers size ns settings run) output run counts old new
+
+-- the same of what is read of a capture: it was replayed, or its header has that fault and nothing was done
+abbrev pub HasReplayedFile : ℕ → ℕ → Settings → List ℕ → Opened → Result Counts InputFault → Shown → Option Shown → Type 0
+HasReplayedFile workers size settings output (Ok run) (Ok counts) old new =
+    HasReplayedFor workers size settings output run counts old new
+HasReplayedFile workers size settings output (Err fault) (Err other) old new = (other ≡ fault) × (new ≡ Some old)
+HasReplayedFile workers size settings output (Ok run) (Err other) old new = ⊥
+HasReplayedFile workers size settings output (Err fault) (Ok counts) old new = ⊥

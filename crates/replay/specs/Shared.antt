@@ -61,11 +61,15 @@ MayHave files ns (Some (Replay settings input output intake workers round)) =
     AreChosen workers round ns (arriving intake (content input files)) (settings_of (content settings files))
 MayHave files ns words = ns ≡ []
 
--- a run of what words say ends by an answer with numbers that it may have, and leaves what that says
-pub record GivesAfter (files : List NamedFile) (words : Option Words) (s : Status) (old : Shown) (new : Option Shown) : Type 0 where
+-- a run ends by an answer with such numbers, and leaves what that says
+pub record GivesBy (may : List (List ℕ) → Type 0) (a : List (List ℕ) → Answer) (s : Status) (old : Shown) (new : Option Shown) : Type 0 where
   pub ns : List (List ℕ)
-  pub lawful : MayHave files ns words
-  pub gives : Gives (after_words_by files ns words) s old new
+  pub lawful : may ns
+  pub gives : Gives (a ns) s old new
+
+-- a run of what words say
+abbrev pub GivesAfter : List NamedFile → Option Words → Status → Shown → Option Shown → Type 0
+GivesAfter files words s old new = GivesBy (λ ns. MayHave files ns words) (λ ns. after_words_by files ns words) s old new
 
 -- the same of words
 pub record GivesWith (words : List (List ℕ)) (files : List NamedFile) (s : Status) (old : Shown) (new : Option Shown) : Type 0 where
@@ -73,26 +77,19 @@ pub record GivesWith (words : List (List ℕ)) (files : List NamedFile) (s : Sta
   pub lawful : MayHave files ns (words_of words)
   pub gives : Gives (answer_with words files ns) s old new
 
+-- of a replay with so many forwarders
+abbrev pub GivesFor : ℕ → ℕ → List ℕ → Arriving → List ℕ → Status → Shown → Option Shown → Type 0
+GivesFor workers size output input text s old new =
+    GivesBy (λ ns. AreChosen workers size ns input (settings_of text)) (λ ns. after_settings_by (frames_by workers size ns output) input (settings_of text)) s old new
+
+-- numbers of a capture, by what is read of it
+abbrev pub AreChosenOf : ℕ → ℕ → List (List ℕ) → Settings → Opened → Type 0
+AreChosenOf workers size ns settings input = AreChosen workers size ns (λ _. input) (Ok settings)
+
 -- of a capture, by what is read of it
-pub record SharesOf (size : ℕ) (settings : Settings) (output : List ℕ) (input : Opened) (s : Status) (old : Shown) (new : Option Shown) : Type 0 where
-  pub ns : List (List ℕ)
-  pub lawful : AreNumbersOf settings size ns input
-  pub gives : Gives (after_opening (shared output size ns settings) input) s old new
-
--- the same by the settings, and by their text
-pub record SharesBy (size : ℕ) (output : List ℕ) (input : Arriving) (settings : Result Settings SettingsFault) (s : Status) (old : Shown) (new : Option Shown) : Type 0 where
-  pub ns : List (List ℕ)
-  pub lawful : AreNumbers size ns input settings
-  pub gives : Gives (after_settings_by (shared output size ns) input settings) s old new
-
-abbrev pub Shares : ℕ → List ℕ → Arriving → List ℕ → Status → Shown → Option Shown → Type 0
-Shares size output input text s old new = SharesBy size output input (settings_of text) s old new
-
--- with so many forwarders
-pub record GivesFor (workers size : ℕ) (output : List ℕ) (input : Arriving) (text : List ℕ) (s : Status) (old : Shown) (new : Option Shown) : Type 0 where
-  pub ns : List (List ℕ)
-  pub lawful : AreChosen workers size ns input (settings_of text)
-  pub gives : Gives (after_settings_by (frames_by workers size ns output) input (settings_of text)) s old new
+abbrev pub GivesOf : ℕ → ℕ → Settings → List ℕ → Opened → Status → Shown → Option Shown → Type 0
+GivesOf workers size settings output input s old new =
+    GivesBy (λ ns. AreChosenOf workers size ns settings input) (λ ns. after_opening (frames_by workers size ns output settings) input) s old new
 
 -- there are some
 abbrev pub are_some : ℕ → Bool

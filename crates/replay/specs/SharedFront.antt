@@ -14,7 +14,7 @@ use Rattle.sharing.specs.Sharing.{first_rounds}
 use Rattle.replay.specs.Answer.{Answer, after_opening}
 use Rattle.replay.specs.Front.{EndsFront, Part, no_part, part_after_opening, part_after_words, part_by, replayed_part}
 use Rattle.replay.specs.Opening.{Arriving, Opened, arriving}
-use Rattle.replay.specs.Shared.{AreChosen, AreNumbers, AreNumbersOf, MayHave, after_settings_by, after_words_by, answer_with, frames_by, shared}
+use Rattle.replay.specs.Shared.{AreChosen, AreChosenOf, MayHave, after_settings_by, after_words_by, answer_with, frames_by, shared}
 
 -- for so many rounds of a capture that is replayed into a file with these numbers: their lines, and the file with their
 -- packets
@@ -63,22 +63,13 @@ EndsFor workers size output input text old new =
     EndsBy (λ ns. AreChosen workers size ns input (settings_of text)) (λ ns. after_settings_by (frames_by workers size ns output) input (settings_of text))
     (λ ns. part_after_settings_by (parts_by workers size ns output) input (settings_of text)) old new
 
--- in rounds, by the settings
-abbrev pub EndsInRoundsBy : ℕ → List ℕ → Arriving → Result Settings SettingsFault → Shown → Option World → Type 0
-EndsInRoundsBy size output input settings old new =
-    EndsBy (λ ns. AreNumbers size ns input settings) (λ ns. after_settings_by (shared output size ns) input settings)
-    (λ ns. part_after_settings_by (shared_part output size ns) input settings) old new
-
-abbrev pub EndsInRounds : ℕ → List ℕ → Arriving → List ℕ → Shown → Option World → Type 0
-EndsInRounds size output input text old new = EndsInRoundsBy size output input (settings_of text) old new
-
 -- of a capture, by what is read of it
-abbrev pub EndsOf : ℕ → Settings → List ℕ → Opened → Shown → Option World → Type 0
-EndsOf size settings output input old new =
-    EndsBy (λ ns. AreNumbersOf settings size ns input) (λ ns. after_opening (shared output size ns settings) input)
-    (λ ns. part_after_opening (shared_part output size ns settings) input) old new
+abbrev pub EndsOf : ℕ → ℕ → Settings → List ℕ → Opened → Shown → Option World → Type 0
+EndsOf workers size settings output input old new =
+    EndsBy (λ ns. AreChosenOf workers size ns settings input) (λ ns. after_opening (frames_by workers size ns output settings) input)
+    (λ ns. part_after_opening (parts_by workers size ns output settings) input) old new
 
--- of its frames
+-- of its frames, in rounds
 abbrev pub EndsRun : ℕ → Settings → List ℕ → InputRun → Shown → Option World → Type 0
 EndsRun size settings output run old new =
     EndsBy (λ ns. Lawful settings run.frames size ns) (λ ns. shared output size ns settings run)

@@ -1,27 +1,17 @@
 // A capture, replayed in rounds with forwarders.
-ghost use Rattle.std.specs.Prelude.{◌≡◌, ◌≤◌, Ok, IfOk, IfSome, IsErrOf, IsTrue, OnErr};
+ghost use Rattle.std.specs.Prelude.{◌≡◌, ◌≤◌, IfOk, IfSome, IsErrOf, OnErr};
 ghost use Rattle.command_words.specs.Limits.{most_round_frames, most_workers};
 ghost use Rattle.desk.specs.declared.fault.DeskFault.TheVariants.{Failed};
 ghost use Rattle.desk.specs.Causes.{HasCause, StaysSteady};
-ghost use Rattle.desk.specs.World.{content, to_read, shown, shown_of, IsGiven, IsThere};
+ghost use Rattle.desk.specs.World.{to_read, shown, shown_of, IsGiven};
 ghost use Rattle.lisp_settings.specs.Lawful.{IsLawful};
 ghost use Rattle.playback.specs.Input.{beginning, left_in};
 ghost use Rattle.playback.specs.Limits.{most_frames};
-ghost use Rattle.replay.specs.Answer.{is_end, is_of_form};
-ghost use Rattle.replay.specs.Opening.{arriving, id_of, progress_of, run_in, IsOpen};
 ghost use Rattle.replay.specs.Readings.{HasReplayedInRounds};
-ghost use Rattle.replay.specs.Shared.{Shares, SharesOf};
-ghost use Rattle.replay.specs.SharedFront.{EndsInRounds, EndsOf, EndsRun};
-ghost use Rattle.replay.specs.Splitting.{taken_run};
+ghost use Rattle.replay.specs.SharedFront.{EndsRun};
 
-use crate::Status;
-use crate::input::{Input, open_input};
-use crate::last_lines::{close, end_line, refuse_capture, refuse_settings};
+use crate::counts::Counts;
 use crate::output_file::make_output;
-use crate::replaying::Counts;
-use crate::settings_file::load_settings;
-use crate::splitting::Splitting;
-use command_words::Intake;
 use desk::{Desk, DeskFault};
 use lisp_settings::Settings;
 use playback::FrameReader;
@@ -30,129 +20,8 @@ use std::alloc::Global;
 use std::sync::Wait;
 use std::thread::Threads;
 
-/// Replays the capture of that name and format by the settings in a file, into the output.
-pub(crate) fn share_capture<R: Threads + Wait + Sync, D: Desk, G: Gate>(
-    crew: &Crew<'_, R, G>,
-    alloc: Global,
-    desk: &mut D,
-    settings: &str,
-    intake: Intake,
-    input: &str,
-    output: &str,
-) -> Result<Status, DeskFault>
-    requires workers { (1 ≤ crew.now.workers) × (crew.now.workers ≤ most_workers) }
-    requires round { (1 ≤ crew.now.round) × (crew.now.round ≤ most_round_frames) }
-    ensures answer { IfOk result (λ s. IfSome (D.told desk.old) (λ w.
-        Shares crew.now.round output.now (arriving intake (content input.now w.files)) (content settings.now w.files)
-        s (shown_of w) (shown (D.told desk.new)))) }
-    ensures form { IfOk result (λ s. IsTrue (is_of_form s)) }
-    ensures front { OnErr result (IfSome (D.told desk.old) (λ w.
-        EndsInRounds crew.now.round output.now (arriving intake (content input.now w.files)) (content settings.now w.files)
-        (shown_of w) (D.told desk.new))) }
-    ensures cause { HasCause (D.faults desk.old) (D.faults desk.new) result }
-    ensures steady { StaysSteady (D.steady desk.old) (D.steady desk.new)
-        (IsThere settings.now (D.told desk.old) × IsThere input.now (D.told desk.old)) (IsErrOf result Failed) }
-{
-    match load_settings(alloc, desk, settings)? {
-        Ok(settings) => share_by(crew, alloc, desk, &settings, intake, input, output),
-        Err(fault) => refuse_settings(alloc, desk, &fault),
-    }
-}
-
-fn share_by<R: Threads + Wait + Sync, D: Desk, G: Gate>(
-    crew: &Crew<'_, R, G>,
-    alloc: Global,
-    desk: &mut D,
-    settings: &Settings,
-    intake: Intake,
-    input: &str,
-    output: &str,
-) -> Result<Status, DeskFault>
-    requires workers { (1 ≤ crew.now.workers) × (crew.now.workers ≤ most_workers) }
-    requires round { (1 ≤ crew.now.round) × (crew.now.round ≤ most_round_frames) }
-    requires lawful { IsLawful settings.now }
-    ensures answer { IfOk result (λ s. IfSome (D.told desk.old) (λ w.
-        SharesOf crew.now.round settings.now output.now (arriving intake (content input.now w.files) settings.now)
-        s (shown_of w) (shown (D.told desk.new)))) }
-    ensures end { IfOk result (λ s. IsTrue (is_end s)) }
-    ensures front { OnErr result (IfSome (D.told desk.old) (λ w.
-        EndsOf crew.now.round settings.now output.now (arriving intake (content input.now w.files) settings.now)
-        (shown_of w) (D.told desk.new))) }
-    ensures cause { HasCause (D.faults desk.old) (D.faults desk.new) result }
-    ensures steady { StaysSteady (D.steady desk.old) (D.steady desk.new)
-        (IsThere input.now (D.told desk.old)) (IsErrOf result Failed) }
-{
-    match open_input(alloc, desk, intake.format, input)? {
-        Ok(reader) => share_input(crew, alloc, desk, settings, intake.split, reader, output),
-        Err(fault) => refuse_capture(alloc, desk, fault),
-    }
-}
-
-// Replays a capture that was opened into the output, and says the last line.
-fn share_input<R: Threads + Wait + Sync, D: Desk, G: Gate>(
-    crew: &Crew<'_, R, G>,
-    alloc: Global,
-    desk: &mut D,
-    settings: &Settings,
-    split: bool,
-    reader: Input,
-    output: &str,
-) -> Result<Status, DeskFault>
-    requires workers { (1 ≤ crew.now.workers) × (crew.now.workers ≤ most_workers) }
-    requires round { (1 ≤ crew.now.round) × (crew.now.round ≤ most_round_frames) }
-    requires open { IsOpen reader }
-    requires begins { progress_of reader ≡ beginning }
-    requires lawful { IsLawful settings.now }
-    ensures answer { IfOk result (λ s. IfSome (D.told desk.old) (λ w.
-        SharesOf crew.now.round settings.now output.now (Ok (taken_run split settings.now (run_in reader w)))
-        s (shown_of w) (shown (D.told desk.new)))) }
-    ensures end { IfOk result (λ s. IsTrue (is_end s)) }
-    ensures front { OnErr result (IfSome (D.told desk.old) (λ w.
-        EndsOf crew.now.round settings.now output.now (Ok (taken_run split settings.now (run_in reader w)))
-        (shown_of w) (D.told desk.new))) }
-    ensures cause { HasCause (D.faults desk.old) (D.faults desk.new) result }
-    ensures steady { StaysSteady (D.steady desk.old) (D.steady desk.new)
-        (IsGiven (id_of reader) to_read (D.given desk.old)) (IsErrOf result Failed) }
-{
-    let counts = share_taken(crew, alloc, desk, settings, split, reader, output)?;
-    let line = end_line(alloc, counts.frames, counts.written, counts.entries)?;
-    close(alloc, desk, counts.fault, line.as_slice())
-}
-
-// Replays a capture that was opened into the output, with its large packets split or not, but for the last line.
-fn share_taken<R: Threads + Wait + Sync, D: Desk, G: Gate>(
-    crew: &Crew<'_, R, G>,
-    alloc: Global,
-    desk: &mut D,
-    settings: &Settings,
-    split: bool,
-    reader: Input,
-    output: &str,
-) -> Result<Counts, DeskFault>
-    requires workers { (1 ≤ crew.now.workers) × (crew.now.workers ≤ most_workers) }
-    requires round { (1 ≤ crew.now.round) × (crew.now.round ≤ most_round_frames) }
-    requires open { IsOpen reader }
-    requires begins { progress_of reader ≡ beginning }
-    requires lawful { IsLawful settings.now }
-    ensures answer { IfOk result (λ counts. IfSome (D.told desk.old) (λ w.
-        HasReplayedInRounds crew.now.round settings.now output.now (taken_run split settings.now (run_in reader w)) counts
-        (shown_of w) (shown (D.told desk.new)))) }
-    ensures front { OnErr result (IfSome (D.told desk.old) (λ w.
-        EndsRun crew.now.round settings.now output.now (taken_run split settings.now (run_in reader w))
-        (shown_of w) (D.told desk.new))) }
-    ensures cause { HasCause (D.faults desk.old) (D.faults desk.new) result }
-    ensures steady { StaysSteady (D.steady desk.old) (D.steady desk.new)
-        (IsGiven (id_of reader) to_read (D.given desk.old)) (IsErrOf result Failed) }
-{
-    if split {
-        let reader = Splitting::new(settings, reader);
-        return share_frames(crew, alloc, desk, settings, reader, output);
-    }
-    share_frames(crew, alloc, desk, settings, reader, output)
-}
-
-// Replays a capture of which no frame was read into the output, but for the last line.
-fn share_frames<R: Threads + Wait + Sync, D: Desk, G: Gate, I: FrameReader>(
+/// Replays a capture of which no frame was read into the output, but for the last line.
+pub(crate) fn replay_in_rounds<R: Threads + Wait + Sync, D: Desk, G: Gate, I: FrameReader>(
     crew: &Crew<'_, R, G>,
     alloc: Global,
     desk: &mut D,

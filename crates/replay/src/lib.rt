@@ -1,12 +1,14 @@
 //! The commands: a run from its words to its status.
 #![tactic(auto)]
 
+mod counts;
 mod frame_text;
 mod in_rounds;
 mod input;
 mod last_lines;
 mod message_lines;
 mod output_file;
+mod plainly;
 mod replaying;
 mod running;
 mod settings_file;

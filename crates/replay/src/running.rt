@@ -1,25 +1,22 @@
 // The run: the top call.
-ghost use Rattle.std.specs.Prelude.{◌≡◌, ◌≤◌, ◌↔◌, ◌⊎◌, None, Some, false, true, map, string_bytes, IfOk, IfSome, IsErrOf, IsSomeAnd, IsTrue, OnErr, OnOk};
-ghost use Rattle.command_words.specs.Limits.{most_round_frames, most_workers};
+ghost use Rattle.std.specs.Prelude.{◌≡◌, ◌↔◌, ◌⊎◌, None, Some, false, true, map, string_bytes, IfOk, IfSome, IsErrOf, IsSomeAnd, IsTrue, OnErr, OnOk};
 ghost use Rattle.octets.specs.Causes.{Rose};
 ghost use Rattle.desk.specs.declared.fault.DeskFault.TheVariants.{Failed};
 ghost use Rattle.desk.specs.Causes.{HasCause, StaysSteady};
-ghost use Rattle.desk.specs.World.{content, shown, shown_of, IsThere};
+ghost use Rattle.desk.specs.World.{shown, shown_of};
 ghost use Rattle.replay.specs.declared.status.Status.TheVariants.{Done, Usage, Host, Memory};
 ghost use Rattle.command_words.specs.Words.{words_of, AreWithinLimits};
 ghost use Rattle.replay.specs.Answer.{answer, is_of_form, is_outside, names_read, AreThere, Leaves};
-ghost use Rattle.replay.specs.Opening.{arriving};
-ghost use Rattle.replay.specs.Shared.{has_workers, GivesAfter, GivesFor, GivesWith};
+ghost use Rattle.replay.specs.Shared.{has_workers, GivesAfter, GivesWith};
 ghost use Rattle.replay.specs.Front.{part, EndsFront, LeavesFront};
-ghost use Rattle.replay.specs.SharedFront.{EndsAfter, EndsFor, EndsWith};
+ghost use Rattle.replay.specs.SharedFront.{EndsAfter, EndsWith};
 
-use crate::in_rounds::share_capture;
 use crate::last_lines::refuse_words;
 use crate::replaying::replay_capture;
 use crate::showing::show_capture;
 use crate::trying::try_number;
 use crate::{Status, Word};
-use command_words::{Intake, Words, WordsFault, read_words};
+use command_words::{Words, WordsFault, read_words};
 use desk::{Desk, DeskFault};
 use sharing::{Crew, Gate};
 use std::alloc::Global;
@@ -155,39 +152,9 @@ fn do_words<R: Threads + Wait + Sync, D: Desk, G: Gate>(
                 round: usize::from(*round),
             };
             let (settings, input, output) = (settings.as_str(), input.as_str(), output.as_str());
-            replay_with(&crew, alloc, desk, settings, *intake, input, output)
+            replay_capture(&crew, alloc, desk, settings, *intake, input, output)
         }
         Words::Show { input } => show_capture(alloc, desk, input.as_str()),
-        Words::Trial { n } => try_number(alloc, desk, *n),
-    }
-}
-
-// Replays the capture, with forwarders or without.
-fn replay_with<R: Threads + Wait + Sync, D: Desk, G: Gate>(
-    crew: &Crew<'_, R, G>,
-    alloc: Global,
-    desk: &mut D,
-    settings: &str,
-    intake: Intake,
-    input: &str,
-    output: &str,
-) -> Result<Status, DeskFault>
-    requires workers { crew.now.workers ≤ most_workers }
-    requires round { (1 ≤ crew.now.round) × (crew.now.round ≤ most_round_frames) }
-    ensures answer { IfOk result (λ s. IfSome (D.told desk.old) (λ w.
-        GivesFor crew.now.workers crew.now.round output.now (arriving intake (content input.now w.files)) (content settings.now w.files)
-        s (shown_of w) (shown (D.told desk.new)))) }
-    ensures front { OnErr result (IfSome (D.told desk.old) (λ w.
-        EndsFor crew.now.workers crew.now.round output.now (arriving intake (content input.now w.files)) (content settings.now w.files)
-        (shown_of w) (D.told desk.new))) }
-    ensures form { IfOk result (λ s. IsTrue (is_of_form s)) }
-    ensures cause { HasCause (D.faults desk.old) (D.faults desk.new) result }
-    ensures steady { StaysSteady (D.steady desk.old) (D.steady desk.new)
-        (IsThere settings.now (D.told desk.old) × IsThere input.now (D.told desk.old)) (IsErrOf result Failed) }
-{
-    if crew.workers == 0 {
-        replay_capture(alloc, desk, settings, intake, input, output)
-    } else {
-        share_capture(crew, alloc, desk, settings, intake, input, output)
+        Words::Trial { n } => try_number(rt, alloc, desk, *n, gate),
     }
 }

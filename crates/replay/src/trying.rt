@@ -21,7 +21,10 @@ use desk::{Desk, DeskFault, Files, NamedFile, SteadyDesk};
 use locator_choice::octets_hash;
 use octets::{NoMemory, Octets};
 use router_log::{push_named, push_octets};
+use sharing::{Crew, Gate};
 use std::alloc::Global;
+use std::sync::Wait;
+use std::thread::Threads;
 use trial_input::{trial_capture, trial_settings};
 
 // The names of the files at the desk of a trial.
@@ -30,7 +33,13 @@ const INPUT: &str = "in";
 const OUTPUT: &str = "out";
 
 /// Replays the input that the number makes, over a desk of its own, and says its line.
-pub(crate) fn try_number<D: Desk>(alloc: Global, desk: &mut D, n: u32) -> Result<Status, DeskFault>
+pub(crate) fn try_number<R: Threads + Wait + Sync, D: Desk, G: Gate>(
+    rt: &R,
+    alloc: Global,
+    desk: &mut D,
+    n: u32,
+    gate: &G,
+) -> Result<Status, DeskFault>
     requires { n ≤ most_trial_mappings }
     ensures status { IfOk result (λ s. s ≡ Done) }
     ensures told { OnOk result (D.told desk.new
@@ -40,13 +49,18 @@ pub(crate) fn try_number<D: Desk>(alloc: Global, desk: &mut D, n: u32) -> Result
     ensures steady { StaysSteady (D.steady desk.old) (D.steady desk.new)
         Unit (IsErrOf result Failed) }
 {
-    let line = replay_trial(alloc, n)?;
+    let line = replay_trial(rt, alloc, n, gate)?;
     desk.say(alloc, line.as_slice())?;
     Ok(Status::Done)
 }
 
-// The line of the input that the number makes.
-fn replay_trial(alloc: Global, n: u32) -> Result<Octets, NoMemory>
+// The line of the input that the number makes, replayed without forwarders.
+fn replay_trial<R: Threads + Wait + Sync, G: Gate>(
+    rt: &R,
+    alloc: Global,
+    n: u32,
+    gate: &G,
+) -> Result<Octets, NoMemory>
     requires { n ≤ most_trial_mappings }
     ensures { IfOk result (λ line. line ≡ trial_text n) }
 {
@@ -56,7 +70,13 @@ fn replay_trial(alloc: Global, n: u32) -> Result<Octets, NoMemory>
         format: InputFormat::Classic,
         split: false,
     };
-    match replay_file(alloc, &mut desk, &settings, intake, INPUT, OUTPUT) {
+    let crew = Crew {
+        rt,
+        gate,
+        workers: 0,
+        round: 1,
+    };
+    match replay_file(&crew, alloc, &mut desk, &settings, intake, INPUT, OUTPUT) {
         Ok(Ok(counts)) => {
             let Some(output) = desk.file(OUTPUT) else {
                 unreachable!()

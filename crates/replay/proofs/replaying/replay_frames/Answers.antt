@@ -1,41 +1,40 @@
-use Rattle.std.proofs.Common.{rules, ◌∷◌, []}
-use Rattle.desk.specs.World.{to_read, to_write}
-use Rattle.replay.proofs.AnswerCases.{table_replayed}
-use Rattle.playback.proofs.FrontLemmas.{on_err_always}
-use Rattle.replay.proofs.FrontCases.{header_front, output_front, table_front}
-use Rattle.replay.proofs.ReplayLemmas.{ready-first}
+use Rattle.std.proofs.Common.{◌≡◌, ◌≤◌, arith}
+use Rattle.std.proofs.lemmas.Option.{IfSome_then}
+use Rattle.std.proofs.lemmas.Result.{IfOk-weaker, on_err_weaker}
+use Rattle.desk.specs.World.{shown, shown_of}
 use Rattle.playback.specs.Input.{left_in}
-use Rattle.replay.proofs.SteadyLemmas.{given-kept, given-new}
+use Rattle.replay.proofs.SharedCases.{replays_plain, replays_rounds}
+use Rattle.replay.proofs.SharedFrontCases.{ends_plain, ends_rounds}
 use Rattle.replay.proofs.replaying.replay_frames.Goals as goal
 
-pub play-ended-requires-clause-ready : goal.play-ended-requires-clause-ready
-play-ended-requires-clause-ready g c = ready-first c.args.settings.now c.in_ok-table.table.parts c.requires.lawful c.in_ok-table.ensures.parts
+pub returns-then-crew-eq0-clause-answer : goal.returns-then-crew-eq0-clause-answer
+returns-then-crew-eq0-clause-answer g c =
+    let crew = c.args.crew.now in
+    let new = shown (g.D.Desk.told c.replay_plainly.new.desk) in
+    let none : crew.workers ≡ 0 = omega (arith, c.if-crew-eq0.true) in
+    IfOk-weaker c.replay_plainly.result _ _ (λ counts answered. IfSome_then (g.D.Desk.told c.args.desk.now) answered (λ w has.
+    replays_plain crew.workers crew.round c.args.settings.now c.args.output.now (left_in g.I.FrameReader.id g.I.FrameReader.run c.args.reader w) counts (shown_of w) new none has)) c.replay_plainly.ensures.answer
 
-pub returns-clause-answer : goal.returns-clause-answer
-returns-clause-answer g c =
-    table_replayed c.args.settings.now c.in_ok-file.file.number (g.R.FrameReader.id c.args.reader) (g.R.FrameReader.run c.args.reader) c.args.output.now (g.D.Desk.told c.args.desk.now) (g.D.Desk.told c.make_output.new.desk) (g.D.Desk.told c.play-ended.new.desk)
-    c.in_ok-ending.ending c.entries_of-entries.result c.in_ok-table.table.parts c.play-ended.new.machine.table.parts c.play-ended.new.machine.settings.now c.requires.lawful c.in_ok-table.ensures.parts c.in_ok-file.ensures.fresh c.in_ok-file.ensures.told
-    c.in_ok-ending.ensures.played c.entries_of-entries.ensures
+pub returns-else-crew-eq0-clause-answer : goal.returns-else-crew-eq0-clause-answer
+returns-else-crew-eq0-clause-answer g c =
+    let crew = c.args.crew.now in
+    let new = shown (g.D.Desk.told c.replay_in_rounds.new.desk) in
+    let some : 1 ≤ crew.workers = omega (arith, c.if-crew-eq0.false) in
+    IfOk-weaker c.replay_in_rounds.result _ _ (λ counts answered. IfSome_then (g.D.Desk.told c.args.desk.now) answered (λ w has.
+    replays_rounds crew.workers crew.round c.args.settings.now c.args.output.now (left_in g.I.FrameReader.id g.I.FrameReader.run c.args.reader w) counts (shown_of w) new some has)) c.replay_in_rounds.ensures.answer
 
-pub returns-in_err-ending-clause-steady : goal.returns-in_err-ending-clause-steady
-returns-in_err-ending-clause-steady g c =
-    let old = g.D.Desk.given c.args.desk.now in
-    let made = c.in_ok-file.ensures in
-    let file = given-new c.in_ok-file.file.number to_write old (g.D.Desk.given c.make_output.new.desk) made.given_fresh made.given in
-    search (rules, file, made.given, given-kept (g.R.FrameReader.id c.args.reader) to_read old ((c.in_ok-file.file.number, to_write) ∷ []))
+pub returns-then-crew-eq0-clause-front : goal.returns-then-crew-eq0-clause-front
+returns-then-crew-eq0-clause-front g c =
+    let crew = c.args.crew.now in
+    let new = g.D.Desk.told c.replay_plainly.new.desk in
+    let none : crew.workers ≡ 0 = omega (arith, c.if-crew-eq0.true) in
+    on_err_weaker c.replay_plainly.result (λ ends. IfSome_then (g.D.Desk.told c.args.desk.now) ends (λ w front.
+    ends_plain crew.workers crew.round c.args.settings.now c.args.output.now (left_in g.I.FrameReader.id g.I.FrameReader.run c.args.reader w) (shown_of w) new none front)) c.replay_plainly.ensures.front
 
-pub returns-in_err-file-clause-front : goal.returns-in_err-file-clause-front
-returns-in_err-file-clause-front g c =
-    on_err_always c.from_residual.result
-    (output_front c.args.settings.now (left_in g.R.FrameReader.id g.R.FrameReader.run c.args.reader) c.args.output.now (g.D.Desk.told c.args.desk.now) (g.D.Desk.told c.make_output.new.desk) c.in_err-file.ensures.part)
-
-pub returns-in_err-table-clause-front : goal.returns-in_err-table-clause-front
-returns-in_err-table-clause-front g c =
-    on_err_always c.from_residual-in_err-table.result
-    (header_front c.args.settings.now c.in_ok-file.file.number (left_in g.R.FrameReader.id g.R.FrameReader.run c.args.reader) c.args.output.now (g.D.Desk.told c.args.desk.now) (g.D.Desk.told c.make_output.new.desk) c.in_ok-file.ensures.fresh c.in_ok-file.ensures.told)
-
-pub returns-in_err-ending-clause-front : goal.returns-in_err-ending-clause-front
-returns-in_err-ending-clause-front g c =
-    on_err_always c.from_residual-in_err-ending.result
-    (table_front c.args.settings.now c.in_ok-file.file.number (g.R.FrameReader.id c.args.reader) (g.R.FrameReader.run c.args.reader) c.args.output.now (g.D.Desk.told c.args.desk.now) (g.D.Desk.told c.make_output.new.desk) (g.D.Desk.told c.play-ended.new.desk)
-    c.in_ok-table.table.parts c.requires.lawful c.in_ok-table.ensures.parts c.in_ok-file.ensures.fresh c.in_ok-file.ensures.told c.in_err-ending.ensures.cut)
+pub returns-else-crew-eq0-clause-front : goal.returns-else-crew-eq0-clause-front
+returns-else-crew-eq0-clause-front g c =
+    let crew = c.args.crew.now in
+    let new = g.D.Desk.told c.replay_in_rounds.new.desk in
+    let some : 1 ≤ crew.workers = omega (arith, c.if-crew-eq0.false) in
+    on_err_weaker c.replay_in_rounds.result (λ ends. IfSome_then (g.D.Desk.told c.args.desk.now) ends (λ w front.
+    ends_rounds crew.workers crew.round c.args.settings.now c.args.output.now (left_in g.I.FrameReader.id g.I.FrameReader.run c.args.reader w) (shown_of w) new some front)) c.replay_in_rounds.ensures.front

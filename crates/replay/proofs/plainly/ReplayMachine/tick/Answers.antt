@@ -4,7 +4,7 @@ use Rattle.router_model.specs.Parts.{table}
 use Rattle.router_model.specs.Plain.{after_event}
 use Rattle.replay.specs.Taking.{router_of}
 use Rattle.replay.proofs.ReplayLemmas.{gathers-determined, on_ok_three, on_ok_two, own-kept, packets-later, packets-left, ready-later, room-left}
-use Rattle.replay.proofs.replaying.ReplayMachine.tick.Goals as goal
+use Rattle.replay.proofs.plainly.ReplayMachine.tick.Goals as goal
 
 pub take_second-requires-clause-may : goal.take_second-requires-clause-may
 take_second-requires-clause-may c =

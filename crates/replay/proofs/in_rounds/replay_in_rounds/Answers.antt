@@ -5,7 +5,7 @@ use Rattle.playback.specs.Input.{left_in}
 use Rattle.replay.proofs.SteadyLemmas.{given-kept, given-new}
 use Rattle.playback.proofs.FrontLemmas.{on_err_always}
 use Rattle.replay.proofs.SharedFrontCases.{shares_output, shares_part}
-use Rattle.replay.proofs.in_rounds.share_frames.Goals as goal
+use Rattle.replay.proofs.in_rounds.replay_in_rounds.Goals as goal
 
 pub returns-clause-answer : goal.returns-clause-answer
 returns-clause-answer g c =

@@ -4,7 +4,7 @@ use Rattle.router_model.specs.Parts.{table}
 use Rattle.router_model.specs.Plain.{after_event}
 use Rattle.replay.specs.Taking.{router_of}
 use Rattle.replay.proofs.ReplayLemmas.{gathers-determined, own-kept, packets-left, packets-more, ready-more, room-left}
-use Rattle.replay.proofs.replaying.ReplayMachine.take.Goals as goal
+use Rattle.replay.proofs.plainly.ReplayMachine.take.Goals as goal
 
 pub take_frame-requires-clause-count : goal.take_frame-requires-clause-count
 take_frame-requires-clause-count c =

@@ -1,0 +1,13 @@
+// How a replay ended.
+
+use playback::InputFault;
+
+/// How a replay ended: the capture's fault, if it has one, the frames before that, the packets
+/// written, and the length of the journal.
+#[derive(Clone, Copy)]
+pub struct Counts {
+    pub fault: Option<InputFault>,
+    pub frames: u32,
+    pub written: u64,
+    pub entries: u64,
+}

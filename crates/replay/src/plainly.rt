@@ -1,0 +1,118 @@
+// A capture, replayed by the plain router.
+ghost use Rattle.std.specs.Prelude.{◌≡◌, false, ◌≤◌, ◌+◌, ◌*◌, unwrap_or, IfOk, IfSome, IsErrOf, OnErr};
+ghost use Rattle.desk.specs.declared.fault.DeskFault.TheVariants.{Failed};
+ghost use Rattle.desk.specs.Causes.{HasCause, StaysSteady};
+ghost use Rattle.desk.specs.World.{to_read, shown, shown_of, IsGiven};
+ghost use Rattle.lisp_settings.specs.Lawful.{IsLawful};
+ghost use Rattle.capture_events.specs.Events.{second_of, Determined};
+ghost use Rattle.playback.specs.Input.{beginning, left_in};
+ghost use Rattle.playback.specs.Limits.{most_frames};
+ghost use Rattle.router_model.specs.Limits.{most_heard, most_mappings, most_ticked};
+ghost use Rattle.router_model.specs.Parts.{Parts, table};
+ghost use Rattle.router_model.specs.Plain.{Router, after_event};
+ghost use Rattle.replay.specs.Taking.{most_packets, router_of};
+ghost use Rattle.replay.specs.Answer.{replayed};
+ghost use Rattle.replay.specs.Front.{replayed_part, EndsFront};
+ghost use Rattle.replay.specs.Readings.{HasReplayed};
+
+use crate::counts::Counts;
+use crate::output_file::make_output;
+use crate::taking::{take_frame, take_second};
+use capture_io::Frame;
+use desk::{Desk, DeskFault};
+use lisp_settings::Settings;
+use octets::NoMemory;
+use playback::{FrameReader, Machine, Output, Progress, play};
+use router_core::Table;
+use std::alloc::Global;
+
+/// A router that is replayed.
+#[derive(Drop)]
+struct Replay<'a> {
+    settings: &'a Settings,
+    table: Table,
+}
+
+impl<'a> Machine for Replay<'a> {
+    ghost State = { Router Parts };
+
+    ghost state = { λ replay. router_of replay.settings.now replay.table.parts };
+
+    ghost Does = { Determined (after_event table) };
+
+    ghost full = { λ _. false };
+
+    // The table is for the settings. What frames and seconds add at most to the static mappings, and how
+    // many packets they send.
+    ghost IsReady = { λ progress written replay. IsLawful replay.settings.now
+        × ((replay.settings.now.locators ≡ replay.table.parts.own)
+        × ((replay.table.parts.now ≤ unwrap_or progress.moment 0)
+        × ((replay.table.parts.count
+        ≤ most_mappings + most_heard * progress.frames + most_ticked * second_of (unwrap_or progress.moment 0))
+        × (written ≤ most_packets progress)))) };
+
+    fn tick(
+        &mut self,
+        alloc: Global,
+        _progress: Progress,
+        second: u32,
+        output: &mut Output,
+    ) -> Result<(), NoMemory> {
+        take_second(alloc, self.settings, &mut self.table, second, output)
+    }
+
+    fn take(
+        &mut self,
+        alloc: Global,
+        _progress: Progress,
+        frame: Frame,
+        output: &mut Output,
+    ) -> Result<bool, NoMemory> {
+        take_frame(alloc, self.settings, &mut self.table, &frame, output)?;
+        Ok(false)
+    }
+}
+
+/// Replays a capture of which no frame was read into the output, but for the last line.
+pub(crate) fn replay_plainly<D: Desk, R: FrameReader>(
+    alloc: Global,
+    desk: &mut D,
+    settings: &Settings,
+    reader: R,
+    output: &str,
+) -> Result<Counts, DeskFault>
+    requires open { R.IsOpen reader }
+    requires begins { R.progress reader ≡ beginning }
+    requires few { R.most ≤ most_frames }
+    requires lawful { IsLawful settings.now }
+    ensures answer { IfOk result (λ counts. IfSome (D.told desk.old) (λ w.
+        HasReplayed settings.now output.now (left_in R.id R.run reader w) counts
+        (shown_of w) (shown (D.told desk.new)))) }
+    ensures front { OnErr result (IfSome (D.told desk.old) (λ w.
+        EndsFront (replayed settings.now output.now (left_in R.id R.run reader w))
+        (replayed_part settings.now output.now (left_in R.id R.run reader w)) (shown_of w) (D.told desk.new))) }
+    ensures cause { HasCause (D.faults desk.old) (D.faults desk.new) result }
+    ensures steady { StaysSteady (D.steady desk.old) (D.steady desk.new)
+        (IsGiven (R.id reader) to_read (D.given desk.old)) (IsErrOf result Failed) }
+{
+    let file = make_output(alloc, desk, output)?;
+    let table = Table::new(alloc, settings)?;
+    let mut router = Replay { settings, table };
+    let ended = play(alloc, desk, &mut router, reader, Some(file));
+    let entries = entries_of(router);
+    let ending = ended?;
+    Ok(Counts {
+        fault: ending.fault,
+        frames: ending.frames,
+        written: ending.written,
+        entries,
+    })
+}
+
+// The length of a router's journal. It ends here, so that nothing is left to be dropped where a call
+// is refused.
+fn entries_of(router: Replay<'_>) -> u64
+    ensures { result ≡ router.entry.table.parts.count }
+{
+    router.table.count()
+}
