@@ -7,34 +7,26 @@ use Rattle.command_words.specs.Words.{words_of}
 use Rattle.command_words.specs.declared.words.Words.{Words}
 use Rattle.command_words.specs.declared.words.Words.TheVariants.{Replay, Show, Trial}
 use Rattle.desk.specs.declared.file.NamedFile.{NamedFile}
-use Rattle.desk.specs.World.{World, Shown, content, left_of, found_at, extended, after_make, after_write, shown, shown_of}
+use Rattle.desk.specs.World.{World, Shown, content, found_at, extended, after_make, after_write, shown, shown_of}
 use Rattle.desk.proofs.Entries.{changed_at-more}
 use Rattle.capture_io.specs.Frame.{Frame}
 use Rattle.capture_io.specs.Output.{out_header}
-use Rattle.lisp_settings.specs.Lawful.{IsLawful}
 use Rattle.lisp_settings.specs.Settings.{settings_of}
 use Rattle.lisp_settings.specs.declared.fault.SettingsFault.{SettingsFault}
 use Rattle.lisp_settings.specs.declared.settings.Settings.{Settings}
-use Rattle.capture_events.specs.Events.{Determined, Event, Outcome, events, events_after, events_of, played, records_of}
+use Rattle.capture_events.specs.Events.{Outcome, events, events_after, events_of, records_of}
 use Rattle.command_words.specs.declared.intake.InputFormat.TheVariants.{Classic}
-use Rattle.playback.specs.Front.{CutRun, IsFront}
+use Rattle.playback.specs.Front.{IsFront}
 use Rattle.playback.specs.Input.{InputRun}
-use Rattle.playback.specs.Playing.{outcome_of, with_outcome, with_output, Ends, HasPlayed}
-use Rattle.playback.specs.declared.plays.Ending.{Ending}
-use Rattle.playback.proofs.DeterminedLemmas.{cut-play, end-play}
-use Rattle.playback.proofs.OutputLemmas.{with_output-none}
-use Rattle.playback.proofs.FrontLemmas.{front-all, front-behind, front-front, front-lines, front-more, front-octets, front-same, front-take}
-use Rattle.router_model.specs.Journal.{Journal, statics}
-use Rattle.router_model.specs.Parts.{Parts, parts_in, table}
-use Rattle.router_model.specs.Plain.{Router, after_event, plain, started}
-use Rattle.replay.proofs.ArrivalLemmas.{tabled}
-use Rattle.replay.specs.Answer.{Answer, answer_by, closing, made_files, messages_shown, replayed}
+use Rattle.playback.specs.Playing.{with_output}
+use Rattle.playback.proofs.FrontLemmas.{front-all, front-behind, front-front, front-more, front-same, front-take}
+use Rattle.router_model.specs.Journal.{Journal}
+use Rattle.router_model.specs.Plain.{Router}
+use Rattle.replay.specs.Answer.{Answer, answer_by, closing, made_files}
 use Rattle.replay.specs.Front.{AreFronts, EndsFront, MakesPart, Part, SaysPart, part, part_after_opening, part_after_settings, part_after_words, part_by, replayed_part, shown_part}
-use Rattle.replay.specs.Lines.{count_line, end_line}
+use Rattle.replay.specs.Lines.{end_line}
 use Rattle.replay.specs.Opening.{Arriving, Opened, arriving, opened}
-use Rattle.replay.specs.Readings.{replay_of, HasReplayed, HasReplayedBy}
-use Rattle.replay.specs.Show.{showing}
-use Rattle.replay.specs.Taking.{router_of}
+use Rattle.replay.specs.Readings.{HasReplayedBy}
 use Rattle.replay.specs.declared.counts.Counts.{Counts}
 
 -- before the first event nothing was said
@@ -71,7 +63,7 @@ pub front_as : (a b : Answer) (p q : ℕ → Part) (old : Shown) (new : Option W
 front_as a b p q old new same alike ends = rw (← same, ← alike) ends
 
 -- files begin with themselves
-fronts-all : (files : List NamedFile) → AreFronts files files
+pub fronts-all : (files : List NamedFile) → AreFronts files files
 fronts-all [] = tt
 fronts-all (file ∷ files) = (refl, (front-all file.octets, fronts-all files))
 
@@ -122,7 +114,7 @@ front-after previous (frame ∷ frames) more =
     let rest = front-after (Some frame.moment) frames more in
     front-behind (events_of previous frame) (events_after (Some frame.moment) frames) (events_after (Some frame.moment) (frames ++ more)) _ refl rest
 
-front-events : (frames all : List Frame) → IsFront frames all → IsFront (events frames) (events all)
+pub front-events : (frames all : List Frame) → IsFront frames all → IsFront (events frames) (events all)
 front-events frames all is = subst (λ (l : List Frame). IsFront (events frames) (events l)) is.1 (front-after None frames is.0)
 
 -- the first of them, by their number
@@ -130,7 +122,7 @@ pub by-count : {X : Type 0} (first all : List X) → IsFront first all → take 
 by-count {X} first all is = ap (λ (l : List X). take (length first) l) (sym is.1) ∙ take-append_seam first is.0
 
 -- what is shown of octets that were said and written into the file that was made
-part-shown : (id : ℕ) (name lines header octets : List ℕ) (w : World) → found_at id w.writers ≡ None
+pub part-shown : (id : ℕ) (name lines header octets : List ℕ) (w : World) → found_at id w.writers ≡ None
     → with_output (Some id) lines octets (shown_of (after_write id header (after_make id name w)))
     ≡ record (shown_of w) { said = w.said ++ lines; writers = w.writers ++ (id, record { name = name; octets = header ++ octets }) ∷ [] }
 part-shown id name lines header octets w fresh =
@@ -139,7 +131,7 @@ part-shown id name lines header octets w fresh =
     ∙ ap (λ (writers : List (ℕ × NamedFile)). record (shown_of w) { said = w.said ++ lines; writers = writers }) (changed_at-more id (extended octets) (record { name = name; octets = header }) w.writers fresh)
 
 -- the file that was made is the last
-made-more : (id : ℕ) (file : NamedFile) (writers : List (ℕ × NamedFile)) → made_files (writers ++ (id, file) ∷ []) ≡ made_files writers ++ file ∷ []
+pub made-more : (id : ℕ) (file : NamedFile) (writers : List (ℕ × NamedFile)) → made_files (writers ++ (id, file) ∷ []) ≡ made_files writers ++ file ∷ []
 made-more id file writers = map-append (λ (x : ℕ × NamedFile). x.1) writers ((id, file) ∷ [])
 
 -- frames whose output was made, by what is said and written for them, and for so many of their parts
@@ -166,60 +158,6 @@ frames_front outcome parts count name run id w new lines octets fresh is said se
       written = (refl, (front-behind out_header octets (records_of (parts count).packets) _ refl written, tt));
     })
 
--- a replay whose output was made, of so many events
-replay_front : (settings : Settings) (name : List ℕ) (run : InputRun) (id : ℕ) (w : World) (new : Option World) (first : List Event) (lines octets : List ℕ) → found_at id w.writers ≡ None
-    → shown new ≡ Some (with_output (Some id) lines octets (shown_of (after_write id out_header (after_make id name w))))
-    → IsFront first (events run.frames) → IsFront lines (replay_of settings run).lines
-    → IsFront (played plain (started settings) first).lines lines → IsFront octets (records_of (played plain (started settings) first).packets)
-    → EndsFront (replayed settings name run) (replayed_part settings name run) (shown_of w) new
-unfolding replayed replayed_part
-replay_front settings name run id w new first lines octets fresh is within said reported written =
-    let outcome = replay_of settings run in
-    let named : take (length first) (events run.frames) ≡ first = by-count first (events run.frames) within in
-    let packets = front-octets plain (started settings) first (events run.frames) within in
-    let whole = front-front octets (records_of (played plain (started settings) first).packets) (records_of outcome.packets) written packets in
-    frames_front outcome (λ k. played plain (started settings) (take k (events run.frames))) (length first) name run id w new lines octets fresh is said whole
-    (rw named reported) (rw named written)
-
--- a play by the table that was cut short
-play_front : (settings : Settings) (name : List ℕ) (run : InputRun) (id : ℕ) (w : World) (new : Option World) (parts : Parts) → IsLawful settings → parts ≡ parts_in settings (statics settings)
-    → found_at id w.writers ≡ None
-    → CutRun (Determined (after_event table)) (router_of settings parts) (Some id) (shown_of (after_write id out_header (after_make id name w))) run new
-    → EndsFront (replayed settings name run) (replayed_part settings name run) (shown_of w) new
-play_front settings name run id w new parts lawful begins fresh cut_run =
-    let cut = cut-play (after_event table) (router_of settings parts) (Some id) (shown_of (after_write id out_header (after_make id name w))) run new cut_run in
-    let some = events cut.frames in
-    let all = events run.frames in
-    let within = front-events cut.frames run.frames cut.within in
-    let by = λ (first : List Event) (front : IsFront first some). tabled settings parts cut.frames first lawful begins cut.came front in
-    let whole = by some (front-all some) in
-    let part = by cut.first cut.front in
-    let said : IsFront cut.lines (played plain (started settings) some).lines = subst (λ (o : Outcome (Router Parts)). IsFront cut.lines o.lines) whole cut.said in
-    let reported : IsFront (played plain (started settings) cut.first).lines cut.lines = subst (λ (o : Outcome (Router Parts)). IsFront o.lines cut.lines) part cut.reported in
-    let written : IsFront cut.octets (records_of (played plain (started settings) cut.first).packets) = subst (λ (o : Outcome (Router Parts)). IsFront cut.octets (records_of o.packets)) part cut.written in
-    replay_front settings name run id w new cut.first cut.lines cut.octets fresh cut.shown (front-front cut.first some all cut.front within)
-    (front-front cut.lines (played plain (started settings) some).lines (replay_of settings run).lines said (front-lines plain (started settings) some all within)) reported written
-
--- the same, over what the desk tells
-pub table_front : (settings : Settings) (id : ℕ) (from : ℕ) (rest : List ℕ → InputRun) (name : List ℕ) (old made new : Option World) (parts : Parts) → IsLawful settings → parts ≡ parts_in settings (statics settings)
-    → IfSome old (λ w. found_at id w.writers ≡ None) → made ≡ option_map (λ w. after_write id out_header (after_make id name w)) old
-    → IfSome made (λ w. CutRun (Determined (after_event table)) (router_of settings parts) (Some id) (shown_of w) (rest (left_of from w)) new)
-    → IfSome old (λ w. EndsFront (replayed settings name (rest (left_of from w))) (replayed_part settings name (rest (left_of from w))) (shown_of w) new)
-table_front settings id from rest name None made new parts lawful begins fresh makes cut = tt
-table_front settings id from rest name (Some w) made new parts lawful begins fresh makes cut =
-    play_front settings name (rest (left_of from w)) id w new parts lawful begins fresh (rw makes at cut)
-
--- want of memory behind the header
-pub header_front : (settings : Settings) (id : ℕ) (left : World → InputRun) (name : List ℕ) (old made : Option World)
-    → IfSome old (λ w. found_at id w.writers ≡ None) → made ≡ option_map (λ w. after_write id out_header (after_make id name w)) old
-    → IfSome old (λ w. EndsFront (replayed settings name (left w)) (replayed_part settings name (left w)) (shown_of w) made)
-header_front settings id left name None made fresh makes = tt
-header_front settings id left name (Some w) made fresh makes =
-    let run = left w in
-    let file = after_write id out_header (after_make id name w) in
-    let same : shown made ≡ Some (with_output (Some id) [] [] (shown_of file)) = ap shown makes ∙ ap Some (sym (with_output-none (Some id) (shown_of file))) in
-    replay_front settings name run id w made [] [] [] fresh same (events run.frames, refl) ((replay_of settings run).lines, refl) ([], refl) ([], refl)
-
 -- the output was made only in part, or not at all
 pub make_front : (outcome : Outcome (Router Journal)) (parts : ℕ → Outcome (Router Journal)) (name : List ℕ) (run : InputRun) (w : World) (new : Option World) → (parts 0).lines ≡ [] → MakesPart name (Some w) new
     → EndsFront (answer_by outcome name run) (λ k. part_by (parts k) name) (shown_of w) new
@@ -243,17 +181,6 @@ make_front outcome parts name run w new zero (inr (id, k, fresh, is)) =
       reported = front-same (parts 0).lines [] zero;
       written = (refl, (front _, tt));
     })
-
-plain_make : (settings : Settings) (name : List ℕ) (run : InputRun) (w : World) (new : Option World) → MakesPart name (Some w) new
-    → EndsFront (replayed settings name run) (replayed_part settings name run) (shown_of w) new
-unfolding replayed replayed_part
-plain_make settings name run w new makes =
-    make_front (replay_of settings run) (λ k. played plain (started settings) (take k (events run.frames))) name run w new refl makes
-
-pub output_front : (settings : Settings) (left : World → InputRun) (name : List ℕ) (old new : Option World) → MakesPart name old new
-    → IfSome old (λ w. EndsFront (replayed settings name (left w)) (replayed_part settings name (left w)) (shown_of w) new)
-output_front settings left name None new makes = tt
-output_front settings left name (Some w) new makes = plain_make settings name (left w) w new makes
 
 -- a file of that name was made, and then its header was written in part
 pub makes_part : (id : ℕ) (name header : List ℕ) (old made new : Option World) → header ≡ out_header → IfSome old (λ w. found_at id w.writers ≡ None)
@@ -292,83 +219,6 @@ last_line_front outcome parts count output run counts w (Some v) new whole has s
       reported = rw whole (front-more outcome.lines (take says.0 last));
       written = rw whole (fronts-all (file ∷ []));
     })
-
--- of a replay
-pub closing_front : (settings : Settings) (output : List ℕ) (run : InputRun) (counts : Counts) (w : World) (mid new : Option World) → HasReplayed settings output run counts (shown_of w) (shown mid)
-    → SaysPart (closing counts.fault (end_line counts.frames counts.written counts.entries)) mid new
-    → EndsFront (replayed settings output run) (replayed_part settings output run) (shown_of w) new
-unfolding replayed replayed_part
-closing_front settings output run counts w mid new has says =
-    let all = events run.frames in
-    last_line_front (replay_of settings run) (λ k. played plain (started settings) (take k all)) (length all) output run counts w mid new
-    (ap (played plain (started settings)) (by-count all all (front-all all))) has says
-
--- a show that was cut short
-shown_front : (run : InputRun) (w : World) (new : Option World) (first : List Event) (lines octets : List ℕ) → shown new ≡ Some (with_output None lines octets (shown_of w))
-    → IsFront first (events run.frames) → IsFront lines (played showing tt (events run.frames)).lines → IsFront (played showing tt first).lines lines
-    → EndsFront (messages_shown run) (shown_part run) (shown_of w) new
-unfolding messages_shown shown_part
-shown_front run w new first lines octets same within said reported =
-    let named : take (length first) (events run.frames) ≡ first = by-count first (events run.frames) within in
-    rw same (record {
-      lines = lines;
-      made = [];
-      count = length first;
-      files = refl;
-      said = refl;
-      wrote = sym (append-nil (made_files w.writers));
-      report = front-front lines (played showing tt (events run.frames)).lines _ said (front-more (played showing tt (events run.frames)).lines _);
-      output = tt;
-      reported = rw named reported;
-      written = tt;
-    })
-
-pub messages_front : (left : World → InputRun) (old new : Option World)
-    → IfSome old (λ w. CutRun (Determined showing) tt None (shown_of w) (left w) new)
-    → IfSome old (λ w. EndsFront (messages_shown (left w)) (shown_part (left w)) (shown_of w) new)
-messages_front left None new cut = tt
-messages_front left (Some w) new cut_run =
-    let run = left w in
-    let cut = cut-play showing tt None (shown_of w) run new cut_run in
-    let within = front-events cut.frames run.frames cut.within in
-    shown_front run w new cut.first cut.lines cut.octets cut.shown (front-front cut.first (events cut.frames) (events run.frames) cut.front within)
-    (front-front cut.lines (played showing tt (events cut.frames)).lines (played showing tt (events run.frames)).lines cut.said (front-lines showing tt (events cut.frames) (events run.frames) within)) cut.reported
-
--- a part of the last line of a show
-last_front : (run : InputRun) (w : World) (mid new : Option World) (ending : Ending) → Ends (outcome_of showing tt run) run ending
-    → shown mid ≡ Some (with_outcome None (outcome_of showing tt run) (shown_of w)) → SaysPart (closing ending.fault (count_line ending.frames)) mid new
-    → EndsFront (messages_shown run) (shown_part run) (shown_of w) new
-unfolding messages_shown shown_part
-last_front run w None new ending ends frames says = cc
-last_front run w (Some v) new ending ends frames says =
-    let outcome : Outcome (Unit {0}) = outcome_of showing tt run in
-    let is_aim : shown_of v ≡ record (shown_of w) { said = w.said ++ outcome.lines } = cc in
-    let last = closing ending.fault (count_line ending.frames) in
-    let line : last ≡ closing run.fault (count_line (length run.frames)) = rw (ends.fault, ends.frames) refl in
-    let all = events run.frames in
-    let whole : take (length all) all ≡ all = by-count all all (front-all all) in
-    rw says.1 (record {
-      lines = outcome.lines ++ take says.0 last;
-      made = [];
-      count = length all;
-      files = ap (λ (x : Shown). x.files) is_aim;
-      said = ap (λ (x : Shown). x.said ++ take says.0 last) is_aim ∙ append_assoc w.said outcome.lines (take says.0 last);
-      wrote = ap (λ (x : Shown). made_files x.writers) is_aim ∙ sym (append-nil (made_files w.writers));
-      report = front-behind outcome.lines (take says.0 last) last _ (ap (λ (l : List ℕ). outcome.lines ++ l) line) (front-take says.0 last);
-      output = tt;
-      reported = rw whole (front-more outcome.lines (take says.0 last));
-      written = tt;
-    })
-
-pub line_front : (left : World → InputRun) (old mid new : Option World) (ending : Ending)
-    → IfSome old (λ w. HasPlayed (Determined showing) tt None (shown_of w) (left w) ending tt mid)
-    → SaysPart (closing ending.fault (count_line ending.frames)) mid new
-    → IfSome old (λ w. EndsFront (messages_shown (left w)) (shown_part (left w)) (shown_of w) new)
-line_front left None mid new ending has says = tt
-line_front left (Some w) mid new ending has says =
-    let run = left w in
-    let ended = end-play showing tt None (shown_of w) run ending tt mid has in
-    last_front run w mid new ending ended.ends ended.shown says
 
 -- memory was wanting for a last line: none of it was said
 pub says_none : (line : List ℕ) (told : Option World) → SaysPart line told told

@@ -4,9 +4,11 @@ pub mod FrontCases
 pub mod MessageLemmas
 pub mod OpeningLemmas
 pub mod PieceLemmas
+pub mod PlainFrontCases
 pub mod ReplayLemmas
 pub mod SharedCases
 pub mod SharedFrontCases
+pub mod ShowFrontCases
 pub mod ShowLemmas
 pub mod SplittingLemmas
 pub mod SteadyLemmas

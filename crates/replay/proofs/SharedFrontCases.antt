@@ -29,7 +29,8 @@ use Rattle.replay.specs.Shared.{AreChosen, AreNumbers, AreNumbersOf, MayHave, af
 use Rattle.replay.specs.SharedFront.{EndsAfter, EndsBy, EndsFor, EndsOf, EndsRun, EndsWith, part_after_settings_by, part_after_words_by, part_with, parts_by, shared_part}
 use Rattle.replay.specs.declared.counts.Counts.{Counts}
 use Rattle.replay.specs.declared.status.Status.TheVariants as status
-use Rattle.replay.proofs.FrontCases.{by-count, closing_front, frames_front, front_as, front_line, front_says, front_still, last_line_front, opening-zero, make_front, replayed-zero, words-zero}
+use Rattle.replay.proofs.FrontCases.{by-count, frames_front, front_as, front_line, front_says, front_still, last_line_front, opening-zero, make_front, replayed-zero, words-zero}
+use Rattle.replay.proofs.PlainFrontCases.{closing_front}
 use Rattle.replay.proofs.SharedCases.{chosen-arriving, chosen-fault, plain-words}
 
 -- ### there are numbers

@@ -2,7 +2,7 @@ use Rattle.std.proofs.Common.{rules, ◌∷◌, []}
 use Rattle.desk.specs.World.{to_read, to_write}
 use Rattle.replay.proofs.AnswerCases.{table_replayed}
 use Rattle.playback.proofs.FrontLemmas.{on_err_always}
-use Rattle.replay.proofs.FrontCases.{header_front, output_front, table_front}
+use Rattle.replay.proofs.PlainFrontCases.{header_front, output_front, table_front}
 use Rattle.replay.proofs.ReplayLemmas.{ready-first}
 use Rattle.playback.specs.Input.{left_in}
 use Rattle.replay.proofs.SteadyLemmas.{given-kept, given-new}

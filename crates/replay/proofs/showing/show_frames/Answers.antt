@@ -8,7 +8,8 @@ use Rattle.std.proofs.lemmas.Result.{on_err_weaker}
 use Rattle.playback.proofs.FrontLemmas.{on_err_always}
 use Rattle.replay.specs.Front.{SaysPart}
 use Rattle.replay.specs.Lines.{count_line}
-use Rattle.replay.proofs.FrontCases.{line_front, messages_front, says_none}
+use Rattle.replay.proofs.ShowFrontCases.{line_front, messages_front}
+use Rattle.replay.proofs.FrontCases.{says_none}
 use Rattle.replay.proofs.AnswerCases.{messages_answered, ok_both}
 use Rattle.replay.proofs.showing.show_frames.Goals as goal
 
