@@ -15,6 +15,7 @@ ghost use Rattle.replay.specs.Trial.{hash_text, trial_file, trial_line, trial_te
 ghost use Rattle.command_words.specs.Limits.{most_trial_mappings};
 
 use crate::Status;
+use crate::counts::Counts;
 use crate::replaying::replay_file;
 use command_words::{InputFormat, Intake};
 use desk::{Desk, DeskFault, Files, NamedFile, SteadyDesk};
@@ -81,14 +82,7 @@ fn replay_trial<R: Threads + Wait + Sync, G: Gate>(
             let Some(output) = desk.file(OUTPUT) else {
                 unreachable!()
             };
-            trial_line(
-                alloc,
-                n,
-                counts.frames,
-                counts.written,
-                counts.entries,
-                output,
-            )
+            trial_line(alloc, n, counts, output)
         }
         Ok(Err(_)) => unreachable!(),
         Err(fault) => match fault {
@@ -116,21 +110,15 @@ fn trial_desk(alloc: Global, n: u32) -> Result<SteadyDesk, NoMemory>
 }
 
 // The line of a trial: its counts, and the hash of its output.
-fn trial_line(
-    alloc: Global,
-    n: u32,
-    frames: u32,
-    written: u64,
-    entries: u64,
-    output: &[u8],
-) -> Result<Octets, NoMemory>
-    ensures { IfOk result (λ line. line ≡ trial_line n frames written entries output.now) }
+fn trial_line(alloc: Global, n: u32, counts: Counts, output: &[u8]) -> Result<Octets, NoMemory>
+    ensures { IfOk result (λ line. line
+        ≡ trial_line n counts.frames counts.written counts.entries output.now) }
 {
     let mut line = Octets::new(alloc);
     push_named(b"trial ", u64::from(n), &mut line)?;
-    push_named(b" frames=", u64::from(frames), &mut line)?;
-    push_named(b" written=", written, &mut line)?;
-    push_named(b" entries=", entries, &mut line)?;
+    push_named(b" frames=", u64::from(counts.frames), &mut line)?;
+    push_named(b" written=", counts.written, &mut line)?;
+    push_named(b" entries=", counts.entries, &mut line)?;
     line.append(b" hash=")?;
     push_hash(output, &mut line)?;
     line.push(b'\n')?;
