@@ -34,8 +34,8 @@ read_nonce (Some message) = nonce_of message
 
 -- a nonce, or none where a rule fails
 abbrev pub none_refused : Option Refused → Option ℕ → Option ℕ
-none_refused None nonce = nonce
-none_refused (Some refused) nonce = None
+none_refused None carried = carried
+none_refused (Some refused) carried = None
 
 -- that of octets from a place on
 abbrev pub message_nonce : ℕ → List ℕ → Option ℕ
