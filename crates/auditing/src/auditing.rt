@@ -1,0 +1,40 @@
+// Two captures, of which one is played, and its packets held against the other.
+ghost use Rattle.std.specs.Prelude.{◌≡◌, ◌≢◌, false, IfOk, IfSome, IsErrOf};
+ghost use Rattle.desk.specs.declared.fault.DeskFault.TheVariants.{Failed};
+ghost use Rattle.desk.specs.Causes.{HasCause, StaysSteady};
+ghost use Rattle.desk.specs.World.{to_read, shown, IsGiven};
+ghost use Rattle.capture_io.specs.Reading as reading;
+ghost use Rattle.playback.specs.Input.{beginning};
+ghost use Rattle.auditing.specs.Auditing.{run_in, IsAudited};
+
+use crate::audited::Audited;
+use capture_io::{CaptureReader, Desk, DeskFault};
+use playback::Machine;
+use std::alloc::Global;
+
+/// Plays a capture of which no record was read through a machine, and holds the packets that it sends
+/// against the records of another, one by one. Its lines are dropped. Behind a fault of either capture
+/// the other one isn't read on.
+pub fn audit_frames<D: Desk, M: Machine>(
+    alloc: Global,
+    desk: &mut D,
+    machine: &mut M,
+    input: CaptureReader,
+    sent: CaptureReader,
+) -> Result<Audited, DeskFault>
+    requires input { input ≡ reading.beginning input.id input.format }
+    requires sent { sent ≡ reading.beginning sent.id sent.format }
+    requires apart { input.id ≢ sent.id }
+    requires ready { M.IsReady beginning 0 machine.old }
+    requires not_full { (state : M.State) → M.full state ≡ false }
+    ensures audited { IfOk result (λ audited. IfSome (D.told desk.old) (λ w.
+        IsAudited M.Does (M.state machine.old) (run_in input w) (run_in sent w) audited)) }
+    ensures shown { shown (D.told desk.new) ≡ shown (D.told desk.old) }
+    ensures cause { HasCause (D.faults desk.old) (D.faults desk.new) result }
+    ensures given { D.given desk.new ≡ D.given desk.old }
+    ensures steady { StaysSteady (D.steady desk.old) (D.steady desk.new)
+        (IsGiven input.id to_read (D.given desk.old) × IsGiven sent.id to_read (D.given desk.old))
+        (IsErrOf result Failed) }
+{
+    Err(DeskFault::Memory)
+}

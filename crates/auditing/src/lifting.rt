@@ -1,0 +1,33 @@
+// The nonces that a router sent, out of a whole capture.
+ghost use Rattle.std.specs.Prelude.{◌≡◌, IfOk, IfSome, IsErrOf};
+ghost use Rattle.desk.specs.declared.fault.DeskFault.TheVariants.{Failed};
+ghost use Rattle.desk.specs.Causes.{HasCause, StaysSteady};
+ghost use Rattle.desk.specs.World.{to_read, shown, IsGiven};
+ghost use Rattle.capture_io.specs.Reading as reading;
+ghost use Rattle.auditing.specs.Auditing.{run_in, IsLifted, KeepsOthers};
+
+use audit::{Lift, Nonces, Settings};
+use capture_io::{CaptureFault, CaptureReader, Desk, DeskFault};
+use std::alloc::Global;
+
+/// The nonces that the router of these settings sent in a capture of which no record was read; or the
+/// fault of the capture.
+pub fn lift_nonces<D: Desk>(
+    alloc: Global,
+    desk: &mut D,
+    settings: &Settings,
+    sent: CaptureReader,
+) -> Result<Result<Nonces, CaptureFault>, DeskFault>
+    requires { sent ≡ reading.beginning sent.id sent.format }
+    ensures lifted { IfOk result (λ nonces. IfSome (D.told desk.old) (λ w.
+        IsLifted settings.now (run_in sent w) nonces)) }
+    ensures others { IfOk result (λ nonces. IfOk nonces (λ _.
+        KeepsOthers sent.id (D.told desk.old) (D.told desk.new))) }
+    ensures shown { shown (D.told desk.new) ≡ shown (D.told desk.old) }
+    ensures cause { HasCause (D.faults desk.old) (D.faults desk.new) result }
+    ensures given { D.given desk.new ≡ D.given desk.old }
+    ensures steady { StaysSteady (D.steady desk.old) (D.steady desk.new)
+        (IsGiven sent.id to_read (D.given desk.old)) (IsErrOf result Failed) }
+{
+    Err(DeskFault::Memory)
+}
