@@ -1,4 +1,4 @@
--- The words of the commands (this router's choice): `replay` and `show` with options, and `trial N`.
+-- The words of the commands (this router's choice): `replay`, `show` and `audit` with options, and `trial N`.
 use Rattle.std.specs.Prelude.{ℕ, ◌≤◌, Bool, true, false, ◌&&◌, ◌||◌, ◌==◌, not, nat_le, List, [], ◌∷◌, codes, length, Option, Some, None, is_none, option_and_then, if◌then◌else◌}
 use Rattle.std.specs.List.{list_all, list_any}
 use Rattle.std.specs.Str.{bytes_eq}
@@ -7,8 +7,10 @@ use Rattle.command_words.specs.Limits.{default_round_frames, most_round_frames, 
 use Rattle.command_words.specs.declared.intake.InputFormat.{InputFormat}
 use Rattle.command_words.specs.declared.intake.InputFormat.TheVariants.{Classic, Ng}
 use Rattle.command_words.specs.declared.intake.Intake.{Intake}
+use Rattle.command_words.specs.declared.nonce_source.NonceSource.{NonceSource}
+use Rattle.command_words.specs.declared.nonce_source.NonceSource.TheVariants.{Settings as FromSettings, Sent as FromSent}
 use Rattle.command_words.specs.declared.words.Words.{Words}
-use Rattle.command_words.specs.declared.words.Words.TheVariants.{Replay, Show, Trial}
+use Rattle.command_words.specs.declared.words.Words.TheVariants.{Replay, Show, Trial, Audit}
 
 infixl 10 ◌>>=◌
 -- what comes next, where there is a value
@@ -110,9 +112,19 @@ intake_of options = do
   split ← split_of (value_of (codes "--split") options)
   Some (record { format = format; split = split })
 
+-- ### nonces
+
+-- the source of nonces that this word names; without the word it is the settings
+abbrev pub nonces_of : Option (List ℕ) → Option NonceSource
+nonces_of None = Some FromSettings
+nonces_of (Some word) =
+    if bytes_eq word (codes "settings") then Some FromSettings
+    else if bytes_eq word (codes "sent") then Some FromSent
+    else None
+
 -- ### commands
 
--- the names of the options of a replay, and of a show
+-- the names of the options of a replay, of a show, and of an audit
 abbrev pub replay_names : List (List ℕ)
 replay_names =
     codes "--settings" ∷ codes "--in" ∷ codes "--out" ∷ codes "--format" ∷ codes "--interfaces"
@@ -120,6 +132,9 @@ replay_names =
 
 abbrev pub show_names : List (List ℕ)
 show_names = codes "--in" ∷ []
+
+abbrev pub audit_names : List (List ℕ)
+audit_names = codes "--settings" ∷ codes "--in" ∷ codes "--sent" ∷ codes "--nonces" ∷ []
 
 -- the words, where they are options of these names
 abbrev pub options_of : List (List ℕ) → List (List ℕ) → Option (List (List ℕ))
@@ -158,12 +173,23 @@ trial_of (number ∷ []) = do
   Some (Trial n)
 trial_of (number ∷ (other ∷ more)) = None
 
+-- `--settings F --in F --sent F [--nonces settings|sent]`
+abbrev pub audit_of : List (List ℕ) → Option Words
+audit_of words = do
+  options ← options_of audit_names words
+  settings ← value_of (codes "--settings") options
+  input ← value_of (codes "--in") options
+  sent ← value_of (codes "--sent") options
+  nonces ← nonces_of (value_of (codes "--nonces") options)
+  Some (Audit settings input sent nonces)
+
 -- the numbers are within their limits
 abbrev pub AreWithinLimits : Words → Type 0
 AreWithinLimits (Replay settings input output intake workers round) =
     (workers ≤ most_workers) × ((1 ≤ round) × (round ≤ most_round_frames))
 AreWithinLimits (Show input) = Unit {0}
 AreWithinLimits (Trial n) = n ≤ most_trial_mappings
+AreWithinLimits (Audit settings input sent nonces) = Unit {0}
 
 -- what the words behind a command say
 abbrev pub command_of : List ℕ → List (List ℕ) → Option Words
@@ -171,6 +197,7 @@ command_of command words =
     if bytes_eq command (codes "replay") then replay_of words
     else if bytes_eq command (codes "show") then show_of words
     else if bytes_eq command (codes "trial") then trial_of words
+    else if bytes_eq command (codes "audit") then audit_of words
     else None
 
 -- what the words after the program's name say; none where they are of no form

@@ -3,6 +3,7 @@
 
 mod intake;
 mod limits;
+mod nonce_source;
 mod options;
 mod words;
 
@@ -10,4 +11,5 @@ pub use intake::{InputFormat, Intake};
 pub use limits::{
     DEFAULT_ROUND_FRAMES, MOST_ROUND_FRAMES, MOST_TRIAL_MAPPINGS, MOST_WORKERS, limits_are,
 };
+pub use nonce_source::NonceSource;
 pub use words::{Text, Word, Words, WordsFault, read_words};

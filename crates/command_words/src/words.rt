@@ -1,13 +1,14 @@
 // The words after the program's name.
 ghost use Rattle.std.specs.Prelude.{◌≡◌, ◌≤◌, Err, None, Some, codes, map, string_bytes, IfOk, IfSome, option_map};
 ghost use Rattle.command_words.specs.Limits.{default_round_frames, most_round_frames, most_workers};
-ghost use Rattle.command_words.specs.Words.{are_options, number_or, replay_names, replay_of, show_of, trial_of, value_of, words_of, AreWithinLimits};
+ghost use Rattle.command_words.specs.Words.{are_options, audit_names, audit_of, number_or, replay_names, replay_of, show_of, trial_of, value_of, words_of, AreWithinLimits};
 ghost use Rattle.command_words.specs.declared.words.WordsFault.TheVariants.{Usage, Memory};
 
-use crate::Intake;
 use crate::intake::intake_of;
 use crate::limits::{DEFAULT_ROUND_FRAMES, MOST_ROUND_FRAMES, MOST_TRIAL_MAPPINGS, MOST_WORKERS};
+use crate::nonce_source::nonces_of;
 use crate::options::{are_options, number_in, number_or, value_of};
+use crate::{Intake, NonceSource};
 use octets::NoMemory;
 use std::alloc::{AllocError, Global};
 use std::marker::Model;
@@ -68,6 +69,13 @@ pub enum Words {
     Trial {
         n: u32,
     },
+    /// What a router sent for a capture is held against what it should have sent by settings.
+    Audit {
+        settings: Text,
+        input: Text,
+        sent: Text,
+        nonces: NonceSource,
+    },
 }
 
 /// Why words say nothing.
@@ -102,6 +110,7 @@ pub fn read_words(alloc: Global, words: &[Word]) -> Result<Words, WordsFault>
         "replay" => read_replay(alloc, rest),
         "show" => read_show(alloc, rest),
         "trial" => read_trial(rest),
+        "audit" => read_audit(alloc, rest),
         _ => Err(WordsFault::Usage),
     }
 }
@@ -170,17 +179,17 @@ fn round_of(words: &[Word]) -> Option<u32>
 // Copies of three words.
 fn all_copied(
     alloc: Global,
-    settings: &str,
-    input: &str,
-    output: &str,
+    first: &str,
+    second: &str,
+    third: &str,
 ) -> Result<(Text, Text, Text), AllocError>
-    ensures settings { IfOk result (λ copies. copies.0 ≡ settings.now) }
-    ensures input { IfOk result (λ copies. copies.1 ≡ input.now) }
-    ensures output { IfOk result (λ copies. copies.2 ≡ output.now) }
+    ensures first { IfOk result (λ copies. copies.0 ≡ first.now) }
+    ensures second { IfOk result (λ copies. copies.1 ≡ second.now) }
+    ensures third { IfOk result (λ copies. copies.2 ≡ third.now) }
 {
-    let settings = Text::copied(alloc, settings)?;
-    let input = Text::copied(alloc, input)?;
-    Ok((settings, input, Text::copied(alloc, output)?))
+    let first = Text::copied(alloc, first)?;
+    let second = Text::copied(alloc, second)?;
+    Ok((first, second, Text::copied(alloc, third)?))
 }
 
 fn read_show(alloc: Global, words: &[Word]) -> Result<Words, WordsFault>
@@ -209,4 +218,32 @@ fn read_trial(words: &[Word]) -> Result<Words, WordsFault>
         },
         _ => Err(WordsFault::Usage),
     }
+}
+
+fn read_audit(alloc: Global, words: &[Word]) -> Result<Words, WordsFault>
+    ensures ok { IfOk result (λ read. audit_of (map string_bytes words.now) ≡ Some read) }
+    ensures usage { result ≡ Err Usage → audit_of (map string_bytes words.now) ≡ None }
+    ensures limits { IfOk result AreWithinLimits }
+{
+    if !are_audit_options(words) {
+        return Err(WordsFault::Usage);
+    }
+    let settings = value_of("--settings", words).ok_or(WordsFault::Usage)?;
+    let input = value_of("--in", words).ok_or(WordsFault::Usage)?;
+    let sent = value_of("--sent", words).ok_or(WordsFault::Usage)?;
+    let nonces = nonces_of(value_of("--nonces", words)).ok_or(WordsFault::Usage)?;
+    let (settings, input, sent) = all_copied(alloc, settings, input, sent)?;
+    Ok(Words::Audit {
+        settings,
+        input,
+        sent,
+        nonces,
+    })
+}
+
+fn are_audit_options(words: &[Word]) -> bool
+    ensures { result ≡ are_options audit_names (map string_bytes words.now) }
+{
+    let names = ["--settings", "--in", "--sent", "--nonces"];
+    are_options(&names, words)
 }

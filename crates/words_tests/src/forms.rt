@@ -104,6 +104,21 @@ fn words_of_a_form_say_their_values(rt: HostRuntime) -> Result<(), Fail> {
         ("trial 10", "trial 10"),
         ("trial 49999", "trial 49999"),
         ("trial 50000", "trial 50000"),
+        ("audit --settings s --in i --sent t", "audit s i t settings"),
+        (
+            "audit --nonces sent --sent t --in i --settings s",
+            "audit s i t sent",
+        ),
+        (
+            "audit --settings s --in i --nonces settings --sent t",
+            "audit s i t settings",
+        ),
+        // Nothing is written, so all three may be one file.
+        ("audit --settings f --in f --sent f", "audit f f f settings"),
+        (
+            "audit --settings sent --in settings --sent audit",
+            "audit sent settings audit settings",
+        ),
     ] {
         let words = words_in(alloc, text)?;
         assert_eq!(rt; said(alloc, &words)?.as_str(), says, "{text}");

@@ -1,5 +1,5 @@
 // Lists of words that are of no form, and that no line of words spells.
-use crate::word_lists::{FORMAT, INTERFACES, REPLAY, ROUND, SPLIT, WORKERS, said, words_in};
+use crate::word_lists::{FORMAT, INTERFACES, NONCES, REPLAY, ROUND, SPLIT, WORKERS, said, words_in};
 use std::test::Fail;
 
 #[test]
@@ -22,6 +22,7 @@ fn empty_words_blanks_in_words_and_long_lists_are_of_no_form(rt: HostRuntime) ->
         (FORMAT, "", 1),
         (INTERFACES, "", 1),
         (SPLIT, "", 1),
+        (NONCES, "", 1),
         ("trial", "", 1),
         // A number has no blanks.
         (ROUND, " 1", 1),
@@ -34,6 +35,8 @@ fn empty_words_blanks_in_words_and_long_lists_are_of_no_form(rt: HostRuntime) ->
         (FORMAT, "ng ", 1),
         (INTERFACES, "vlan ", 1),
         (SPLIT, "on ", 1),
+        (NONCES, " sent", 1),
+        (NONCES, "sent ", 1),
         // Two thousand words behind a lawful option.
         ("show --in x", "--junk", 2000),
         ("show --in x", "--in", 2000),

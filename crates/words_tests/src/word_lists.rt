@@ -1,5 +1,5 @@
 // Lists of words, and what they say.
-use command_words::{InputFormat, Intake, Word, Words, WordsFault, read_words};
+use command_words::{InputFormat, Intake, NonceSource, Word, Words, WordsFault, read_words};
 use std::alloc::Global;
 use std::test::Fail;
 
@@ -21,6 +21,9 @@ pub const INTERFACES: &str = "replay --settings s --in i --out o --format ng --i
 /// Likewise, of whether large packets are split.
 pub const SPLIT: &str = "replay --settings s --in i --out o --split";
 
+/// The words of an audit, and an option whose value is wanting.
+pub const NONCES: &str = "audit --settings s --in i --sent t --nonces";
+
 /// The words between the spaces of a text; two spaces in a row have an empty word between them.
 pub fn words_in(alloc: Global, text: &str) -> Result<Vec<Word>, Fail> {
     let mut words: Vec<Word> = Vec::new(alloc);
@@ -31,7 +34,7 @@ pub fn words_in(alloc: Global, text: &str) -> Result<Vec<Word>, Fail> {
 }
 
 /// What the words say: the command, the files, how the capture is taken in, and the numbers of workers and of a
-/// round's frames.
+/// round's frames, or where the nonces of an audit come from.
 pub fn said(alloc: Global, words: &[Word]) -> Result<String, Fail> {
     let text = match read_words(alloc, words) {
         Ok(
@@ -50,10 +53,29 @@ pub fn said(alloc: Global, words: &[Word]) -> Result<String, Fail> {
         }
         Ok(Words::Show { input }) => format!(in alloc; "show {}", input.as_str())?,
         Ok(Words::Trial { n }) => format!(in alloc; "trial {n}")?,
+        Ok(
+            Words::Audit {
+                settings,
+                input,
+                sent,
+                nonces,
+            },
+        ) => {
+            let (settings, input, sent) = (settings.as_str(), input.as_str(), sent.as_str());
+            let nonces = nonces_word(nonces);
+            format!(in alloc; "audit {settings} {input} {sent} {nonces}")?
+        }
         Err(WordsFault::Usage) => String::from_str(alloc, "usage")?,
         Err(WordsFault::Memory) => String::from_str(alloc, "memory")?,
     };
     Ok(text)
+}
+
+fn nonces_word(nonces: NonceSource) -> &'static str {
+    match nonces {
+        NonceSource::Settings => "settings",
+        NonceSource::Sent => "sent",
+    }
 }
 
 fn intake_word(intake: Intake) -> &'static str {
