@@ -5,7 +5,7 @@ use Rattle.std.proofs.Math.Seq.{take-append_seam}
 use Rattle.std.proofs.lemmas.List.{append-nil, map-append}
 use Rattle.command_words.specs.Words.{words_of}
 use Rattle.command_words.specs.declared.words.Words.{Words}
-use Rattle.command_words.specs.declared.words.Words.TheVariants.{Replay, Show, Trial}
+use Rattle.command_words.specs.declared.words.Words.TheVariants.{Replay, Show, Trial, Audit}
 use Rattle.desk.specs.declared.file.NamedFile.{NamedFile}
 use Rattle.desk.specs.World.{World, Shown, content, found_at, extended, after_make, after_write, shown, shown_of}
 use Rattle.desk.proofs.Entries.{changed_at-more}
@@ -57,6 +57,7 @@ words-zero files None = refl
 words-zero files (Some (Replay settings input output intake workers round)) = settings-zero output (arriving intake (content input files)) (settings_of (content settings files))
 words-zero files (Some (Show input)) = show-zero (opened Classic (content input files))
 words-zero files (Some (Trial n)) = refl
+words-zero files (Some (Audit settings input sent nonces)) = refl
 
 -- the same answer and parts by other names
 pub front_as : (a b : Answer) (p q : ℕ → Part) (old : Shown) (new : Option World) → a ≡ b → p ≡ q → EndsFront a p old new → EndsFront b q old new

@@ -4,7 +4,7 @@ use Rattle.std.specs.Option.{option_map, IfSome, IsSomeAnd}
 use Rattle.std.specs.Result.{IfOk, OnOk}
 use Rattle.command_words.specs.Words.{words_of}
 use Rattle.command_words.specs.declared.words.Words.{Words}
-use Rattle.command_words.specs.declared.words.Words.TheVariants.{Replay, Show, Trial}
+use Rattle.command_words.specs.declared.words.Words.TheVariants.{Replay, Show, Trial, Audit}
 use Rattle.desk.specs.World.{left_of, World, Shown, content, found_at, after_say, after_make, after_write, shown, shown_of}
 use Rattle.desk.specs.declared.file.NamedFile.{NamedFile}
 use Rattle.capture_io.specs.Output.{out_header}
@@ -174,6 +174,7 @@ same-words files ns (Some (Replay settings input output intake workers round)) =
     same-settings workers round ns output (arriving intake (content input files)) (settings_of (content settings files))
 same-words files ns (Some (Show input)) = refl
 same-words files ns (Some (Trial n)) = refl
+same-words files ns (Some (Audit settings input sent nonces)) = refl
 
 pub status-with : (words : List (List ℕ)) (files : List NamedFile) (s : Status) (old : Shown) (new : Option Shown) → GivesWith words files s old new → s ≡ (answer words files).status
 unfolding answer answer_with
@@ -186,6 +187,7 @@ plain-words files ns (Some (Replay settings input output intake zero round)) non
 plain-words files ns (Some (Replay settings input output intake (suc workers) round)) none = cc
 plain-words files ns (Some (Show input)) none = refl
 plain-words files ns (Some (Trial n)) none = refl
+plain-words files ns (Some (Audit settings input sent nonces)) none = refl
 
 pub plain-with : (words : List (List ℕ)) (files : List NamedFile) (s : Status) (old : Shown) (new : Option Shown) → has_workers (words_of words) ≡ false → GivesWith words files s old new
     → Gives (answer words files) s old new

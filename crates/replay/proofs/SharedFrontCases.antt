@@ -4,7 +4,7 @@ use Rattle.std.specs.Option.{option_map, IfSome}
 use Rattle.std.proofs.lemmas.Option.{IfSome_then}
 use Rattle.command_words.specs.Words.{words_of}
 use Rattle.command_words.specs.declared.words.Words.{Words}
-use Rattle.command_words.specs.declared.words.Words.TheVariants.{Replay, Show, Trial}
+use Rattle.command_words.specs.declared.words.Words.TheVariants.{Replay, Show, Trial, Audit}
 use Rattle.desk.specs.World.{left_of, World, Shown, content, found_at, after_make, after_write, shown, shown_of}
 use Rattle.desk.specs.declared.file.NamedFile.{NamedFile}
 use Rattle.capture_io.specs.Frame.{Frame}
@@ -55,6 +55,7 @@ words-numbers files None = ([], refl)
 words-numbers files (Some (Replay settings input output intake workers round)) = chosen-numbers workers round (arriving intake (content input files)) (settings_of (content settings files))
 words-numbers files (Some (Show input)) = ([], refl)
 words-numbers files (Some (Trial n)) = ([], refl)
+words-numbers files (Some (Audit settings input sent nonces)) = ([], refl)
 
 -- what holds by whatever numbers holds by some that may be had
 by-numbers : (may : World → List (List ℕ) → Type 0) (a : World → List (List ℕ) → Answer) (parts : World → List (List ℕ) → ℕ → Part) (old new : Option World)
@@ -81,6 +82,7 @@ after-zero files ns None = refl
 after-zero files ns (Some (Replay settings input output intake workers round)) = chosen-zero workers round ns output (arriving intake (content input files)) (settings_of (content settings files))
 after-zero files ns (Some (Show input)) = words-zero files (Some (Show input))
 after-zero files ns (Some (Trial n)) = refl
+after-zero files ns (Some (Audit settings input sent nonces)) = refl
 
 with-zero : (words : List (List ℕ)) (files : List NamedFile) (ns : List (List ℕ)) → (part_with words files ns 0).said ≡ []
 unfolding part_with
@@ -243,6 +245,7 @@ plain-part-words files ns (Some (Replay settings input output intake zero round)
 plain-part-words files ns (Some (Replay settings input output intake (suc workers) round)) none = cc
 plain-part-words files ns (Some (Show input)) none = refl
 plain-part-words files ns (Some (Trial n)) none = refl
+plain-part-words files ns (Some (Audit settings input sent nonces)) none = refl
 
 -- words without forwarders
 pub ends_after : (files : List NamedFile) (words : Option Words) (old : Shown) (new : Option World) → has_workers words ≡ false → MayHave files [] words

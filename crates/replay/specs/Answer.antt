@@ -3,7 +3,7 @@ use Rattle.std.specs.Prelude.{◌≡◌, ℕ, Bool, true, false, List, [], ◌�
 use Rattle.std.specs.List.{All}
 use Rattle.command_words.specs.Words.{words_of}
 use Rattle.command_words.specs.declared.words.Words.{Words}
-use Rattle.command_words.specs.declared.words.Words.TheVariants.{Replay, Show, Trial}
+use Rattle.command_words.specs.declared.words.Words.TheVariants.{Replay, Show, Trial, Audit}
 use Rattle.desk.specs.declared.file.NamedFile.{NamedFile}
 use Rattle.desk.specs.World.{World, Shown, content, IsThere}
 use Rattle.capture_io.specs.Output.{out_header}
@@ -16,12 +16,14 @@ use Rattle.playback.specs.Input.{InputRun}
 use Rattle.playback.specs.declared.fault.InputFault.{InputFault}
 use Rattle.router_model.specs.Journal.{Journal}
 use Rattle.router_model.specs.Plain.{Router, plain, started}
+use Rattle.replay.specs.Audit.{finding_line, finding_status, found_by}
 use Rattle.replay.specs.Lines.{count_line, end_line, fault_line, settings_line}
 use Rattle.replay.specs.Opening.{Arriving, Opened, arriving, opened}
 use Rattle.replay.specs.Show.{showing}
 use Rattle.replay.specs.Trial.{trial_text}
+use Rattle.replay.specs.declared.finding.Finding.{Finding}
 use Rattle.replay.specs.declared.status.Status.{Status}
-use Rattle.replay.specs.declared.status.Status.TheVariants.{Done, Usage, Settings as BadSettings, Capture, Host, Memory}
+use Rattle.replay.specs.declared.status.Status.TheVariants.{Done, Usage, Settings as BadSettings, Capture, Host, Memory, Differs}
 
 -- a status, a report, and the file that was made, if one was
 pub record Answer : Type 0 where
@@ -77,6 +79,10 @@ abbrev pub after_settings : List ℕ → Arriving → Result Settings SettingsFa
 after_settings output input (Err fault) = told_off BadSettings (settings_line fault)
 after_settings output input (Ok settings) = after_opening (replayed settings output) (input settings)
 
+-- the answer to an audit, by what it finds
+abbrev pub after_finding : Finding → Answer
+after_finding finding = told_off (finding_status finding) (finding_line finding)
+
 -- the answer to what words say
 abbrev pub after_words : List NamedFile → Option Words → Answer
 after_words files None = told_off Usage (codes "usage\n")
@@ -84,6 +90,8 @@ after_words files (Some (Replay settings input output intake workers round)) =
     after_settings output (arriving intake (content input files)) (settings_of (content settings files))
 after_words files (Some (Show input)) = after_opening messages_shown (opened Classic (content input files))
 after_words files (Some (Trial n)) = told_off Done (trial_text n)
+after_words files (Some (Audit settings input sent nonces)) =
+    after_finding (found_by nonces (settings_of (content settings files)) (opened Classic (content input files)) (opened Classic (content sent files)))
 
 -- the answer to words, where these files are there
 unfoldable pub answer : List (List ℕ) → List NamedFile → Answer
@@ -93,6 +101,7 @@ answer words files = after_words files (words_of words)
 abbrev pub names_read : Option Words → List (List ℕ)
 names_read (Some (Replay settings input output intake workers round)) = settings ∷ input ∷ []
 names_read (Some (Show input)) = input ∷ []
+names_read (Some (Audit settings input sent nonces)) = settings ∷ input ∷ sent ∷ []
 names_read _ = []
 
 -- the desk tells its files, and these are among them
@@ -125,6 +134,7 @@ abbrev pub is_of_form : Status → Bool
 is_of_form Done = true
 is_of_form BadSettings = true
 is_of_form Capture = true
+is_of_form Differs = true
 is_of_form _ = false
 
 -- the capture was read to its end, or to its fault

@@ -1,4 +1,5 @@
 pub mod Answer
+pub mod Audit
 pub mod Front
 pub mod Lines
 pub mod Messages

@@ -1,5 +1,7 @@
 -- The last lines of a report.
 use Rattle.std.specs.Prelude.{ℕ, List, [], ◌∷◌, ◌++◌, codes}
+use Rattle.audit.specs.declared.outcome.Outcome.{Outcome as Comparison}
+use Rattle.audit.specs.declared.outcome.Outcome.TheVariants.{Same, Differs, Missing, Extra}
 use Rattle.capture_io.specs.declared.fault.CaptureFault.{CaptureFault}
 use Rattle.capture_io.specs.declared.fault.CaptureFault.TheVariants as fault
 use Rattle.capture_ng.specs.declared.fault.NgFault.{NgFault}
@@ -76,3 +78,15 @@ input_text (input.Ng f) = ng_text f
 -- the last line where the capture is refused
 abbrev pub fault_line : InputFault → List ℕ
 fault_line f = codes "capture " ++ (input_text f ++ 10 ∷ [])
+
+-- the same of a capture of what a router sent
+abbrev pub sent_line : InputFault → List ℕ
+sent_line f = codes "sent " ++ (input_text f ++ 10 ∷ [])
+
+-- how what was sent compares: the packets; or the record at which it departs, and the octet
+abbrev pub comparison_line : Comparison → List ℕ
+comparison_line (Same packets) = named (codes "audit same packets=") packets ++ 10 ∷ []
+comparison_line (Differs position place) =
+    named (codes "audit differs record=") position ++ (named (codes " place=") place ++ 10 ∷ [])
+comparison_line (Missing position) = named (codes "audit missing record=") position ++ 10 ∷ []
+comparison_line (Extra position) = named (codes "audit extra record=") position ++ 10 ∷ []

@@ -1,12 +1,14 @@
 -- What is read of a capture, by its format.
-use Rattle.std.specs.Prelude.{◌≡◌, Bool, List, ℕ, Option, Some, None, Result, Ok, Err, IsSomeAnd}
+use Rattle.std.specs.Prelude.{◌≡◌, Bool, List, ℕ, Option, Some, None, Result, Ok, Err, IfSome, IsSomeAnd}
 use Rattle.octets.specs.Rules.{first_failing}
 use Rattle.command_words.specs.declared.intake.InputFormat.{InputFormat}
 use Rattle.command_words.specs.declared.intake.InputFormat.TheVariants as format
 use Rattle.command_words.specs.declared.intake.Intake.{Intake}
 use Rattle.capture_io.specs.Capture.{header_rules}
-use Rattle.desk.specs.World.{World}
+use Rattle.desk.specs.World.{World, Direction, left_of, to_read, IsGiven}
+use Rattle.auditing.specs.Auditing.{run_in as classic_in}
 use Rattle.capture_io.specs.Frames.{capture, read_on}
+use Rattle.capture_io.specs.Reading.{Reading}
 use Rattle.capture_io.specs.declared.fault.CaptureFault.{CaptureFault}
 use Rattle.capture_ng.specs.Frames.{read_on as ng_read_on}
 use Rattle.capture_ng.specs.Position.{begin}
@@ -76,3 +78,13 @@ run_in = left_in id_of run_of
 abbrev pub Opens : Opened → Result Input InputFault → Option World → Type 0
 Opens what (Ok reader) now = IsSomeAnd now (λ w. what ≡ Ok (run_in reader w))
 Opens what (Err fault) now = what ≡ Err fault
+
+-- the same of a classic one
+abbrev pub OpensClassic : Opened → Result Reading InputFault → Option World → Type 0
+OpensClassic what (Ok r) now = IsSomeAnd now (λ w. what ≡ Ok (input_run fault.Classic (classic_in r w)))
+OpensClassic what (Err f) now = what ≡ Err f
+
+-- what was given to be read is so still, and as much of it is left
+pub record KeepsGiven (given : List (ℕ × Direction)) (old : Option World) (now : List (ℕ × Direction)) (new : Option World) : Type 0 where
+  pub given_still : (id : ℕ) → IsGiven id to_read given → IsGiven id to_read now
+  pub left : IfSome old (λ w. IsSomeAnd new (λ v. (id : ℕ) → IsGiven id to_read given → left_of id v ≡ left_of id w))

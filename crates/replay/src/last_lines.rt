@@ -6,7 +6,7 @@ ghost use Rattle.desk.specs.World.{after_say};
 ghost use Rattle.replay.specs.Answer.{closing, status_of};
 ghost use Rattle.replay.specs.Front.{SaysPart};
 ghost use Rattle.router_log.specs.Numbers.{named};
-ghost use Rattle.replay.specs.Lines.{count_line, end_line, fault_line, fault_text, input_text, ng_text, settings_line, settings_text};
+ghost use Rattle.replay.specs.Lines.{count_line, end_line, fault_line, fault_text, input_text, ng_text, sent_line, settings_line, settings_text};
 ghost use Rattle.replay.specs.declared.status.Status.TheVariants.{Usage, Settings as BadSettings, Capture};
 
 use crate::Status;
@@ -96,7 +96,7 @@ pub(crate) fn refuse_capture<D: Desk>(
 }
 
 /// The last line where settings are refused.
-fn settings_line(alloc: Global, fault: &SettingsFault) -> Result<Octets, NoMemory>
+pub(crate) fn settings_line(alloc: Global, fault: &SettingsFault) -> Result<Octets, NoMemory>
     ensures { IfOk result (λ line. line ≡ settings_line fault.now) }
 {
     let mut line = Octets::new(alloc);
@@ -157,11 +157,22 @@ pub(crate) fn count_line(alloc: Global, frames: u32) -> Result<Octets, NoMemory>
 }
 
 /// The last line where a capture is refused.
-fn fault_line(alloc: Global, fault: InputFault) -> Result<Octets, NoMemory>
+pub(crate) fn fault_line(alloc: Global, fault: InputFault) -> Result<Octets, NoMemory>
     ensures { IfOk result (λ line. line ≡ fault_line fault) }
 {
     let mut line = Octets::new(alloc);
     line.append(b"capture ")?;
+    push_fault(fault, &mut line)?;
+    line.push(b'\n')?;
+    Ok(line)
+}
+
+/// The same of a capture of what a router sent.
+pub(crate) fn sent_line(alloc: Global, fault: InputFault) -> Result<Octets, NoMemory>
+    ensures { IfOk result (λ line. line ≡ sent_line fault) }
+{
+    let mut line = Octets::new(alloc);
+    line.append(b"sent ")?;
     push_fault(fault, &mut line)?;
     line.push(b'\n')?;
     Ok(line)

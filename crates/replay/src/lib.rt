@@ -1,7 +1,11 @@
 //! The commands: a run from its words to its status.
 #![tactic(auto)]
 
+mod audits;
+mod comparing;
 mod counts;
+mod finding;
+mod finding_lines;
 mod frame_text;
 mod in_rounds;
 mod input;

@@ -1,10 +1,12 @@
 // A capture, replayed by the plain router.
-ghost use Rattle.std.specs.Prelude.{◌≡◌, false, ◌≤◌, ◌+◌, ◌*◌, unwrap_or, IfOk, IfSome, IsErrOf, OnErr};
+ghost use Rattle.std.specs.Prelude.{◌≡◌, ◌≢◌, false, ◌≤◌, ◌+◌, ◌*◌, unwrap_or, IfOk, IfSome, IsErrOf, OnErr};
 ghost use Rattle.desk.specs.declared.fault.DeskFault.TheVariants.{Failed};
 ghost use Rattle.desk.specs.Causes.{HasCause, StaysSteady};
 ghost use Rattle.desk.specs.World.{to_read, shown, shown_of, IsGiven};
 ghost use Rattle.lisp_settings.specs.Lawful.{IsLawful};
 ghost use Rattle.capture_events.specs.Events.{second_of, Determined};
+ghost use Rattle.capture_io.specs.Reading as reading;
+ghost use Rattle.auditing.specs.Auditing.{run_in};
 ghost use Rattle.playback.specs.Input.{beginning, left_in};
 ghost use Rattle.playback.specs.Limits.{most_frames};
 ghost use Rattle.router_model.specs.Limits.{most_heard, most_mappings, most_ticked};
@@ -12,13 +14,15 @@ ghost use Rattle.router_model.specs.Parts.{Parts, table};
 ghost use Rattle.router_model.specs.Plain.{Router, after_event};
 ghost use Rattle.replay.specs.Taking.{most_packets, router_of};
 ghost use Rattle.replay.specs.Answer.{replayed};
+ghost use Rattle.replay.specs.Audit.{AuditsAs};
 ghost use Rattle.replay.specs.Front.{replayed_part, EndsFront};
 ghost use Rattle.replay.specs.Readings.{HasReplayed};
 
 use crate::counts::Counts;
 use crate::output_file::make_output;
 use crate::taking::{take_frame, take_second};
-use capture_io::Frame;
+use auditing::{Audited, audit_frames};
+use capture_io::{CaptureReader, Frame};
 use desk::{Desk, DeskFault};
 use lisp_settings::Settings;
 use octets::NoMemory;
@@ -107,6 +111,32 @@ pub(crate) fn replay_plainly<D: Desk, R: FrameReader>(
         written: ending.written,
         entries,
     })
+}
+
+/// Holds the packets that the router sends for a capture against the records of another. No record was
+/// read of either.
+pub(crate) fn audit_plainly<D: Desk>(
+    alloc: Global,
+    desk: &mut D,
+    settings: &Settings,
+    input: CaptureReader,
+    sent: CaptureReader,
+) -> Result<Audited, DeskFault>
+    requires input { input ≡ reading.beginning input.id input.format }
+    requires sent { sent ≡ reading.beginning sent.id sent.format }
+    requires apart { input.id ≢ sent.id }
+    requires lawful { IsLawful settings.now }
+    ensures audited { IfOk result (λ audited. IfSome (D.told desk.old) (λ w.
+        AuditsAs settings.now (run_in input w) (run_in sent w) audited)) }
+    ensures shown { shown (D.told desk.new) ≡ shown (D.told desk.old) }
+    ensures cause { HasCause (D.faults desk.old) (D.faults desk.new) result }
+    ensures steady { StaysSteady (D.steady desk.old) (D.steady desk.new)
+        (IsGiven input.id to_read (D.given desk.old) × IsGiven sent.id to_read (D.given desk.old))
+        (IsErrOf result Failed) }
+{
+    let table = Table::new(alloc, settings)?;
+    let mut router = Replay { settings, table };
+    audit_frames(alloc, desk, &mut router, input, sent)
 }
 
 // The length of a router's journal. It ends here, so that nothing is left to be dropped where a call

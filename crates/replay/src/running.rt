@@ -11,6 +11,7 @@ ghost use Rattle.replay.specs.Shared.{has_workers, GivesAfter, GivesWith};
 ghost use Rattle.replay.specs.Front.{part, EndsFront, LeavesFront};
 ghost use Rattle.replay.specs.SharedFront.{EndsAfter, EndsWith};
 
+use crate::audits::audit_capture;
 use crate::last_lines::refuse_words;
 use crate::replaying::replay_capture;
 use crate::showing::show_capture;
@@ -156,5 +157,14 @@ fn do_words<R: Threads + Wait + Sync, D: Desk, G: Gate>(
         }
         Words::Show { input } => show_capture(alloc, desk, input.as_str()),
         Words::Trial { n } => try_number(rt, alloc, desk, *n, gate),
+        Words::Audit {
+            settings,
+            input,
+            sent,
+            nonces,
+        } => {
+            let (settings, input, sent) = (settings.as_str(), input.as_str(), sent.as_str());
+            audit_capture(alloc, desk, settings, input, sent, *nonces)
+        }
     }
 }

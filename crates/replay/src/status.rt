@@ -15,4 +15,6 @@ pub enum Status {
     Host = 4,
     /// An allocation was refused.
     Memory = 5,
+    /// What was audited departs from what should have been sent.
+    Differs = 6,
 }

@@ -1,7 +1,7 @@
 use Rattle.std.proofs.Common.{refl}
 use Rattle.std.proofs.lemmas.Option.{IfSome_then}
 use Rattle.replay.proofs.OpeningLemmas.{classic-opens, classic-stops, own_fault}
-use Rattle.replay.proofs.input.start_classic.Goals as goal
+use Rattle.replay.proofs.input.start_capture.Goals as goal
 
 pub returns-in-Ok-clause-opened : goal.returns-in-Ok-clause-opened
 returns-in-Ok-clause-opened g c =

@@ -1,0 +1,24 @@
+use Rattle.std.proofs.Common.{◌≡◌, ◌∙◌, List, Result, ap, sym}
+use Rattle.std.proofs.lemmas.Result.{IfOk-weaker}
+use Rattle.capture_io.specs.Frame.{Frame}
+use Rattle.command_words.specs.declared.intake.InputFormat.TheVariants.{Classic}
+use Rattle.command_words.specs.declared.nonce_source.NonceSource.TheVariants.{Settings as FromSettings}
+use Rattle.desk.specs.World.{Shown, content}
+use Rattle.desk.proofs.Reading.{IfSome_both}
+use Rattle.playback.specs.declared.fault.InputFault.{InputFault}
+use Rattle.replay.specs.Audit.{found, refused, whole}
+use Rattle.replay.specs.Opening.{opened}
+use Rattle.replay.proofs.AnswerCases.{shown_stays}
+use Rattle.replay.proofs.AuditLemmas.{found-refused}
+use Rattle.replay.proofs.comparing.compare.Goals as goal
+
+pub returns-in-Err-clause-found : goal.returns-in-Err-clause-found
+returns-in-Err-clause-found g c =
+    let old = g.D.Desk.told c.args.desk.now in
+    let settings = c.args.settings.now in
+    let fault = c.in-Err.fault in
+    IfOk-weaker c.refuse_sent.result _ _ (λ finding is.
+    let moved = shown_stays (λ (o : Shown). finding ≡ refused (whole (opened Classic (content c.args.input.now o.files))) fault) old (g.D.Desk.told c.open_classic.new.desk) c.in_ok-records.ensures.shown is in
+    IfSome_both old (rw c.in-Err.is at c.in_ok-records.ensures.opened) moved (λ w stops same.
+    let input = whole (opened Classic (content c.args.input.now w.files)) in
+    same ∙ sym (found-refused settings input fault) ∙ ap (λ (r : Result (List Frame) InputFault). found FromSettings settings input r) (sym (ap whole stops)))) c.refuse_sent.ensures.found

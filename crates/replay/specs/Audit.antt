@@ -1,0 +1,107 @@
+-- What an audit finds: what a router sent, held against the packets of the plain router.
+use Rattle.std.specs.Prelude.{◌≡◌, ℕ, Bool, false, List, ◌∷◌, codes, Option, Some, None, Result, Ok, Err, if◌then◌else◌}
+use Rattle.audit.specs.Compared.{compared}
+use Rattle.audit.specs.Lifted.{lifted}
+use Rattle.audit.specs.declared.outcome.Outcome.{Outcome as Comparison}
+use Rattle.audit.specs.declared.outcome.Outcome.TheVariants.{Same, Differs, Missing, Extra}
+use Rattle.auditing.specs.Auditing.{octets_of}
+use Rattle.auditing.specs.declared.audited.Audited.{Audited}
+use Rattle.auditing.specs.declared.audited.Audited.TheVariants.{Compared, Played as BadPlayed, Sent as BadSent}
+use Rattle.capture_events.specs.Events.{events, played}
+use Rattle.capture_io.specs.Frame.{Frame}
+use Rattle.capture_io.specs.Run.{Run}
+use Rattle.capture_io.specs.declared.fault.CaptureFault.{CaptureFault}
+use Rattle.command_words.specs.declared.nonce_source.NonceSource.{NonceSource}
+use Rattle.command_words.specs.declared.nonce_source.NonceSource.TheVariants.{Settings as FromSettings, Sent as FromSent}
+use Rattle.lisp_settings.specs.declared.fault.SettingsFault.{SettingsFault}
+use Rattle.lisp_settings.specs.declared.fault.SettingsFault.TheVariants.{BadValue}
+use Rattle.lisp_settings.specs.declared.settings.Settings.{Settings}
+use Rattle.playback.specs.declared.fault.InputFault.{InputFault}
+use Rattle.router_model.specs.Plain.{plain, started}
+use Rattle.replay.specs.Lines.{comparison_line, fault_line, sent_line, settings_line}
+use Rattle.replay.specs.Opening.{Opened}
+use Rattle.replay.specs.declared.finding.Finding.{Finding}
+use Rattle.replay.specs.declared.finding.Finding.TheVariants as finding
+use Rattle.replay.specs.declared.status.Status.{Status}
+use Rattle.replay.specs.declared.status.Status.TheVariants.{Capture, Differs as SentDiffers, Done, Settings as BadSettings}
+
+-- the nonces are lifted, and some of them may be those of echoes, of which no request tells
+abbrev pub lifts_echoes : NonceSource → Settings → Bool
+lifts_echoes FromSettings settings = false
+lifts_echoes FromSent settings = settings.echo
+
+-- the settings, with the nonces that were lifted out of these records in place of their own, or as they are
+abbrev pub with_nonces : NonceSource → Settings → List Frame → Settings
+with_nonces FromSettings settings records = settings
+with_nonces FromSent settings records = record settings { nonces = lifted settings records }
+
+-- how the packets that the plain router sends for frames compare with the records of what was sent
+unfoldable pub comparison : Settings → List Frame → List Frame → Comparison
+comparison settings frames records =
+    compared (octets_of (played plain (started settings) (events frames)).packets) records
+
+-- the frames of a capture that has no fault, or its fault
+abbrev pub whole : Opened → Result (List Frame) InputFault
+whole (Err fault) = Err fault
+whole (Ok run) = elim run.fault [ Some fault ↦ Err fault | None ↦ Ok run.frames ]
+
+-- by the capture that the router was given, and that of what it sent
+abbrev pub found : NonceSource → Settings → Result (List Frame) InputFault → Result (List Frame) InputFault → Finding
+found source settings (Err fault) sent = finding.Input fault
+found source settings (Ok frames) (Err fault) = finding.Sent fault
+found source settings (Ok frames) (Ok records) =
+    finding.Compared (comparison (with_nonces source settings records) frames records)
+
+-- and by the settings
+abbrev pub found_by : NonceSource → Result Settings SettingsFault → Opened → Opened → Finding
+found_by source (Err fault) input sent = finding.Settings fault
+found_by source (Ok settings) input sent =
+    if lifts_echoes source settings then finding.Echo else found source settings (whole input) (whole sent)
+
+-- the line of what was found
+abbrev pub finding_line : Finding → List ℕ
+finding_line (finding.Settings fault) = settings_line fault
+finding_line finding.Echo = settings_line (BadValue (codes "echo"))
+finding_line (finding.Input fault) = fault_line fault
+finding_line (finding.Sent fault) = sent_line fault
+finding_line (finding.Compared outcome) = comparison_line outcome
+
+-- the status of a comparison
+abbrev pub comparison_status : Comparison → Status
+comparison_status (Same packets) = Done
+comparison_status (Differs position place) = SentDiffers
+comparison_status (Missing position) = SentDiffers
+comparison_status (Extra position) = SentDiffers
+
+-- and of what was found
+abbrev pub finding_status : Finding → Status
+finding_status (finding.Settings fault) = BadSettings
+finding_status finding.Echo = BadSettings
+finding_status (finding.Input fault) = Capture
+finding_status (finding.Sent fault) = Capture
+finding_status (finding.Compared outcome) = comparison_status outcome
+
+-- ### for contracts of parts alone
+
+-- the fault of a capture, if it has one
+abbrev pub fault_in : Result (List Frame) InputFault → Option InputFault
+fault_in (Ok frames) = None
+fault_in (Err fault) = Some fault
+
+-- what is found where the capture of what was sent has that fault
+abbrev pub refused : Result (List Frame) InputFault → InputFault → Finding
+refused (Ok frames) fault = finding.Sent fault
+refused (Err own) fault = finding.Input own
+
+-- nonces were lifted out of the frames of a capture, or it has that fault
+abbrev pub LiftsFrom : Settings → Result (List Frame) InputFault → Result (List ℕ) InputFault → Type 0
+LiftsFrom settings sent (Ok nonces) =
+    (records : List Frame) × (sent ≡ Ok records) × (nonces ≡ lifted settings records)
+LiftsFrom settings sent (Err fault) = sent ≡ Err fault
+
+-- an audit of two captures by the plain router
+abbrev pub AuditsAs : Settings → Run CaptureFault → Run CaptureFault → Audited → Type 0
+AuditsAs settings input sent (Compared outcome) =
+    (input.fault ≡ None) × ((sent.fault ≡ None) × (outcome ≡ comparison settings input.frames sent.frames))
+AuditsAs settings input sent (BadPlayed fault) = input.fault ≡ Some fault
+AuditsAs settings input sent (BadSent fault) = sent.fault ≡ Some fault
