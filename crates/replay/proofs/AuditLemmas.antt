@@ -4,7 +4,11 @@ use Rattle.std.specs.Option.{option_map, unwrap_or, IfSome, IsSomeAnd}
 use Rattle.std.specs.Result.{IfOk}
 use Rattle.std.proofs.lemmas.Bool.{cases_Bool}
 use Rattle.std.proofs.lemmas.Grind.{common_steps}
-use Rattle.auditing.specs.Auditing.{run_in, IsLifted, KeepsOthers}
+use Rattle.audit.specs.Compared.{compared}
+use Rattle.auditing.specs.Auditing.{octets_of, run_in, IsAudited, IsLifted, KeepsOthers}
+use Rattle.auditing.specs.declared.audited.Audited.{Audited}
+use Rattle.auditing.specs.declared.audited.Audited.TheVariants.{Compared, Played as BadPlayed, Sent as BadSent}
+use Rattle.capture_events.specs.Events.{Determined, Outcome, events, played}
 use Rattle.capture_io.specs.Frame.{Frame}
 use Rattle.capture_io.specs.Reading.{Reading, beginning}
 use Rattle.capture_io.specs.Run.{Run}
@@ -12,13 +16,20 @@ use Rattle.capture_io.specs.declared.fault.CaptureFault.{CaptureFault}
 use Rattle.command_words.specs.declared.nonce_source.NonceSource.TheVariants.{Settings as FromSettings, Sent as FromSent}
 use Rattle.command_words.specs.declared.intake.InputFormat.TheVariants.{Classic}
 use Rattle.desk.specs.World.{World, Direction, Shown, after_open, after_read, changed_at, content, found_at, left_of, shown, shown_of, to_read, IsGiven}
+use Rattle.lisp_settings.specs.Lawful.{IsLawful}
 use Rattle.lisp_settings.specs.declared.settings.Settings.{Settings}
+use Rattle.playback.proofs.DeterminedLemmas.{determined-played}
+use Rattle.router_model.specs.Journal.{statics}
+use Rattle.router_model.specs.Lifting.{outcome_tabled}
+use Rattle.router_model.specs.Parts.{Parts, parts_in, table}
+use Rattle.router_model.specs.Plain.{Router, after_event, plain, started}
 use Rattle.playback.specs.Input.{input_run}
 use Rattle.playback.specs.declared.fault.InputFault.{InputFault}
 use Rattle.playback.specs.declared.fault.InputFault.TheVariants as of
-use Rattle.replay.specs.Audit.{LiftsFrom, fault_in, found, refused, whole}
+use Rattle.replay.proofs.ArrivalLemmas.{arrived-replays}
+use Rattle.replay.specs.Audit.{AuditsAs, LiftsFrom, comparison, fault_in, found, refused, whole}
 use Rattle.replay.specs.Opening.{KeepsGiven, Opened, OpensClassic, opened}
-use Rattle.replay.specs.declared.finding.Finding.{Finding}
+use Rattle.replay.specs.Taking.{router_of}
 use Rattle.replay.specs.declared.finding.Finding.TheVariants as finding
 use Rattle.replay.proofs.OpeningLemmas.{left-opened}
 use Rattle.replay.proofs.SteadyLemmas.{given-kept}
@@ -95,6 +106,20 @@ named-classic id name (Some w) mid now reader fresh opens is =
     subst (λ (file : List ℕ). OpensClassic (opened Classic file) reader now) (left-opened id name w fresh) (rw opens at is)
 
 -- ### what is found
+
+-- two captures, audited by the table of the static mappings: as the plain router
+pub audits-as : (settings : Settings) (parts : Parts) (input sent : Run CaptureFault) (audited : Audited) → IsLawful settings → parts ≡ parts_in settings (statics settings)
+    → IsAudited (Determined (after_event table)) (router_of settings parts) input sent audited → AuditsAs settings input sent audited
+unfolding comparison
+audits-as settings parts input sent (Compared outcome) lawful begins (whole, same, compares) =
+    let state = router_of settings parts in
+    let played-out : compares.outcome ≡ played (after_event table) state (events input.frames) =
+    determined-played (after_event table) state compares.steps compares.outcome compares.played ∙ ap (played (after_event table) state) compares.steps_are.events in
+    let tabled : played (after_event table) state (events input.frames) ≡ outcome_tabled (played plain (started settings) (events input.frames)) =
+    rw begins (arrived-replays settings input.frames lawful compares.came) in
+    (whole, (same, compares.compares ∙ ap (λ (o : Outcome (Router Parts)). compared (octets_of o.packets) sent.frames) (played-out ∙ tabled)))
+audits-as settings parts input sent (BadPlayed fault) lawful begins is = is
+audits-as settings parts input sent (BadSent fault) lawful begins is = is
 
 -- a classic capture's frames, where it has no fault
 pub whole-run : (run : Run CaptureFault) → run.fault ≡ None → whole (Ok (input_run of.Classic run)) ≡ Ok run.frames

@@ -1,5 +1,6 @@
 pub mod AnswerCases
 pub mod ArrivalLemmas
+pub mod AuditLemmas
 pub mod FrontCases
 pub mod MessageLemmas
 pub mod OpeningLemmas

@@ -137,6 +137,12 @@ is_of_form Capture = true
 is_of_form Differs = true
 is_of_form _ = false
 
+-- words, settings and captures were lawful
+abbrev pub is_lawful_end : Status → Bool
+is_lawful_end Done = true
+is_lawful_end Differs = true
+is_lawful_end _ = false
+
 -- the capture was read to its end, or to its fault
 abbrev pub is_end : Status → Bool
 is_end Done = true

@@ -4,9 +4,9 @@ ghost use Rattle.octets.specs.Causes.{Rose};
 ghost use Rattle.desk.specs.declared.fault.DeskFault.TheVariants.{Failed};
 ghost use Rattle.desk.specs.Causes.{HasCause, StaysSteady};
 ghost use Rattle.desk.specs.World.{shown, shown_of};
-ghost use Rattle.replay.specs.declared.status.Status.TheVariants.{Done, Usage, Host, Memory};
+ghost use Rattle.replay.specs.declared.status.Status.TheVariants.{Usage, Host, Memory};
 ghost use Rattle.command_words.specs.Words.{words_of, AreWithinLimits};
-ghost use Rattle.replay.specs.Answer.{answer, is_of_form, is_outside, names_read, AreThere, Leaves};
+ghost use Rattle.replay.specs.Answer.{answer, is_lawful_end, is_of_form, is_outside, names_read, AreThere, Leaves};
 ghost use Rattle.replay.specs.Shared.{has_workers, GivesAfter, GivesWith};
 ghost use Rattle.replay.specs.Front.{part, EndsFront, LeavesFront};
 ghost use Rattle.replay.specs.SharedFront.{EndsAfter, EndsWith};
@@ -69,14 +69,14 @@ pub fn run<R: Threads + Wait + Sync, D: Desk, G: Gate>(
         (AreThere (names_read (words_of (map string_bytes words.now))) (D.told desk.old))
         (result ≡ Host) }
 
-    // Where words, settings and capture are lawful, and no call fails or none can, only memory can
+    // Where words, settings and captures are lawful, and no call fails or none can, only memory can
     // be wanting.
     ensures complete { IfSome (D.told desk.old) (λ w.
-        (answer (map string_bytes words.now) w.files).status ≡ Done
+        IsTrue (is_lawful_end (answer (map string_bytes words.now) w.files).status)
         → ((¬ Rose (D.faults desk.old) (D.faults desk.new))
         ⊎ (IsTrue (D.steady desk.old)
         × AreThere (names_read (words_of (map string_bytes words.now))) (D.told desk.old)))
-        → (result ≡ Done) ⊎ (result ≡ Memory)) }
+        → (result ≡ (answer (map string_bytes words.now) w.files).status) ⊎ (result ≡ Memory)) }
 {
     match answer_words(rt, alloc, words, desk, gate) {
         Ok(status) => status,
