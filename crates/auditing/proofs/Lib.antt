@@ -1,2 +1,4 @@
 mod ComingLemmas
+mod HoldingLemmas
 mod LiftLemmas
+mod RecordLemmas

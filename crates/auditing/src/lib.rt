@@ -4,8 +4,10 @@
 
 mod audited;
 mod auditing;
+mod holding;
 mod lifting;
 mod reading;
+mod records;
 
 pub use audit::{Nonces, Outcome, Settings};
 pub use audited::Audited;
