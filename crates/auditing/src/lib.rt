@@ -4,8 +4,12 @@
 
 mod audited;
 mod auditing;
+mod holding;
 mod lifting;
+mod playing;
 mod reading;
+mod records;
+mod seconds;
 
 pub use audit::{Nonces, Outcome, Settings};
 pub use audited::Audited;

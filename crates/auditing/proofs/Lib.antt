@@ -1,0 +1,7 @@
+mod BothLemmas
+mod ComingLemmas
+mod FrameLemmas
+mod HoldingLemmas
+mod LiftLemmas
+mod RecordLemmas
+mod StepLemmas
