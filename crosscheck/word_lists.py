@@ -119,7 +119,7 @@ def of_an_audit():
     yield audit("--nonces", "sent"), lifts
     for files in ("s", "i", "o"), ("a", "a", "a"), ("i", "s", "s"), ("sent", "settings", "nonces"), ("./s", "x y", "s=s"):
         yield audit(settings=files[0], source=files[1], sent=files[2]), Audit(*files)
-    for sent in "I", "./i", "i ", "ii", "i--", "=", " ", "audit", "sent", "0", "٣", "ö":
+    for sent in "I", "./x", "i ", "ii", "i--", "=", " ", "audit", "sent", "0", "٣", "ö":
         yield audit(sent=sent), Audit("s", "i", sent)
 
 
