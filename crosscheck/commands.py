@@ -5,6 +5,8 @@ from typing import NamedTuple
 
 NUMBER = re.compile(r"0|[1-9][0-9]*")
 SPLITS = {"on": True, "off": False}
+# Whether nonces are lifted out of what was sent.
+NONCES = {"sent": True, "settings": False}
 MOST_WORKERS, MOST_ROUND, MOST_MAPPINGS = 16, 4096, 50_000
 
 
@@ -32,6 +34,13 @@ class Show(NamedTuple):
 
 class Trial(NamedTuple):
     count: int
+
+
+class Audit(NamedTuple):
+    settings: str
+    input: str
+    sent: str
+    lifts: bool = False
 
 
 def number(word, least, most):
@@ -80,7 +89,15 @@ def trial_of(words):
     return None if count is None else Trial(count)
 
 
+def audit_of(words):
+    match pairs(words):
+        case {"--settings": settings, "--in": source, "--sent": sent, **others}:
+            lifts = NONCES.get(others.pop("--nonces", "settings"))
+            return None if others or lifts is None else Audit(settings, source, sent, lifts)
+    return None
+
+
 def command_of(words):
     """The command that the words give, or None where they are of no form."""
-    readers = {"replay": replay_of, "show": show_of, "trial": trial_of}
+    readers = {"replay": replay_of, "show": show_of, "trial": trial_of, "audit": audit_of}
     return readers[words[0]](words[1:]) if words[:1] and words[0] in readers else None

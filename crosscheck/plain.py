@@ -22,16 +22,22 @@ from splitting import split_all
 from wire import Packet, Refused, link_payload, need
 
 
-def played(router, frames, file):
-    """Says a line for each frame and one at the end, and writes what is sent."""
-    count = written = 0
+def turns(router, frames):
+    """Plays frames: of each its moment, the journal's length, its verdict, and the packets until then and for it."""
     for moment, link, frame in frames:
-        count += 1
         sent = router.until(moment)
         known = len(router.journal)
         verdict, packets = router.take(moment, link, frame)
+        yield moment, known, verdict, [*sent, *((moment, packet) for packet in packets)]
+
+
+def played(router, frames, file):
+    """Says a line for each frame and one at the end, and writes what is sent."""
+    count = written = 0
+    for moment, known, verdict, sent in turns(router, frames):
+        count += 1
         print(frame_line(count, moment, known, verdict))
-        for at, packet in [*sent, *((moment, packet) for packet in packets)]:
+        for at, packet in sent:
             written += 1
             file.write(output_record(at, packet))
     print(last_line(count, written, router))

@@ -8,8 +8,8 @@ from typing import NamedTuple
 DATA = os.path.join(os.path.dirname(os.path.dirname(os.path.abspath(__file__))), "crates", "conformance", "data")
 SHARED = os.path.join(DATA, "shared.toml")
 KEYS = {"name": str, "shows": str, "words": (str, list), "settings": (str, list), "link": str, "unit": str,
-        "frames": list, "each": list, "tail": (str, dict), "capture": (str, dict), "desk": str, "fails": list,
-        "status": int, "report": str, "packets": list, "output": (str, dict)}
+        "frames": list, "each": list, "tail": (str, dict), "capture": (str, dict), "sent": (list, str, dict), "desk": str,
+        "fails": list, "status": int, "report": str, "packets": list, "output": (str, dict)}
 REPLAY = "replay --settings settings --in in --out out"
 LINKS, UNITS, DESKS = {"raw": 101, "ethernet": 1}, {"us": 1000, "ns": 1}, ("memory", "steady")
 SECOND, START = 10**9, 1_700_000_000 * 10**9
@@ -134,6 +134,14 @@ def input_of(row, frame, packets):
     return octets + octets_of(row.get("tail", ""), packets)
 
 
+def sent_of(row, packets):
+    """The file `sent`, or None where there is none."""
+    sent = row.get("sent")
+    if isinstance(sent, list):
+        return capture_of(timed(sent, packets))
+    return None if sent is None else octets_of(sent, packets)
+
+
 def output_of(row, packets):
     """The file `out`, or None where there must be none."""
     if "packets" in row:
@@ -147,7 +155,7 @@ def runs_of(row, texts, packets):
     output = output_of(row, packets)
     for words in listed(row.get("words", REPLAY)):
         for said, frame in row.get("each", [("", None)]):
-            files = {"in": input_of(row, frame, packets)}
+            files = {"in": input_of(row, frame, packets), "sent": sent_of(row, packets)}
             if "settings" in row:
                 files["settings"] = "".join(texts.get(text, text) for text in listed(row["settings"])).encode()
             report = row["report"] if frame is None else row["report"].replace("{}", said, 1)

@@ -10,18 +10,20 @@ one does. With --print it prints the rows whole: their words, settings, frames a
 Left out are runs of which a call of the desk fails; with a program those on a steady desk too, and with the plain
 router a trial of more than 2,000 mappings.
 """
+import functools
 import os
 import subprocess
 import sys
 import tempfile
 
+import auditing
 import limits
 import limits_ng
 import plain
 import rounds
 import trial
 from captures_ng import reader_of
-from commands import Replay, Trial, command_of
+from commands import Audit, Replay, Show, Trial, command_of
 from differing import difference, output_lines
 from rounds import Unforced, forced
 from row_runs import BadRow, files_of_rows, rows_of
@@ -57,16 +59,27 @@ class Plain:
             return 1, "usage\n"
         if type(command) is Trial:
             return 0, tried(command.count, folder)
-        names = command[:3] if type(command) is Replay else command[:1]
-        paths = [os.path.join(folder, name) for name in names]
-        for path in paths[:2] if run.is_steady else []:
+        call, read, made = files_of(command)
+        paths = [os.path.join(folder, name) for name in (*read, *made)]
+        for path in paths[:len(read)] if run.is_steady else []:
             open(path, "ab").close()
         try:
-            return plain.ended(replay_of(command) if type(command) is Replay else plain.show, *paths)
+            return plain.ended(call, *paths)
         except FileNotFoundError:
             return 4, ""
         except Unforced as choice:
             return None, f"{choice}\n"
+
+
+def files_of(command):
+    """The call that answers a command, the names of the files that it reads, and of those that it makes."""
+    match command:
+        case Replay(settings, source, output):
+            return replay_of(command), (settings, source), (output,)
+        case Audit(settings, source, sent, lifts):
+            return functools.partial(auditing.audit, lifts=lifts), (settings, source, sent), ()
+        case Show(source):
+            return plain.show, (source,), ()
 
 
 def replay_of(command):

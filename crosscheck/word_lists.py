@@ -1,9 +1,11 @@
 """Lists of words with the command that each gives, or None; and lists made from a number by changing lawful ones."""
-from commands import Format, Replay, Show, Trial
+from commands import Audit, Format, Replay, Show, Trial
 
 # The names of a settings file, a capture and an output.
 FILES = "s", "i", "o"
 WHOLE = Replay(*FILES)
+# An audit of the files that are there as a program begins.
+AUDIT = Audit("s", "i", "i")
 # What spells no number; the last are digits, but not those of ASCII.
 NO_NUMBERS = ["", "00", "01", "+1", "-1", "-0", " 1", "1 ", "1\n", "1e3", "1.0", "1_0", "1,0", "0x1", "=1", "one",
               "٣", "1٣", "１", "²"]
@@ -18,14 +20,18 @@ NO_FORMATS = ["", "-", "--", "-ng", "0", "1", "n", "g", "Ng", "NG", "ng ", " ng"
 # What doesn't say whether large packets are split.
 NO_SPLITS = ["", "-", "--", "-on", "0", "1", "o", "n", "of", "On", "ON", "Off", "OFF", "oN", "on ", " on", "on\n", "onn",
              "offf", "no", "yes", "true", "false", "none", "classic", "ng", "vlan", "on,off", "four", "оn", "--in"]
+# What doesn't say where an audit's nonces come from.
+NO_NONCES = ["", "-", "--", "-sent", "0", "1", "s", "sen", "ent", "sents", "Sent", "SENT", "sent ", " sent", "sent\n",
+             "setting", "ettings", "settingss", "Settings", "SETTINGS", "settings ", "sent,settings", "seed", "list", "both",
+             "none", "on", "off", "in", "ѕent", "--in", "--sent"]
 # Pairs that name one of the formats.
 FORMATS = [[], [["--format", "classic"]], [["--format", "ng"]], [["--interfaces", "none"]],
            [["--format", "classic"], ["--interfaces", "none"]], [["--format", "ng"], ["--interfaces", "none"]],
            [["--format", "ng"], ["--interfaces", "vlan"]]]
-NAMES = ["--settings", "--in", "--out", "--format", "--interfaces", "--split", "--workers", "--round"]
-VALUES = [*FILES, "x", "0", "1", "20", "in", "classic", "ng", "none", "vlan", "on", "off"]
+NAMES = ["--settings", "--in", "--out", "--format", "--interfaces", "--split", "--workers", "--round", "--sent", "--nonces"]
+VALUES = [*FILES, "x", "0", "1", "20", "in", "classic", "ng", "none", "vlan", "on", "off", "sent", "settings"]
 NUMBERS = [*NO_NUMBERS, *TOO_LARGE, "0", "1", "16", "17", "4096", "4097", "50001"]
-WORDS = [*NUMBERS, *NO_NAMES, *NAMES, *VALUES, "replay", "show", "trial"]
+WORDS = [*NUMBERS, *NO_NAMES, *NAMES, *VALUES, "replay", "show", "trial", "audit"]
 LETTERS = "-= 019siI٣"
 MOST_TRIED = 20
 
@@ -34,6 +40,10 @@ MOST_TRIED = 20
 
 def replay(*more, settings="s", source="i", output="o"):
     return ["replay", "--settings", settings, "--in", source, "--out", output, *more]
+
+
+def audit(*more, settings="s", source="i", sent="i"):
+    return ["audit", "--settings", settings, "--in", source, "--sent", sent, *more]
 
 
 def lawful():
@@ -56,6 +66,7 @@ def lawful():
     yield replay(settings="./o", source="x y"), Replay("./o", "x y", "o")
     for output in "I", "S", "O", "./o", "./i", "i ", "ii", "s=s", "o--", "=", " ", "replay", "out", "0", "٣", "ö":
         yield replay(output=output), Replay("s", "i", output)
+    yield from of_an_audit()
     for source in "i", "s", "show", "x y", "i=i", "i-", "ö":
         yield ["show", "--in", source], Show(source)
     for count in 1, 9, 10, MOST_TRIED, 49_999, 50_000:
@@ -95,19 +106,38 @@ def of_a_split():
     yield replay("--split", "on", output="on"), Replay("s", "i", "on", split=True)
 
 
+def of_an_audit():
+    lifts = AUDIT._replace(lifts=True)
+    yield audit(), AUDIT
+    for words in ("--settings s --sent i --in i", "--in i --settings s --sent i", "--in i --sent i --settings s",
+                  "--sent i --settings s --in i", "--sent i --in i --settings s"):
+        yield ["audit", *words.split()], AUDIT
+        yield ["audit", *words.split(), "--nonces", "sent"], lifts
+        yield ["audit", "--nonces", "sent", *words.split()], lifts
+        yield ["audit", *words.split()[:2], "--nonces", "settings", *words.split()[2:]], AUDIT
+    yield audit("--nonces", "settings"), AUDIT
+    yield audit("--nonces", "sent"), lifts
+    for files in ("s", "i", "o"), ("a", "a", "a"), ("i", "s", "s"), ("sent", "settings", "nonces"), ("./s", "x y", "s=s"):
+        yield audit(settings=files[0], source=files[1], sent=files[2]), Audit(*files)
+    for sent in "I", "./x", "i ", "ii", "i--", "=", " ", "audit", "sent", "0", "٣", "ö":
+        yield audit(sent=sent), Audit("s", "i", sent)
+
+
 def of_no_command():
     yield from ([], [""], ["-"], ["--"], ["usage"], ["help"], ["--help"], ["-h"], ["--version"], [*FILES])
-    for name in "REPLAY", "Replay", "replays", "repla", " replay", "replay ", "--replay", "show", "trial", "play", "":
+    for name in "REPLAY", "Replay", "replays", "repla", " replay", "replay ", "--replay", "show", "trial", "audit", "play", "":
         yield [name, *replay()[1:]]
+    for name in "AUDIT", "Audit", "audits", "audi", " audit", "audit ", "--audit", "replay", "show", "trial", "":
+        yield [name, *audit()[1:]]
     yield from ([name, "--in", "i"] for name in ("SHOW", "Show", "shows", "sho", "show ", "--show", "replay"))
     yield from ([name, "5"] for name in ("TRIAL", "Trial", "trials", "trail", " trial", "--trial", "replay", "show"))
-    yield replay()[1:]
-    yield ["replay", *replay()]
+    yield from (replay()[1:], audit()[1:])
+    yield from (["replay", *replay()], ["audit", *audit()], ["audit", *replay()])
     yield ["replay", *1000 * ["--in", "i"]]
 
 
-def of_no_replay():
-    words = replay()
+def of_three_files(words):
+    """The words of a command with three files, of which something is wrong."""
     yield from (words[:size] for size in range(1, len(words)))
     for place in 1, 3, 5:
         front, (name, value), rest = words[:place], words[place:place + 2], words[place + 2:]
@@ -115,6 +145,11 @@ def of_no_replay():
         yield from ([*front, *some, *rest] for some in put)
         yield from ([*front, name, wrong, *rest] for wrong in ("", "-", "--", "-x", "-1", name, f"-{value}"))
         yield from ([*words, name, again] for again in (value, "x"))
+
+
+def of_no_replay():
+    words = replay()
+    yield from of_three_files(words)
     for name, value in (("--format", "ng"), ("--interfaces", "none"), ("--split", "on"), ("--split", "off"),
                         ("--workers", "0"), ("--round", "1")):
         for some in [name], [name, value, name, value], [f"{name}={value}"], [value, name], [name + "s", value]:
@@ -130,6 +165,8 @@ def of_no_replay():
     yield from (replay(output="i"), replay(output="s"), replay(source="o"), replay(settings="o"))
     yield from (replay(source="s", output="s"), replay(source="ö", output="ö"))
     yield "replay --out i --in i --settings s".split()
+    yield from (replay("--sent", "i"), replay("--nonces", "settings"), replay("--nonces", "sent", "--sent", "i"))
+    yield "replay --settings s --in i --sent o".split()
 
 
 def of_no_format():
@@ -162,6 +199,25 @@ def of_no_split():
         yield replay("--interfaces", "vlan", "--split", first)
 
 
+def of_no_audit():
+    words = audit()
+    yield from of_three_files(words)
+    for word in NO_NONCES:
+        yield audit("--nonces", word)
+        yield ["audit", "--nonces", word, *words[1:]]
+    for first in "sent", "settings":
+        yield from (audit("--nonces", first, "--nonces", second) for second in ("sent", "settings"))
+        yield from (audit("--nonces", first, more) for more in ("", "x", "--nonces"))
+        yield from (audit("--nonce", first), audit("--Nonces", first), audit(f"--nonces={first}"), audit(first, "--nonces"))
+    for name, value in (("--out", "o"), ("--format", "classic"), ("--format", "ng"), ("--interfaces", "none"),
+                        ("--split", "on"), ("--split", "off"), ("--workers", "0"), ("--round", "1")):
+        yield audit(name, value)
+        yield ["audit", name, value, *words[1:]]
+    for name in [*NO_NAMES, "--sents", "--Sent", "--sen", "-sent", "--out"]:
+        yield audit(name, "1")
+        yield [*words[:5], name, *words[6:]]
+
+
 def of_no_number():
     for value in [*NO_NUMBERS, *TOO_LARGE, "0", "4097", "5000", "10000"]:
         yield replay("--round", value)
@@ -177,7 +233,7 @@ def of_no_show_or_trial():
                   ["--in", "i", "--in", "x"], ["--", "--in", "i"]):
         yield ["show", *words]
     yield from (["show", "--in", value] for value in ("", "-", "--", "-i", "-1", "--in"))
-    yield from (["show", name, "i"] for name in [*NO_NAMES, "--out", "--settings"])
+    yield from (["show", name, "i"] for name in [*NO_NAMES, "--out", "--settings", "--sent", "--nonces"])
     for name, value in (("--settings", "s"), ("--out", "o"), ("--format", "ng"), ("--interfaces", "none"),
                         ("--split", "on"), ("--split", "off"), ("--workers", "0"), ("--round", "1"), ("--n", "5")):
         yield ["show", "--in", "i", name, value]
@@ -191,7 +247,8 @@ def of_no_show_or_trial():
 def table():
     """Each word list, and what it gives."""
     yield from lawful()
-    for part in of_no_command, of_no_replay, of_no_format, of_no_split, of_no_number, of_no_show_or_trial:
+    for part in (of_no_command, of_no_replay, of_no_format, of_no_split, of_no_audit, of_no_number,
+                 of_no_show_or_trial):
         yield from ((words, None) for words in part())
 
 
@@ -207,6 +264,8 @@ def no_texts():
         yield replay("--format", b"ng" + octets)
         yield replay("--split", b"on" + octets)
         yield replay(b"--round" + octets, "1")
+        yield audit(sent=octets)
+        yield audit("--nonces", b"sent" + octets)
         yield ["show", "--in", octets]
         yield [b"show" + octets, "--in", "i"]
         yield ["trial", b"5" + octets]
@@ -216,13 +275,18 @@ def no_texts():
 
 
 def started(r):
-    """A lawful list; one of a replay mostly names the files that are there."""
+    """A lawful list; one of a replay or an audit mostly names the files that are there."""
     kind = r.random()
     if kind < 0.2:
         return ["trial", str(r.randint(1, MOST_TRIED))]
     if kind < 0.35:
         return ["show", "--in", r.choice(VALUES)]
-    found = [["--settings", "s"], ["--in", "i"], ["--out", r.choice("ooox")]]
+    found = [["--settings", "s"], ["--in", "i"]]
+    if kind < 0.55:
+        found += [["--sent", r.choice("iiis")], *([["--nonces", r.choice(["sent", "settings"])]] * (r.random() < 0.6))]
+        r.shuffle(found)
+        return ["audit", *(word for pair in found for word in pair)]
+    found += [["--out", r.choice("ooox")]]
     found += [["--workers", str(r.choice([0, 1, 9, 10, 16, r.randint(0, 16)]))]] * (r.random() < 0.4)
     found += [["--round", str(r.choice([1, 9, 10, 256, 4096, r.randint(1, 4096)]))]] * (r.random() < 0.4)
     found += r.choice(FORMATS) if r.random() < 0.5 else []

@@ -14,15 +14,17 @@ import subprocess
 import sys
 import tempfile
 
+from auditing import audit
 from captures import output_header
-from commands import Format, Show, Trial, command_of
-from word_lists import FILES, MOST_TRIED, made, no_texts, table
+from commands import Audit, Format, Replay, Show, Trial, command_of
+from plain import ended
+from word_lists import AUDIT, FILES, MOST_TRIED, made, no_texts, table
 from wire import contents
 
 FIRST = os.path.join(os.path.dirname(os.path.dirname(os.path.abspath(__file__))), "examples", "first")
 USAGE, SECONDS, MOST_SHOWN = b"usage\n", 60, 10
 # The statuses of the program, and those of them with which it answers a command.
-STATUSES, ANSWERS = range(6), (0, 2, 3, 4)
+STATUSES, ANSWERS = range(7), (0, 2, 3, 4)
 
 
 def octets(word):
@@ -42,6 +44,10 @@ class Program:
         # output before it finds that it is none.
         self.right = 0, contents(os.path.join(FIRST, "expected.txt")), contents(os.path.join(FIRST, "expected.pcap"))
         self.refused = 3, b"capture bad-magic\n", output_header()
+        # That to an audit of these: what came is held against what was due, which is in a tunnel.
+        files = [os.path.join(FIRST, name) for name in ("settings.toml", "capture.pcap", "capture.pcap")]
+        status, report = ended(audit, *files)
+        self.audited = status, report.encode(), b""
 
     def run(self, words):
         """Its status, its report, and the file `o`; the status is None where it doesn't end."""
@@ -63,9 +69,11 @@ class Program:
         if type(command) is Trial:
             line = f"trial {command.count} frames={command.count + 1} written={command.count} "
             return status == 0 and report.startswith(line.encode()) and report.count(b"\n") == 1
-        if command[:3] == FILES:
+        if type(command) is Replay and command[:3] == FILES:
             answer = self.right if command.format is Format.CLASSIC else self.refused
             return (status, report, output) == answer
+        if type(command) is Audit and command[:3] == AUDIT[:3]:
+            return (status, report, output) == self.audited
         if command == Show("i"):
             return status == 0 and report.endswith(b"\nend frames=1\n")
         return status in ANSWERS and report != USAGE

@@ -55,7 +55,16 @@ SENTENCES = {
         "too-many-records": "the file has more than 1,000,000,000 frames, or than 4,000,000,000 blocks",
     },
 }
-LINE = re.compile(rb"(?:^|\n)((?:settings|capture) [^\n]*)\n$")
+# What an audit has otherwise.
+AUDITED = {
+    "bad-value echo": "it is true or false, and with --nonces sent not true: a packet that asks for an echo has but 24 "
+                      "bits of its nonce",
+    "bad-magic": "the file doesn't begin as a capture in the pcap format does; of a pcapng file editcap -F nsecpcap "
+                 "makes one",
+}
+# The words with which a last line of a status begins: an audit reads two captures.
+KINDS = {"settings": ("settings",), "capture": ("capture", "sent")}
+LINE = re.compile(rb"(?:^|\n)((?:settings|capture|sent) [^\n]*)\n$")
 # A file that is no folder, under which none can be made.
 EMPTY, NOWHERE = "/dev/null", "/dev/null/lispr"
 
@@ -64,11 +73,22 @@ def sentence(line, words):
     """The plain sentence for a last line of a run with these words, or None."""
     kind, _, rest = line.partition(" ")
     word, *others = rest.split(" ")
-    known = SENTENCES["pcapng" if kind == "capture" and is_pcapng(words) else kind]
+    known = {**table(kind, words), **(AUDITED if is_audit(words) else {})}
     try:
         return known.get(rest, known.get(word, "")).format(*others) or None
     except IndexError:
         return None
+
+
+def table(kind, words):
+    """The sentences for a last line that begins with that word."""
+    if kind == "settings":
+        return SENTENCES["settings"]
+    return SENTENCES["pcapng" if is_pcapng(words) else "capture"]
+
+
+def is_audit(words):
+    return words[:1] == ["audit"]
 
 
 def is_pcapng(words):
@@ -89,7 +109,10 @@ def line_of_report():
 
 def again(kind, words):
     """The files to be read once more for a last line of that kind, and the program's words that do it and make none."""
-    settings, capture = value_of("--settings", words), value_of("--in", words)
+    settings, capture, sent = (value_of(name, words) for name in ("--settings", "--in", "--sent"))
+    if is_audit(words):
+        # It makes no file.
+        return [settings, capture, sent], words
     if kind == "settings":
         return [settings], ["replay", "--settings", settings, "--in", EMPTY, "--out", NOWHERE]
     if is_pcapng(words):
@@ -127,6 +150,6 @@ def last_line(kind, status, program, words):
         line = line_of_report()
     except (OSError, ValueError):
         line = None
-    if line is None or not line.startswith(kind.encode()):
+    if line is None or not line.startswith(tuple(word.encode() for word in KINDS[kind])):
         line = line_again(kind, status, program, words)
     return line.decode("utf-8", "surrogateescape") if line else None

@@ -71,7 +71,7 @@ def refusal(what, ask, *given):
 def input_reasons(words):
     """Which of the files can't be read, and why."""
     found = []
-    for name in ("--settings", "--in"):
+    for name in ("--settings", "--in", "--sent"):
         path = value_of(name, words)
         if path is not None:
             found += refusal(f"{name} {shown(path)} can't be read", open_again, path, READ)

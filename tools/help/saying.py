@@ -1,7 +1,7 @@
 """What a person is told when a run has ended."""
 import os
 
-from faults import last_line, sentence
+from faults import is_audit, last_line, sentence
 from files import reasons
 from places import place_texts
 from text import say, shown
@@ -9,7 +9,7 @@ from words import forms, value_of, words_fault
 
 TOP = os.path.dirname(os.path.dirname(os.path.dirname(os.path.abspath(__file__))))
 REFUSED = {"settings": "the settings are refused", "capture": "the capture is refused"}
-USAGE, SETTINGS, CAPTURE, HOST, MEMORY = range(1, 6)
+USAGE, SETTINGS, CAPTURE, HOST, MEMORY, DIFFERS = range(1, 7)
 
 
 def usage_lines(program, words):
@@ -26,6 +26,9 @@ def fault_lines(kind, status, program, words):
     lines = [shown(line), sentence(line, words) or "docs/REPORT.md says more, at Statuses"]
     if kind == "settings":
         lines += place_texts(line, value_of("--settings", words))
+    elif is_audit(words):
+        name = "--sent" if line.startswith("sent ") else "--in"
+        lines.append(f"that is the file of {name}, {shown(value_of(name, words))}")
     return lines
 
 
@@ -48,8 +51,15 @@ def memory_lines(program, words):
     return ["the system gave no memory"]
 
 
+def differs_lines(program, words):
+    """That an audit found what isn't the same."""
+    return [f"{shown(value_of('--sent', words))} doesn't have what this router sends; docs/GUIDE.md says how to look at "
+            "the record that is named"]
+
+
 LINES = {
     USAGE: usage_lines, SETTINGS: settings_lines, CAPTURE: capture_lines, HOST: host_lines, MEMORY: memory_lines,
+    DIFFERS: differs_lines,
 }
 
 

@@ -36,6 +36,7 @@ from words import MAPPINGS, NUMBERS  # noqa: E402
 
 LOCATOR = '[[locator]]\naddress = "192.0.2.1"\n'
 REPLAY = ["replay", "--settings", "s.toml", "--in", "i.pcap", "--out", "o.pcap"]
+AUDIT = ["audit", "--settings", "s.toml", "--in", "i.pcap", "--sent", "o.pcap"]
 wrong = []
 
 
@@ -134,6 +135,21 @@ WORDS = [
     ([*REPLAY, "--spilt", "on"], "--spilt is no option of replay"),
     (["show", "--in", "i.pcap", "--split", "on"], "--split is no option of show"),
     (["trial", "3", "--split", "on"], "--split is one word more"),
+    (["audit"], "lispr audit --settings F --in F --sent F [--nonces settings|sent]\n      the capture of --sent is held"),
+    (["audit"], "--settings lacks"),
+    (AUDIT[:5], "--sent lacks"),
+    (AUDIT[:6], "--sent has no value"),
+    ([*AUDIT, "--sent", "x"], "--sent stands twice"),
+    ([*AUDIT, "--out", "x"], "--out is no option of audit"),
+    ([*AUDIT, "--format", "classic"], "--format is no option of audit"),
+    ([*AUDIT, "--workers", "0"], "--workers is no option of audit"),
+    ([*AUDIT, "--nonces"], "--nonces has no value"),
+    ([*AUDIT, "--nonces=sent"], "the value is a word of its own, --nonces sent"),
+    ([*AUDIT, "--nonces", "seed"], "--nonces is settings or sent, and not seed"),
+    ([*AUDIT, "--nonces", "sent", "--nonces", "sent"], "--nonces stands twice"),
+    ([*REPLAY, "--sent", "x"], "--sent is no option of replay"),
+    ([*REPLAY, "--nonces", "sent"], "--nonces is no option of replay"),
+    (["show", "--in", "i.pcap", "--sent", "x"], "--sent is no option of show"),
     ([*REPLAY, "--workers", "17"], "--workers is a number from 0 to 16"),
     ([*REPLAY, "--round", "0"], "--round is a number from 1 to 4,096"),
     ([*REPLAY, "--round", "9" * 5000], "--round is a number from 1 to 4,096"),
@@ -312,6 +328,58 @@ def test_formats():
             for said, told in (both(words, folder)[1:], *in_file(words, folder, 3)):
                 check(said == b"capture cut-block 0\n", words, said)
                 check("lispr: capture cut-block 0" in told, words, told)
+
+
+# Audits: the files that are others, words behind, what is said, with which status, and what is told.
+
+LIFTED = ["--nonces", "sent"]
+AUDITS = [
+    ({}, [], "audit same packets=1", 0, ""),
+    ({}, LIFTED, "audit same packets=1", 0, ""),
+    ({"o.pcap": header()}, [], "audit missing record=1", 6, "o.pcap doesn't have what this router sends; docs/GUIDE.md"),
+    ({"o.pcap": frames(1)}, LIFTED, "audit differs record=1 place=3", 6, "o.pcap doesn't have what this router sends"),
+    ({"i.pcap": header()}, [], "audit extra record=1", 6, "o.pcap doesn't have what this router sends"),
+    ({"s.toml": "x =", "i.pcap": b"", "o.pcap": b""}, [], "settings not-toml", 2, "s.toml:1: x ="),
+    ({"s.toml": "echo = true\n" + LOCATOR}, LIFTED, "settings bad-value echo", 2, "has but 24 bits of its nonce"),
+    ({"s.toml": "echo = true\n" + LOCATOR}, LIFTED, "settings bad-value echo", 2, "s.toml:1: echo = true"),
+    ({"s.toml": "echo = 3\n" + LOCATOR}, [], "settings bad-value echo", 2, "s.toml:1: echo = 3"),
+    ({"i.pcap": b"abc", "o.pcap": b""}, [], "capture cut-header 3", 3, "that is the file of --in, i.pcap"),
+    ({"i.pcap": section(), "o.pcap": b""}, LIFTED, "capture bad-magic", 3, "of a pcapng file editcap -F nsecpcap makes"),
+    ({"o.pcap": b"abc"}, [], "sent cut-header 3", 3, "the file has 3 octets"),
+    ({"o.pcap": b"abc"}, LIFTED, "sent cut-header 3", 3, "that is the file of --sent, o.pcap"),
+    ({"o.pcap": section()}, [], "sent bad-magic", 3, "of a pcapng file editcap -F nsecpcap makes"),
+    ({"o.pcap": header() + b"abc"}, [], "sent cut-record 24", 3, "the record that begins at octet 24"),
+    ({"o.pcap": header() + record(0, 0, 262145)}, [], "sent too-long 24 262145", 3, "at octet 24 has 262145 octets"),
+]
+
+
+def test_audits():
+    for changed, more, line, status, part in AUDITS:
+        with files() as folder:
+            shutil.copy(os.path.join(FIRST, "expected.pcap"), os.path.join(folder, "o.pcap"))
+            for name, octets in changed.items():
+                write(os.path.join(folder, name), octets)
+            before = {name: read(os.path.join(folder, name)) for name in os.listdir(folder)}
+            done = both([*AUDIT, *more], folder)
+            for said, told in (done[1:], *in_file([*AUDIT, *more], folder, status)):
+                check(said == line.encode() + b"\n" and part in told and (part or not told), line, said, told)
+            check(done[0] == status, line, done)
+            os.remove(os.path.join(folder, "report"))
+            after = {name: read(os.path.join(folder, name)) for name in os.listdir(folder)}
+            check(before == after, line, "files are others", sorted(after))
+    with files() as folder:
+        # A second name of an input is right: nothing is written.
+        os.symlink("i.pcap", os.path.join(folder, "soft"))
+        for sent in ("i.pcap", "./i.pcap", "soft"):
+            done = run([LISPR, *AUDIT[:-1], sent], folder)
+            check(done[:2] == (6, b"audit differs record=1 place=3\n"), sent, done)
+        for words, part in ((AUDIT, "--sent o.pcap can't be read: No such file"), ([*AUDIT[:-1], "."], "Is a directory")):
+            status, said, told = both(words, folder)
+            check((status, said) == (4, b"") and part in told, words, status, told)
+        shell = f'exec "{LISPR}" {" ".join(AUDIT[:-1])} <(head -c 20 i.pcap)'
+        status, _, told = run(["bash", "-c", shell], folder)
+        check(status == 3 and "the capture is refused" in told, "what was sent from a pipe", told)
+    return len(AUDITS)
 
 
 # The kinds of words, by the types of the faults that have them.

@@ -12,12 +12,14 @@ FORMS = {
                "the capture of --in is replayed"),
     "show": ("show --in F", "its messages are shown"),
     "trial": ("trial N", "an input of N mappings is made and replayed, N from 1 to 50,000"),
+    "audit": ("audit --settings F --in F --sent F [--nonces settings|sent]",
+              "the capture of --sent is held against what a replay of --in sends"),
 }
 # What must be there; what may be, one of two words; and the numbers that may be, each with its least and greatest.
-NEEDED = {"replay": ("--settings", "--in", "--out"), "show": ("--in",)}
+NEEDED = {"replay": ("--settings", "--in", "--out"), "show": ("--in",), "audit": ("--settings", "--in", "--sent")}
 CHOICES = {"replay": {"--format": ("classic", "ng"), "--interfaces": ("none", "vlan"), "--split": ("on", "off")},
-           "show": {}}
-NUMBERS = {"replay": {"--workers": (0, 16), "--round": (1, 4096)}, "show": {}}
+           "show": {}, "audit": {"--nonces": ("settings", "sent")}}
+NUMBERS = {"replay": {"--workers": (0, 16), "--round": (1, 4096)}, "show": {}, "audit": {}}
 MAPPINGS = 1, 50_000
 HELP = "--help", "-h"
 NUMBER = re.compile(r"0|[1-9][0-9]*")

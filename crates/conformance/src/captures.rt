@@ -58,6 +58,15 @@ pub fn capture_of(
     Ok(capture)
 }
 
+/// An output of packets with their moments: raw, in nanoseconds.
+pub fn output_of(
+    alloc: Global,
+    names: &Names<'_>,
+    packets: &[(String, Octets)],
+) -> Result<Vec<u8>> {
+    capture_of(alloc, names, &Link::Raw, &Unit::Ns, packets)
+}
+
 // The second of a moment and the units behind it. A moment is a text of seconds behind the start.
 fn moment_of(alloc: Global, unit: &Unit, moment: &str) -> Result<(u32, u32)> {
     let (whole, fraction) = moment.split_once('.').unwrap_or((moment, ""));

@@ -1,8 +1,8 @@
 // What a run of a row begins with: its words and files, and the calls of the desk that fail.
-use crate::captures::{capture_of, header, push_frame};
+use crate::captures::{capture_of, header, output_of, push_frame};
 use crate::octets_of::octets_of;
 use crate::rows;
-use crate::rows::{DeskKind, Link, Names, Row, Unit};
+use crate::rows::{DeskKind, Link, Names, Row, Sent, Unit};
 use anyhow::{Context, Result, bail, ensure};
 use desk::{Calls, Files, NamedFile};
 use octets::Octets;
@@ -38,7 +38,7 @@ pub fn calls_of(alloc: Global, row: &Row) -> Result<Calls> {
     Ok(calls)
 }
 
-/// The files that the run has, of `settings` and `in`.
+/// The files that the run has, of `settings`, `in` and `sent`.
 pub fn files_of(alloc: Global, names: &Names<'_>, case: Case<'_>) -> Result<Files> {
     let mut files = Files::new(alloc);
     if let Some(settings) = &case.row.settings {
@@ -47,6 +47,10 @@ pub fn files_of(alloc: Global, names: &Names<'_>, case: Case<'_>) -> Result<File
     }
     if let Some(octets) = input_of(alloc, names, case)? {
         push_file(alloc, "in", &octets, &mut files)?;
+    }
+    if let Some(sent) = &case.row.sent {
+        let octets = sent_of(alloc, names, sent).context("in `sent`")?;
+        push_file(alloc, "sent", &octets, &mut files)?;
     }
     Ok(files)
 }
@@ -81,6 +85,13 @@ fn frames_of(alloc: Global, names: &Names<'_>, case: Case<'_>) -> Result<Option<
         _ => bail!("more than one of `frames`, `each` and `capture`"),
     };
     Ok(Some(octets))
+}
+
+fn sent_of(alloc: Global, names: &Names<'_>, sent: &Sent) -> Result<Vec<u8>> {
+    match sent {
+        Sent::Packets(packets) => output_of(alloc, names, packets),
+        Sent::File(octets) => octets_of(alloc, names, octets),
+    }
 }
 
 fn push_file(alloc: Global, name: &str, octets: &[u8], files: &mut Files) -> Result<()> {

@@ -25,6 +25,7 @@ pub struct Row {
     pub each: Option<Vec<(String, Octets)>>,
     pub tail: Option<Octets>,
     pub capture: Option<Octets>,
+    pub sent: Option<Sent>,
     pub desk: Option<DeskKind>,
     #[serde(default)]
     pub fails: Vec<u64>,
@@ -65,6 +66,14 @@ pub enum DeskKind {
 pub enum Texts {
     One(String),
     Several(Vec<String>),
+}
+
+/// What a router sent: raw packets with their moments, or the whole file.
+#[derive(Drop, Deserialize)]
+#[serde(untagged)]
+pub enum Sent {
+    Packets(Vec<(String, Octets)>),
+    File(Octets),
 }
 
 /// Octets: words, each hexadecimal or the name of a packet; or such words with changes.

@@ -1,9 +1,9 @@
 // What a run of a row must end with.
-use crate::captures::capture_of;
+use crate::captures;
 use crate::cases::Case;
 use crate::listing::listed;
 use crate::octets_of::octets_of;
-use crate::rows::{Link, Names, Row, Unit};
+use crate::rows::{Names, Row};
 use anyhow::{Context, Result, bail};
 use std::alloc::Global;
 
@@ -26,7 +26,7 @@ pub fn report_of(alloc: Global, case: Case<'_>) -> Result<String> {
 pub fn output_of(alloc: Global, names: &Names<'_>, row: &Row) -> Result<String> {
     match (&row.packets, &row.output) {
         (Some(packets), None) => {
-            let output = capture_of(alloc, names, &Link::Raw, &Unit::Ns, packets);
+            let output = captures::output_of(alloc, names, packets);
             lines_of(alloc, Some(&output.context("in `packets`")?))
         }
         (None, Some(output)) => {
