@@ -1,0 +1,452 @@
+-- The packets of a change can be made, and their nonces are those that were drawn, each in its turn, or once more.
+use Rattle.std.proofs.Common.{◌≡◌, ℕ, ◌==◌, ◌&&◌, ◌%◌, ◌^◌, ◌≤◌, ◌<◌, ◌+◌, nat_lt, not, Bool, true, false, cond, IfSome, IsTrue, List, [], ◌∷◌, ◌++◌, filter, filter_map, fold, length, map, take, zero, suc, Option, Some, None, refl, sym, ap, subst, ◌∙◌, append-nil, append_assoc}
+use Rattle.std.specs.List.{All, cons_option}
+use Rattle.std.specs.Prelude.{is_some}
+use Rattle.std.proofs.lemmas.Bool.{and_parts, true≢false}
+use Rattle.std.proofs.lemmas.List.Elements.{All-push, filter_map-append}
+use Rattle.octets.specs.Rules.{first_failing}
+use Rattle.octets.specs.declared.refused.Refused.{Refused}
+use Rattle.ip_headers.specs.Udp.{payload_in, sum_rules}
+use Rattle.ip_headers.specs.declared.addr.Addr.{Addr}
+use Rattle.capture_io.specs.Frame.{Frame}
+use Rattle.mapping_records.specs.Eids.{same_address}
+use Rattle.mapping_records.specs.declared.eid.Eid.{Eid}
+use Rattle.mapping_records.specs.declared.record.Record.{Record}
+use Rattle.map_messages.specs.Message.{message_rules}
+use Rattle.map_messages.specs.Reply.{canonical_reply}
+use Rattle.map_messages.specs.declared.message.MapReply.{MapReply}
+use Rattle.map_messages.specs.declared.message.MapRequest.{MapRequest}
+use Rattle.map_messages.specs.declared.message.Message.{Message}
+use Rattle.map_messages.specs.declared.message.Message.TheVariants as message
+use Rattle.lisp_settings.specs.Lawful.{IsLawful}
+use Rattle.lisp_settings.specs.declared.settings.Settings.{Settings}
+use Rattle.locator_state.specs.Turns.{goes_before, with_target}
+use Rattle.locator_state.specs.declared.target.Target.{Target}
+use Rattle.request_queue.specs.Queue.{due, with_nonce}
+use Rattle.request_queue.specs.declared.request.Request.{Request}
+use Rattle.router_log.specs.declared.emit.Emit.{Emit}
+use Rattle.router_log.specs.declared.emit.Emit.TheVariants as emit
+use Rattle.router_log.specs.declared.entry.Entry.{Entry}
+use Rattle.router_log.specs.declared.entry.Entry.TheVariants as entry
+use Rattle.router_log.specs.declared.entry.Entry.TheVariants.{Learned, Asked, Retried, Answered, Probed, ProbeAnswered, Bits, EchoStarted, EchoHeard, DataFrom, EchoWanted, Solicited}
+use Rattle.router_log.specs.declared.notice.Notice.{Notice}
+use Rattle.router_log.specs.declared.notice.Notice.TheVariants as notice
+use Rattle.router_log.specs.declared.verdict.Reason.TheVariants.{Foreign, NotOurs, Unfit}
+use Rattle.router_model.specs.Changes.{Change, asked, each, emitted, entered, has_room, journal as of_journal, may_ask, next_nonce, seen}
+use Rattle.router_model.specs.Course.{Course, Settled, Data, Control, Leaving, Datagram, course_of}
+use Rattle.router_model.specs.Hear.{Asker, Heard, Path, Range, Route, answered, answering, asked_again, carried, counted, course_heard, datagram_heard, drops, hear_by, is_asked_for, is_fit, is_static, message_heard, payload_heard, probe_replied, ranges_of, read_heard, renewable, renewed, replied, replied_to, reply_heard, reply_of, reply_path, requested, route_of, shortened, tallied, taught, unless_refused}
+use Rattle.router_model.specs.Journal.{Journal, drawn, extended, statics, uses_nonce}
+use Rattle.router_model.specs.Mappings.{Held, exact, force}
+use Rattle.router_model.specs.Note.{is_echo, is_learned, is_missing, is_news, noted}
+use Rattle.router_model.specs.Received.{message_in}
+use Rattle.router_model.specs.Requests.{asked_nonces, open_asked}
+use Rattle.router_model.specs.Site.{ours}
+use Rattle.router_model.specs.Tick.{all_probed, all_retried, candidates, is_probed, next_targets, probed, retried, targets, ticked}
+use Rattle.router_model.specs.View.{View, view}
+use Rattle.router_core.proofs.AnsweringLemmas.{reply-short}
+use Rattle.router_model.proofs.LiftLemmas.{nonce-next}
+use Rattle.audit.specs.Lifted.{each_once}
+use Rattle.audit_laws.specs.Drawn.{first_nonces, nonce_at}
+use Rattle.audit_laws.specs.Sent.{CanBeMade}
+use Rattle.audit_laws.proofs.DrawnLemmas.{drawn-one, drawn-same, drawn-short, each-filter, once-again, once-alike, requests-drawn, AreNext, AreShort, Each, IsDrawn, IsNext}
+use Rattle.audit_laws.proofs.EmitLemmas.{emit_nonce}
+
+-- ### only a router with a resolver asks
+
+-- the entry is a Map-Request
+abbrev pub is_asking : Entry → Bool
+is_asking (Asked moment eid source invoked nonce) = true
+is_asking _ = false
+
+abbrev pub NoneAsked : Journal → Type 0
+NoneAsked [] = Unit {0}
+NoneAsked (entry ∷ before) = (is_asking entry ≡ false) × NoneAsked before
+
+-- without a resolver nothing was asked
+abbrev pub AsksResolver : Option Addr → Journal → Type 0
+AsksResolver (Some resolver) journal = Unit {0}
+AsksResolver None journal = NoneAsked journal
+
+-- where nothing was asked, no request is open
+nonces-none : (journal : Journal) → NoneAsked journal → asked_nonces journal ≡ []
+nonces-none [] none = refl
+nonces-none (Asked moment eid source invoked nonce ∷ before) none = absurd (true≢false none.0)
+nonces-none (Learned moment mapping fixed ∷ before) none = nonces-none before none.1
+nonces-none (Retried moment nonce ∷ before) none = nonces-none before none.1
+nonces-none (Answered moment nonce ∷ before) none = nonces-none before none.1
+nonces-none (Probed moment rloc nonce ∷ before) none = nonces-none before none.1
+nonces-none (ProbeAnswered moment nonce ∷ before) none = nonces-none before none.1
+nonces-none (Bits moment eid bits width ∷ before) none = nonces-none before none.1
+nonces-none (EchoStarted moment rloc nonce ∷ before) none = nonces-none before none.1
+nonces-none (EchoHeard moment rloc ∷ before) none = nonces-none before none.1
+nonces-none (DataFrom moment rloc ∷ before) none = nonces-none before none.1
+nonces-none (EchoWanted moment rloc nonce ∷ before) none = nonces-none before none.1
+nonces-none (Solicited moment rloc eid nonce ∷ before) none = nonces-none before none.1
+
+requests-none : (journal : Journal) (m : ℕ) → NoneAsked journal → (view journal m).requests ≡ []
+unfolding view
+requests-none journal m none = ap (λ (nonces : List ℕ). filter_map (λ nonce. open_asked (view journal m).now nonce journal) nonces) (nonces-none journal none)
+
+asks-more : (resolver : Option Addr) (e : Entry) (journal : Journal) → is_asking e ≡ false → AsksResolver resolver journal → AsksResolver resolver (e ∷ journal)
+asks-more (Some addr) e journal other asks = tt
+asks-more None e journal other asks = (other, asks)
+
+asks-one : (resolver : Option Addr) (journal : Journal) → IsTrue (is_some resolver) → AsksResolver resolver journal
+asks-one (Some addr) journal some = tt
+asks-one None journal some = cc
+
+-- ### what holds of a change
+
+-- the nonce of an emit, if it has one, is a number of 64 bits
+abbrev pub IsShort : Emit → Type 0
+IsShort packet = IfSome (emit_nonce packet) (λ nonce. nonce < 2 ^ 64)
+
+-- these nonces, each at its first place, are those that were drawn
+abbrev pub AreDrawn : Settings → List ℕ → Journal → Type 0
+AreDrawn settings nonces journal = each_once nonces ≡ each_once (first_nonces settings (drawn journal))
+
+-- behind packets with these nonces: the packet of each emit can be made, without echoes the nonces of all are those that
+-- were drawn, and it goes on so
+pub record IsSound (settings : Settings) (before : List ℕ) (change : Change Journal) : Type 0 where
+  pub asks : AsksResolver settings.resolver change.after
+  pub made : All (CanBeMade settings) change.emits
+  pub next : AreNext settings change.after
+  pub short : AreShort settings → All IsShort change.emits
+  pub nonces : settings.echo ≡ false → AreDrawn settings (before ++ filter_map emit_nonce change.emits) change.after
+
+each-any : {A : Type 0} (items : List A) → Each (λ (a : A). Unit {0}) items
+each-any [] = tt
+each-any (item ∷ items) = (tt, each-any items)
+
+-- one packet more, whose nonce is among those that are there once
+more-nonces : (before : List ℕ) (emits : List Emit) (packet : Emit) (nonce : ℕ) → emit_nonce packet ≡ Some nonce → before ++ filter_map emit_nonce (emits ++ packet ∷ []) ≡ (before ++ filter_map emit_nonce emits) ++ nonce ∷ []
+more-nonces before emits packet nonce is =
+    ap (λ (l : List ℕ). before ++ l) (filter_map-append emit_nonce emits (packet ∷ []) ∙ ap (λ (o : Option ℕ). filter_map emit_nonce emits ++ cons_option o []) is)
+    ∙ sym (append_assoc before (filter_map emit_nonce emits) (nonce ∷ []))
+
+same-nonces : (before : List ℕ) (emits : List Emit) (packet : Emit) → emit_nonce packet ≡ None → before ++ filter_map emit_nonce (emits ++ packet ∷ []) ≡ before ++ filter_map emit_nonce emits
+same-nonces before emits packet is =
+    ap (λ (l : List ℕ). before ++ l)
+    (filter_map-append emit_nonce emits (packet ∷ []) ∙ ap (λ (o : Option ℕ). filter_map emit_nonce emits ++ cons_option o []) is ∙ append-nil (filter_map emit_nonce emits))
+
+module _ (settings : Settings) (lawful : IsLawful settings) (before : List ℕ) (m : ℕ) where
+  -- an entry that draws no nonce
+  sound-entered : (e : Entry) (change : Change Journal) → is_asking e ≡ false → uses_nonce e ≡ false → IsNext settings change.after e → IsSound settings before change → IsSound settings before (entered of_journal settings m e change)
+  sound-entered e change other none next sound = record {
+    asks = asks-more settings.resolver e change.after other sound.asks;
+    made = sound.made;
+    next = (next, sound.next);
+    short = sound.short;
+    nonces = λ off. sound.nonces off ∙ ap (λ (k : ℕ). each_once (first_nonces settings k)) (sym (drawn-same e change.after none));
+  }
+
+  -- an echo that begins draws one, and sends no packet
+  sound-echo : (rloc : Addr) (nonce : ℕ) (change : Change Journal) → settings.echo ≡ true → IsSound settings before change → IsSound settings before (entered of_journal settings m (entry.EchoStarted m rloc nonce) change)
+  sound-echo rloc nonce change on sound = record {
+    asks = asks-more settings.resolver (entry.EchoStarted m rloc nonce) change.after refl sound.asks;
+    made = sound.made;
+    next = (tt, sound.next);
+    short = sound.short;
+    nonces = λ off. absurd (true≢false (sym on ∙ off));
+  }
+
+  -- a packet with the nonce that is next
+  sound-drawn : (e : Entry) (packet : Emit) (change : Change Journal) → uses_nonce e ≡ true → IsNext settings change.after e → AsksResolver settings.resolver (e ∷ change.after) → CanBeMade settings packet
+      → emit_nonce packet ≡ Some (next_nonce of_journal settings m change) → IsSound settings before change → IsSound settings before (emitted packet (entered of_journal settings m e change))
+  sound-drawn e packet change uses next asks can is sound =
+      let nonce = next_nonce of_journal settings m change in
+      let same : nonce ≡ nonce_at settings (drawn change.after) = nonce-next settings m change in
+      let one : emit_nonce packet ≡ Some (nonce_at settings (drawn change.after)) = is ∙ ap Some same in
+      let nonces : List ℕ = before ++ filter_map emit_nonce change.emits in
+      record {
+        asks = asks;
+        made = All-push (CanBeMade settings) change.emits packet sound.made can;
+        next = (next, sound.next);
+        short = λ short. All-push IsShort change.emits packet (sound.short short) (subst (λ (o : Option ℕ). IfSome o (λ nonce. nonce < 2 ^ 64)) (sym one) (short (drawn change.after)));
+        nonces = λ off.
+            ap each_once (more-nonces before change.emits packet (nonce_at settings (drawn change.after)) one)
+            ∙ once-alike nonces (first_nonces settings (drawn change.after)) (nonce_at settings (drawn change.after)) (sound.nonces off)
+            ∙ ap (λ (k : ℕ). each_once (first_nonces settings k)) (sym (drawn-one e change.after uses));
+      }
+
+  sound-asked : (eid : Eid) (source : Option Addr) (invoked : Bool) (change : Change Journal) → IsTrue (is_some settings.resolver) → IsSound settings before change → IsSound settings before (asked of_journal settings m eid source invoked change)
+  sound-asked eid source invoked change some sound =
+      let nonce = next_nonce of_journal settings m change in
+      let e : Entry = entry.Asked m eid source invoked nonce in
+      sound-drawn e (emit.Request eid source invoked nonce) change refl (nonce-next settings m change) (asks-one settings.resolver (e ∷ change.after) some) some refl sound
+
+  -- a packet without a nonce
+  sound-reply_sent : (packet : Emit) (change : Change Journal) → CanBeMade settings packet → emit_nonce packet ≡ None → IsSound settings before change → IsSound settings before (emitted packet change)
+  sound-reply_sent packet change can none sound = record {
+    asks = sound.asks;
+    made = All-push (CanBeMade settings) change.emits packet sound.made can;
+    next = sound.next;
+    short = λ short. All-push IsShort change.emits packet (sound.short short) (subst (λ (o : Option ℕ). IfSome o (λ nonce. nonce < 2 ^ 64)) (sym none) tt);
+    nonces = λ off. ap each_once (same-nonces before change.emits packet none) ∙ sound.nonces off;
+  }
+
+  sound-if : (b : Bool) (then change : Change Journal) → (b ≡ true → IsSound settings before then) → IsSound settings before change → IsSound settings before (cond b then change)
+  sound-if true then change a sound = a refl
+  sound-if false then change a sound = sound
+
+  sound-each : {A : Type 0} (step : A → Change Journal → Change Journal) (P : A → Type 0) → ((a : A) (change : Change Journal) → P a → IsSound settings before change → IsSound settings before (step a change)) → (items : List A) (change : Change Journal) → Each P items → IsSound settings before change → IsSound settings before (each step items change)
+  sound-each step P one [] change all sound = sound
+  sound-each step P one (a ∷ items) change all sound = sound-each step P one items (step a change) all.1 (one a change all.0 sound)
+
+  sound-all : {A : Type 0} (step : A → Change Journal → Change Journal) → ((a : A) (change : Change Journal) → IsSound settings before change → IsSound settings before (step a change)) → (items : List A) (change : Change Journal) → IsSound settings before change → IsSound settings before (each step items change)
+  sound-all {A} step one items change sound = sound-each step (λ (a : A). Unit {0}) (λ a change any. one a change) items change (each-any items) sound
+
+  -- where an EID may be asked for, there is a resolver
+  may-resolver : (v : View) (eid : Eid) → may_ask settings v eid ≡ true → IsTrue (is_some settings.resolver)
+  may-resolver v eid may = (and_parts (is_some settings.resolver) _ may).0
+
+  -- ### notices
+
+  sound-noted : (one : Notice) (change : Change Journal) → IsSound settings before change → IsSound settings before (noted of_journal settings m one change)
+  unfolding noted
+  sound-noted (notice.Ask eid source) change sound =
+      sound-if (is_missing settings (seen of_journal settings m change) eid) _ change
+      (λ is. sound-asked eid source false change (may-resolver (seen of_journal settings m change) eid (and_parts _ _ is).0) sound) sound
+  sound-noted (notice.Refresh eid) change sound =
+      sound-if (is_learned (exact (seen of_journal settings m change).mappings eid) && may_ask settings (seen of_journal settings m change) eid) _ change
+      (λ is. sound-asked eid None false change (may-resolver (seen of_journal settings m change) eid (and_parts _ _ is).1) sound) sound
+  sound-noted (notice.Bits eid rloc bits width) change sound =
+      sound-if (is_news rloc bits width (exact (seen of_journal settings m change).mappings eid)) _ change
+      (λ is. sound-entered (entry.Bits m eid bits width) change refl refl tt sound) sound
+  sound-noted (notice.EchoWanted rloc nonce) change sound =
+      sound-if ((seen of_journal settings m change).may_want rloc nonce) _ change (λ is. sound-entered (entry.EchoWanted m rloc nonce) change refl refl tt sound) sound
+  sound-noted (notice.EchoHeard rloc nonce) change sound =
+      sound-if (is_echo nonce ((seen of_journal settings m change).echo_on rloc)) _ change (λ is. sound-entered (entry.EchoHeard m rloc) change refl refl tt sound) sound
+  sound-noted (notice.DataFrom rloc) change sound =
+      sound-if ((seen of_journal settings m change).data_due rloc) _ change (λ is. sound-entered (entry.DataFrom m rloc) change refl refl tt sound) sound
+  sound-noted (notice.Solicit rloc eid) change sound =
+      let nonce = next_nonce of_journal settings m change in
+      sound-if (is_some (ours settings.locators rloc) && (seen of_journal settings m change).may_solicit rloc eid) _ change
+      (λ is. sound-drawn (entry.Solicited m rloc eid nonce) (emit.Solicit rloc eid nonce) change refl tt (asks-more settings.resolver (entry.Solicited m rloc eid nonce) change.after refl sound.asks) (and_parts _ _ is).0 refl sound) sound
+  sound-noted (notice.EchoDue rloc) change sound =
+      sound-if (settings.echo && (seen of_journal settings m change).may_start rloc) _ change
+      (λ is. sound-echo rloc (next_nonce of_journal settings m change % 2 ^ 24) change (and_parts _ _ is).0 sound) sound
+
+  pub all-noted : (notices : List Notice) (change : Change Journal) → IsSound settings before change → IsSound settings before (each (noted of_journal settings m) notices change)
+  all-noted notices change sound = sound-all (noted of_journal settings m) sound-noted notices change sound
+
+  -- ### seconds
+
+  -- one that is sent again has a nonce that was drawn
+  sound-retried : IsTrue (is_some settings.resolver) → (request : Request) (change : Change Journal) → IsDrawn settings (drawn change.after) request.nonce → IsSound settings before change → IsSound settings before (retried of_journal settings m request change)
+  sound-retried some request change was sound =
+      let e : Entry = entry.Retried m request.nonce in
+      let packet : Emit = emit.Request request.eid request.source request.invoked request.nonce in
+      let entered_sound = sound-entered e change refl refl tt sound in
+      let nonces : List ℕ = before ++ filter_map emit_nonce change.emits in
+      record {
+        asks = entered_sound.asks;
+        made = All-push (CanBeMade settings) change.emits packet sound.made some;
+        next = entered_sound.next;
+        short = λ short. All-push IsShort change.emits packet (sound.short short) (drawn-short settings (drawn change.after) request.nonce short was);
+        nonces = λ off.
+            ap each_once (more-nonces before change.emits packet request.nonce refl)
+            ∙ once-again nonces (first_nonces settings (drawn change.after)) request.nonce (sound.nonces off) was
+            ∙ ap (λ (k : ℕ). each_once (first_nonces settings k)) (sym (drawn-same e change.after refl));
+      }
+
+  each-retried : IsTrue (is_some settings.resolver) → (k : ℕ) (requests : List Request) (change : Change Journal) → Each (λ (request : Request). IsDrawn settings k request.nonce) requests → drawn change.after ≡ k → IsSound settings before change → IsSound settings before (each (retried of_journal settings m) requests change)
+  each-retried some k [] change all is sound = sound
+  each-retried some k (request ∷ requests) change all is sound =
+      each-retried some k requests (retried of_journal settings m request change) all.1 (drawn-same (entry.Retried m request.nonce) change.after refl ∙ is)
+      (sound-retried some request change (subst (λ (n : ℕ). IsDrawn settings n request.nonce) (sym is) all.0) sound)
+
+  sound-all_retried : (change : Change Journal) → IsSound settings before change → IsSound settings before (all_retried of_journal settings m change)
+  sound-all_retried change sound = by settings.resolver refl
+    where
+      requests : List Request
+      requests = (seen of_journal settings m change).requests
+
+      by : (resolver : Option Addr) → settings.resolver ≡ resolver → IsSound settings before (all_retried of_journal settings m change)
+      by (Some addr) is =
+          let P : Request → Type 0 = λ (request : Request). IsDrawn settings (drawn change.after) request.nonce in
+          each-retried (ap is_some is) (drawn change.after) (filter (due (seen of_journal settings m change).now) requests) change
+          (each-filter P (due (seen of_journal settings m change).now) requests (requests-drawn settings change.after m sound.next)) refl sound
+      by None is =
+          let none : requests ≡ [] = requests-none change.after m (subst (λ (o : Option Addr). AsksResolver o change.after) is sound.asks) in
+          subst (λ (l : List Request). IsSound settings before (each (retried of_journal settings m) (filter (due (seen of_journal settings m change).now) l) change)) (sym none) sound
+
+  -- a target has an own address of its family
+  abbrev IsReached : Target → Type 0
+  IsReached target = IsTrue (is_some (ours settings.locators target.rloc))
+
+  probed-reached : (now : ℕ) (items : List Target) → Each IsReached (filter (is_probed settings now) items)
+  probed-reached now [] = tt
+  probed-reached now (target ∷ items) = by (is_probed settings now target) refl (probed-reached now items)
+    where
+      by : (b : Bool) → is_probed settings now target ≡ b → Each IsReached (filter (is_probed settings now) items) → Each IsReached (cond b (target ∷ filter (is_probed settings now) items) (filter (is_probed settings now) items))
+      by true is rest = ((and_parts _ _ (and_parts _ _ is).1).0, rest)
+      by false is rest = rest
+
+  with-reached : (target : Target) (items : List Target) → IsReached target → Each IsReached items → Each IsReached (with_target target items)
+  with-reached target [] one all = (one, tt)
+  with-reached target (first ∷ others) one all = by (same_address target.rloc first.rloc) (goes_before target first) (with-reached target others one all.1)
+    where
+      by : (b c : Bool) → Each IsReached (with_target target others) → Each IsReached (cond b (first ∷ others) (cond c (target ∷ first ∷ others) (first ∷ with_target target others)))
+      by true c rest = all
+      by false true rest = (one, all)
+      by false false rest = (all.0, rest)
+
+  fold-reached : (items so_far : List Target) → Each IsReached items → Each IsReached so_far → Each IsReached (fold (λ so_far target. with_target target so_far) so_far items)
+  fold-reached [] so_far all reached = reached
+  fold-reached (target ∷ items) so_far all reached = fold-reached items (with_target target so_far) all.1 (with-reached target so_far all.0 reached)
+
+  take-reached : (n : ℕ) (items : List Target) → Each IsReached items → Each IsReached (take n items)
+  take-reached zero items all = tt
+  take-reached (suc n) [] all = tt
+  take-reached (suc n) (target ∷ items) all = (all.0, take-reached n items all.1)
+
+  next-reached : (v : View) → Each IsReached (next_targets settings v)
+  next-reached v = take-reached 16 (candidates settings v) (fold-reached (filter (is_probed settings v.now) (targets v)) [] (probed-reached v.now (targets v)) tt)
+
+  sound-probed : (target : Target) (change : Change Journal) → IsReached target → IsSound settings before change → IsSound settings before (probed of_journal settings m target change)
+  sound-probed target change reached sound =
+      let nonce = next_nonce of_journal settings m change in
+      sound-if (nat_lt (seen of_journal settings m change).probe_count 9600) _ change
+      (λ is. sound-drawn (entry.Probed m target.rloc nonce) (emit.Probe target.rloc target.eid nonce) change refl tt (asks-more settings.resolver (entry.Probed m target.rloc nonce) change.after refl sound.asks) reached refl sound) sound
+
+  sound-all_probed : (change : Change Journal) → IsSound settings before change → IsSound settings before (all_probed of_journal settings m change)
+  sound-all_probed change sound =
+      sound-if settings.probe _ change
+      (λ is. sound-each (probed of_journal settings m) IsReached sound-probed (next_targets settings (seen of_journal settings m change)) change (next-reached (seen of_journal settings m change)) sound) sound
+
+  pub all-ticked : (change : Change Journal) → IsSound settings before change → IsSound settings before (ticked of_journal settings m change)
+  unfolding ticked
+  all-ticked change sound = sound-all_probed (all_retried of_journal settings m change) (sound-all_retried change sound)
+
+  -- ### control messages
+
+  sound-choice : (b : Bool) (one other : Heard Journal) → IsSound settings before one.change → IsSound settings before other.change → IsSound settings before (cond b one other).change
+  sound-choice true one other a o = a
+  sound-choice false one other a o = o
+
+  sound-asked_again : (eid : Option Eid) (change : Change Journal) → IfSome eid (λ eid. IsTrue (is_some settings.resolver)) → IsSound settings before change → IsSound settings before (asked_again of_journal settings m eid change)
+  sound-asked_again None change some sound = sound
+  sound-asked_again (Some eid) change some sound = sound-asked eid None true change some sound
+
+  renewable-resolver : (v : View) (o : Option Held) → IfSome (renewable settings v o) (λ eid. IsTrue (is_some settings.resolver))
+  renewable-resolver v None = tt
+  renewable-resolver v (Some held) = by (not held.fixed && may_ask settings v held.eid) refl
+    where
+      by : (b : Bool) → (not held.fixed && may_ask settings v held.eid) ≡ b → IfSome (cond b (Some held.eid) None) (λ eid. IsTrue (is_some settings.resolver))
+      by true is = may-resolver v held.eid (and_parts _ _ is).1
+      by false is = tt
+
+  sound-renewed : (range : Range) (change : Change Journal) → IsSound settings before change → IsSound settings before (renewed of_journal settings m range change)
+  sound-renewed range change sound =
+      let v = seen of_journal settings m change in
+      let held : Option Held = force v.mappings range.iid range.addr range.len in
+      sound-asked_again (renewable settings v held) change (renewable-resolver v held) sound
+
+  sound-replied : (asker : Asker) (reply : MapReply) (path : Option Path) (change : Change Journal) → length (canonical_reply reply) ≤ 65000 → IsSound settings before change → IsSound settings before (replied asker reply path change).change
+  sound-replied asker reply None change short sound = sound
+  sound-replied asker reply (Some path) change short sound = sound-reply_sent (emit.Reply path.from path.to asker.port reply) change short refl sound
+
+  sound-answered : (asker : Asker) (request : MapRequest) (change : Change Journal) → IsSound settings before change → IsSound settings before (answered settings asker request change).change
+  sound-answered asker request change sound =
+      sound-choice (length (answering settings.databases request.eids) == 0) (drops NotOurs change) _ sound
+      (sound-replied asker (reply_of settings asker request (answering settings.databases request.eids)) (reply_path settings asker request) change (reply-short settings lawful asker request) sound)
+
+  sound-requested : (asker : Asker) (request : MapRequest) (change : Change Journal) → IsSound settings before change → IsSound settings before (requested of_journal settings m asker request change).change
+  unfolding requested
+  sound-requested asker request change sound =
+      sound-choice (request.smr && not asker.probe) (counted of_journal settings m (each (renewed of_journal settings m) (ranges_of request) change)) (answered settings asker request change)
+      (sound-all (renewed of_journal settings m) sound-renewed (ranges_of request) change sound)
+      (sound-answered asker request change sound)
+
+  sound-taught : (eid : Eid) (mappings : List Record) (mapping : Record) (change : Change Journal) → IsSound settings before change → IsSound settings before (taught of_journal settings m eid mappings mapping change)
+  sound-taught eid mappings mapping change sound =
+      sound-if (is_asked_for eid mappings mapping && (not (is_static settings mapping) && has_room (seen of_journal settings m change) mapping)) _ change
+      (λ is. sound-entered (entry.Learned m (shortened mapping) false) change refl refl tt sound) sound
+
+  sound-replied_to : (reply : MapReply) (o : Option Request) (change : Change Journal) → IsSound settings before change → IsSound settings before (replied_to of_journal settings m reply o change).change
+  sound-replied_to reply None change sound = sound
+  sound-replied_to reply (Some request) change sound =
+      sound-choice (is_fit request.eid reply.mappings)
+      (tallied of_journal settings m reply (each (taught of_journal settings m request.eid reply.mappings) reply.mappings (entered of_journal settings m (entry.Answered m reply.nonce) change)))
+      (drops Unfit change)
+      (sound-all (taught of_journal settings m request.eid reply.mappings) (sound-taught request.eid reply.mappings) reply.mappings (entered of_journal settings m (entry.Answered m reply.nonce) change) (sound-entered (entry.Answered m reply.nonce) change refl refl tt sound))
+      sound
+
+  sound-probe_replied : (from : Addr) (reply : MapReply) (o : Option Addr) (change : Change Journal) → IsSound settings before change → IsSound settings before (probe_replied of_journal settings m from reply o change).change
+  sound-probe_replied from reply None change sound = sound
+  sound-probe_replied from reply (Some rloc) change sound =
+      sound-choice (same_address rloc from) _ (drops Foreign change) (sound-entered (entry.ProbeAnswered m reply.nonce) change refl refl tt sound) sound
+
+  sound-reply : (from : Addr) (reply : MapReply) (change : Change Journal) → IsSound settings before change → IsSound settings before (reply_heard of_journal settings m from reply change).change
+  unfolding reply_heard
+  sound-reply from reply change sound =
+      sound-choice reply.probe _ _
+      (sound-probe_replied from reply ((seen of_journal settings m change).probe_open reply.nonce) change sound)
+      (sound-replied_to reply (with_nonce (seen of_journal settings m change).requests reply.nonce) change sound)
+
+  sound-carried : (dest : Addr) (port : ℕ) (request : Option MapRequest) (change : Change Journal) → IsSound settings before change → IsSound settings before (carried of_journal settings m dest port request change).change
+  sound-carried dest port None change sound = sound
+  sound-carried dest port (Some request) change sound = sound-requested (record { dest = dest; port = port; probe = false }) request change sound
+
+  sound-message : (route : Route) (read : Message) (change : Change Journal) → IsSound settings before change → IsSound settings before (message_heard of_journal settings m route read change).change
+  sound-message route (message.Request request) change sound = sound-requested (record { dest = route.dest; port = route.port; probe = request.probe }) request change sound
+  sound-message route (message.Reply reply) change sound = sound-reply route.from reply change sound
+  sound-message route (message.Control ecm) change sound = sound-carried route.dest ecm.source_port ecm.request change sound
+
+  sound-read : (route : Route) (read : Option Message) (change : Change Journal) → IsSound settings before change → IsSound settings before (read_heard of_journal settings m route read change).change
+  sound-read route None change sound = sound
+  sound-read route (Some read) change sound = sound-message route read change sound
+
+  sound-unless : (o : Option Refused) (change : Change Journal) (others : Heard Journal) → IsSound settings before change → IsSound settings before others.change → IsSound settings before (unless_refused of_journal settings m o change others).change
+  sound-unless None change others sound sound_others = sound_others
+  sound-unless (Some refused) change others sound sound_others = sound
+
+  sound-payload : (route : Route) (base : ℕ) (payload : List ℕ) (change : Change Journal) → IsSound settings before change → IsSound settings before (payload_heard of_journal settings m route base payload change).change
+  unfolding payload_heard
+  sound-payload route base payload change sound =
+      sound-unless (first_failing (message_rules base payload)) change _ sound (sound-read route (message_in payload) change sound)
+
+  sound-datagram : (d : Datagram) (change : Change Journal) → IsSound settings before change → IsSound settings before (datagram_heard of_journal settings m d change).change
+  unfolding datagram_heard
+  sound-datagram d change sound =
+      sound-unless (first_failing (sum_rules d.packet.base d.packet.header d.packet.octets d.udp false)) change _ sound
+      (sound-payload (route_of d) (d.packet.base + d.udp.at + 8) (payload_in d.packet.octets d.udp) change sound)
+
+  sound-course : (course : Course) (change : Change Journal) → IsSound settings before change → IsSound settings before (course_heard of_journal settings m course change).change
+  sound-course (Settled verdict) change sound = sound
+  sound-course (Data d) change sound = sound
+  sound-course (Control d) change sound = sound-datagram d change sound
+  sound-course (Leaving iid packet) change sound = sound
+
+  pub all-heard : (frame : Frame) (change : Change Journal) → IsSound settings before change → IsSound settings before (hear_by of_journal settings m frame change).change
+  all-heard frame change sound = sound-course (course_of settings frame) change sound
+
+-- ### the static mappings
+
+learned-asks : (mappings : List Record) (resolver : Option Addr) (journal : Journal) → AsksResolver resolver journal → AsksResolver resolver (extended journal (map (λ mapping. Learned 0 mapping true) mappings))
+learned-asks [] resolver journal asks = asks
+learned-asks (mapping ∷ mappings) resolver journal asks = learned-asks mappings resolver (Learned 0 mapping true ∷ journal) (asks-more resolver (Learned 0 mapping true) journal refl asks)
+
+none-asks : (resolver : Option Addr) → AsksResolver resolver []
+none-asks None = tt
+none-asks (Some addr) = tt
+
+-- a router begins without a request
+pub statics-ask : (settings : Settings) → AsksResolver settings.resolver (statics settings)
+statics-ask settings = learned-asks settings.mappings settings.resolver [] (none-asks settings.resolver)
+
+learned-next : (settings : Settings) (mappings : List Record) (journal : Journal) → AreNext settings journal → AreNext settings (extended journal (map (λ mapping. Learned 0 mapping true) mappings))
+learned-next settings [] journal next = next
+learned-next settings (mapping ∷ mappings) journal next = learned-next settings mappings (Learned 0 mapping true ∷ journal) (tt, next)
+
+pub statics-next : (settings : Settings) → AreNext settings (statics settings)
+statics-next settings = learned-next settings settings.mappings [] tt
+
+learned-drawn : (mappings : List Record) (journal : Journal) → drawn journal ≡ 0 → drawn (extended journal (map (λ mapping. Learned 0 mapping true) mappings)) ≡ 0
+learned-drawn [] journal none = none
+learned-drawn (mapping ∷ mappings) journal none = learned-drawn mappings (Learned 0 mapping true ∷ journal) (drawn-same (Learned 0 mapping true) journal refl ∙ none)
+
+-- and none is drawn
+pub statics-drawn : (settings : Settings) → drawn (statics settings) ≡ 0
+statics-drawn settings = learned-drawn settings.mappings [] refl

@@ -1,0 +1,15 @@
+mod ChangeLemmas
+mod CourseLemmas
+mod DecideLemmas
+mod DrawnLemmas
+mod EmitLemmas
+mod EmitNonceLemmas
+mod HeaderLemmas
+mod LiftedLemmas
+mod NonceLemmas
+mod OctetLemmas
+mod PlayLemmas
+mod ReducedLemmas
+mod SameLemmas
+mod VerdictLemmas
+mod WrittenLemmas

@@ -1,0 +1,284 @@
+-- The packets of a play: each is exactly one packet, and they come in order.
+use Rattle.std.proofs.Common.{◌≡◌, ◌<◌, ◌≤◌, ◌+◌, ◌*◌, ◌-◌, ◌/◌, ◌^◌, ℕ, zero, suc, Bool, true, false, cond, IfSome, List, [], ◌∷◌, ◌++◌, map, Option, Some, None, refl, sym, ap, ap₂, subst, ◌∙◌, arith, filter_map, append-nil, append_assoc, div-mul-le_self, div-add-mod', mod-lt}
+use Rattle.std.specs.List.{All, cons_option, range_with_len}
+use Rattle.std.proofs.lemmas.List.Elements.{All-append, All-cons, All-head, All-map, All-nil, All-tail, All-weaker, filter_map-append}
+use Rattle.ip_headers.specs.Packet.{IsPacket}
+use Rattle.capture_io.specs.Frame.{Frame}
+use Rattle.capture_io.specs.Run.{AreLater}
+use Rattle.lisp_settings.specs.Lawful.{IsLawful}
+use Rattle.lisp_settings.specs.declared.settings.Settings.{Settings}
+use Rattle.capture_events.specs.Came.{IsRead}
+use Rattle.capture_events.specs.Events.{Arrival, Event, Outcome, Packet, Tick, events, events_after, played, ticks}
+use Rattle.router_log.specs.Moments.{seconds}
+use Rattle.router_log.specs.declared.decision.Decision.{Decision}
+use Rattle.router_log.specs.declared.emit.Emit.{Emit}
+use Rattle.router_log.specs.declared.verdict.Verdict.{Verdict}
+use Rattle.router_log.specs.declared.verdict.Verdict.TheVariants.{Control, Delivered, Drop, Encapsulated, Local, Native, Own}
+use Rattle.router_model.specs.Changes.{Change, each, journal as of_journal, unchanged}
+use Rattle.router_model.specs.Course.{control}
+use Rattle.router_model.specs.Decide.{decide_by}
+use Rattle.router_model.specs.Emits.{emit_packet}
+use Rattle.router_model.specs.Hear.{Heard, hear_by}
+use Rattle.router_model.specs.Journal.{Journal, statics}
+use Rattle.router_model.specs.Lifting.{AreInOrder, AreOctets, HasOctets, event_moment}
+use Rattle.router_model.specs.Note.{noted}
+use Rattle.router_model.specs.Plain.{Router, after_decision, after_message, emit_packets, packet_of, packets_of, plain, started}
+use Rattle.router_model.specs.Tick.{ticked}
+use Rattle.router_model.specs.View.{view}
+use Rattle.router_model.proofs.ReplayLemmas.{events-order}
+use Rattle.router_model.proofs.RunLemmas.{in_order}
+use Rattle.audit.specs.Lifted.{each_once}
+use Rattle.audit_laws.specs.Delivers.{ComesFromOther, DeliverOthers, DeliversOther}
+use Rattle.audit_laws.specs.Drawn.{first_nonces, journal_after, AreInRange}
+use Rattle.audit_laws.specs.Sent.{CanBeMade, sent_packets}
+use Rattle.audit_laws.specs.Whole.{IsWhole}
+use Rattle.audit_laws.proofs.ChangeLemmas.{AreDrawn, AsksResolver, IsShort, IsSound, all-heard, all-noted, all-ticked, statics-ask, statics-drawn, statics-next}
+use Rattle.audit_laws.proofs.DecideLemmas.{SendsPacket, decided-sends, sends-packet}
+use Rattle.audit_laws.proofs.DrawnLemmas.{nonces-short, AreNext}
+use Rattle.audit_laws.proofs.EmitLemmas.{emit-whole, emit_nonce}
+use Rattle.audit_laws.proofs.EmitNonceLemmas.{DoFit, emit-nonce}
+use Rattle.audit_laws.proofs.NonceLemmas.{other-none, packet_nonce, tunnel-none}
+use Rattle.audit_laws.proofs.VerdictLemmas.{packet-whole}
+
+-- exactly one packet, which goes at that moment
+pub record IsSentAt (m : ℕ) (packet : Packet) : Type 0 where
+  pub whole : IsWhole packet.octets
+  pub moment : packet.moment ≡ m
+
+-- ### one event
+
+-- a router that drew these nonces goes on
+pub record GoesOn (settings : Settings) (before : List ℕ) (journal : Journal) : Type 0 where
+  pub asks : AsksResolver settings.resolver journal
+  pub next : AreNext settings journal
+  pub nonces : settings.echo ≡ false → AreDrawn settings before journal
+
+-- the nonces that are lifted out of packets
+abbrev pub nonces_in : Settings → List Packet → List ℕ
+nonces_in settings packets = filter_map (λ (packet : Packet). packet_nonce settings.locators packet.octets) packets
+
+-- what is sent at an event, and what is left of the router
+record Goes (settings : Settings) (before : List ℕ) (m : ℕ) (others : Type 0) (outcome : Outcome (Router Journal)) : Type 0 where
+  pub sent : All (IsSentAt m) outcome.packets
+  pub same : outcome.after.settings ≡ settings
+  pub drawn : List ℕ
+  pub goes_on : GoesOn settings (before ++ drawn) outcome.after.memory
+  pub nonces : AreInRange settings → others → nonces_in settings outcome.packets ≡ drawn
+
+module _ (settings : Settings) (lawful : IsLawful settings) (before : List ℕ) where
+  emits-sent : (m : ℕ) (emits : List Emit) → All (CanBeMade settings) emits → All (IsSentAt m) (emit_packets settings m emits)
+  emits-sent m emits made =
+      let packet : Emit → Packet = λ emit. record { moment = m; octets = emit_packet settings emit } in
+      let one : (emit : Emit) → CanBeMade settings emit → IsSentAt m (packet emit) = λ emit can. record { whole = emit-whole settings emit lawful can; moment = refl } in
+      All-map (IsSentAt m) packet emits (All-weaker (CanBeMade settings) (λ emit. IsSentAt m (packet emit)) one emits made)
+
+  -- the nonces of emits are lifted out of their packets
+  emits-nonces : DoFit settings.locators → (m : ℕ) (emits : List Emit) → All (CanBeMade settings) emits → All IsShort emits → nonces_in settings (emit_packets settings m emits) ≡ filter_map emit_nonce emits
+  emits-nonces fit m [] made short = refl
+  emits-nonces fit m (emit ∷ emits) made short =
+      ap₂ (λ (o : Option ℕ) (rest : List ℕ). cons_option o rest)
+      (emit-nonce settings lawful fit emit (All-head (CanBeMade settings) emit emits made) (All-head IsShort emit emits short))
+      (emits-nonces fit m emits (All-tail (CanBeMade settings) emit emits made) (All-tail IsShort emit emits short))
+
+  verdict-sent : (m : ℕ) (packet : Option (List ℕ)) → IfSome packet (IsPacket 0) → All (IsSentAt m) (packets_of m packet)
+  verdict-sent m None is = All-nil (IsSentAt m)
+  verdict-sent m (Some packet) is =
+      All-cons (IsSentAt m) (record { moment = m; octets = packet }) [] (record { whole = packet-whole packet is; moment = refl }) (All-nil (IsSentAt m))
+
+  -- no nonce is lifted out of the packet of a decision
+  one-none : (m : ℕ) (packet : List ℕ) → packet_nonce settings.locators packet ≡ None → nonces_in settings (packets_of m (Some packet)) ≡ []
+  one-none m packet none = ap (λ (o : Option ℕ). cons_option o []) none
+
+  verdict-none : (m : ℕ) (verdict : Verdict) → SendsPacket settings verdict → ComesFromOther settings verdict → nonces_in settings (packets_of m (packet_of verdict)) ≡ []
+  verdict-none m (Encapsulated from to port packet) sends other = one-none m packet (tunnel-none settings.locators packet sends.1)
+  verdict-none m (Delivered iid packet) sends other = one-none m packet (other-none settings.locators packet other)
+  verdict-none m (Native packet) sends other = one-none m packet (other-none settings.locators packet sends.1)
+  verdict-none m Own sends other = refl
+  verdict-none m Local sends other = refl
+  verdict-none m (Control done) sends other = refl
+  verdict-none m (Drop why) sends other = refl
+
+  -- a router by its journal
+  abbrev router_of : Journal → Router Journal
+  router_of journal = record { settings = settings; memory = journal }
+
+  -- nothing was emitted yet
+  unchanged-sound : (journal : Journal) → GoesOn settings before journal → IsSound settings before (unchanged journal)
+  unchanged-sound journal goes = record {
+    asks = goes.asks;
+    made = All-nil (CanBeMade settings);
+    next = goes.next;
+    short = λ short. All-nil IsShort;
+    nonces = λ off. ap each_once (append-nil before) ∙ goes.nonces off;
+  }
+
+  sound-goes : (change : Change Journal) → IsSound settings before change → GoesOn settings (before ++ filter_map emit_nonce change.emits) change.after
+  sound-goes change sound = record { asks = sound.asks; next = sound.next; nonces = sound.nonces }
+
+  tick-goes : (s : ℕ) (journal : Journal) → GoesOn settings before journal → Goes settings before (seconds s) (Unit {0}) (plain (router_of journal) (Tick s))
+  tick-goes s journal goes =
+      let change : Change Journal = ticked of_journal settings (seconds s) (unchanged journal) in
+      let sound = all-ticked settings lawful before (seconds s) (unchanged journal) (unchanged-sound journal goes) in
+      record {
+        sent = emits-sent (seconds s) change.emits sound.made;
+        same = refl;
+        drawn = filter_map emit_nonce change.emits;
+        goes_on = sound-goes change sound;
+        nonces = λ fit others. emits-nonces fit.locators (seconds s) change.emits sound.made (sound.short (nonces-short settings fit.nonces));
+      }
+
+  message-goes : (frame : Frame) (journal : Journal) (others : Type 0) (heard : Heard Journal) → IsSound settings before heard.change → Goes settings before frame.moment others (after_message of_journal (router_of journal) frame heard)
+  message-goes frame journal others heard sound = record {
+    sent = emits-sent frame.moment heard.change.emits sound.made;
+    same = refl;
+    drawn = filter_map emit_nonce heard.change.emits;
+    goes_on = sound-goes heard.change sound;
+    nonces = λ fit others. emits-nonces fit.locators frame.moment heard.change.emits sound.made (sound.short (nonces-short settings fit.nonces));
+  }
+
+  decision-goes : (frame : Frame) (journal : Journal) (decision : Decision) → SendsPacket settings decision.verdict → GoesOn settings before journal
+      → Goes settings before frame.moment (ComesFromOther settings decision.verdict) (after_decision of_journal (router_of journal) frame decision)
+  decision-goes frame journal decision sends goes =
+      let m = frame.moment in
+      let change : Change Journal = each (noted of_journal settings m) decision.notices (unchanged journal) in
+      let sound = all-noted settings lawful before m decision.notices (unchanged journal) (unchanged-sound journal goes) in
+      let first : List Packet = packets_of m (packet_of decision.verdict) in
+      let more : List Packet = emit_packets settings m change.emits in
+      record {
+        sent = All-append (IsSentAt m) first more (verdict-sent m (packet_of decision.verdict) (sends-packet settings decision.verdict sends)) (emits-sent m change.emits sound.made);
+        same = refl;
+        drawn = filter_map emit_nonce change.emits;
+        goes_on = sound-goes change sound;
+        nonces = λ fit others.
+            filter_map-append (λ (packet : Packet). packet_nonce settings.locators packet.octets) first more
+            ∙ ap (λ (l : List ℕ). l ++ nonces_in settings more) (verdict-none m decision.verdict sends others)
+            ∙ emits-nonces fit.locators m change.emits sound.made (sound.short (nonces-short settings fit.nonces));
+      }
+
+  frame-goes : (frame : Frame) (journal : Journal) → AreOctets frame.octets → GoesOn settings before journal
+      → Goes settings before frame.moment (DeliversOther (router_of journal) (Arrival frame)) (plain (router_of journal) (Arrival frame))
+  frame-goes frame journal are goes = by (control settings frame)
+    where
+      heard : Heard Journal
+      heard = hear_by of_journal settings frame.moment frame (unchanged journal)
+
+      decision : Decision
+      decision = decide_by settings (view journal frame.moment) frame
+
+      by : (b : Bool) → Goes settings before frame.moment (ComesFromOther settings decision.verdict) (cond b (after_message of_journal (router_of journal) frame heard) (after_decision of_journal (router_of journal) frame decision))
+      by true = message-goes frame journal (ComesFromOther settings decision.verdict) heard (all-heard settings lawful before frame.moment frame (unchanged journal) (unchanged-sound journal goes))
+      by false = decision-goes frame journal decision (decided-sends settings (view journal frame.moment) frame are) goes
+
+  event-goes : (event : Event) (journal : Journal) → HasOctets event → GoesOn settings before journal → Goes settings before (event_moment event) (DeliversOther (router_of journal) event) (plain (router_of journal) event)
+  event-goes (Tick s) journal are goes = tick-goes s journal goes
+  event-goes (Arrival frame) journal are goes = frame-goes frame journal are goes
+
+-- ### events in order
+
+-- a moment that a record can have
+abbrev IsEarly : ℕ → Type 0
+IsEarly m = m < 2 ^ 32 * 1000000000
+
+abbrev AreEarly : List Event → Type 0
+AreEarly [] = Unit {0}
+AreEarly (event ∷ events) = IsEarly (event_moment event) × AreEarly events
+
+-- packets that come in order from a moment on, each of which a record can have
+abbrev pub AreSent : ℕ → List Packet → Type 0
+AreSent m [] = Unit {0}
+AreSent m (packet ∷ packets) = (m ≤ packet.moment) × (IsEarly packet.moment × (IsWhole packet.octets × AreSent packet.moment packets))
+
+earlier-sent : (m n : ℕ) (packets : List Packet) → m ≤ n → AreSent n packets → AreSent m packets
+earlier-sent m n [] later sent = tt
+earlier-sent m n (packet ∷ packets) later sent = (let first = sent.0 in omega (arith, later, first), sent.1)
+
+-- each of them is exactly one packet
+whole-all : (m : ℕ) (packets : List Packet) → AreSent m packets → All (λ (packet : Packet). IsWhole packet.octets) packets
+whole-all m [] sent = All-nil (λ (packet : Packet). IsWhole packet.octets)
+whole-all m (packet ∷ packets) sent = All-cons (λ (packet : Packet). IsWhole packet.octets) packet packets sent.1.1.0 (whole-all packet.moment packets sent.1.1.1)
+
+-- those of one event, and then those of the next ones
+more-sent : (m n : ℕ) (packets more : List Packet) → m ≤ n → IsEarly n → All (IsSentAt n) packets → AreSent n more → AreSent m (packets ++ more)
+more-sent m n [] more later early all sent = earlier-sent m n more later sent
+more-sent m n (packet ∷ packets) more later early all sent =
+    let first = All-head (IsSentAt n) packet packets all in
+    let now : packet.moment ≡ n = first.moment in (
+      omega (arith, later, now),
+      (omega (arith, early, now), (first.whole, more-sent packet.moment n packets more (omega (arith, now)) early (All-tail (IsSentAt n) packet packets all) sent)),
+    )
+
+-- an event of a router with these settings
+event-played : (settings : Settings) (lawful : IsLawful settings) (before : List ℕ) (event : Event) (router : Router Journal) → router.settings ≡ settings → HasOctets event → GoesOn settings before router.memory
+    → Goes settings before (event_moment event) (DeliversOther router event) (plain router event)
+event-played settings lawful before event router same are goes =
+    subst (λ (s : Settings). Goes settings before (event_moment event) (DeliversOther (record { settings = s; memory = router.memory }) event) (plain (record { settings = s; memory = router.memory }) event)) (sym same)
+    (event-goes settings lawful before event router.memory are goes)
+
+all-sent : (settings : Settings) (lawful : IsLawful settings) (before : List ℕ) (m : ℕ) (events : List Event) (router : Router Journal) → router.settings ≡ settings → GoesOn settings before router.memory → AreInOrder m events → AreEarly events
+    → AreSent m (played plain router events).packets
+all-sent settings lawful before m [] router same goes order early = tt
+all-sent settings lawful before m (event ∷ events) router same goes order early =
+    let one = event-played settings lawful before event router same order.1.0 goes in
+    more-sent m (event_moment event) (plain router event).packets (played plain (plain router event).after events).packets order.0 early.0 one.sent
+    (all-sent settings lawful (before ++ one.drawn) (event_moment event) events (plain router event).after one.same one.goes_on order.1.1 early.1)
+
+-- the nonces of all that is sent are those that were drawn
+all-drawn : (settings : Settings) (lawful : IsLawful settings) (before : List ℕ) (m : ℕ) (events : List Event) (router : Router Journal) → router.settings ≡ settings → GoesOn settings before router.memory → AreInOrder m events
+    → AreInRange settings → DeliverOthers router events → settings.echo ≡ false → AreDrawn settings (before ++ nonces_in settings (played plain router events).packets) (played plain router events).after.memory
+all-drawn settings lawful before m [] router same goes order fit others off = ap each_once (append-nil before) ∙ goes.nonces off
+all-drawn settings lawful before m (event ∷ events) router same goes order fit others off =
+    let one = event-played settings lawful before event router same order.1.0 goes in
+    let first : List Packet = (plain router event).packets in
+    let rest : Outcome (Router Journal) = played plain (plain router event).after events in
+    let nonces : nonces_in settings (first ++ rest.packets) ≡ one.drawn ++ nonces_in settings rest.packets =
+    filter_map-append (λ (packet : Packet). packet_nonce settings.locators packet.octets) first rest.packets ∙ ap (λ (l : List ℕ). l ++ nonces_in settings rest.packets) (one.nonces fit others.0) in
+    ap (λ (l : List ℕ). each_once (before ++ l)) nonces
+    ∙ ap each_once (sym (append_assoc before one.drawn (nonces_in settings rest.packets)))
+    ∙ all-drawn settings lawful (before ++ one.drawn) (event_moment event) events (plain router event).after one.same one.goes_on order.1.1 fit others.1 off
+
+-- ### no second is later than the frame behind it
+
+ticks-early : (n a to : ℕ) (rest : List Event) → a + n ≤ suc (to / 1000000000) → IsEarly to → AreEarly rest → AreEarly (map Tick (range_with_len a n) ++ rest)
+ticks-early zero a to rest few early all = all
+ticks-early (suc n) a to rest few early all =
+    let whole = div-mul-le_self to 1000000000 in
+    (omega (arith, few, whole, early), ticks-early n (a + 1) to rest (omega (arith, few)) early all)
+
+after-early : (m : ℕ) (frames : List Frame) → All IsRead frames → AreLater m frames → AreEarly (events_after (Some m) frames)
+after-early m [] read later = tt
+after-early m (frame ∷ frames) read later =
+    let early = (All-head IsRead frame frames read).moment in
+    let a = div-add-mod' m 1000000000 in
+    let b = div-add-mod' frame.moment 1000000000 in
+    let c = mod-lt m (let some : 0 < 1000000000 = omega arith in some) in
+    let d = mod-lt frame.moment (let some : 0 < 1000000000 = omega arith in some) in
+    let rises = later.0 in
+    subst AreEarly (sym (append_assoc (ticks (Some m) frame.moment) (Arrival frame ∷ []) (events_after (Some frame.moment) frames)))
+    (ticks-early (frame.moment / 1000000000 - m / 1000000000) (suc (m / 1000000000)) frame.moment (Arrival frame ∷ events_after (Some frame.moment) frames) (omega (arith, a, b, c, d, rises)) early
+    (early, after-early frame.moment frames (All-tail IsRead frame frames read) later.1))
+
+events-early : (frames : List Frame) → All IsRead frames → AreLater 0 frames → AreEarly (events frames)
+events-early [] read later = tt
+events-early (frame ∷ frames) read later =
+    ((All-head IsRead frame frames read).moment, after-early frame.moment frames (All-tail IsRead frame frames read) later.1)
+
+-- ### all of a capture
+
+-- a router begins without a request and without a nonce
+statics-goes : (settings : Settings) → GoesOn settings [] (statics settings)
+statics-goes settings = record {
+  asks = statics-ask settings;
+  next = statics-next settings;
+  nonces = λ off. ap (λ (k : ℕ). each_once (first_nonces settings k)) (sym (statics-drawn settings));
+}
+
+module _ (settings : Settings) (frames : List Frame) (lawful : IsLawful settings) (read : All IsRead frames) (later : AreLater 0 frames) where
+  pub plain-sent : AreSent 0 (sent_packets settings frames)
+  plain-sent =
+      all-sent settings lawful [] 0 (events frames) (started settings) refl (statics-goes settings) (events-order frames (in_order 0 frames read later)) (events-early frames read later)
+
+  pub plain-whole : All (λ (packet : Packet). IsWhole packet.octets) (sent_packets settings frames)
+  plain-whole = whole-all 0 (sent_packets settings frames) plain-sent
+
+  pub plain-drawn : AreInRange settings → DeliverOthers (started settings) (events frames) → settings.echo ≡ false → AreDrawn settings (nonces_in settings (sent_packets settings frames)) (journal_after settings frames)
+  plain-drawn fit others off = all-drawn settings lawful [] 0 (events frames) (started settings) refl (statics-goes settings) (events-order frames (in_order 0 frames read later)) fit others off

@@ -1,0 +1,49 @@
+-- The nonces that a router draws, and when they are lifted out of what it sent.
+use Rattle.std.specs.Prelude.{◌≡◌, ℕ, zero, suc, ◌<◌, ◌≤◌, ◌^◌, nat_eq, false, List, [], ◌∷◌, ◌++◌, All, length}
+use Rattle.std.specs.List.{IsDistinct}
+use Rattle.ip_headers.specs.Addr.{IsAddr}
+use Rattle.capture_io.specs.Frame.{Frame}
+use Rattle.capture_io.specs.Run.{AreLater}
+use Rattle.lisp_settings.specs.Lawful.{IsLawful}
+use Rattle.lisp_settings.specs.Nonces.{nonce_of}
+use Rattle.lisp_settings.specs.declared.settings.Settings.{Settings}
+use Rattle.capture_events.specs.Came.{IsRead}
+use Rattle.capture_events.specs.Events.{events, played}
+use Rattle.router_model.specs.Journal.{Journal, drawn}
+use Rattle.router_model.specs.Plain.{plain, started}
+use Rattle.audit.specs.Limits.{most_lifted}
+use Rattle.audit_laws.specs.Delivers.{DeliverOthers}
+
+-- the nonce with that number, from 0 on
+abbrev pub nonce_at : Settings → ℕ → ℕ
+nonce_at settings i = nonce_of settings.seed settings.nonces i
+
+-- so many nonces, in the order in which they are drawn
+abbrev pub first_nonces : Settings → ℕ → List ℕ
+first_nonces settings zero = []
+first_nonces settings (suc n) = first_nonces settings n ++ nonce_at settings n ∷ []
+
+-- the journal that the plain router has at the end
+abbrev pub journal_after : Settings → List Frame → Journal
+journal_after settings frames = (played plain (started settings) (events frames)).after.memory
+
+-- the nonces that it drew
+abbrev pub drawn_nonces : Settings → List Frame → List ℕ
+drawn_nonces settings frames = first_nonces settings (drawn (journal_after settings frames))
+
+-- the numbers of settings fit their types: the addresses of own locators, and the nonces that are listed
+pub record AreInRange (settings : Settings) : Type 0 where
+  pub locators : All (λ own. IsAddr own.addr) settings.locators
+  pub nonces : All (λ nonce. nonce < 2 ^ 64) settings.nonces
+
+-- without echoes, which draw a nonce and send no Map-Request, where no delivered packet looks like one of the router's own,
+-- and the nonces differ and are no more than are lifted
+pub record MayLift (settings : Settings) (frames : List Frame) : Type 0 where
+  pub lawful : IsLawful settings
+  pub range : AreInRange settings
+  pub no_echo : settings.echo ≡ false
+  pub read : All IsRead frames
+  pub later : AreLater 0 frames
+  pub others : DeliverOthers (started settings) (events frames)
+  pub apart : IsDistinct nat_eq (drawn_nonces settings frames)
+  pub few : length (drawn_nonces settings frames) ≤ most_lifted

@@ -1,0 +1,4 @@
+pub mod Delivers
+pub mod Drawn
+pub mod Sent
+pub mod Whole

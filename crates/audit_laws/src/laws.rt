@@ -1,0 +1,61 @@
+// Laws of what the plain router sends. Each function only states its law.
+ghost use Rattle.std.specs.Prelude.{◌≡◌, List, All, None, IfSome, length, map};
+ghost use Rattle.ip_headers.specs.Packet.{IsPacket};
+ghost use Rattle.capture_io.specs.Frame.{Frame};
+ghost use Rattle.capture_io.specs.Run.{AreLater};
+ghost use Rattle.lisp_settings.specs.Lawful.{IsLawful};
+ghost use Rattle.lisp_settings.specs.declared.settings.Settings.{Settings};
+ghost use Rattle.capture_events.specs.Came.{IsRead};
+ghost use Rattle.playback.specs.Written.{frames_of};
+ghost use Rattle.router_log.specs.declared.emit.Emit.{Emit};
+ghost use Rattle.router_model.specs.Decide.{decide_by};
+ghost use Rattle.router_model.specs.Emits.{emit_packet};
+ghost use Rattle.router_model.specs.Lifting.{AreOctets};
+ghost use Rattle.router_model.specs.Plain.{packet_of};
+ghost use Rattle.router_model.specs.View.{View};
+ghost use Rattle.audit.specs.Compared.{compared};
+ghost use Rattle.audit.specs.Lifted.{lifted};
+ghost use Rattle.audit.specs.declared.outcome.Outcome.TheVariants.{Same};
+ghost use Rattle.audit_laws.specs.Drawn.{drawn_nonces, MayLift};
+ghost use Rattle.audit_laws.specs.Sent.{sent_packets, written, CanBeMade};
+ghost use Rattle.audit_laws.specs.Whole.{IsWhole};
+
+/// What a decision on a frame of octets sends, into a tunnel, out of one or past it, is exactly one
+/// packet of octets. So is what the router makes itself, and each packet of a whole replay.
+pub fn sent_packets_are_packets()
+    ensures decision { (settings : Settings) (v : View) (frame : Frame) → AreOctets frame.octets
+        → IfSome (packet_of (decide_by settings v frame).verdict) (IsPacket 0) }
+    ensures emit { (settings : Settings) (emit : Emit) → IsLawful settings
+        → CanBeMade settings emit → IsWhole (emit_packet settings emit) }
+    ensures all { (settings : Settings) (frames : List Frame) → IsLawful settings
+        → All IsRead frames → AreLater 0 frames
+        → All (λ packet. IsWhole packet.octets) (sent_packets settings frames) }
+{}
+
+/// The capture that is written of a replay's packets, where it has no fault, is read as just these
+/// packets.
+pub fn sent_packets_are_read()
+    ensures { (settings : Settings) (frames : List Frame) → IsLawful settings
+        → All IsRead frames → AreLater 0 frames → (written (sent_packets settings frames)).fault ≡ None
+        → (written (sent_packets settings frames)).frames ≡ frames_of (sent_packets settings frames) }
+{}
+
+/// Held against what a replay sent, the capture that is written of it is the same, where it has no
+/// fault.
+pub fn own_output_is_the_same()
+    ensures { (settings : Settings) (frames : List Frame) → IsLawful settings
+        → All IsRead frames → AreLater 0 frames → (written (sent_packets settings frames)).fault ≡ None
+        → compared (map (λ packet. packet.octets) (sent_packets settings frames))
+        (written (sent_packets settings frames)).frames
+        ≡ Same (length (sent_packets settings frames)) }
+{}
+
+/// The nonces that a replay without echoes draws, where they differ, are those that are lifted out
+/// of what it sent, in their order.
+pub fn drawn_nonces_are_lifted()
+    ensures sent { (settings : Settings) (frames : List Frame) → MayLift settings frames
+        → lifted settings (frames_of (sent_packets settings frames)) ≡ drawn_nonces settings frames }
+    ensures written { (settings : Settings) (frames : List Frame) → MayLift settings frames
+        → (written (sent_packets settings frames)).fault ≡ None
+        → lifted settings (written (sent_packets settings frames)).frames ≡ drawn_nonces settings frames }
+{}
