@@ -1,5 +1,4 @@
-use Rattle.std.proofs.Common.{◌∙◌, ap, rules}
-use Rattle.audit.specs.Compared.{expected}
+use Rattle.std.proofs.Common.{rules}
 use Rattle.auditing.proofs.HoldingLemmas.{held-fault, held-next}
 use Rattle.auditing.proofs.holding.Holding.expect.Goals as goal
 
@@ -12,5 +11,6 @@ pub returns-clause-holds : goal.returns-clause-holds
 returns-clause-holds g c = λ packets run base held.
     let self = c.args.self.now in
     let read = c.in_ok-found.ensures in
+    let judged = rw c.as_ref.ensures.value at c.expect.ensures in
     held-next packets c.args.packet.now run base self c.read_next.new.reader c.expect.new.self c.in_ok-found.found (g.D.Desk.told c.args.desk.now) (g.D.Desk.told c.read_next.new.desk)
-    c.packets_compare_one_by_one.ensures.more held read.comes read.id (c.expect.ensures ∙ ap (expected self.auditor c.args.packet.now) c.as_ref.ensures.value)
+    c.packets_compare_one_by_one.ensures.more held read.comes read.id judged
