@@ -1,3 +1,5 @@
+mod AgainLemmas
+mod AlikeLemmas
 mod ChangeLemmas
 mod CourseLemmas
 mod DecideLemmas

@@ -23,6 +23,10 @@ abbrev pub first_nonces : Settings → ℕ → List ℕ
 first_nonces settings zero = []
 first_nonces settings (suc n) = first_nonces settings n ++ nonce_at settings n ∷ []
 
+-- the settings with another seed and other nonces
+abbrev pub with_nonces : Settings → List ℕ → List ℕ → Settings
+with_nonces settings seed nonces = record settings { seed = seed; nonces = nonces }
+
 -- the journal that the plain router has at the end
 abbrev pub journal_after : Settings → List Frame → Journal
 journal_after settings frames = (played plain (started settings) (events frames)).after.memory

@@ -1,5 +1,5 @@
 // Laws of what the plain router sends. Each function only states its law.
-ghost use Rattle.std.specs.Prelude.{◌≡◌, List, All, None, IfSome, length, map};
+ghost use Rattle.std.specs.Prelude.{◌≡◌, ℕ, List, All, None, IfSome, length, map};
 ghost use Rattle.ip_headers.specs.Packet.{IsPacket};
 ghost use Rattle.capture_io.specs.Frame.{Frame};
 ghost use Rattle.capture_io.specs.Run.{AreLater};
@@ -16,7 +16,7 @@ ghost use Rattle.router_model.specs.View.{View};
 ghost use Rattle.audit.specs.Compared.{compared};
 ghost use Rattle.audit.specs.Lifted.{lifted};
 ghost use Rattle.audit.specs.declared.outcome.Outcome.TheVariants.{Same};
-ghost use Rattle.audit_laws.specs.Drawn.{drawn_nonces, MayLift};
+ghost use Rattle.audit_laws.specs.Drawn.{drawn_nonces, with_nonces, MayLift};
 ghost use Rattle.audit_laws.specs.Sent.{sent_packets, written, CanBeMade};
 ghost use Rattle.audit_laws.specs.Whole.{IsWhole};
 
@@ -58,4 +58,15 @@ pub fn drawn_nonces_are_lifted()
     ensures written { (settings : Settings) (frames : List Frame) → MayLift settings frames
         → (written (sent_packets settings frames)).fault ≡ None
         → lifted settings (written (sent_packets settings frames)).frames ≡ drawn_nonces settings frames }
+{}
+
+/// So whoever knows a router's settings, but not its nonces, and puts those that are lifted in their
+/// place, finds what it sent the same.
+pub fn lifted_nonces_make_it_the_same()
+    ensures { (settings : Settings) (frames : List Frame) (seed nonces : List ℕ)
+        → MayLift settings frames → (written (sent_packets settings frames)).fault ≡ None
+        → let sent = (written (sent_packets settings frames)).frames in
+        let found = lifted (with_nonces settings seed nonces) sent in
+        compared (map (λ packet. packet.octets) (sent_packets (with_nonces settings seed found) frames)) sent
+        ≡ Same (length sent) }
 {}
