@@ -23,8 +23,9 @@ use Rattle.router_model.specs.Tick.{ticked}
 use Rattle.router_model.specs.View.{View, view}
 use Rattle.audit_laws.specs.Drawn.{drawn_nonces, first_nonces, journal_after, nonce_at, with_nonces}
 use Rattle.audit_laws.specs.Sent.{sent_packets}
-use Rattle.audit_laws.proofs.AlikeLemmas.{alike-each, alike-heard, alike-noted, alike-ticked}
+use Rattle.audit_laws.proofs.AlikeLemmas.{alike-each, alike-noted, alike-ticked}
 use Rattle.audit_laws.proofs.DrawnLemmas.{length-first_nonces}
+use Rattle.audit_laws.proofs.HeardLemmas.{alike-heard}
 
 -- ### what doesn't ask for nonces
 

@@ -60,17 +60,13 @@ module _ (n : ℕ) where
     pub kept : (change : Change Journal) → IsPast change → IsPast (step change)
     pub same : (change : Change Journal) → IsPast (step change) ⊎ (other change ≡ step change)
 
-  pub record HeardAlike (other hear : Change Journal → Heard Journal) : Type 0 where
-    pub kept : (change : Change Journal) → IsPast change → IsPast (hear change).change
-    pub same : (change : Change Journal) → IsPast (hear change).change ⊎ (other change ≡ hear change)
-
-  alike-self : (step : Change Journal → Change Journal) → ((change : Change Journal) → IsPast change → IsPast (step change)) → Alike step step
+  pub alike-self : (step : Change Journal → Change Journal) → ((change : Change Journal) → IsPast change → IsPast (step change)) → Alike step step
   alike-self step kept = record { kept = kept; same = λ change. inr refl }
 
-  alike-none : Alike (λ change. change) (λ change. change)
+  pub alike-none : Alike (λ change. change) (λ change. change)
   alike-none = record { kept = λ change past. past; same = λ change. inr refl }
 
-  alike-if : (test : Change Journal → Bool) (other step : Change Journal → Change Journal) → Alike other step → Alike (λ change. cond (test change) (other change) change) (λ change. cond (test change) (step change) change)
+  pub alike-if : (test : Change Journal → Bool) (other step : Change Journal → Change Journal) → Alike other step → Alike (λ change. cond (test change) (other change) change) (λ change. cond (test change) (step change) change)
   alike-if test other step alike = record { kept = λ change past. kept change past (test change); same = λ change. same change (test change) }
     where
       kept : (change : Change Journal) → IsPast change → (b : Bool) → IsPast (cond b (step change) change)
@@ -81,7 +77,7 @@ module _ (n : ℕ) where
       same change true = alike.same change
       same change false = inr refl
 
-  alike-then : (other step others steps : Change Journal → Change Journal) → Alike other step → Alike others steps → Alike (λ change. others (other change)) (λ change. steps (step change))
+  pub alike-then : (other step others steps : Change Journal → Change Journal) → Alike other step → Alike others steps → Alike (λ change. others (other change)) (λ change. steps (step change))
   alike-then other step others steps first next = record { kept = λ change past. next.kept (step change) (first.kept change past); same = λ change. same change (first.same change) (next.same (step change)) }
     where
       same : (change : Change Journal) → IsPast (step change) ⊎ (other change ≡ step change) → IsPast (steps (step change)) ⊎ (others (step change) ≡ steps (step change)) → IsPast (steps (step change)) ⊎ (others (other change) ≡ steps (step change))
@@ -101,7 +97,7 @@ module _ (n : ℕ) where
   }
 
   module _ (settings : Settings) (seed nonces : List ℕ) (agree : (i : ℕ) → i < n → nonce_at (with_nonces settings seed nonces) i ≡ nonce_at settings i) (m : ℕ) where
-    abbrev pub others : Settings
+    abbrev others : Settings
     others = with_nonces settings seed nonces
 
     abbrev next : Change Journal → ℕ
@@ -119,10 +115,10 @@ module _ (n : ℕ) where
         by change (inl before) = inr (ap (λ (nonce : ℕ). step nonce change) (nonce-next others m change ∙ agree (drawn change.after) before ∙ sym (nonce-next settings m change)))
         by change (inr past) = inl (let one = draws (next change) change in omega (arith, one, past))
 
-    alike-entered : (e : Change Journal → Entry) → Alike (λ change. entered of_journal settings m (e change) change) (λ change. entered of_journal settings m (e change) change)
+    pub alike-entered : (e : Change Journal → Entry) → Alike (λ change. entered of_journal settings m (e change) change) (λ change. entered of_journal settings m (e change) change)
     alike-entered e = alike-self (λ change. entered of_journal settings m (e change) change) (λ change past. drawn-kept n (e change) change.after past)
 
-    alike-asked : (eid : Eid) (source : Option Addr) (invoked : Bool) → Alike (asked of_journal others m eid source invoked) (asked of_journal settings m eid source invoked)
+    pub alike-asked : (eid : Eid) (source : Option Addr) (invoked : Bool) → Alike (asked of_journal others m eid source invoked) (asked of_journal settings m eid source invoked)
     alike-asked eid source invoked =
         alike-drawn (λ nonce change. asked_with of_journal settings m nonce eid source invoked change) (λ nonce change. drawn-one (entry.Asked m eid source invoked nonce) change.after refl)
 
@@ -162,139 +158,3 @@ module _ (n : ℕ) where
         (alike-read (λ change. filter (due (seen of_journal settings m change).now) (seen of_journal settings m change).requests) (retried of_journal others m) (retried of_journal settings m) alike-retried)
         (alike-if (λ change. settings.probe) _ _
         (alike-read (λ change. next_targets settings (seen of_journal settings m change)) (probed of_journal others m) (probed of_journal settings m) alike-probed))
-
-    -- ### control messages
-
-    heard-self : (hear : Change Journal → Heard Journal) → ((change : Change Journal) → IsPast change → IsPast (hear change).change) → HeardAlike hear hear
-    heard-self hear kept = record { kept = kept; same = λ change. inr refl }
-
-    heard-by : (test : Change Journal → Bool) (one_other one two_other two : Change Journal → Heard Journal) → HeardAlike one_other one → HeardAlike two_other two
-        → HeardAlike (λ change. cond (test change) (one_other change) (two_other change)) (λ change. cond (test change) (one change) (two change))
-    heard-by test one_other one two_other two first second = record { kept = λ change past. kept change past (test change); same = λ change. same change (test change) }
-      where
-        kept : (change : Change Journal) → IsPast change → (b : Bool) → IsPast (cond b (one change) (two change)).change
-        kept change past true = first.kept change past
-        kept change past false = second.kept change past
-
-        same : (change : Change Journal) (b : Bool) → IsPast (cond b (one change) (two change)).change ⊎ (cond b (one_other change) (two_other change) ≡ cond b (one change) (two change))
-        same change true = first.same change
-        same change false = second.same change
-
-    -- a change, and what is said of it
-    heard-of : (tell : Change Journal → Heard Journal) (other step : Change Journal → Change Journal) → ((change : Change Journal) → (tell change).change ≡ change) → Alike other step → HeardAlike (λ change. tell (other change)) (λ change. tell (step change))
-    heard-of tell other step keeps alike = record {
-      kept = λ change past. subst IsPast (sym (keeps (step change))) (alike.kept change past);
-      same = λ change. by change (alike.same change);
-    }
-      where
-        by : (change : Change Journal) → IsPast (step change) ⊎ (other change ≡ step change) → IsPast (tell (step change)).change ⊎ (tell (other change) ≡ tell (step change))
-        by change (inl past) = inl (subst IsPast (sym (keeps (step change))) past)
-        by change (inr is) = inr (ap tell is)
-
-    heard-unless : (o : Option Refused) (other hear : Change Journal → Heard Journal) → HeardAlike other hear
-        → HeardAlike (λ change. unless_refused of_journal others m o change (other change)) (λ change. unless_refused of_journal settings m o change (hear change))
-    heard-unless None other hear alike = alike
-    heard-unless (Some refused) other hear alike = heard-self (λ change. unless_refused of_journal settings m (Some refused) change (hear change)) (λ change past. past)
-
-    alike-again : (eid : Option Eid) → Alike (asked_again of_journal others m eid) (asked_again of_journal settings m eid)
-    alike-again None = alike-none
-    alike-again (Some eid) = alike-asked eid None true
-
-    alike-renewed : (range : Range) → Alike (renewed of_journal others m range) (renewed of_journal settings m range)
-    alike-renewed range = record {
-      kept = λ change past. (alike-again (found change)).kept change past;
-      same = λ change. (alike-again (found change)).same change;
-    }
-      where
-        found : Change Journal → Option Eid
-        found change = renewable settings (seen of_journal settings m change) (force (seen of_journal settings m change).mappings range.iid range.addr range.len)
-
-    heard-answered : (asker : Asker) (request : MapRequest) → HeardAlike (answered others asker request) (answered settings asker request)
-    heard-answered asker request = heard-self (answered settings asker request) (λ change past. subst (λ k. n < k) (sym (ap drawn (same change))) past)
-      where
-        replied_same : (reply : MapReply) (path : Option Path) (change : Change Journal) → (replied asker reply path change).change.after ≡ change.after
-        replied_same reply None change = refl
-        replied_same reply (Some path) change = refl
-
-        by : (b : Bool) (change : Change Journal) (hear : Heard Journal) → hear.change.after ≡ change.after → (cond b (drops NotOurs change) hear).change.after ≡ change.after
-        by true change hear is = refl
-        by false change hear is = is
-
-        same : (change : Change Journal) → (answered settings asker request change).change.after ≡ change.after
-        same change =
-            by (length (answering settings.databases request.eids) == 0) change _
-            (replied_same (reply_of settings asker request (answering settings.databases request.eids)) (reply_path settings asker request) change)
-
-    heard-requested : (asker : Asker) (request : MapRequest) → HeardAlike (requested of_journal others m asker request) (requested of_journal settings m asker request)
-    unfolding requested
-    heard-requested asker request =
-        heard-by (λ change. request.smr && not asker.probe) _ _ _ _
-        (heard-of (counted of_journal settings m) (each (renewed of_journal others m) (ranges_of request)) (each (renewed of_journal settings m) (ranges_of request)) (λ change. refl)
-        (alike-each (renewed of_journal others m) (renewed of_journal settings m) alike-renewed (ranges_of request)))
-        (heard-answered asker request)
-
-    alike-taught : (eid : Eid) (mappings : List Record) (mapping : Record) → Alike (taught of_journal others m eid mappings mapping) (taught of_journal settings m eid mappings mapping)
-    alike-taught eid mappings mapping =
-        alike-if (λ change. is_asked_for eid mappings mapping && (not (is_static settings mapping) && has_room (seen of_journal settings m change) mapping)) _ _
-        (alike-entered (λ change. entry.Learned m (shortened mapping) false))
-
-    heard-replied_to : (reply : MapReply) (o : Option Request) → HeardAlike (replied_to of_journal others m reply o) (replied_to of_journal settings m reply o)
-    heard-replied_to reply None = heard-self (replied_to of_journal settings m reply None) (λ change past. past)
-    heard-replied_to reply (Some request) =
-        heard-by (λ change. is_fit request.eid reply.mappings) _ _ _ _
-        (heard-of (tallied of_journal settings m reply) _ _ (λ change. refl)
-        (alike-then (entered of_journal others m (entry.Answered m reply.nonce)) (entered of_journal settings m (entry.Answered m reply.nonce))
-        (each (taught of_journal others m request.eid reply.mappings) reply.mappings) (each (taught of_journal settings m request.eid reply.mappings) reply.mappings) (alike-entered (λ change. entry.Answered m reply.nonce))
-        (alike-each (taught of_journal others m request.eid reply.mappings) (taught of_journal settings m request.eid reply.mappings) (alike-taught request.eid reply.mappings) reply.mappings)))
-        (heard-self (drops Unfit) (λ change past. past))
-
-    heard-probe_replied : (from : Addr) (reply : MapReply) (o : Option Addr) → HeardAlike (probe_replied of_journal others m from reply o) (probe_replied of_journal settings m from reply o)
-    heard-probe_replied from reply None = heard-self (probe_replied of_journal settings m from reply None) (λ change past. past)
-    heard-probe_replied from reply (Some rloc) =
-        heard-by (λ change. same_address rloc from) _ _ _ _
-        (heard-of (takes ProbeReply) _ _ (λ change. refl) (alike-entered (λ change. entry.ProbeAnswered m reply.nonce)))
-        (heard-self (drops Foreign) (λ change past. past))
-
-    -- by what is seen of the change
-    heard-read_of : {A : Type 0} (read : Change Journal → A) (other hear : A → Change Journal → Heard Journal) → ((a : A) → HeardAlike (other a) (hear a)) → HeardAlike (λ change. other (read change) change) (λ change. hear (read change) change)
-    heard-read_of read other hear one = record { kept = λ change past. (one (read change)).kept change past; same = λ change. (one (read change)).same change }
-
-    heard-reply : (from : Addr) (reply : MapReply) → HeardAlike (reply_heard of_journal others m from reply) (reply_heard of_journal settings m from reply)
-    unfolding reply_heard
-    heard-reply from reply =
-        heard-by (λ change. reply.probe) _ _ _ _
-        (heard-read_of (λ change. (seen of_journal settings m change).probe_open reply.nonce) (probe_replied of_journal others m from reply) (probe_replied of_journal settings m from reply) (heard-probe_replied from reply))
-        (heard-read_of (λ change. with_nonce (seen of_journal settings m change).requests reply.nonce) (replied_to of_journal others m reply) (replied_to of_journal settings m reply) (heard-replied_to reply))
-
-    heard-carried : (dest : Addr) (port : ℕ) (request : Option MapRequest) → HeardAlike (carried of_journal others m dest port request) (carried of_journal settings m dest port request)
-    heard-carried dest port None = heard-self (carried of_journal settings m dest port None) (λ change past. past)
-    heard-carried dest port (Some request) = heard-requested (record { dest = dest; port = port; probe = false }) request
-
-    heard-message : (route : Route) (read : Message) → HeardAlike (message_heard of_journal others m route read) (message_heard of_journal settings m route read)
-    heard-message route (message.Request request) = heard-requested (record { dest = route.dest; port = route.port; probe = request.probe }) request
-    heard-message route (message.Reply reply) = heard-reply route.from reply
-    heard-message route (message.Control ecm) = heard-carried route.dest ecm.source_port ecm.request
-
-    heard-read : (route : Route) (read : Option Message) → HeardAlike (read_heard of_journal others m route read) (read_heard of_journal settings m route read)
-    heard-read route None = heard-self (read_heard of_journal settings m route None) (λ change past. past)
-    heard-read route (Some read) = heard-message route read
-
-    heard-payload : (route : Route) (base : ℕ) (payload : List ℕ) → HeardAlike (payload_heard of_journal others m route base payload) (payload_heard of_journal settings m route base payload)
-    unfolding payload_heard
-    heard-payload route base payload = heard-unless (first_failing (message_rules base payload)) _ _ (heard-read route (message_in payload))
-
-    heard-datagram : (d : Datagram) → HeardAlike (datagram_heard of_journal others m d) (datagram_heard of_journal settings m d)
-    unfolding datagram_heard
-    heard-datagram d =
-        heard-unless (first_failing (sum_rules d.packet.base d.packet.header d.packet.octets d.udp false)) _ _
-        (heard-payload (route_of d) (d.packet.base + d.udp.at + 8) (payload_in d.packet.octets d.udp))
-
-    heard-course : (course : Course) → HeardAlike (course_heard of_journal others m course) (course_heard of_journal settings m course)
-    heard-course (Settled verdict) = heard-self (course_heard of_journal settings m (Settled verdict)) (λ change past. past)
-    heard-course (Data d) = heard-self (course_heard of_journal settings m (Data d)) (λ change past. past)
-    heard-course (Control d) = heard-datagram d
-    heard-course (Leaving iid packet) = heard-self (course_heard of_journal settings m (Leaving iid packet)) (λ change past. past)
-
-    pub alike-heard : (frame : Frame) → HeardAlike (hear_by of_journal others m frame) (hear_by of_journal settings m frame)
-    unfolding packet_course
-    alike-heard frame = heard-course (course_of settings frame)

@@ -7,11 +7,13 @@ mod DrawnLemmas
 mod EmitLemmas
 mod EmitNonceLemmas
 mod HeaderLemmas
+mod HeardLemmas
 mod LiftedLemmas
 mod NonceLemmas
 mod OctetLemmas
 mod PlayLemmas
 mod ReducedLemmas
 mod SameLemmas
+mod SoundLemmas
 mod VerdictLemmas
 mod WrittenLemmas

@@ -32,7 +32,8 @@ use Rattle.audit_laws.specs.Delivers.{ComesFromOther, DeliverOthers, DeliversOth
 use Rattle.audit_laws.specs.Drawn.{first_nonces, journal_after, AreInRange}
 use Rattle.audit_laws.specs.Sent.{CanBeMade, sent_packets}
 use Rattle.audit_laws.specs.Whole.{IsWhole}
-use Rattle.audit_laws.proofs.ChangeLemmas.{AreDrawn, AsksResolver, IsShort, IsSound, all-heard, all-noted, all-ticked, statics-ask, statics-drawn, statics-next}
+use Rattle.audit_laws.proofs.ChangeLemmas.{all-heard, all-noted, all-ticked, statics-ask, statics-drawn, statics-next}
+use Rattle.audit_laws.proofs.SoundLemmas.{AreDrawn, AsksResolver, IsShort, IsSound}
 use Rattle.audit_laws.proofs.DecideLemmas.{SendsPacket, decided-sends, sends-packet}
 use Rattle.audit_laws.proofs.DrawnLemmas.{nonces-short, AreNext}
 use Rattle.audit_laws.proofs.EmitLemmas.{emit-whole, emit_nonce}
