@@ -46,10 +46,12 @@ use Rattle.router_model.specs.View.{View, view}
 use Rattle.router_core.proofs.AnsweringLemmas.{reply-short}
 use Rattle.router_model.proofs.LiftLemmas.{nonce-next}
 use Rattle.audit.specs.Lifted.{each_once}
-use Rattle.audit_laws.specs.Drawn.{first_nonces, nonce_at}
+use Rattle.audit_laws.specs.Drawn.{first_nonces, nonce_at, IsInRange}
 use Rattle.audit_laws.specs.Sent.{CanBeMade}
 use Rattle.audit_laws.proofs.DrawnLemmas.{drawn-one, drawn-same, drawn-short, each-filter, once-again, once-alike, requests-drawn, AreNext, AreShort, Each, IsDrawn, IsNext}
 use Rattle.audit_laws.proofs.EmitLemmas.{emit_nonce}
+use Rattle.audit_laws.proofs.EmitOctetLemmas.{IsMade, reply-octets}
+use Rattle.audit_laws.proofs.OctetLemmas.{AreOctets}
 use Rattle.audit_laws.proofs.SoundLemmas.{AsksResolver, IsShort, IsSound, asks-more, is_asking, may-resolver, more-nonces, requests-none, sound-all, sound-asked, sound-drawn, sound-each, sound-echo, sound-entered, sound-if, sound-reply_sent}
 
 
@@ -76,7 +78,7 @@ module _ (settings : Settings) (lawful : IsLawful settings) (before : List ℕ) 
   sound-noted (notice.Solicit rloc eid) change sound =
       let nonce = next_nonce of_journal settings m change in
       sound-if settings lawful before m (is_some (ours settings.locators rloc) && (seen of_journal settings m change).may_solicit rloc eid) _ change
-      (λ is. sound-drawn settings lawful before m (entry.Solicited m rloc eid nonce) (emit.Solicit rloc eid nonce) change refl tt (asks-more settings.resolver (entry.Solicited m rloc eid nonce) change.after refl sound.asks) (and_parts _ _ is).0 refl sound) sound
+      (λ is. sound-drawn settings lawful before m (entry.Solicited m rloc eid nonce) (emit.Solicit rloc eid nonce) change refl tt (asks-more settings.resolver (entry.Solicited m rloc eid nonce) change.after refl sound.asks) (and_parts _ _ is).0 tt refl sound) sound
   sound-noted (notice.EchoDue rloc) change sound =
       sound-if settings lawful before m (settings.echo && (seen of_journal settings m change).may_start rloc) _ change
       (λ is. sound-echo settings lawful before m rloc (next_nonce of_journal settings m change % 2 ^ 24) change (and_parts _ _ is).0 sound) sound
@@ -98,6 +100,7 @@ module _ (settings : Settings) (lawful : IsLawful settings) (before : List ℕ) 
         made = All-push (CanBeMade settings) change.emits packet sound.made some;
         next = entered_sound.next;
         short = λ short. All-push IsShort change.emits packet (sound.short short) (drawn-short settings (drawn change.after) request.nonce short was);
+        octets = λ range. All-push IsMade change.emits packet (sound.octets range) tt;
         nonces = λ off.
             ap each_once (more-nonces before change.emits packet request.nonce refl)
             ∙ once-again nonces (first_nonces settings (drawn change.after)) request.nonce (sound.nonces off) was
@@ -162,7 +165,7 @@ module _ (settings : Settings) (lawful : IsLawful settings) (before : List ℕ) 
   sound-probed target change reached sound =
       let nonce = next_nonce of_journal settings m change in
       sound-if settings lawful before m (nat_lt (seen of_journal settings m change).probe_count 9600) _ change
-      (λ is. sound-drawn settings lawful before m (entry.Probed m target.rloc nonce) (emit.Probe target.rloc target.eid nonce) change refl tt (asks-more settings.resolver (entry.Probed m target.rloc nonce) change.after refl sound.asks) reached refl sound) sound
+      (λ is. sound-drawn settings lawful before m (entry.Probed m target.rloc nonce) (emit.Probe target.rloc target.eid nonce) change refl tt (asks-more settings.resolver (entry.Probed m target.rloc nonce) change.after refl sound.asks) reached tt refl sound) sound
 
   sound-all_probed : (change : Change Journal) → IsSound settings before change → IsSound settings before (all_probed of_journal settings m change)
   sound-all_probed change sound =
@@ -197,14 +200,14 @@ module _ (settings : Settings) (lawful : IsLawful settings) (before : List ℕ) 
       let held : Option Held = force v.mappings range.iid range.addr range.len in
       sound-asked_again (renewable settings v held) change (renewable-resolver v held) sound
 
-  sound-replied : (asker : Asker) (reply : MapReply) (path : Option Path) (change : Change Journal) → length (canonical_reply reply) ≤ 65000 → IsSound settings before change → IsSound settings before (replied asker reply path change).change
-  sound-replied asker reply None change short sound = sound
-  sound-replied asker reply (Some path) change short sound = sound-reply_sent settings lawful before m (emit.Reply path.from path.to asker.port reply) change short refl sound
+  sound-replied : (asker : Asker) (reply : MapReply) (path : Option Path) (change : Change Journal) → length (canonical_reply reply) ≤ 65000 → (All IsInRange settings.locators → AreOctets (canonical_reply reply)) → IsSound settings before change → IsSound settings before (replied asker reply path change).change
+  sound-replied asker reply None change short made sound = sound
+  sound-replied asker reply (Some path) change short made sound = sound-reply_sent settings lawful before m (emit.Reply path.from path.to asker.port reply) change short refl made sound
 
   sound-answered : (asker : Asker) (request : MapRequest) (change : Change Journal) → IsSound settings before change → IsSound settings before (answered settings asker request change).change
   sound-answered asker request change sound =
       sound-choice (length (answering settings.databases request.eids) == 0) (drops NotOurs change) _ sound
-      (sound-replied asker (reply_of settings asker request (answering settings.databases request.eids)) (reply_path settings asker request) change (reply-short settings lawful asker request) sound)
+      (sound-replied asker (reply_of settings asker request (answering settings.databases request.eids)) (reply_path settings asker request) change (reply-short settings lawful asker request) (λ range. reply-octets settings lawful range asker request) sound)
 
   sound-requested : (asker : Asker) (request : MapRequest) (change : Change Journal) → IsSound settings before change → IsSound settings before (requested of_journal settings m asker request change).change
   unfolding requested

@@ -6,6 +6,7 @@ mod DecideLemmas
 mod DrawnLemmas
 mod EmitLemmas
 mod EmitNonceLemmas
+mod EmitOctetLemmas
 mod HeaderLemmas
 mod HeardLemmas
 mod LiftedLemmas

@@ -46,10 +46,11 @@ use Rattle.router_model.specs.View.{View, view}
 use Rattle.router_core.proofs.AnsweringLemmas.{reply-short}
 use Rattle.router_model.proofs.LiftLemmas.{nonce-next}
 use Rattle.audit.specs.Lifted.{each_once}
-use Rattle.audit_laws.specs.Drawn.{first_nonces, nonce_at}
+use Rattle.audit_laws.specs.Drawn.{first_nonces, nonce_at, IsInRange}
 use Rattle.audit_laws.specs.Sent.{CanBeMade}
 use Rattle.audit_laws.proofs.DrawnLemmas.{drawn-one, drawn-same, drawn-short, each-filter, once-again, once-alike, requests-drawn, AreNext, AreShort, Each, IsDrawn, IsNext}
 use Rattle.audit_laws.proofs.EmitLemmas.{emit_nonce}
+use Rattle.audit_laws.proofs.EmitOctetLemmas.{IsMade}
 
 -- ### only a router with a resolver asks
 
@@ -112,6 +113,7 @@ pub record IsSound (settings : Settings) (before : List ℕ) (change : Change Jo
   pub made : All (CanBeMade settings) change.emits
   pub next : AreNext settings change.after
   pub short : AreShort settings → All IsShort change.emits
+  pub octets : All IsInRange settings.locators → All IsMade change.emits
   pub nonces : settings.echo ≡ false → AreDrawn settings (before ++ filter_map emit_nonce change.emits) change.after
 
 pub each-any : {A : Type 0} (items : List A) → Each (λ (a : A). Unit {0}) items
@@ -137,6 +139,7 @@ module _ (settings : Settings) (lawful : IsLawful settings) (before : List ℕ) 
     made = sound.made;
     next = (next, sound.next);
     short = sound.short;
+    octets = sound.octets;
     nonces = λ off. sound.nonces off ∙ ap (λ (k : ℕ). each_once (first_nonces settings k)) (sym (drawn-same e change.after none));
   }
 
@@ -147,13 +150,14 @@ module _ (settings : Settings) (lawful : IsLawful settings) (before : List ℕ) 
     made = sound.made;
     next = (tt, sound.next);
     short = sound.short;
+    octets = sound.octets;
     nonces = λ off. absurd (true≢false (sym on ∙ off));
   }
 
   -- a packet with the nonce that is next
-  pub sound-drawn : (e : Entry) (packet : Emit) (change : Change Journal) → uses_nonce e ≡ true → IsNext settings change.after e → AsksResolver settings.resolver (e ∷ change.after) → CanBeMade settings packet
+  pub sound-drawn : (e : Entry) (packet : Emit) (change : Change Journal) → uses_nonce e ≡ true → IsNext settings change.after e → AsksResolver settings.resolver (e ∷ change.after) → CanBeMade settings packet → IsMade packet
       → emit_nonce packet ≡ Some (next_nonce of_journal settings m change) → IsSound settings before change → IsSound settings before (emitted packet (entered of_journal settings m e change))
-  sound-drawn e packet change uses next asks can is sound =
+  sound-drawn e packet change uses next asks can made is sound =
       let nonce = next_nonce of_journal settings m change in
       let same : nonce ≡ nonce_at settings (drawn change.after) = nonce-next settings m change in
       let one : emit_nonce packet ≡ Some (nonce_at settings (drawn change.after)) = is ∙ ap Some same in
@@ -163,6 +167,7 @@ module _ (settings : Settings) (lawful : IsLawful settings) (before : List ℕ) 
         made = All-push (CanBeMade settings) change.emits packet sound.made can;
         next = (next, sound.next);
         short = λ short. All-push IsShort change.emits packet (sound.short short) (subst (λ (o : Option ℕ). IfSome o (λ nonce. nonce < 2 ^ 64)) (sym one) (short (drawn change.after)));
+        octets = λ range. All-push IsMade change.emits packet (sound.octets range) made;
         nonces = λ off.
             ap each_once (more-nonces before change.emits packet (nonce_at settings (drawn change.after)) one)
             ∙ once-alike nonces (first_nonces settings (drawn change.after)) (nonce_at settings (drawn change.after)) (sound.nonces off)
@@ -173,15 +178,16 @@ module _ (settings : Settings) (lawful : IsLawful settings) (before : List ℕ) 
   sound-asked eid source invoked change some sound =
       let nonce = next_nonce of_journal settings m change in
       let e : Entry = entry.Asked m eid source invoked nonce in
-      sound-drawn e (emit.Request eid source invoked nonce) change refl (nonce-next settings m change) (asks-one settings.resolver (e ∷ change.after) some) some refl sound
+      sound-drawn e (emit.Request eid source invoked nonce) change refl (nonce-next settings m change) (asks-one settings.resolver (e ∷ change.after) some) some tt refl sound
 
   -- a packet without a nonce
-  pub sound-reply_sent : (packet : Emit) (change : Change Journal) → CanBeMade settings packet → emit_nonce packet ≡ None → IsSound settings before change → IsSound settings before (emitted packet change)
-  sound-reply_sent packet change can none sound = record {
+  pub sound-reply_sent : (packet : Emit) (change : Change Journal) → CanBeMade settings packet → emit_nonce packet ≡ None → (All IsInRange settings.locators → IsMade packet) → IsSound settings before change → IsSound settings before (emitted packet change)
+  sound-reply_sent packet change can none made sound = record {
     asks = sound.asks;
     made = All-push (CanBeMade settings) change.emits packet sound.made can;
     next = sound.next;
     short = λ short. All-push IsShort change.emits packet (sound.short short) (subst (λ (o : Option ℕ). IfSome o (λ nonce. nonce < 2 ^ 64)) (sym none) tt);
+    octets = λ range. All-push IsMade change.emits packet (sound.octets range) (made range);
     nonces = λ off. ap each_once (same-nonces before change.emits packet none) ∙ sound.nonces off;
   }
 

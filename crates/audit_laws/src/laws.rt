@@ -16,12 +16,13 @@ ghost use Rattle.router_model.specs.View.{View};
 ghost use Rattle.audit.specs.Compared.{compared};
 ghost use Rattle.audit.specs.Lifted.{lifted};
 ghost use Rattle.audit.specs.declared.outcome.Outcome.TheVariants.{Same};
-ghost use Rattle.audit_laws.specs.Drawn.{drawn_nonces, with_nonces, MayLift};
+ghost use Rattle.audit_laws.specs.Drawn.{drawn_nonces, with_nonces, AreInRange, MayLift};
 ghost use Rattle.audit_laws.specs.Sent.{sent_packets, written, CanBeMade};
 ghost use Rattle.audit_laws.specs.Whole.{IsWhole};
 
 /// What a decision on a frame of octets sends, into a tunnel, out of one or past it, is exactly one
-/// packet of octets. So is what the router makes itself, and each packet of a whole replay.
+/// packet of octets. So is what the router makes itself, and each packet of a whole replay, which
+/// are of octets where the settings' numbers fit their types.
 pub fn sent_packets_are_packets()
     ensures decision { (settings : Settings) (v : View) (frame : Frame) → AreOctets frame.octets
         → IfSome (packet_of (decide_by settings v frame).verdict) (IsPacket 0) }
@@ -30,6 +31,9 @@ pub fn sent_packets_are_packets()
     ensures all { (settings : Settings) (frames : List Frame) → IsLawful settings
         → All IsRead frames → AreLater 0 frames
         → All (λ packet. IsWhole packet.octets) (sent_packets settings frames) }
+    ensures octets { (settings : Settings) (frames : List Frame) → IsLawful settings
+        → AreInRange settings → All IsRead frames → AreLater 0 frames
+        → All (λ packet. IsPacket 0 packet.octets) (sent_packets settings frames) }
 {}
 
 /// The capture that is written of a replay's packets, where it has no fault, is read as just these
