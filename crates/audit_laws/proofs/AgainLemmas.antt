@@ -1,5 +1,5 @@
 -- A replay with the nonces that it drew sends the same packets, whatever its seed is.
-use Rattle.std.proofs.Common.{◌≡◌, ℕ, zero, suc, ◌<◌, ◌≤◌, ◌-◌, nat_lt, Bool, true, false, cond, List, [], ◌∷◌, ◌++◌, length, map, Option, Some, None, ◌⊎◌, inl, inr, refl, sym, ap, ap₂, subst, ◌∙◌, arith}
+use Rattle.std.proofs.Common.{◌≡◌, ℕ, zero, suc, ◌<◌, ◌≤◌, nat_lt, Bool, true, false, cond, List, [], ◌∷◌, ◌++◌, length, ◌⊎◌, inl, inr, refl, sym, ap, ap₂, subst, ◌∙◌, arith}
 use Rattle.std.specs.Prelude.{slice_index}
 use Rattle.std.proofs.lemmas.Bool.{cases_lt}
 use Rattle.std.proofs.lemmas.Bool.Decides.{nat_tests}
@@ -18,7 +18,7 @@ use Rattle.router_model.specs.Emits.{emit_packet}
 use Rattle.router_model.specs.Hear.{Heard, hear_by}
 use Rattle.router_model.specs.Journal.{Journal, drawn, statics}
 use Rattle.router_model.specs.Note.{noted}
-use Rattle.router_model.specs.Plain.{Router, after_decision, after_message, emit_packets, packet_of, packets_of, plain, started}
+use Rattle.router_model.specs.Plain.{Router, after_decision, after_message, emit_packets, packet_of, packets_of, plain}
 use Rattle.router_model.specs.Tick.{ticked}
 use Rattle.router_model.specs.View.{View, view}
 use Rattle.audit_laws.specs.Drawn.{drawn_nonces, first_nonces, journal_after, nonce_at, with_nonces}

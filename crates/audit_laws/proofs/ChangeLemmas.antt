@@ -1,9 +1,9 @@
 -- What a router does at an event: each notice, each second and each message makes a change of which that holds.
-use Rattle.std.proofs.Common.{◌≡◌, ℕ, ◌==◌, ◌&&◌, ◌%◌, ◌^◌, ◌≤◌, ◌<◌, ◌+◌, nat_lt, not, Bool, true, false, cond, IfSome, IsTrue, List, [], ◌∷◌, ◌++◌, filter, filter_map, fold, length, map, take, zero, suc, Option, Some, None, refl, sym, ap, subst, ◌∙◌, append-nil, append_assoc}
-use Rattle.std.specs.List.{All, cons_option}
+use Rattle.std.proofs.Common.{◌≡◌, ℕ, ◌==◌, ◌&&◌, ◌%◌, ◌^◌, ◌≤◌, ◌+◌, nat_lt, not, Bool, true, false, cond, IfSome, IsTrue, List, [], ◌∷◌, ◌++◌, filter, filter_map, fold, length, map, take, zero, suc, Option, Some, None, refl, sym, ap, subst, ◌∙◌}
+use Rattle.std.specs.List.{All}
 use Rattle.std.specs.Prelude.{is_some}
-use Rattle.std.proofs.lemmas.Bool.{and_parts, true≢false}
-use Rattle.std.proofs.lemmas.List.Elements.{All-push, filter_map-append}
+use Rattle.std.proofs.lemmas.Bool.{and_parts}
+use Rattle.std.proofs.lemmas.List.Elements.{All-push}
 use Rattle.octets.specs.Rules.{first_failing}
 use Rattle.octets.specs.declared.refused.Refused.{Refused}
 use Rattle.ip_headers.specs.Udp.{payload_in, sum_rules}
@@ -32,28 +32,25 @@ use Rattle.router_log.specs.declared.entry.Entry.TheVariants.{Learned, Asked, Re
 use Rattle.router_log.specs.declared.notice.Notice.{Notice}
 use Rattle.router_log.specs.declared.notice.Notice.TheVariants as notice
 use Rattle.router_log.specs.declared.verdict.Reason.TheVariants.{Foreign, NotOurs, Unfit}
-use Rattle.router_model.specs.Changes.{Change, asked, each, emitted, entered, has_room, journal as of_journal, may_ask, next_nonce, seen}
+use Rattle.router_model.specs.Changes.{Change, each, entered, has_room, journal as of_journal, may_ask, next_nonce, seen}
 use Rattle.router_model.specs.Course.{Course, Settled, Data, Control, Leaving, Datagram, course_of}
 use Rattle.router_model.specs.Hear.{Asker, Heard, Path, Range, Route, answered, answering, asked_again, carried, counted, course_heard, datagram_heard, drops, hear_by, is_asked_for, is_fit, is_static, message_heard, payload_heard, probe_replied, ranges_of, read_heard, renewable, renewed, replied, replied_to, reply_heard, reply_of, reply_path, requested, route_of, shortened, tallied, taught, unless_refused}
-use Rattle.router_model.specs.Journal.{Journal, drawn, extended, statics, uses_nonce}
+use Rattle.router_model.specs.Journal.{Journal, drawn, extended, statics}
 use Rattle.router_model.specs.Mappings.{Held, exact, force}
 use Rattle.router_model.specs.Note.{is_echo, is_learned, is_missing, is_news, noted}
 use Rattle.router_model.specs.Received.{message_in}
-use Rattle.router_model.specs.Requests.{asked_nonces, open_asked}
 use Rattle.router_model.specs.Site.{ours}
 use Rattle.router_model.specs.Tick.{all_probed, all_retried, candidates, is_probed, next_targets, probed, retried, targets, ticked}
-use Rattle.router_model.specs.View.{View, view}
+use Rattle.router_model.specs.View.{View}
 use Rattle.router_core.proofs.AnsweringLemmas.{reply-short}
-use Rattle.router_model.proofs.LiftLemmas.{nonce-next}
 use Rattle.audit.specs.Lifted.{each_once}
-use Rattle.audit_laws.specs.Drawn.{first_nonces, nonce_at, IsInRange}
+use Rattle.audit_laws.specs.Drawn.{first_nonces, IsInRange}
 use Rattle.audit_laws.specs.Sent.{CanBeMade}
-use Rattle.audit_laws.proofs.DrawnLemmas.{drawn-one, drawn-same, drawn-short, each-filter, once-again, once-alike, requests-drawn, AreNext, AreShort, Each, IsDrawn, IsNext}
+use Rattle.audit_laws.proofs.DrawnLemmas.{drawn-same, drawn-short, each-filter, once-again, requests-drawn, AreNext, Each, IsDrawn}
 use Rattle.audit_laws.proofs.EmitLemmas.{emit_nonce}
 use Rattle.audit_laws.proofs.EmitOctetLemmas.{IsMade, reply-octets}
 use Rattle.audit_laws.proofs.OctetLemmas.{AreOctets}
-use Rattle.audit_laws.proofs.SoundLemmas.{AsksResolver, IsShort, IsSound, asks-more, is_asking, may-resolver, more-nonces, requests-none, sound-all, sound-asked, sound-drawn, sound-each, sound-echo, sound-entered, sound-if, sound-reply_sent}
-
+use Rattle.audit_laws.proofs.SoundLemmas.{AsksResolver, IsShort, IsSound, asks-more, may-resolver, more-nonces, requests-none, sound-all, sound-asked, sound-drawn, sound-each, sound-echo, sound-entered, sound-if, sound-reply_sent}
 
 module _ (settings : Settings) (lawful : IsLawful settings) (before : List ℕ) (m : ℕ) where
   -- ### notices

@@ -1,9 +1,8 @@
 -- What the router makes itself consists of octets.
 use Rattle.std.proofs.Common.{◌≡◌, ◌<◌, ◌≤◌, ◌+◌, ◌-◌, ◌*◌, ◌==◌, ℕ, Bool, true, false, cond, List, [], ◌∷◌, ◌++◌, length, map, flat_map, Option, Some, None, All, arith}
-use Rattle.std.specs.Prelude.{is_some}
 use Rattle.std.proofs.lemmas.Bool.{and_parts, leb-true}
 use Rattle.std.proofs.lemmas.List.{length-map}
-use Rattle.std.proofs.lemmas.List.Elements.{All-head, All-map, All-nil, All-tail, All-weaker}
+use Rattle.std.proofs.lemmas.List.Elements.{All-head, All-tail}
 use Rattle.octets.specs.Numbers.{big_octets, flag}
 use Rattle.ip_headers.specs.Addr.{number as number_of, width}
 use Rattle.ip_headers.specs.Canonical.{canonical_v4, canonical_v6}
@@ -21,7 +20,6 @@ use Rattle.map_messages.specs.Control.{canonical_ecm, control_header, control_pa
 use Rattle.map_messages.specs.Message.{canonical_message}
 use Rattle.map_messages.specs.Reply.{canonical_reply}
 use Rattle.map_messages.specs.Request.{canonical_asked_eid, canonical_request, canonical_source}
-use Rattle.map_messages.specs.declared.message.MapReply.{MapReply}
 use Rattle.map_messages.specs.declared.message.MapRequest.{MapRequest}
 use Rattle.map_messages.specs.declared.message.Message.{Message}
 use Rattle.map_messages.specs.declared.message.Message.TheVariants as message
@@ -31,7 +29,7 @@ use Rattle.lisp_settings.specs.declared.settings.OwnLocator.{OwnLocator}
 use Rattle.lisp_settings.specs.declared.settings.Settings.{Settings}
 use Rattle.router_log.specs.declared.emit.Emit.{Emit}
 use Rattle.router_log.specs.declared.emit.Emit.TheVariants.{Request, Probe, Solicit, Reply}
-use Rattle.router_model.specs.Emits.{ecm_for, emit_packet, message_packet, packet_from, packet_to, request_for, source_eid, to_resolver}
+use Rattle.router_model.specs.Emits.{ecm_for, emit_packet, message_packet, packet_from, request_for, source_eid, to_resolver}
 use Rattle.router_model.specs.Hear.{Asker, answering, own_locator, own_record, reply_of}
 use Rattle.router_model.specs.Site.{ours, up_locators}
 use Rattle.router_core.proofs.AnsweringLemmas.{reply-range}
@@ -115,7 +113,7 @@ up-few (own ∷ others) = by own.up (up-few others)
     by false few = omega (arith, few)
 
 module _ (settings : Settings) (lawful : IsLawful settings) where
-  for-octets : (probe smr invoked : Bool) (nonce : ℕ) (source : Option (ℕ × Addr)) (eid : Eid) → AreOctets (canonical_request (request_for settings probe smr invoked nonce source eid))
+  pub for-octets : (probe smr invoked : Bool) (nonce : ℕ) (source : Option (ℕ × Addr)) (eid : Eid) → AreOctets (canonical_request (request_for settings probe smr invoked nonce source eid))
   for-octets probe smr invoked nonce source eid =
       let up : List OwnLocator = up_locators settings.locators in
       let same : length (map (λ (own : OwnLocator). own.addr) up) ≡ length up = length-map up _ in
@@ -172,7 +170,7 @@ module _ (settings : Settings) (lawful : IsLawful settings) where
 -- ### packets
 
 -- a control header and a datagram
-pub packet-octets : (from to : Addr) (source dest sum size : ℕ) (payload : List ℕ) → AreOctets payload → AreOctets (control_header from to size ++ datagram source dest sum payload)
+packet-octets : (from to : Addr) (source dest sum size : ℕ) (payload : List ℕ) → AreOctets payload → AreOctets (control_header from to size ++ datagram source dest sum payload)
 unfolding control_header
 packet-octets (V4 a) to source dest sum size payload are =
     let h = control_v4 a (number_of to) size in
@@ -192,7 +190,7 @@ resolver-octets : (settings : Settings) (resolver : Option Addr) (told : Message
 resolver-octets settings None told are = none
 resolver-octets settings (Some resolver) told are = from-octets (ours settings.locators resolver) resolver told are
 
-ecm-octets : (settings : Settings) (eid : Eid) (request : MapRequest) → AreOctets (canonical_request request) → AreOctets (canonical_ecm (ecm_for settings eid request))
+pub ecm-octets : (settings : Settings) (eid : Eid) (request : MapRequest) → AreOctets (canonical_request request) → AreOctets (canonical_ecm (ecm_for settings eid request))
 unfolding control_packet
 ecm-octets settings eid request are =
     let e = ecm_for settings eid request in

@@ -1,7 +1,5 @@
 -- Control messages, heard by a router with other nonces.
-use Rattle.std.proofs.Common.{◌≡◌, ℕ, suc, ◌<◌, ◌≤◌, ◌+◌, ◌%◌, ◌^◌, ◌==◌, ◌&&◌, nat_lt, not, Bool, true, false, cond, List, [], ◌∷◌, ◌++◌, filter, length, Option, Some, None, ◌⊎◌, inl, inr, refl, sym, ap, subst, ◌∙◌, arith}
-use Rattle.std.specs.Prelude.{is_some}
-use Rattle.std.proofs.lemmas.Bool.{cases_lt}
+use Rattle.std.proofs.Common.{◌≡◌, ℕ, ◌<◌, ◌+◌, ◌==◌, ◌&&◌, not, Bool, true, false, cond, List, length, Option, Some, None, ◌⊎◌, inl, inr, refl, sym, ap, subst}
 use Rattle.octets.specs.Rules.{first_failing}
 use Rattle.octets.specs.declared.refused.Refused.{Refused}
 use Rattle.ip_headers.specs.Udp.{payload_in, sum_rules}
@@ -16,31 +14,19 @@ use Rattle.map_messages.specs.declared.message.MapRequest.{MapRequest}
 use Rattle.map_messages.specs.declared.message.Message.{Message}
 use Rattle.map_messages.specs.declared.message.Message.TheVariants as message
 use Rattle.lisp_settings.specs.declared.settings.Settings.{Settings}
-use Rattle.locator_state.specs.declared.target.Target.{Target}
-use Rattle.request_queue.specs.Queue.{due, with_nonce}
+use Rattle.request_queue.specs.Queue.{with_nonce}
 use Rattle.request_queue.specs.declared.request.Request.{Request}
-use Rattle.router_log.specs.declared.entry.Entry.{Entry}
 use Rattle.router_log.specs.declared.entry.Entry.TheVariants as entry
-use Rattle.router_log.specs.declared.notice.Notice.{Notice}
-use Rattle.router_log.specs.declared.notice.Notice.TheVariants as notice
-use Rattle.router_log.specs.declared.emit.Emit.TheVariants as emit
-use Rattle.router_model.specs.Changes.{Change, asked, asked_with, each, emitted, entered, has_room, journal as of_journal, may_ask, next_nonce, seen}
+use Rattle.router_model.specs.Changes.{Change, each, entered, has_room, journal as of_journal, seen}
 use Rattle.router_model.specs.Course.{Course, Settled, Data, Control, Leaving, Datagram, course_of, packet_course}
 use Rattle.router_model.specs.Hear.{Asker, Heard, Path, Range, Route, answered, answering, asked_again, carried, counted, course_heard, datagram_heard, drops, hear_by, is_asked_for, is_fit, is_static, message_heard, payload_heard, probe_replied, ranges_of, read_heard, renewable, renewed, replied, replied_to, reply_heard, reply_of, reply_path, requested, route_of, shortened, takes, tallied, taught, unless_refused}
 use Rattle.router_log.specs.declared.verdict.Done.TheVariants.{ProbeReply}
 use Rattle.router_log.specs.declared.verdict.Reason.TheVariants.{Foreign, NotOurs, Unfit}
-use Rattle.router_model.specs.Journal.{Journal, drawn, uses_nonce}
-use Rattle.router_model.specs.Mappings.{exact, force}
-use Rattle.router_model.specs.Note.{is_echo, is_learned, is_missing, is_news, noted, solicited}
+use Rattle.router_model.specs.Journal.{Journal, drawn}
+use Rattle.router_model.specs.Mappings.{force}
 use Rattle.router_model.specs.Received.{message_in}
-use Rattle.router_model.specs.Site.{ours}
-use Rattle.router_model.specs.Tick.{all_probed, all_retried, next_targets, probed, probed_with, retried, ticked}
-use Rattle.router_model.specs.View.{View}
-use Rattle.router_model.proofs.LiftLemmas.{nonce-next}
 use Rattle.audit_laws.specs.Drawn.{nonce_at, with_nonces}
-use Rattle.audit_laws.proofs.AlikeLemmas.{Alike, IsPast, alike-asked, alike-each, alike-entered, alike-if, alike-none, alike-self, alike-then}
-use Rattle.audit_laws.proofs.DrawnLemmas.{drawn-one, drawn-same}
-
+use Rattle.audit_laws.proofs.AlikeLemmas.{Alike, IsPast, alike-asked, alike-each, alike-entered, alike-if, alike-none, alike-then}
 
 -- what is past stays so, and what isn't is heard the same
 pub record HeardAlike (n : ℕ) (other hear : Change Journal → Heard Journal) : Type 0 where

@@ -4,6 +4,7 @@ mod ChangeLemmas
 mod CourseLemmas
 mod DecideLemmas
 mod DrawnLemmas
+mod EarlyLemmas
 mod EmitLemmas
 mod EmitNonceLemmas
 mod EmitOctetLemmas

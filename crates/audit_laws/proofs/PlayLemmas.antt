@@ -1,6 +1,6 @@
 -- The packets of a play: each is exactly one packet, and they come in order.
-use Rattle.std.proofs.Common.{◌≡◌, ◌<◌, ◌≤◌, ◌+◌, ◌*◌, ◌-◌, ◌/◌, ◌^◌, ℕ, zero, suc, Bool, true, false, cond, IfSome, List, [], ◌∷◌, ◌++◌, map, Option, Some, None, refl, sym, ap, ap₂, subst, ◌∙◌, arith, filter_map, append-nil, append_assoc, div-mul-le_self, div-add-mod', mod-lt}
-use Rattle.std.specs.List.{All, cons_option, range_with_len}
+use Rattle.std.proofs.Common.{◌≡◌, ◌≤◌, ℕ, Bool, true, false, cond, IfSome, List, [], ◌∷◌, ◌++◌, Option, Some, None, refl, sym, ap, ap₂, subst, ◌∙◌, arith, filter_map, append-nil, append_assoc}
+use Rattle.std.specs.List.{All, cons_option}
 use Rattle.std.proofs.lemmas.List.Elements.{All-append, All-cons, All-head, All-map, All-nil, All-tail, All-weaker, filter_map-append}
 use Rattle.ip_headers.specs.Addr.{IsAddr}
 use Rattle.ip_headers.specs.Packet.{IsPacket}
@@ -10,7 +10,7 @@ use Rattle.lisp_settings.specs.Lawful.{IsLawful}
 use Rattle.lisp_settings.specs.declared.settings.OwnLocator.{OwnLocator}
 use Rattle.lisp_settings.specs.declared.settings.Settings.{Settings}
 use Rattle.capture_events.specs.Came.{IsRead}
-use Rattle.capture_events.specs.Events.{Arrival, Event, Outcome, Packet, Tick, events, events_after, played, ticks}
+use Rattle.capture_events.specs.Events.{Arrival, Event, Outcome, Packet, Tick, events, played}
 use Rattle.router_log.specs.Moments.{seconds}
 use Rattle.router_log.specs.declared.decision.Decision.{Decision}
 use Rattle.router_log.specs.declared.emit.Emit.{Emit}
@@ -38,6 +38,7 @@ use Rattle.audit_laws.proofs.ChangeLemmas.{all-heard, all-noted, all-ticked, sta
 use Rattle.audit_laws.proofs.SoundLemmas.{AreDrawn, AsksResolver, IsShort, IsSound}
 use Rattle.audit_laws.proofs.DecideLemmas.{SendsPacket, decided-sends, sends-packet}
 use Rattle.audit_laws.proofs.DrawnLemmas.{nonces-short, AreNext}
+use Rattle.audit_laws.proofs.EarlyLemmas.{events-early, AreEarly, IsEarly}
 use Rattle.audit_laws.proofs.EmitLemmas.{emit-whole, emit_nonce}
 use Rattle.audit_laws.proofs.EmitOctetLemmas.{emit-octets, IsMade}
 use Rattle.audit_laws.proofs.EmitNonceLemmas.{DoFit, emit-nonce}
@@ -200,14 +201,6 @@ module _ (settings : Settings) (lawful : IsLawful settings) (before : List ℕ) 
 
 -- ### events in order
 
--- a moment that a record can have
-abbrev IsEarly : ℕ → Type 0
-IsEarly m = m < 2 ^ 32 * 1000000000
-
-abbrev AreEarly : List Event → Type 0
-AreEarly [] = Unit {0}
-AreEarly (event ∷ events) = IsEarly (event_moment event) × AreEarly events
-
 -- packets that come in order from a moment on, each of which a record can have
 abbrev pub AreSent : ℕ → List Packet → Type 0
 AreSent m [] = Unit {0}
@@ -269,32 +262,6 @@ all-drawn settings lawful before m (event ∷ events) router same goes order fit
     ap (λ (l : List ℕ). each_once (before ++ l)) nonces
     ∙ ap each_once (sym (append_assoc before one.drawn (nonces_in settings rest.packets)))
     ∙ all-drawn settings lawful (before ++ one.drawn) (event_moment event) events (plain router event).after one.same one.goes_on order.1.1 fit others.1 off
-
--- ### no second is later than the frame behind it
-
-ticks-early : (n a to : ℕ) (rest : List Event) → a + n ≤ suc (to / 1000000000) → IsEarly to → AreEarly rest → AreEarly (map Tick (range_with_len a n) ++ rest)
-ticks-early zero a to rest few early all = all
-ticks-early (suc n) a to rest few early all =
-    let whole = div-mul-le_self to 1000000000 in
-    (omega (arith, few, whole, early), ticks-early n (a + 1) to rest (omega (arith, few)) early all)
-
-after-early : (m : ℕ) (frames : List Frame) → All IsRead frames → AreLater m frames → AreEarly (events_after (Some m) frames)
-after-early m [] read later = tt
-after-early m (frame ∷ frames) read later =
-    let early = (All-head IsRead frame frames read).moment in
-    let a = div-add-mod' m 1000000000 in
-    let b = div-add-mod' frame.moment 1000000000 in
-    let c = mod-lt m (let some : 0 < 1000000000 = omega arith in some) in
-    let d = mod-lt frame.moment (let some : 0 < 1000000000 = omega arith in some) in
-    let rises = later.0 in
-    subst AreEarly (sym (append_assoc (ticks (Some m) frame.moment) (Arrival frame ∷ []) (events_after (Some frame.moment) frames)))
-    (ticks-early (frame.moment / 1000000000 - m / 1000000000) (suc (m / 1000000000)) frame.moment (Arrival frame ∷ events_after (Some frame.moment) frames) (omega (arith, a, b, c, d, rises)) early
-    (early, after-early frame.moment frames (All-tail IsRead frame frames read) later.1))
-
-events-early : (frames : List Frame) → All IsRead frames → AreLater 0 frames → AreEarly (events frames)
-events-early [] read later = tt
-events-early (frame ∷ frames) read later =
-    ((All-head IsRead frame frames read).moment, after-early frame.moment frames (All-tail IsRead frame frames read) later.1)
 
 -- ### all of a capture
 

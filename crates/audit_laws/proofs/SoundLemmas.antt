@@ -1,54 +1,27 @@
 -- What holds of a change: its packets can be made, and their nonces are those that were drawn, each in its turn, or once more.
-use Rattle.std.proofs.Common.{◌≡◌, ℕ, ◌==◌, ◌&&◌, ◌%◌, ◌^◌, ◌≤◌, ◌<◌, ◌+◌, nat_lt, not, Bool, true, false, cond, IfSome, IsTrue, List, [], ◌∷◌, ◌++◌, filter, filter_map, fold, length, map, take, zero, suc, Option, Some, None, refl, sym, ap, subst, ◌∙◌, append-nil, append_assoc}
+use Rattle.std.proofs.Common.{◌≡◌, ℕ, ◌^◌, ◌<◌, Bool, true, false, cond, IfSome, IsTrue, List, [], ◌∷◌, ◌++◌, filter_map, Option, Some, None, refl, sym, ap, subst, ◌∙◌, append-nil, append_assoc}
 use Rattle.std.specs.List.{All, cons_option}
 use Rattle.std.specs.Prelude.{is_some}
 use Rattle.std.proofs.lemmas.Bool.{and_parts, true≢false}
 use Rattle.std.proofs.lemmas.List.Elements.{All-push, filter_map-append}
-use Rattle.octets.specs.Rules.{first_failing}
-use Rattle.octets.specs.declared.refused.Refused.{Refused}
-use Rattle.ip_headers.specs.Udp.{payload_in, sum_rules}
 use Rattle.ip_headers.specs.declared.addr.Addr.{Addr}
-use Rattle.capture_io.specs.Frame.{Frame}
-use Rattle.mapping_records.specs.Eids.{same_address}
 use Rattle.mapping_records.specs.declared.eid.Eid.{Eid}
-use Rattle.mapping_records.specs.declared.record.Record.{Record}
-use Rattle.map_messages.specs.Message.{message_rules}
-use Rattle.map_messages.specs.Reply.{canonical_reply}
-use Rattle.map_messages.specs.declared.message.MapReply.{MapReply}
-use Rattle.map_messages.specs.declared.message.MapRequest.{MapRequest}
-use Rattle.map_messages.specs.declared.message.Message.{Message}
-use Rattle.map_messages.specs.declared.message.Message.TheVariants as message
 use Rattle.lisp_settings.specs.Lawful.{IsLawful}
 use Rattle.lisp_settings.specs.declared.settings.Settings.{Settings}
-use Rattle.locator_state.specs.Turns.{goes_before, with_target}
-use Rattle.locator_state.specs.declared.target.Target.{Target}
-use Rattle.request_queue.specs.Queue.{due, with_nonce}
-use Rattle.request_queue.specs.declared.request.Request.{Request}
 use Rattle.router_log.specs.declared.emit.Emit.{Emit}
 use Rattle.router_log.specs.declared.emit.Emit.TheVariants as emit
 use Rattle.router_log.specs.declared.entry.Entry.{Entry}
 use Rattle.router_log.specs.declared.entry.Entry.TheVariants as entry
 use Rattle.router_log.specs.declared.entry.Entry.TheVariants.{Learned, Asked, Retried, Answered, Probed, ProbeAnswered, Bits, EchoStarted, EchoHeard, DataFrom, EchoWanted, Solicited}
-use Rattle.router_log.specs.declared.notice.Notice.{Notice}
-use Rattle.router_log.specs.declared.notice.Notice.TheVariants as notice
-use Rattle.router_log.specs.declared.verdict.Reason.TheVariants.{Foreign, NotOurs, Unfit}
-use Rattle.router_model.specs.Changes.{Change, asked, each, emitted, entered, has_room, journal as of_journal, may_ask, next_nonce, seen}
-use Rattle.router_model.specs.Course.{Course, Settled, Data, Control, Leaving, Datagram, course_of}
-use Rattle.router_model.specs.Hear.{Asker, Heard, Path, Range, Route, answered, answering, asked_again, carried, counted, course_heard, datagram_heard, drops, hear_by, is_asked_for, is_fit, is_static, message_heard, payload_heard, probe_replied, ranges_of, read_heard, renewable, renewed, replied, replied_to, reply_heard, reply_of, reply_path, requested, route_of, shortened, tallied, taught, unless_refused}
-use Rattle.router_model.specs.Journal.{Journal, drawn, extended, statics, uses_nonce}
-use Rattle.router_model.specs.Mappings.{Held, exact, force}
-use Rattle.router_model.specs.Note.{is_echo, is_learned, is_missing, is_news, noted}
-use Rattle.router_model.specs.Received.{message_in}
+use Rattle.router_model.specs.Changes.{Change, asked, each, emitted, entered, journal as of_journal, may_ask, next_nonce}
+use Rattle.router_model.specs.Journal.{Journal, drawn, uses_nonce}
 use Rattle.router_model.specs.Requests.{asked_nonces, open_asked}
-use Rattle.router_model.specs.Site.{ours}
-use Rattle.router_model.specs.Tick.{all_probed, all_retried, candidates, is_probed, next_targets, probed, retried, targets, ticked}
 use Rattle.router_model.specs.View.{View, view}
-use Rattle.router_core.proofs.AnsweringLemmas.{reply-short}
 use Rattle.router_model.proofs.LiftLemmas.{nonce-next}
 use Rattle.audit.specs.Lifted.{each_once}
 use Rattle.audit_laws.specs.Drawn.{first_nonces, nonce_at, IsInRange}
 use Rattle.audit_laws.specs.Sent.{CanBeMade}
-use Rattle.audit_laws.proofs.DrawnLemmas.{drawn-one, drawn-same, drawn-short, each-filter, once-again, once-alike, requests-drawn, AreNext, AreShort, Each, IsDrawn, IsNext}
+use Rattle.audit_laws.proofs.DrawnLemmas.{drawn-one, drawn-same, once-alike, AreNext, AreShort, Each, IsNext}
 use Rattle.audit_laws.proofs.EmitLemmas.{emit_nonce}
 use Rattle.audit_laws.proofs.EmitOctetLemmas.{IsMade}
 
