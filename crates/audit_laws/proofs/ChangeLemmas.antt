@@ -1,9 +1,9 @@
--- The packets of a change can be made, and their nonces are those that were drawn, each in its turn, or once more.
-use Rattle.std.proofs.Common.{◌≡◌, ℕ, ◌==◌, ◌&&◌, ◌%◌, ◌^◌, ◌≤◌, ◌<◌, ◌+◌, nat_lt, not, Bool, true, false, cond, IfSome, IsTrue, List, [], ◌∷◌, ◌++◌, filter, filter_map, fold, length, map, take, zero, suc, Option, Some, None, refl, sym, ap, subst, ◌∙◌, append-nil, append_assoc}
-use Rattle.std.specs.List.{All, cons_option}
+-- What a router does at an event: each notice, each second and each message makes a change of which that holds.
+use Rattle.std.proofs.Common.{◌≡◌, ℕ, ◌==◌, ◌&&◌, ◌%◌, ◌^◌, ◌≤◌, ◌+◌, nat_lt, not, Bool, true, false, cond, IfSome, IsTrue, List, [], ◌∷◌, ◌++◌, filter, filter_map, fold, length, map, take, zero, suc, Option, Some, None, refl, sym, ap, subst, ◌∙◌}
+use Rattle.std.specs.List.{All}
 use Rattle.std.specs.Prelude.{is_some}
-use Rattle.std.proofs.lemmas.Bool.{and_parts, true≢false}
-use Rattle.std.proofs.lemmas.List.Elements.{All-push, filter_map-append}
+use Rattle.std.proofs.lemmas.Bool.{and_parts}
+use Rattle.std.proofs.lemmas.List.Elements.{All-push}
 use Rattle.octets.specs.Rules.{first_failing}
 use Rattle.octets.specs.declared.refused.Refused.{Refused}
 use Rattle.ip_headers.specs.Udp.{payload_in, sum_rules}
@@ -32,203 +32,56 @@ use Rattle.router_log.specs.declared.entry.Entry.TheVariants.{Learned, Asked, Re
 use Rattle.router_log.specs.declared.notice.Notice.{Notice}
 use Rattle.router_log.specs.declared.notice.Notice.TheVariants as notice
 use Rattle.router_log.specs.declared.verdict.Reason.TheVariants.{Foreign, NotOurs, Unfit}
-use Rattle.router_model.specs.Changes.{Change, asked, each, emitted, entered, has_room, journal as of_journal, may_ask, next_nonce, seen}
+use Rattle.router_model.specs.Changes.{Change, each, entered, has_room, journal as of_journal, may_ask, next_nonce, seen}
 use Rattle.router_model.specs.Course.{Course, Settled, Data, Control, Leaving, Datagram, course_of}
 use Rattle.router_model.specs.Hear.{Asker, Heard, Path, Range, Route, answered, answering, asked_again, carried, counted, course_heard, datagram_heard, drops, hear_by, is_asked_for, is_fit, is_static, message_heard, payload_heard, probe_replied, ranges_of, read_heard, renewable, renewed, replied, replied_to, reply_heard, reply_of, reply_path, requested, route_of, shortened, tallied, taught, unless_refused}
-use Rattle.router_model.specs.Journal.{Journal, drawn, extended, statics, uses_nonce}
+use Rattle.router_model.specs.Journal.{Journal, drawn, extended, statics}
 use Rattle.router_model.specs.Mappings.{Held, exact, force}
 use Rattle.router_model.specs.Note.{is_echo, is_learned, is_missing, is_news, noted}
 use Rattle.router_model.specs.Received.{message_in}
-use Rattle.router_model.specs.Requests.{asked_nonces, open_asked}
 use Rattle.router_model.specs.Site.{ours}
 use Rattle.router_model.specs.Tick.{all_probed, all_retried, candidates, is_probed, next_targets, probed, retried, targets, ticked}
-use Rattle.router_model.specs.View.{View, view}
+use Rattle.router_model.specs.View.{View}
 use Rattle.router_core.proofs.AnsweringLemmas.{reply-short}
-use Rattle.router_model.proofs.LiftLemmas.{nonce-next}
 use Rattle.audit.specs.Lifted.{each_once}
-use Rattle.audit_laws.specs.Drawn.{first_nonces, nonce_at}
+use Rattle.audit_laws.specs.Drawn.{first_nonces, IsInRange}
 use Rattle.audit_laws.specs.Sent.{CanBeMade}
-use Rattle.audit_laws.proofs.DrawnLemmas.{drawn-one, drawn-same, drawn-short, each-filter, once-again, once-alike, requests-drawn, AreNext, AreShort, Each, IsDrawn, IsNext}
+use Rattle.audit_laws.proofs.DrawnLemmas.{drawn-same, drawn-short, each-filter, once-again, requests-drawn, AreNext, Each, IsDrawn}
 use Rattle.audit_laws.proofs.EmitLemmas.{emit_nonce}
-
--- ### only a router with a resolver asks
-
--- the entry is a Map-Request
-abbrev pub is_asking : Entry → Bool
-is_asking (Asked moment eid source invoked nonce) = true
-is_asking _ = false
-
-abbrev pub NoneAsked : Journal → Type 0
-NoneAsked [] = Unit {0}
-NoneAsked (entry ∷ before) = (is_asking entry ≡ false) × NoneAsked before
-
--- without a resolver nothing was asked
-abbrev pub AsksResolver : Option Addr → Journal → Type 0
-AsksResolver (Some resolver) journal = Unit {0}
-AsksResolver None journal = NoneAsked journal
-
--- where nothing was asked, no request is open
-nonces-none : (journal : Journal) → NoneAsked journal → asked_nonces journal ≡ []
-nonces-none [] none = refl
-nonces-none (Asked moment eid source invoked nonce ∷ before) none = absurd (true≢false none.0)
-nonces-none (Learned moment mapping fixed ∷ before) none = nonces-none before none.1
-nonces-none (Retried moment nonce ∷ before) none = nonces-none before none.1
-nonces-none (Answered moment nonce ∷ before) none = nonces-none before none.1
-nonces-none (Probed moment rloc nonce ∷ before) none = nonces-none before none.1
-nonces-none (ProbeAnswered moment nonce ∷ before) none = nonces-none before none.1
-nonces-none (Bits moment eid bits width ∷ before) none = nonces-none before none.1
-nonces-none (EchoStarted moment rloc nonce ∷ before) none = nonces-none before none.1
-nonces-none (EchoHeard moment rloc ∷ before) none = nonces-none before none.1
-nonces-none (DataFrom moment rloc ∷ before) none = nonces-none before none.1
-nonces-none (EchoWanted moment rloc nonce ∷ before) none = nonces-none before none.1
-nonces-none (Solicited moment rloc eid nonce ∷ before) none = nonces-none before none.1
-
-requests-none : (journal : Journal) (m : ℕ) → NoneAsked journal → (view journal m).requests ≡ []
-unfolding view
-requests-none journal m none = ap (λ (nonces : List ℕ). filter_map (λ nonce. open_asked (view journal m).now nonce journal) nonces) (nonces-none journal none)
-
-asks-more : (resolver : Option Addr) (e : Entry) (journal : Journal) → is_asking e ≡ false → AsksResolver resolver journal → AsksResolver resolver (e ∷ journal)
-asks-more (Some addr) e journal other asks = tt
-asks-more None e journal other asks = (other, asks)
-
-asks-one : (resolver : Option Addr) (journal : Journal) → IsTrue (is_some resolver) → AsksResolver resolver journal
-asks-one (Some addr) journal some = tt
-asks-one None journal some = cc
-
--- ### what holds of a change
-
--- the nonce of an emit, if it has one, is a number of 64 bits
-abbrev pub IsShort : Emit → Type 0
-IsShort packet = IfSome (emit_nonce packet) (λ nonce. nonce < 2 ^ 64)
-
--- these nonces, each at its first place, are those that were drawn
-abbrev pub AreDrawn : Settings → List ℕ → Journal → Type 0
-AreDrawn settings nonces journal = each_once nonces ≡ each_once (first_nonces settings (drawn journal))
-
--- behind packets with these nonces: the packet of each emit can be made, without echoes the nonces of all are those that
--- were drawn, and it goes on so
-pub record IsSound (settings : Settings) (before : List ℕ) (change : Change Journal) : Type 0 where
-  pub asks : AsksResolver settings.resolver change.after
-  pub made : All (CanBeMade settings) change.emits
-  pub next : AreNext settings change.after
-  pub short : AreShort settings → All IsShort change.emits
-  pub nonces : settings.echo ≡ false → AreDrawn settings (before ++ filter_map emit_nonce change.emits) change.after
-
-each-any : {A : Type 0} (items : List A) → Each (λ (a : A). Unit {0}) items
-each-any [] = tt
-each-any (item ∷ items) = (tt, each-any items)
-
--- one packet more, whose nonce is among those that are there once
-more-nonces : (before : List ℕ) (emits : List Emit) (packet : Emit) (nonce : ℕ) → emit_nonce packet ≡ Some nonce → before ++ filter_map emit_nonce (emits ++ packet ∷ []) ≡ (before ++ filter_map emit_nonce emits) ++ nonce ∷ []
-more-nonces before emits packet nonce is =
-    ap (λ (l : List ℕ). before ++ l) (filter_map-append emit_nonce emits (packet ∷ []) ∙ ap (λ (o : Option ℕ). filter_map emit_nonce emits ++ cons_option o []) is)
-    ∙ sym (append_assoc before (filter_map emit_nonce emits) (nonce ∷ []))
-
-same-nonces : (before : List ℕ) (emits : List Emit) (packet : Emit) → emit_nonce packet ≡ None → before ++ filter_map emit_nonce (emits ++ packet ∷ []) ≡ before ++ filter_map emit_nonce emits
-same-nonces before emits packet is =
-    ap (λ (l : List ℕ). before ++ l)
-    (filter_map-append emit_nonce emits (packet ∷ []) ∙ ap (λ (o : Option ℕ). filter_map emit_nonce emits ++ cons_option o []) is ∙ append-nil (filter_map emit_nonce emits))
+use Rattle.audit_laws.proofs.EmitOctetLemmas.{IsMade, reply-octets}
+use Rattle.audit_laws.proofs.OctetLemmas.{AreOctets}
+use Rattle.audit_laws.proofs.SoundLemmas.{AsksResolver, IsShort, IsSound, asks-more, may-resolver, more-nonces, requests-none, sound-all, sound-asked, sound-drawn, sound-each, sound-echo, sound-entered, sound-if, sound-reply_sent}
 
 module _ (settings : Settings) (lawful : IsLawful settings) (before : List ℕ) (m : ℕ) where
-  -- an entry that draws no nonce
-  sound-entered : (e : Entry) (change : Change Journal) → is_asking e ≡ false → uses_nonce e ≡ false → IsNext settings change.after e → IsSound settings before change → IsSound settings before (entered of_journal settings m e change)
-  sound-entered e change other none next sound = record {
-    asks = asks-more settings.resolver e change.after other sound.asks;
-    made = sound.made;
-    next = (next, sound.next);
-    short = sound.short;
-    nonces = λ off. sound.nonces off ∙ ap (λ (k : ℕ). each_once (first_nonces settings k)) (sym (drawn-same e change.after none));
-  }
-
-  -- an echo that begins draws one, and sends no packet
-  sound-echo : (rloc : Addr) (nonce : ℕ) (change : Change Journal) → settings.echo ≡ true → IsSound settings before change → IsSound settings before (entered of_journal settings m (entry.EchoStarted m rloc nonce) change)
-  sound-echo rloc nonce change on sound = record {
-    asks = asks-more settings.resolver (entry.EchoStarted m rloc nonce) change.after refl sound.asks;
-    made = sound.made;
-    next = (tt, sound.next);
-    short = sound.short;
-    nonces = λ off. absurd (true≢false (sym on ∙ off));
-  }
-
-  -- a packet with the nonce that is next
-  sound-drawn : (e : Entry) (packet : Emit) (change : Change Journal) → uses_nonce e ≡ true → IsNext settings change.after e → AsksResolver settings.resolver (e ∷ change.after) → CanBeMade settings packet
-      → emit_nonce packet ≡ Some (next_nonce of_journal settings m change) → IsSound settings before change → IsSound settings before (emitted packet (entered of_journal settings m e change))
-  sound-drawn e packet change uses next asks can is sound =
-      let nonce = next_nonce of_journal settings m change in
-      let same : nonce ≡ nonce_at settings (drawn change.after) = nonce-next settings m change in
-      let one : emit_nonce packet ≡ Some (nonce_at settings (drawn change.after)) = is ∙ ap Some same in
-      let nonces : List ℕ = before ++ filter_map emit_nonce change.emits in
-      record {
-        asks = asks;
-        made = All-push (CanBeMade settings) change.emits packet sound.made can;
-        next = (next, sound.next);
-        short = λ short. All-push IsShort change.emits packet (sound.short short) (subst (λ (o : Option ℕ). IfSome o (λ nonce. nonce < 2 ^ 64)) (sym one) (short (drawn change.after)));
-        nonces = λ off.
-            ap each_once (more-nonces before change.emits packet (nonce_at settings (drawn change.after)) one)
-            ∙ once-alike nonces (first_nonces settings (drawn change.after)) (nonce_at settings (drawn change.after)) (sound.nonces off)
-            ∙ ap (λ (k : ℕ). each_once (first_nonces settings k)) (sym (drawn-one e change.after uses));
-      }
-
-  sound-asked : (eid : Eid) (source : Option Addr) (invoked : Bool) (change : Change Journal) → IsTrue (is_some settings.resolver) → IsSound settings before change → IsSound settings before (asked of_journal settings m eid source invoked change)
-  sound-asked eid source invoked change some sound =
-      let nonce = next_nonce of_journal settings m change in
-      let e : Entry = entry.Asked m eid source invoked nonce in
-      sound-drawn e (emit.Request eid source invoked nonce) change refl (nonce-next settings m change) (asks-one settings.resolver (e ∷ change.after) some) some refl sound
-
-  -- a packet without a nonce
-  sound-reply_sent : (packet : Emit) (change : Change Journal) → CanBeMade settings packet → emit_nonce packet ≡ None → IsSound settings before change → IsSound settings before (emitted packet change)
-  sound-reply_sent packet change can none sound = record {
-    asks = sound.asks;
-    made = All-push (CanBeMade settings) change.emits packet sound.made can;
-    next = sound.next;
-    short = λ short. All-push IsShort change.emits packet (sound.short short) (subst (λ (o : Option ℕ). IfSome o (λ nonce. nonce < 2 ^ 64)) (sym none) tt);
-    nonces = λ off. ap each_once (same-nonces before change.emits packet none) ∙ sound.nonces off;
-  }
-
-  sound-if : (b : Bool) (then change : Change Journal) → (b ≡ true → IsSound settings before then) → IsSound settings before change → IsSound settings before (cond b then change)
-  sound-if true then change a sound = a refl
-  sound-if false then change a sound = sound
-
-  sound-each : {A : Type 0} (step : A → Change Journal → Change Journal) (P : A → Type 0) → ((a : A) (change : Change Journal) → P a → IsSound settings before change → IsSound settings before (step a change)) → (items : List A) (change : Change Journal) → Each P items → IsSound settings before change → IsSound settings before (each step items change)
-  sound-each step P one [] change all sound = sound
-  sound-each step P one (a ∷ items) change all sound = sound-each step P one items (step a change) all.1 (one a change all.0 sound)
-
-  sound-all : {A : Type 0} (step : A → Change Journal → Change Journal) → ((a : A) (change : Change Journal) → IsSound settings before change → IsSound settings before (step a change)) → (items : List A) (change : Change Journal) → IsSound settings before change → IsSound settings before (each step items change)
-  sound-all {A} step one items change sound = sound-each step (λ (a : A). Unit {0}) (λ a change any. one a change) items change (each-any items) sound
-
-  -- where an EID may be asked for, there is a resolver
-  may-resolver : (v : View) (eid : Eid) → may_ask settings v eid ≡ true → IsTrue (is_some settings.resolver)
-  may-resolver v eid may = (and_parts (is_some settings.resolver) _ may).0
-
   -- ### notices
 
   sound-noted : (one : Notice) (change : Change Journal) → IsSound settings before change → IsSound settings before (noted of_journal settings m one change)
   unfolding noted
   sound-noted (notice.Ask eid source) change sound =
-      sound-if (is_missing settings (seen of_journal settings m change) eid) _ change
-      (λ is. sound-asked eid source false change (may-resolver (seen of_journal settings m change) eid (and_parts _ _ is).0) sound) sound
+      sound-if settings lawful before m (is_missing settings (seen of_journal settings m change) eid) _ change
+      (λ is. sound-asked settings lawful before m eid source false change (may-resolver settings lawful before m (seen of_journal settings m change) eid (and_parts _ _ is).0) sound) sound
   sound-noted (notice.Refresh eid) change sound =
-      sound-if (is_learned (exact (seen of_journal settings m change).mappings eid) && may_ask settings (seen of_journal settings m change) eid) _ change
-      (λ is. sound-asked eid None false change (may-resolver (seen of_journal settings m change) eid (and_parts _ _ is).1) sound) sound
+      sound-if settings lawful before m (is_learned (exact (seen of_journal settings m change).mappings eid) && may_ask settings (seen of_journal settings m change) eid) _ change
+      (λ is. sound-asked settings lawful before m eid None false change (may-resolver settings lawful before m (seen of_journal settings m change) eid (and_parts _ _ is).1) sound) sound
   sound-noted (notice.Bits eid rloc bits width) change sound =
-      sound-if (is_news rloc bits width (exact (seen of_journal settings m change).mappings eid)) _ change
-      (λ is. sound-entered (entry.Bits m eid bits width) change refl refl tt sound) sound
+      sound-if settings lawful before m (is_news rloc bits width (exact (seen of_journal settings m change).mappings eid)) _ change
+      (λ is. sound-entered settings lawful before m (entry.Bits m eid bits width) change refl refl tt sound) sound
   sound-noted (notice.EchoWanted rloc nonce) change sound =
-      sound-if ((seen of_journal settings m change).may_want rloc nonce) _ change (λ is. sound-entered (entry.EchoWanted m rloc nonce) change refl refl tt sound) sound
+      sound-if settings lawful before m ((seen of_journal settings m change).may_want rloc nonce) _ change (λ is. sound-entered settings lawful before m (entry.EchoWanted m rloc nonce) change refl refl tt sound) sound
   sound-noted (notice.EchoHeard rloc nonce) change sound =
-      sound-if (is_echo nonce ((seen of_journal settings m change).echo_on rloc)) _ change (λ is. sound-entered (entry.EchoHeard m rloc) change refl refl tt sound) sound
+      sound-if settings lawful before m (is_echo nonce ((seen of_journal settings m change).echo_on rloc)) _ change (λ is. sound-entered settings lawful before m (entry.EchoHeard m rloc) change refl refl tt sound) sound
   sound-noted (notice.DataFrom rloc) change sound =
-      sound-if ((seen of_journal settings m change).data_due rloc) _ change (λ is. sound-entered (entry.DataFrom m rloc) change refl refl tt sound) sound
+      sound-if settings lawful before m ((seen of_journal settings m change).data_due rloc) _ change (λ is. sound-entered settings lawful before m (entry.DataFrom m rloc) change refl refl tt sound) sound
   sound-noted (notice.Solicit rloc eid) change sound =
       let nonce = next_nonce of_journal settings m change in
-      sound-if (is_some (ours settings.locators rloc) && (seen of_journal settings m change).may_solicit rloc eid) _ change
-      (λ is. sound-drawn (entry.Solicited m rloc eid nonce) (emit.Solicit rloc eid nonce) change refl tt (asks-more settings.resolver (entry.Solicited m rloc eid nonce) change.after refl sound.asks) (and_parts _ _ is).0 refl sound) sound
+      sound-if settings lawful before m (is_some (ours settings.locators rloc) && (seen of_journal settings m change).may_solicit rloc eid) _ change
+      (λ is. sound-drawn settings lawful before m (entry.Solicited m rloc eid nonce) (emit.Solicit rloc eid nonce) change refl tt (asks-more settings.resolver (entry.Solicited m rloc eid nonce) change.after refl sound.asks) (and_parts _ _ is).0 tt refl sound) sound
   sound-noted (notice.EchoDue rloc) change sound =
-      sound-if (settings.echo && (seen of_journal settings m change).may_start rloc) _ change
-      (λ is. sound-echo rloc (next_nonce of_journal settings m change % 2 ^ 24) change (and_parts _ _ is).0 sound) sound
+      sound-if settings lawful before m (settings.echo && (seen of_journal settings m change).may_start rloc) _ change
+      (λ is. sound-echo settings lawful before m rloc (next_nonce of_journal settings m change % 2 ^ 24) change (and_parts _ _ is).0 sound) sound
 
   pub all-noted : (notices : List Notice) (change : Change Journal) → IsSound settings before change → IsSound settings before (each (noted of_journal settings m) notices change)
-  all-noted notices change sound = sound-all (noted of_journal settings m) sound-noted notices change sound
+  all-noted notices change sound = sound-all settings lawful before m (noted of_journal settings m) sound-noted notices change sound
 
   -- ### seconds
 
@@ -237,13 +90,14 @@ module _ (settings : Settings) (lawful : IsLawful settings) (before : List ℕ) 
   sound-retried some request change was sound =
       let e : Entry = entry.Retried m request.nonce in
       let packet : Emit = emit.Request request.eid request.source request.invoked request.nonce in
-      let entered_sound = sound-entered e change refl refl tt sound in
+      let entered_sound = sound-entered settings lawful before m e change refl refl tt sound in
       let nonces : List ℕ = before ++ filter_map emit_nonce change.emits in
       record {
         asks = entered_sound.asks;
         made = All-push (CanBeMade settings) change.emits packet sound.made some;
         next = entered_sound.next;
         short = λ short. All-push IsShort change.emits packet (sound.short short) (drawn-short settings (drawn change.after) request.nonce short was);
+        octets = λ range. All-push IsMade change.emits packet (sound.octets range) tt;
         nonces = λ off.
             ap each_once (more-nonces before change.emits packet request.nonce refl)
             ∙ once-again nonces (first_nonces settings (drawn change.after)) request.nonce (sound.nonces off) was
@@ -307,13 +161,13 @@ module _ (settings : Settings) (lawful : IsLawful settings) (before : List ℕ) 
   sound-probed : (target : Target) (change : Change Journal) → IsReached target → IsSound settings before change → IsSound settings before (probed of_journal settings m target change)
   sound-probed target change reached sound =
       let nonce = next_nonce of_journal settings m change in
-      sound-if (nat_lt (seen of_journal settings m change).probe_count 9600) _ change
-      (λ is. sound-drawn (entry.Probed m target.rloc nonce) (emit.Probe target.rloc target.eid nonce) change refl tt (asks-more settings.resolver (entry.Probed m target.rloc nonce) change.after refl sound.asks) reached refl sound) sound
+      sound-if settings lawful before m (nat_lt (seen of_journal settings m change).probe_count 9600) _ change
+      (λ is. sound-drawn settings lawful before m (entry.Probed m target.rloc nonce) (emit.Probe target.rloc target.eid nonce) change refl tt (asks-more settings.resolver (entry.Probed m target.rloc nonce) change.after refl sound.asks) reached tt refl sound) sound
 
   sound-all_probed : (change : Change Journal) → IsSound settings before change → IsSound settings before (all_probed of_journal settings m change)
   sound-all_probed change sound =
-      sound-if settings.probe _ change
-      (λ is. sound-each (probed of_journal settings m) IsReached sound-probed (next_targets settings (seen of_journal settings m change)) change (next-reached (seen of_journal settings m change)) sound) sound
+      sound-if settings lawful before m settings.probe _ change
+      (λ is. sound-each settings lawful before m (probed of_journal settings m) IsReached sound-probed (next_targets settings (seen of_journal settings m change)) change (next-reached (seen of_journal settings m change)) sound) sound
 
   pub all-ticked : (change : Change Journal) → IsSound settings before change → IsSound settings before (ticked of_journal settings m change)
   unfolding ticked
@@ -327,14 +181,14 @@ module _ (settings : Settings) (lawful : IsLawful settings) (before : List ℕ) 
 
   sound-asked_again : (eid : Option Eid) (change : Change Journal) → IfSome eid (λ eid. IsTrue (is_some settings.resolver)) → IsSound settings before change → IsSound settings before (asked_again of_journal settings m eid change)
   sound-asked_again None change some sound = sound
-  sound-asked_again (Some eid) change some sound = sound-asked eid None true change some sound
+  sound-asked_again (Some eid) change some sound = sound-asked settings lawful before m eid None true change some sound
 
   renewable-resolver : (v : View) (o : Option Held) → IfSome (renewable settings v o) (λ eid. IsTrue (is_some settings.resolver))
   renewable-resolver v None = tt
   renewable-resolver v (Some held) = by (not held.fixed && may_ask settings v held.eid) refl
     where
       by : (b : Bool) → (not held.fixed && may_ask settings v held.eid) ≡ b → IfSome (cond b (Some held.eid) None) (λ eid. IsTrue (is_some settings.resolver))
-      by true is = may-resolver v held.eid (and_parts _ _ is).1
+      by true is = may-resolver settings lawful before m v held.eid (and_parts _ _ is).1
       by false is = tt
 
   sound-renewed : (range : Range) (change : Change Journal) → IsSound settings before change → IsSound settings before (renewed of_journal settings m range change)
@@ -343,26 +197,26 @@ module _ (settings : Settings) (lawful : IsLawful settings) (before : List ℕ) 
       let held : Option Held = force v.mappings range.iid range.addr range.len in
       sound-asked_again (renewable settings v held) change (renewable-resolver v held) sound
 
-  sound-replied : (asker : Asker) (reply : MapReply) (path : Option Path) (change : Change Journal) → length (canonical_reply reply) ≤ 65000 → IsSound settings before change → IsSound settings before (replied asker reply path change).change
-  sound-replied asker reply None change short sound = sound
-  sound-replied asker reply (Some path) change short sound = sound-reply_sent (emit.Reply path.from path.to asker.port reply) change short refl sound
+  sound-replied : (asker : Asker) (reply : MapReply) (path : Option Path) (change : Change Journal) → length (canonical_reply reply) ≤ 65000 → (All IsInRange settings.locators → AreOctets (canonical_reply reply)) → IsSound settings before change → IsSound settings before (replied asker reply path change).change
+  sound-replied asker reply None change short made sound = sound
+  sound-replied asker reply (Some path) change short made sound = sound-reply_sent settings lawful before m (emit.Reply path.from path.to asker.port reply) change short refl made sound
 
   sound-answered : (asker : Asker) (request : MapRequest) (change : Change Journal) → IsSound settings before change → IsSound settings before (answered settings asker request change).change
   sound-answered asker request change sound =
       sound-choice (length (answering settings.databases request.eids) == 0) (drops NotOurs change) _ sound
-      (sound-replied asker (reply_of settings asker request (answering settings.databases request.eids)) (reply_path settings asker request) change (reply-short settings lawful asker request) sound)
+      (sound-replied asker (reply_of settings asker request (answering settings.databases request.eids)) (reply_path settings asker request) change (reply-short settings lawful asker request) (λ range. reply-octets settings lawful range asker request) sound)
 
   sound-requested : (asker : Asker) (request : MapRequest) (change : Change Journal) → IsSound settings before change → IsSound settings before (requested of_journal settings m asker request change).change
   unfolding requested
   sound-requested asker request change sound =
       sound-choice (request.smr && not asker.probe) (counted of_journal settings m (each (renewed of_journal settings m) (ranges_of request) change)) (answered settings asker request change)
-      (sound-all (renewed of_journal settings m) sound-renewed (ranges_of request) change sound)
+      (sound-all settings lawful before m (renewed of_journal settings m) sound-renewed (ranges_of request) change sound)
       (sound-answered asker request change sound)
 
   sound-taught : (eid : Eid) (mappings : List Record) (mapping : Record) (change : Change Journal) → IsSound settings before change → IsSound settings before (taught of_journal settings m eid mappings mapping change)
   sound-taught eid mappings mapping change sound =
-      sound-if (is_asked_for eid mappings mapping && (not (is_static settings mapping) && has_room (seen of_journal settings m change) mapping)) _ change
-      (λ is. sound-entered (entry.Learned m (shortened mapping) false) change refl refl tt sound) sound
+      sound-if settings lawful before m (is_asked_for eid mappings mapping && (not (is_static settings mapping) && has_room (seen of_journal settings m change) mapping)) _ change
+      (λ is. sound-entered settings lawful before m (entry.Learned m (shortened mapping) false) change refl refl tt sound) sound
 
   sound-replied_to : (reply : MapReply) (o : Option Request) (change : Change Journal) → IsSound settings before change → IsSound settings before (replied_to of_journal settings m reply o change).change
   sound-replied_to reply None change sound = sound
@@ -370,13 +224,13 @@ module _ (settings : Settings) (lawful : IsLawful settings) (before : List ℕ) 
       sound-choice (is_fit request.eid reply.mappings)
       (tallied of_journal settings m reply (each (taught of_journal settings m request.eid reply.mappings) reply.mappings (entered of_journal settings m (entry.Answered m reply.nonce) change)))
       (drops Unfit change)
-      (sound-all (taught of_journal settings m request.eid reply.mappings) (sound-taught request.eid reply.mappings) reply.mappings (entered of_journal settings m (entry.Answered m reply.nonce) change) (sound-entered (entry.Answered m reply.nonce) change refl refl tt sound))
+      (sound-all settings lawful before m (taught of_journal settings m request.eid reply.mappings) (sound-taught request.eid reply.mappings) reply.mappings (entered of_journal settings m (entry.Answered m reply.nonce) change) (sound-entered settings lawful before m (entry.Answered m reply.nonce) change refl refl tt sound))
       sound
 
   sound-probe_replied : (from : Addr) (reply : MapReply) (o : Option Addr) (change : Change Journal) → IsSound settings before change → IsSound settings before (probe_replied of_journal settings m from reply o change).change
   sound-probe_replied from reply None change sound = sound
   sound-probe_replied from reply (Some rloc) change sound =
-      sound-choice (same_address rloc from) _ (drops Foreign change) (sound-entered (entry.ProbeAnswered m reply.nonce) change refl refl tt sound) sound
+      sound-choice (same_address rloc from) _ (drops Foreign change) (sound-entered settings lawful before m (entry.ProbeAnswered m reply.nonce) change refl refl tt sound) sound
 
   sound-reply : (from : Addr) (reply : MapReply) (change : Change Journal) → IsSound settings before change → IsSound settings before (reply_heard of_journal settings m from reply change).change
   unfolding reply_heard

@@ -1,17 +1,14 @@
 -- The nonce of what the router makes itself is lifted out of its packet, and a Map-Reply has none.
-use Rattle.std.proofs.Common.{◌≡◌, ◌<◌, ◌≤◌, ◌+◌, ◌^◌, ◌==◌, ◌&&◌, ℕ, Bool, true, false, cond, IfSome, IsTrue, List, [], ◌∷◌, ◌++◌, length, Option, Some, None, All, refl, sym, ap, subst, ◌∙◌, arith}
+use Rattle.std.proofs.Common.{◌≡◌, ◌<◌, ◌≤◌, ◌^◌, ◌==◌, ◌&&◌, ℕ, Bool, true, false, cond, IfSome, IsTrue, List, [], ◌∷◌, ◌++◌, length, Option, Some, None, All, refl, sym, ap, subst, ◌∙◌, arith}
 use Rattle.std.specs.Prelude.{is_some}
 use Rattle.std.proofs.lemmas.Bool.{and_parts, eq-eqb, eqb-true, or_left, or_right}
 use Rattle.std.proofs.lemmas.List.{append-nil}
-use Rattle.std.proofs.lemmas.List.Elements.{All-cons, All-head, All-tail}
+use Rattle.std.proofs.lemmas.List.Elements.{All-head, All-tail}
 use Rattle.octets.specs.Rules.{first_failing}
 use Rattle.ip_headers.specs.Addr.{number, same_address, width, IsAddr}
-use Rattle.ip_headers.specs.Canonical.{canonical_v4, canonical_v6}
-use Rattle.ip_headers.specs.Udp.{datagram, udp_checksum}
 use Rattle.ip_headers.specs.declared.addr.Addr.{Addr}
-use Rattle.ip_headers.specs.declared.addr.Addr.TheVariants.{V4, V6}
 use Rattle.mapping_records.specs.declared.eid.Eid.{Eid}
-use Rattle.map_messages.specs.Control.{canonical_ecm, control_header, control_packet, control_v4, control_v6}
+use Rattle.map_messages.specs.Control.{canonical_ecm, control_packet}
 use Rattle.map_messages.specs.Message.{canonical_message, message_rules}
 use Rattle.map_messages.specs.Range.{InRangeRequest, IsLawful as IsLawfulMessage}
 use Rattle.map_messages.specs.Request.{canonical_request}
@@ -20,7 +17,6 @@ use Rattle.map_messages.specs.declared.message.MapRequest.{MapRequest}
 use Rattle.map_messages.specs.declared.message.Message.{Message}
 use Rattle.map_messages.specs.declared.message.Message.TheVariants as message
 use Rattle.map_messages.proofs.MessageLaws.{written_message}
-use Rattle.map_messages.proofs.OctetLemmas.{request_octets}
 use Rattle.lisp_settings.specs.Lawful.{IsLawful}
 use Rattle.lisp_settings.specs.Resolver.{is_reachable}
 use Rattle.lisp_settings.specs.declared.settings.OwnLocator.{OwnLocator}
@@ -36,8 +32,9 @@ use Rattle.audit.specs.Requests.{nonce_of}
 use Rattle.audit_laws.specs.Sent.{CanBeMade}
 use Rattle.audit_laws.proofs.CourseLemmas.{message-arrives, IsMessage}
 use Rattle.audit_laws.proofs.EmitLemmas.{emit_nonce}
+use Rattle.audit_laws.proofs.EmitOctetLemmas.{ecm-octets, for-octets}
 use Rattle.audit_laws.proofs.NonceLemmas.{message-nonce, packet_nonce, reply-none}
-use Rattle.audit_laws.proofs.OctetLemmas.{AreOctets, datagram-octets, join, v4-octets, v6-octets}
+use Rattle.audit_laws.proofs.OctetLemmas.{AreOctets}
 use Rattle.audit_laws.proofs.ReducedLemmas.{control-reduced, packet-reduced, reduced, reduced-fits, reduced-stays, reduced-width, reduced_request, request-lawful, request-reduced}
 
 -- ### ours
@@ -93,7 +90,7 @@ read-again read lawful =
       value = subst (λ (octets : List ℕ). message_in octets ≡ Some read) all (message_in_is (canonical_message read ++ []) read again.value);
     }
 
-module _ (settings : Settings) (fit : DoFit settings.locators) (told read : Message) (same : canonical_message read ≡ canonical_message told) (lawful : IsLawfulMessage read) (are : AreOctets (canonical_message read)) where
+module _ (settings : Settings) (fit : DoFit settings.locators) (told read : Message) (same : canonical_message read ≡ canonical_message told) (lawful : IsLawfulMessage read) (are : AreOctets (canonical_message told)) where
   from-nonce : (to : Addr) (from : Option Addr) → IsTrue (is_some from) → IfSome from (λ own. width own ≡ width to) → IfSome from (λ own. is_own settings.locators own ≡ true) → IfSome from IsAddr
       → packet_nonce settings.locators (packet_from from to told) ≡ nonce_of read
   from-nonce to None sender family own fits = cc
@@ -105,7 +102,7 @@ module _ (settings : Settings) (fit : DoFit settings.locators) (told read : Mess
       let is : IsMessage from 4342 payload (message_packet from (reduced to) 4342 payload) =
       message-arrives from (reduced to) 4342 payload (family ∙ sym (reduced-width to)) fits (reduced-fits to) (omega arith) (omega (arith, short)) in
       let again = read-again read lawful in
-      ap (packet_nonce settings.locators) (sym there) ∙ message-nonce settings.locators from payload (message_packet from (reduced to) 4342 payload) read is own are again.pass again.value
+      ap (packet_nonce settings.locators) (sym there) ∙ message-nonce settings.locators from payload (message_packet from (reduced to) 4342 payload) read is own (subst AreOctets (sym same) are) again.pass again.value
 
   to-nonce : (to : Addr) → IsTrue (is_some (ours settings.locators to)) → packet_nonce settings.locators (packet_to settings to told) ≡ nonce_of read
   to-nonce to sender = from-nonce to (ours settings.locators to) sender (ours-family settings.locators to) (ours-own settings.locators to) (ours-fits settings.locators to fit)
@@ -122,23 +119,6 @@ plain-lawful request range nonce alone short = record {
   parts = request-lawful request range nonce;
   short = let same = ap (λ (octets : List ℕ). length octets) (request-reduced request alone) in omega (arith, same, short);
 }
-
--- the octets of a control packet
-control-octets : (from to : Addr) (port : ℕ) (payload : List ℕ) → AreOctets payload → AreOctets (control_packet from to port payload)
-unfolding control_packet control_header
-control-octets (V4 source) to port payload are =
-    let header : List ℕ = canonical_v4 (control_v4 source (number to) (8 + length payload)) in
-    let sum = udp_checksum (V4 source) to port 4342 payload in
-    join header (datagram port 4342 sum payload) (v4-octets (control_v4 source (number to) (8 + length payload)) (omega arith) (omega arith) (omega arith)) (datagram-octets port 4342 sum payload are)
-control-octets (V6 source) to port payload are =
-    let header : List ℕ = canonical_v6 (control_v6 source (number to) (8 + length payload)) in
-    let sum = udp_checksum (V6 source) to port 4342 payload in
-    join header (datagram port 4342 sum payload) (v6-octets (control_v6 source (number to) (8 + length payload)) (omega arith) (omega arith)) (datagram-octets port 4342 sum payload are)
-
-four-octets : (rest : List ℕ) → AreOctets rest → AreOctets (128 ∷ 0 ∷ 0 ∷ 0 ∷ rest)
-four-octets rest are =
-    let P : ℕ → Type 0 = λ octet. octet < 256 in
-    All-cons P 128 (0 ∷ 0 ∷ 0 ∷ rest) (omega arith) (All-cons P 0 (0 ∷ 0 ∷ rest) (omega arith) (All-cons P 0 (0 ∷ rest) (omega arith) (All-cons P 0 rest (omega arith) are)))
 
 -- one that is, with its addresses reduced
 abbrev reduced_ecm : Settings → Eid → MapRequest → Ecm
@@ -179,11 +159,6 @@ module _ (settings : Settings) (eid : Eid) (request : MapRequest) (range : InRan
             omega (arith, same, whole);
       }
 
-  ecm-octets : request.nonce < 2 ^ 64 → AreOctets (canonical_ecm (reduced_ecm settings eid request))
-  ecm-octets nonce =
-      four-octets (control_packet (reduced (inner_source settings eid)) (reduced eid.prefix.addr) 4342 (canonical_request (reduced_request request)))
-      (control-octets (reduced (inner_source settings eid)) (reduced eid.prefix.addr) 4342 (canonical_request (reduced_request request)) (request_octets (reduced_request request) (request-lawful request range nonce)))
-
 -- ### any emit
 
 module _ (settings : Settings) (lawful : IsLawful settings) (fit : DoFit settings.locators) where
@@ -199,18 +174,18 @@ module _ (settings : Settings) (lawful : IsLawful settings) (fit : DoFit setting
       let range : InRangeRequest request = request-range settings lawful false false invoked nonce (source_eid eid source) eid sender.0 (source_eid-range eid source) sender.1 in
       let short : length (canonical_request request) ≤ 650 = request-short settings lawful false false invoked nonce (source_eid eid source) eid in
       resolver-nonce settings fit (message.Control (ecm_for settings eid request)) (message.Control (reduced_ecm settings eid request)) (ecm-same settings eid request range refl)
-      (ecm-lawful settings eid request range refl fits short) (ecm-octets settings eid request range refl fits) settings.resolver made lawful.resolver
+      (ecm-lawful settings eid request range refl fits short) (ecm-octets settings eid request (for-octets settings lawful false false invoked nonce (source_eid eid source) eid)) settings.resolver made lawful.resolver
   emit-nonce (Probe to eid nonce) made fits =
       let request : MapRequest = request_for settings true false false nonce None eid in
       let range : InRangeRequest request = request-range settings lawful true false false nonce None eid to tt made in
       let short : length (canonical_request request) ≤ 650 = request-short settings lawful true false false nonce None eid in
       to-nonce settings fit (message.Request request) (message.Request (reduced_request request)) (request-reduced request refl)
-      (plain-lawful request range fits refl short) (request_octets (reduced_request request) (request-lawful request range fits)) to made
+      (plain-lawful request range fits refl short) (for-octets settings lawful true false false nonce None eid) to made
   emit-nonce (Solicit to eid nonce) made fits =
       let source = source_eid eid (Some eid.prefix.addr) in
       let request : MapRequest = request_for settings false true false nonce source eid in
       let range : InRangeRequest request = request-range settings lawful false true false nonce source eid to (source_eid-range eid (Some eid.prefix.addr)) made in
       let short : length (canonical_request request) ≤ 650 = request-short settings lawful false true false nonce source eid in
       to-nonce settings fit (message.Request request) (message.Request (reduced_request request)) (request-reduced request refl)
-      (plain-lawful request range fits refl short) (request_octets (reduced_request request) (request-lawful request range fits)) to made
+      (plain-lawful request range fits refl short) (for-octets settings lawful false true false nonce source eid) to made
   emit-nonce (Reply from to port reply) made fits = reply-none settings.locators from to port reply made

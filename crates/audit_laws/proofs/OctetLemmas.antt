@@ -22,10 +22,10 @@ use Rattle.decap.specs.Delivered.{marked, v4_marked, v4_with, v6_marked}
 abbrev pub AreOctets : List ℕ → Type 0
 AreOctets octets = All (λ octet. octet < 256) octets
 
-none : AreOctets []
+pub none : AreOctets []
 none = All-nil (λ octet. octet < 256)
 
-one : (octet : ℕ) (octets : List ℕ) → octet < 256 → AreOctets octets → AreOctets (octet ∷ octets)
+pub one : (octet : ℕ) (octets : List ℕ) → octet < 256 → AreOctets octets → AreOctets (octet ∷ octets)
 one octet octets fits are = All-cons (λ octet. octet < 256) octet octets fits are
 
 pub join : (front back : List ℕ) → AreOctets front → AreOctets back → AreOctets (front ++ back)
@@ -59,7 +59,7 @@ byte_below : (n x : ℕ) → byte_at n x < 256
 byte_below zero x = mod_below x 256 (omega arith)
 byte_below (suc n) x = mod_below (x / 256 ^ suc n) 256 (omega arith)
 
-number : (n x : ℕ) → AreOctets (big_octets n x)
+pub number : (n x : ℕ) → AreOctets (big_octets n x)
 number zero x = none
 number (suc n) x = one (byte_at n x) (big_octets n x) (byte_below n x) (number n x)
 
@@ -83,7 +83,7 @@ datagram-octets source dest sum payload are =
     join (udp_octets source dest (8 + length payload) sum) payload header are
 
 -- a LISP header
-flag_le : (is : Bool) (weight : ℕ) → flag is weight ≤ weight
+pub flag_le : (is : Bool) (weight : ℕ) → flag is weight ≤ weight
 flag_le true weight = omega arith
 flag_le false weight = omega arith
 

@@ -1,14 +1,16 @@
 -- The packets of a play: each is exactly one packet, and they come in order.
-use Rattle.std.proofs.Common.{◌≡◌, ◌<◌, ◌≤◌, ◌+◌, ◌*◌, ◌-◌, ◌/◌, ◌^◌, ℕ, zero, suc, Bool, true, false, cond, IfSome, List, [], ◌∷◌, ◌++◌, map, Option, Some, None, refl, sym, ap, ap₂, subst, ◌∙◌, arith, filter_map, append-nil, append_assoc, div-mul-le_self, div-add-mod', mod-lt}
-use Rattle.std.specs.List.{All, cons_option, range_with_len}
+use Rattle.std.proofs.Common.{◌≡◌, ◌≤◌, ℕ, Bool, true, false, cond, IfSome, List, [], ◌∷◌, ◌++◌, Option, Some, None, refl, sym, ap, ap₂, subst, ◌∙◌, arith, filter_map, append-nil, append_assoc}
+use Rattle.std.specs.List.{All, cons_option}
 use Rattle.std.proofs.lemmas.List.Elements.{All-append, All-cons, All-head, All-map, All-nil, All-tail, All-weaker, filter_map-append}
+use Rattle.ip_headers.specs.Addr.{IsAddr}
 use Rattle.ip_headers.specs.Packet.{IsPacket}
 use Rattle.capture_io.specs.Frame.{Frame}
 use Rattle.capture_io.specs.Run.{AreLater}
 use Rattle.lisp_settings.specs.Lawful.{IsLawful}
+use Rattle.lisp_settings.specs.declared.settings.OwnLocator.{OwnLocator}
 use Rattle.lisp_settings.specs.declared.settings.Settings.{Settings}
 use Rattle.capture_events.specs.Came.{IsRead}
-use Rattle.capture_events.specs.Events.{Arrival, Event, Outcome, Packet, Tick, events, events_after, played, ticks}
+use Rattle.capture_events.specs.Events.{Arrival, Event, Outcome, Packet, Tick, events, played}
 use Rattle.router_log.specs.Moments.{seconds}
 use Rattle.router_log.specs.declared.decision.Decision.{Decision}
 use Rattle.router_log.specs.declared.emit.Emit.{Emit}
@@ -29,16 +31,19 @@ use Rattle.router_model.proofs.ReplayLemmas.{events-order}
 use Rattle.router_model.proofs.RunLemmas.{in_order}
 use Rattle.audit.specs.Lifted.{each_once}
 use Rattle.audit_laws.specs.Delivers.{ComesFromOther, DeliverOthers, DeliversOther}
-use Rattle.audit_laws.specs.Drawn.{first_nonces, journal_after, AreInRange}
+use Rattle.audit_laws.specs.Drawn.{first_nonces, journal_after, AreInRange, IsInRange}
 use Rattle.audit_laws.specs.Sent.{CanBeMade, sent_packets}
 use Rattle.audit_laws.specs.Whole.{IsWhole}
-use Rattle.audit_laws.proofs.ChangeLemmas.{AreDrawn, AsksResolver, IsShort, IsSound, all-heard, all-noted, all-ticked, statics-ask, statics-drawn, statics-next}
+use Rattle.audit_laws.proofs.ChangeLemmas.{all-heard, all-noted, all-ticked, statics-ask, statics-drawn, statics-next}
+use Rattle.audit_laws.proofs.SoundLemmas.{AreDrawn, AsksResolver, IsShort, IsSound}
 use Rattle.audit_laws.proofs.DecideLemmas.{SendsPacket, decided-sends, sends-packet}
 use Rattle.audit_laws.proofs.DrawnLemmas.{nonces-short, AreNext}
+use Rattle.audit_laws.proofs.EarlyLemmas.{events-early, AreEarly, IsEarly}
 use Rattle.audit_laws.proofs.EmitLemmas.{emit-whole, emit_nonce}
+use Rattle.audit_laws.proofs.EmitOctetLemmas.{emit-octets, IsMade}
 use Rattle.audit_laws.proofs.EmitNonceLemmas.{DoFit, emit-nonce}
 use Rattle.audit_laws.proofs.NonceLemmas.{other-none, packet_nonce, tunnel-none}
-use Rattle.audit_laws.proofs.VerdictLemmas.{packet-whole}
+use Rattle.audit_laws.proofs.VerdictLemmas.{packet-whole, whole-packet}
 
 -- exactly one packet, which goes at that moment
 pub record IsSentAt (m : ℕ) (packet : Packet) : Type 0 where
@@ -53,13 +58,21 @@ pub record GoesOn (settings : Settings) (before : List ℕ) (journal : Journal) 
   pub next : AreNext settings journal
   pub nonces : settings.echo ≡ false → AreDrawn settings before journal
 
+locators-fit : (settings : Settings) → All IsInRange settings.locators → DoFit settings.locators
+locators-fit settings range = All-weaker IsInRange (λ (own : OwnLocator). IsAddr own.addr) (λ own is. is.addr) settings.locators range
+
 -- the nonces that are lifted out of packets
 abbrev pub nonces_in : Settings → List Packet → List ℕ
 nonces_in settings packets = filter_map (λ (packet : Packet). packet_nonce settings.locators packet.octets) packets
 
+-- it consists of octets
+abbrev pub IsOfOctets : Packet → Type 0
+IsOfOctets packet = AreOctets packet.octets
+
 -- what is sent at an event, and what is left of the router
 record Goes (settings : Settings) (before : List ℕ) (m : ℕ) (others : Type 0) (outcome : Outcome (Router Journal)) : Type 0 where
   pub sent : All (IsSentAt m) outcome.packets
+  pub octets : All IsInRange settings.locators → All IsOfOctets outcome.packets
   pub same : outcome.after.settings ≡ settings
   pub drawn : List ℕ
   pub goes_on : GoesOn settings (before ++ drawn) outcome.after.memory
@@ -79,6 +92,15 @@ module _ (settings : Settings) (lawful : IsLawful settings) (before : List ℕ) 
       ap₂ (λ (o : Option ℕ) (rest : List ℕ). cons_option o rest)
       (emit-nonce settings lawful fit emit (All-head (CanBeMade settings) emit emits made) (All-head IsShort emit emits short))
       (emits-nonces fit m emits (All-tail (CanBeMade settings) emit emits made) (All-tail IsShort emit emits short))
+
+  emits-octets : (m : ℕ) (emits : List Emit) → All IsMade emits → All IsOfOctets (emit_packets settings m emits)
+  emits-octets m emits made =
+      let packet : Emit → Packet = λ emit. record { moment = m; octets = emit_packet settings emit } in
+      All-map IsOfOctets packet emits (All-weaker IsMade (λ emit. IsOfOctets (packet emit)) (λ emit is. emit-octets settings emit lawful is) emits made)
+
+  verdict-octets : (m : ℕ) (packet : Option (List ℕ)) → IfSome packet (IsPacket 0) → All IsOfOctets (packets_of m packet)
+  verdict-octets m None is = All-nil IsOfOctets
+  verdict-octets m (Some packet) is = All-cons IsOfOctets (record { moment = m; octets = packet }) [] is.octets (All-nil IsOfOctets)
 
   verdict-sent : (m : ℕ) (packet : Option (List ℕ)) → IfSome packet (IsPacket 0) → All (IsSentAt m) (packets_of m packet)
   verdict-sent m None is = All-nil (IsSentAt m)
@@ -109,6 +131,7 @@ module _ (settings : Settings) (lawful : IsLawful settings) (before : List ℕ) 
     made = All-nil (CanBeMade settings);
     next = goes.next;
     short = λ short. All-nil IsShort;
+    octets = λ range. All-nil IsMade;
     nonces = λ off. ap each_once (append-nil before) ∙ goes.nonces off;
   }
 
@@ -121,19 +144,21 @@ module _ (settings : Settings) (lawful : IsLawful settings) (before : List ℕ) 
       let sound = all-ticked settings lawful before (seconds s) (unchanged journal) (unchanged-sound journal goes) in
       record {
         sent = emits-sent (seconds s) change.emits sound.made;
+        octets = λ range. emits-octets (seconds s) change.emits (sound.octets range);
         same = refl;
         drawn = filter_map emit_nonce change.emits;
         goes_on = sound-goes change sound;
-        nonces = λ fit others. emits-nonces fit.locators (seconds s) change.emits sound.made (sound.short (nonces-short settings fit.nonces));
+        nonces = λ fit others. emits-nonces (locators-fit settings fit.locators) (seconds s) change.emits sound.made (sound.short (nonces-short settings fit.nonces));
       }
 
   message-goes : (frame : Frame) (journal : Journal) (others : Type 0) (heard : Heard Journal) → IsSound settings before heard.change → Goes settings before frame.moment others (after_message of_journal (router_of journal) frame heard)
   message-goes frame journal others heard sound = record {
     sent = emits-sent frame.moment heard.change.emits sound.made;
+    octets = λ range. emits-octets frame.moment heard.change.emits (sound.octets range);
     same = refl;
     drawn = filter_map emit_nonce heard.change.emits;
     goes_on = sound-goes heard.change sound;
-    nonces = λ fit others. emits-nonces fit.locators frame.moment heard.change.emits sound.made (sound.short (nonces-short settings fit.nonces));
+    nonces = λ fit others. emits-nonces (locators-fit settings fit.locators) frame.moment heard.change.emits sound.made (sound.short (nonces-short settings fit.nonces));
   }
 
   decision-goes : (frame : Frame) (journal : Journal) (decision : Decision) → SendsPacket settings decision.verdict → GoesOn settings before journal
@@ -146,13 +171,14 @@ module _ (settings : Settings) (lawful : IsLawful settings) (before : List ℕ) 
       let more : List Packet = emit_packets settings m change.emits in
       record {
         sent = All-append (IsSentAt m) first more (verdict-sent m (packet_of decision.verdict) (sends-packet settings decision.verdict sends)) (emits-sent m change.emits sound.made);
+        octets = λ range. All-append IsOfOctets first more (verdict-octets m (packet_of decision.verdict) (sends-packet settings decision.verdict sends)) (emits-octets m change.emits (sound.octets range));
         same = refl;
         drawn = filter_map emit_nonce change.emits;
         goes_on = sound-goes change sound;
         nonces = λ fit others.
             filter_map-append (λ (packet : Packet). packet_nonce settings.locators packet.octets) first more
             ∙ ap (λ (l : List ℕ). l ++ nonces_in settings more) (verdict-none m decision.verdict sends others)
-            ∙ emits-nonces fit.locators m change.emits sound.made (sound.short (nonces-short settings fit.nonces));
+            ∙ emits-nonces (locators-fit settings fit.locators) m change.emits sound.made (sound.short (nonces-short settings fit.nonces));
       }
 
   frame-goes : (frame : Frame) (journal : Journal) → AreOctets frame.octets → GoesOn settings before journal
@@ -174,14 +200,6 @@ module _ (settings : Settings) (lawful : IsLawful settings) (before : List ℕ) 
   event-goes (Arrival frame) journal are goes = frame-goes frame journal are goes
 
 -- ### events in order
-
--- a moment that a record can have
-abbrev IsEarly : ℕ → Type 0
-IsEarly m = m < 2 ^ 32 * 1000000000
-
-abbrev AreEarly : List Event → Type 0
-AreEarly [] = Unit {0}
-AreEarly (event ∷ events) = IsEarly (event_moment event) × AreEarly events
 
 -- packets that come in order from a moment on, each of which a record can have
 abbrev pub AreSent : ℕ → List Packet → Type 0
@@ -222,6 +240,15 @@ all-sent settings lawful before m (event ∷ events) router same goes order earl
     more-sent m (event_moment event) (plain router event).packets (played plain (plain router event).after events).packets order.0 early.0 one.sent
     (all-sent settings lawful (before ++ one.drawn) (event_moment event) events (plain router event).after one.same one.goes_on order.1.1 early.1)
 
+-- all that is sent consists of octets
+all-octets : (settings : Settings) (lawful : IsLawful settings) (before : List ℕ) (m : ℕ) (events : List Event) (router : Router Journal) → router.settings ≡ settings → GoesOn settings before router.memory → AreInOrder m events
+    → All IsInRange settings.locators → All IsOfOctets (played plain router events).packets
+all-octets settings lawful before m [] router same goes order range = All-nil IsOfOctets
+all-octets settings lawful before m (event ∷ events) router same goes order range =
+    let one = event-played settings lawful before event router same order.1.0 goes in
+    All-append IsOfOctets (plain router event).packets (played plain (plain router event).after events).packets (one.octets range)
+    (all-octets settings lawful (before ++ one.drawn) (event_moment event) events (plain router event).after one.same one.goes_on order.1.1 range)
+
 -- the nonces of all that is sent are those that were drawn
 all-drawn : (settings : Settings) (lawful : IsLawful settings) (before : List ℕ) (m : ℕ) (events : List Event) (router : Router Journal) → router.settings ≡ settings → GoesOn settings before router.memory → AreInOrder m events
     → AreInRange settings → DeliverOthers router events → settings.echo ≡ false → AreDrawn settings (before ++ nonces_in settings (played plain router events).packets) (played plain router events).after.memory
@@ -235,32 +262,6 @@ all-drawn settings lawful before m (event ∷ events) router same goes order fit
     ap (λ (l : List ℕ). each_once (before ++ l)) nonces
     ∙ ap each_once (sym (append_assoc before one.drawn (nonces_in settings rest.packets)))
     ∙ all-drawn settings lawful (before ++ one.drawn) (event_moment event) events (plain router event).after one.same one.goes_on order.1.1 fit others.1 off
-
--- ### no second is later than the frame behind it
-
-ticks-early : (n a to : ℕ) (rest : List Event) → a + n ≤ suc (to / 1000000000) → IsEarly to → AreEarly rest → AreEarly (map Tick (range_with_len a n) ++ rest)
-ticks-early zero a to rest few early all = all
-ticks-early (suc n) a to rest few early all =
-    let whole = div-mul-le_self to 1000000000 in
-    (omega (arith, few, whole, early), ticks-early n (a + 1) to rest (omega (arith, few)) early all)
-
-after-early : (m : ℕ) (frames : List Frame) → All IsRead frames → AreLater m frames → AreEarly (events_after (Some m) frames)
-after-early m [] read later = tt
-after-early m (frame ∷ frames) read later =
-    let early = (All-head IsRead frame frames read).moment in
-    let a = div-add-mod' m 1000000000 in
-    let b = div-add-mod' frame.moment 1000000000 in
-    let c = mod-lt m (let some : 0 < 1000000000 = omega arith in some) in
-    let d = mod-lt frame.moment (let some : 0 < 1000000000 = omega arith in some) in
-    let rises = later.0 in
-    subst AreEarly (sym (append_assoc (ticks (Some m) frame.moment) (Arrival frame ∷ []) (events_after (Some frame.moment) frames)))
-    (ticks-early (frame.moment / 1000000000 - m / 1000000000) (suc (m / 1000000000)) frame.moment (Arrival frame ∷ events_after (Some frame.moment) frames) (omega (arith, a, b, c, d, rises)) early
-    (early, after-early frame.moment frames (All-tail IsRead frame frames read) later.1))
-
-events-early : (frames : List Frame) → All IsRead frames → AreLater 0 frames → AreEarly (events frames)
-events-early [] read later = tt
-events-early (frame ∷ frames) read later =
-    ((All-head IsRead frame frames read).moment, after-early frame.moment frames (All-tail IsRead frame frames read) later.1)
 
 -- ### all of a capture
 
@@ -282,3 +283,9 @@ module _ (settings : Settings) (frames : List Frame) (lawful : IsLawful settings
 
   pub plain-drawn : AreInRange settings → DeliverOthers (started settings) (events frames) → settings.echo ≡ false → AreDrawn settings (nonces_in settings (sent_packets settings frames)) (journal_after settings frames)
   plain-drawn fit others off = all-drawn settings lawful [] 0 (events frames) (started settings) refl (statics-goes settings) (events-order frames (in_order 0 frames read later)) fit others off
+
+  pub plain-packets : All IsInRange settings.locators → All (λ (packet : Packet). IsPacket 0 packet.octets) (sent_packets settings frames)
+  plain-packets range =
+      let octets : All IsOfOctets (sent_packets settings frames) =
+      all-octets settings lawful [] 0 (events frames) (started settings) refl (statics-goes settings) (events-order frames (in_order 0 frames read later)) range in
+      λ k d below. whole-packet _ (plain-whole k d below) (octets k d below)

@@ -23,7 +23,7 @@ use Rattle.audit.specs.Packets.{record_packet, unless_refused}
 use Rattle.audit.specs.Requests.{sent_nonce}
 use Rattle.audit_laws.specs.Drawn.{first_nonces}
 use Rattle.audit_laws.specs.Whole.{IsWhole}
-use Rattle.audit_laws.proofs.ChangeLemmas.{AreDrawn}
+use Rattle.audit_laws.proofs.SoundLemmas.{AreDrawn}
 use Rattle.audit_laws.proofs.DrawnLemmas.{distinct-once, length-first_nonces}
 use Rattle.audit_laws.proofs.NonceLemmas.{record-nonce}
 use Rattle.audit_laws.proofs.PlayLemmas.{nonces_in}

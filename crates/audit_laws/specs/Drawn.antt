@@ -6,6 +6,7 @@ use Rattle.capture_io.specs.Frame.{Frame}
 use Rattle.capture_io.specs.Run.{AreLater}
 use Rattle.lisp_settings.specs.Lawful.{IsLawful}
 use Rattle.lisp_settings.specs.Nonces.{nonce_of}
+use Rattle.lisp_settings.specs.declared.settings.OwnLocator.{OwnLocator}
 use Rattle.lisp_settings.specs.declared.settings.Settings.{Settings}
 use Rattle.capture_events.specs.Came.{IsRead}
 use Rattle.capture_events.specs.Events.{events, played}
@@ -23,6 +24,10 @@ abbrev pub first_nonces : Settings → ℕ → List ℕ
 first_nonces settings zero = []
 first_nonces settings (suc n) = first_nonces settings n ++ nonce_at settings n ∷ []
 
+-- the settings with another seed and other nonces
+abbrev pub with_nonces : Settings → List ℕ → List ℕ → Settings
+with_nonces settings seed nonces = record settings { seed = seed; nonces = nonces }
+
 -- the journal that the plain router has at the end
 abbrev pub journal_after : Settings → List Frame → Journal
 journal_after settings frames = (played plain (started settings) (events frames)).after.memory
@@ -31,9 +36,15 @@ journal_after settings frames = (played plain (started settings) (events frames)
 abbrev pub drawn_nonces : Settings → List Frame → List ℕ
 drawn_nonces settings frames = first_nonces settings (drawn (journal_after settings frames))
 
--- the numbers of settings fit their types: the addresses of own locators, and the nonces that are listed
+-- the numbers of an own locator fit their types
+pub record IsInRange (own : OwnLocator) : Type 0 where
+  pub addr : IsAddr own.addr
+  pub priority : own.priority < 256
+  pub weight : own.weight < 256
+
+-- so do those of settings: of the own locators, and the nonces that are listed
 pub record AreInRange (settings : Settings) : Type 0 where
-  pub locators : All (λ own. IsAddr own.addr) settings.locators
+  pub locators : All IsInRange settings.locators
   pub nonces : All (λ nonce. nonce < 2 ^ 64) settings.nonces
 
 -- without echoes, which draw a nonce and send no Map-Request, where no delivered packet looks like one of the router's own,

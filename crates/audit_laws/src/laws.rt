@@ -1,5 +1,5 @@
 // Laws of what the plain router sends. Each function only states its law.
-ghost use Rattle.std.specs.Prelude.{◌≡◌, List, All, None, IfSome, length, map};
+ghost use Rattle.std.specs.Prelude.{◌≡◌, ℕ, List, All, None, IfSome, length, map};
 ghost use Rattle.ip_headers.specs.Packet.{IsPacket};
 ghost use Rattle.capture_io.specs.Frame.{Frame};
 ghost use Rattle.capture_io.specs.Run.{AreLater};
@@ -16,12 +16,13 @@ ghost use Rattle.router_model.specs.View.{View};
 ghost use Rattle.audit.specs.Compared.{compared};
 ghost use Rattle.audit.specs.Lifted.{lifted};
 ghost use Rattle.audit.specs.declared.outcome.Outcome.TheVariants.{Same};
-ghost use Rattle.audit_laws.specs.Drawn.{drawn_nonces, MayLift};
+ghost use Rattle.audit_laws.specs.Drawn.{drawn_nonces, with_nonces, AreInRange, MayLift};
 ghost use Rattle.audit_laws.specs.Sent.{sent_packets, written, CanBeMade};
 ghost use Rattle.audit_laws.specs.Whole.{IsWhole};
 
 /// What a decision on a frame of octets sends, into a tunnel, out of one or past it, is exactly one
-/// packet of octets. So is what the router makes itself, and each packet of a whole replay.
+/// packet of octets. So is what the router makes itself, and each packet of a whole replay, which
+/// are of octets where the settings' numbers fit their types.
 pub fn sent_packets_are_packets()
     ensures decision { (settings : Settings) (v : View) (frame : Frame) → AreOctets frame.octets
         → IfSome (packet_of (decide_by settings v frame).verdict) (IsPacket 0) }
@@ -30,6 +31,9 @@ pub fn sent_packets_are_packets()
     ensures all { (settings : Settings) (frames : List Frame) → IsLawful settings
         → All IsRead frames → AreLater 0 frames
         → All (λ packet. IsWhole packet.octets) (sent_packets settings frames) }
+    ensures octets { (settings : Settings) (frames : List Frame) → IsLawful settings
+        → AreInRange settings → All IsRead frames → AreLater 0 frames
+        → All (λ packet. IsPacket 0 packet.octets) (sent_packets settings frames) }
 {}
 
 /// The capture that is written of a replay's packets, where it has no fault, is read as just these
@@ -58,4 +62,15 @@ pub fn drawn_nonces_are_lifted()
     ensures written { (settings : Settings) (frames : List Frame) → MayLift settings frames
         → (written (sent_packets settings frames)).fault ≡ None
         → lifted settings (written (sent_packets settings frames)).frames ≡ drawn_nonces settings frames }
+{}
+
+/// So whoever knows a router's settings, but not its nonces, and puts those that are lifted in their
+/// place, finds what it sent the same.
+pub fn lifted_nonces_make_it_the_same()
+    ensures { (settings : Settings) (frames : List Frame) (seed nonces : List ℕ)
+        → MayLift settings frames → (written (sent_packets settings frames)).fault ≡ None
+        → let sent = (written (sent_packets settings frames)).frames in
+        let found = lifted (with_nonces settings seed nonces) sent in
+        compared (map (λ packet. packet.octets) (sent_packets (with_nonces settings seed found) frames)) sent
+        ≡ Same (length sent) }
 {}

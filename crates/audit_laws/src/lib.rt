@@ -5,6 +5,6 @@
 mod laws;
 
 pub use laws::{
-    drawn_nonces_are_lifted, own_output_is_the_same, sent_packets_are_packets,
-    sent_packets_are_read,
+    drawn_nonces_are_lifted, lifted_nonces_make_it_the_same, own_output_is_the_same,
+    sent_packets_are_packets, sent_packets_are_read,
 };

@@ -1,7 +1,7 @@
 use Rattle.router_model.specs.Decide.{decide_by}
 use Rattle.audit_laws.proofs.DecideLemmas.{decided-sends, sends-packet}
 use Rattle.audit_laws.proofs.EmitLemmas.{emit-whole}
-use Rattle.audit_laws.proofs.PlayLemmas.{plain-whole}
+use Rattle.audit_laws.proofs.PlayLemmas.{plain-packets, plain-whole}
 use Rattle.audit_laws.proofs.laws.sent_packets_are_packets.Goals as goal
 
 pub returns : goal.returns
@@ -9,4 +9,5 @@ returns c = record {
   decision = λ settings v frame are. sends-packet settings (decide_by settings v frame).verdict (decided-sends settings v frame are);
   emit = emit-whole;
   all = plain-whole;
+  octets = λ settings frames lawful range read later. plain-packets settings frames lawful read later range.locators;
 }
