@@ -93,6 +93,13 @@ def replays(program, shim, output, name, files, more, **how):
     yield Refusals("the same with 2 workers", shim, by_workers, output, Lawful(*files, 2, SIZE, **how))
 
 
+def audits(program, shim, output, name, files, sent):
+    """An audit of what is sent, by the nonces of the settings and by those that are lifted."""
+    audit = [program, "audit", "--settings", files[0], "--in", files[1], "--sent", sent]
+    yield Refusals(f"audit of {name}", shim, audit, output)
+    yield Refusals("the same by lifted nonces", shim, [*audit, "--nonces", "sent"], output)
+
+
 def refusals(program, folder):
     shim, output = os.path.join(folder, "refuse.so"), os.path.join(folder, "out.pcap")
     subprocess.run(["cc", "-shared", "-fPIC", "-o", shim, os.path.join(HERE, "refuse.c"), "-ldl"], check=True)
@@ -102,6 +109,8 @@ def refusals(program, folder):
         read = reader_of(Format.NG if more else Format.CLASSIC)
         yield from replays(program, shim, output, name, (settings, capture), more, read=read)
         yield Refusals(f"show of {name}", shim, [program, "show", "--in", capture], output)
+        if not more:
+            yield from audits(program, shim, output, name, (settings, capture), os.path.join(example, "expected.pcap"))
     yield from replays(program, shim, output, "large packets", halves(folder), ("--split", "on"), split=True)
     yield Refusals("trial 3", shim, [program, "trial", "3"], output)
 
