@@ -45,9 +45,10 @@ differ a b apart = elim (cases_Bool (eqb a b)) [ inl e ↦ absurd (apart (same a
 found-other : {X : Type 0} (id other : ℕ) (change : X → X) (entries : List (ℕ × X)) → other ≢ id → found_at other (changed_at id change entries) ≡ found_at other entries
 found-other id other change [] apart = refl
 found-other id other change (entry ∷ entries) apart =
-    elim (cases_Bool (eqb entry.0 id))
-    [ inl e ↦ (let apart-too : eqb entry.0 other ≡ false = differ entry.0 other (λ is. apart (sym is ∙ same entry.0 id e)) in rw e (rw apart-too refl))
-    | inr e ↦ rw e (ap (λ rest. if eqb entry.0 other then Some entry.1 else rest) (found-other id other change entries apart)) ]
+    elim (cases_Bool (eqb entry.0 id)) [
+      | inl e ↦ (let apart-too : eqb entry.0 other ≡ false = differ entry.0 other (λ is. apart (sym is ∙ same entry.0 id e)) in rw e (rw apart-too refl))
+      | inr e ↦ rw e (ap (λ rest. if eqb entry.0 other then Some entry.1 else rest) (found-other id other change entries apart))
+    ]
 
 -- an entry more under one id, too
 found-more : {X : Type 0} (id other : ℕ) (x : X) (entries : List (ℕ × X)) → other ≢ id → found_at other (entries ++ (id, x) ∷ []) ≡ found_at other entries

@@ -41,7 +41,8 @@ fn comparison_status(outcome: Outcome) -> Status
 {
     match outcome {
         Outcome::Same { .. } => Status::Done,
-        Outcome::Differs { .. } | Outcome::Missing { .. } | Outcome::Extra { .. } => Status::Differs,
+        Outcome::Differs { .. } | Outcome::Missing { .. } | Outcome::Extra { .. } =>
+            Status::Differs,
     }
 }
 

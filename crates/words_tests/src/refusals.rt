@@ -1,5 +1,7 @@
 // Lists of words that are of no form, and that no line of words spells.
-use crate::word_lists::{FORMAT, INTERFACES, NONCES, REPLAY, ROUND, SPLIT, WORKERS, said, words_in};
+use crate::word_lists::{
+    FORMAT, INTERFACES, NONCES, REPLAY, ROUND, SPLIT, WORKERS, said, words_in,
+};
 use std::test::Fail;
 
 #[test]
