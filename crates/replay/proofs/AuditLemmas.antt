@@ -15,7 +15,7 @@ use Rattle.capture_io.specs.Run.{Run}
 use Rattle.capture_io.specs.declared.fault.CaptureFault.{CaptureFault}
 use Rattle.command_words.specs.declared.nonce_source.NonceSource.TheVariants.{Settings as FromSettings, Sent as FromSent}
 use Rattle.command_words.specs.declared.intake.InputFormat.TheVariants.{Classic}
-use Rattle.desk.specs.World.{World, Direction, Shown, after_open, after_read, changed_at, content, found_at, left_of, shown, shown_of, to_read, IsGiven}
+use Rattle.desk.specs.World.{World, Direction, Shown, after_open, after_read, changed_at, content, found_at, left_of, shown, shown_of, to_read, IsGiven, IsThere}
 use Rattle.lisp_settings.specs.Lawful.{IsLawful}
 use Rattle.lisp_settings.specs.declared.settings.Settings.{Settings}
 use Rattle.playback.proofs.DeterminedLemmas.{determined-played}
@@ -27,6 +27,7 @@ use Rattle.playback.specs.Input.{input_run}
 use Rattle.playback.specs.declared.fault.InputFault.{InputFault}
 use Rattle.playback.specs.declared.fault.InputFault.TheVariants as of
 use Rattle.replay.proofs.ArrivalLemmas.{arrived-replays}
+use Rattle.replay.specs.Answer.{AreThere}
 use Rattle.replay.specs.Audit.{AuditsAs, LiftsFrom, comparison, fault_in, found, refused, whole}
 use Rattle.replay.specs.Opening.{KeepsGiven, Opened, OpensClassic, opened}
 use Rattle.replay.specs.Taking.{router_of}
@@ -112,13 +113,13 @@ named-classic id name (Some w) mid now reader fresh opens is =
 pub audits-as : (settings : Settings) (parts : Parts) (input sent : Run CaptureFault) (audited : Audited) → IsLawful settings → parts ≡ parts_in settings (statics settings)
     → IsAudited (Determined (after_event table)) (router_of settings parts) input sent audited → AuditsAs settings input sent audited
 unfolding comparison
-audits-as settings parts input sent (Compared outcome) lawful begins (whole, same, compares) =
+audits-as settings parts input sent (Compared outcome) lawful begins (ended, (ended-too, compares)) =
     let state = router_of settings parts in
     let played-out : compares.outcome ≡ played (after_event table) state (events input.frames) =
     determined-played (after_event table) state compares.steps compares.outcome compares.played ∙ ap (played (after_event table) state) compares.steps_are.events in
     let tabled : played (after_event table) state (events input.frames) ≡ outcome_tabled (played plain (started settings) (events input.frames)) =
     rw begins (arrived-replays settings input.frames lawful compares.came) in
-    (whole, (same, compares.compares ∙ ap (λ (o : Outcome (Router Parts)). compared (octets_of o.packets) sent.frames) (played-out ∙ tabled)))
+    (ended, (ended-too, compares.compares ∙ ap (λ (o : Outcome (Router Parts)). compared (octets_of o.packets) sent.frames) (played-out ∙ tabled)))
 audits-as settings parts input sent (BadPlayed fault) lawful begins is = is
 audits-as settings parts input sent (BadSent fault) lawful begins is = is
 
@@ -157,3 +158,7 @@ lifts-from settings what r nonces (Some w) (Some v) opens lifts =
 pub refused-own : (input : Result (List Frame) InputFault) (own fault : InputFault) → Some own ≡ fault_in input → finding.Input own ≡ refused input fault
 refused-own (Ok frames) own fault is = cc
 refused-own (Err other) own fault is = cc
+
+-- three files that are there
+pub three-there : (first second third : List ℕ) (told : Option World) → AreThere (first ∷ second ∷ third ∷ []) told → IsThere first told × (IsThere second told × IsThere third told)
+three-there first second third told all = (all 0 [] (omega arith), (all 1 [] (omega arith), all 2 [] (omega arith)))
