@@ -6,6 +6,7 @@ mod echoing;
 mod limits;
 mod locators;
 mod probing;
+mod questions;
 mod soliciting;
 mod target;
 mod turns;

@@ -1,22 +1,17 @@
 // What is known of locators.
-ghost use Rattle.std.specs.Prelude.{◌≡◌, ◌≤◌, ◌<◌, ◌+◌, ◌*◌, ◌/◌, length, max, nat_lt, [], IfOk, OnOk, OnErr};
+ghost use Rattle.std.specs.Prelude.{◌≡◌, ◌≤◌, ◌<◌, ◌+◌, ◌*◌, ◌/◌, length, max, [], IfOk, OnOk, OnErr};
 ghost use Rattle.keyed_list.specs.Limits.{ring_names};
-ghost use Rattle.locator_state.specs.Echoes.{data_due, data_from, echo_heard, echo_on, echo_out, echo_started, may_start, may_want, wanted};
-ghost use Rattle.locator_state.specs.Limits.{most_probes, most_reserved};
-ghost use Rattle.locator_state.specs.Observed.{HasNoRoom, HasPlaces, HasRoom, UsesRoom, is_up, longest, recent, with_probes, with_solicits, with_starts, with_wishes};
-ghost use Rattle.locator_state.specs.Probes.{last_probe, probe_answered, probe_count, probe_open, probed};
-ghost use Rattle.locator_state.specs.Solicits.{may_solicit, solicited};
+ghost use Rattle.locator_state.specs.Echoes.{data_from, echo_heard, echo_started, wanted};
+ghost use Rattle.locator_state.specs.Limits.{most_reserved};
+ghost use Rattle.locator_state.specs.Observed.{HasNoRoom, HasPlaces, HasRoom, UsesRoom, longest, recent, with_probes, with_solicits, with_starts, with_wishes};
+ghost use Rattle.locator_state.specs.Probes.{probe_answered, probed};
+ghost use Rattle.locator_state.specs.Solicits.{solicited};
 
-use crate::echoing::{
-    answer_or, ask_or_plain, come_all, data_due, drop_starts, drop_wishes, echo_on, echo_up,
-    echo_wanted, few_starts, few_wishes, hear_all, is_asked, is_other,
-};
-use crate::limits::{MOST_PROBES, PROBE_LIFE};
-use crate::probing::{
-    drop_probes, is_judged, last_judged, last_of, last_with, probe_counts, settle_nonce, up_by,
-};
-use crate::soliciting::{drop_solicits, few_solicits, is_solicited};
-use crate::{Addr, EchoOut, EchoStart, EchoWish, Eid, NoMemory, Probe, ProbeState, Solicitation};
+use crate::echoing::{come_all, drop_starts, drop_wishes, echo_wanted, hear_all};
+use crate::limits::PROBE_LIFE;
+use crate::probing::{drop_probes, settle_nonce};
+use crate::soliciting::drop_solicits;
+use crate::{Addr, EchoStart, EchoWish, Eid, NoMemory, Probe, ProbeState, Solicitation};
 use keyed_list::{Keyed, KeyedList};
 use std::alloc::Global;
 use std::marker::Model;
@@ -29,10 +24,10 @@ use std::marker::Model;
 /// nanoseconds.
 #[derive(Drop)]
 pub struct LocatorState {
-    probes: KeyedList<Probe>,
-    starts: KeyedList<EchoStart>,
-    wishes: KeyedList<EchoWish>,
-    solicits: KeyedList<Solicitation>,
+    pub(crate) probes: KeyedList<Probe>,
+    pub(crate) starts: KeyedList<EchoStart>,
+    pub(crate) wishes: KeyedList<EchoWish>,
+    pub(crate) solicits: KeyedList<Solicitation>,
 }
 
 impl Model for LocatorState {
@@ -245,106 +240,6 @@ impl LocatorState {
             eid,
         });
         Ok(())
-    }
-
-    /// The locator of the open probe with that nonce, for `PROBE_WAIT`. None where there is none.
-    pub fn probe_open(&self, m: u64, nonce: u64) -> Option<Addr>
-        ensures { result ≡ probe_open m self.now.observed.probes nonce }
-    {
-        let probe = last_with(nonce, &self.probes)?;
-        if is_judged(m, probe) {
-            return None;
-        }
-        Some(probe.rloc)
-    }
-
-    /// The moment of the last probe of a locator. None where there is none, or it counts no longer.
-    pub fn last_probe(&self, m: u64, rloc: &Addr) -> Option<u64>
-        ensures { result ≡ last_probe m self.now.observed.probes rloc.now }
-    {
-        let probe = last_of(rloc, &self.probes)?;
-        if probe_counts(m, probe) {
-            return Some(probe.moment);
-        }
-        None
-    }
-
-    /// How many probes count at a moment.
-    pub fn probe_count(&self, m: u64) -> u32
-        ensures { result ≡ probe_count m self.now.observed.probes }
-    {
-        // There are no more of them than are kept.
-        let _ = self.probes.len();
-        self.probes.count(m, PROBE_LIFE) as u32
-    }
-
-    /// There is room for one more probe at a moment.
-    pub fn may_probe(&self, m: u64) -> bool
-        ensures { result ≡ nat_lt (probe_count m self.now.observed.probes) most_probes }
-    {
-        self.probes.count(m, PROBE_LIFE) < MOST_PROBES
-    }
-
-    /// The nonce of the echo that is asked of a locator, for `ECHO_WAIT` and until it is heard. None
-    /// where none is asked.
-    pub fn echo_on(&self, m: u64, rloc: &Addr) -> Option<u32>
-        ensures { result ≡ echo_on m self.now.observed.starts rloc.now }
-    {
-        echo_on(m, rloc, &self.starts)
-    }
-
-    /// An echo is asked of a locator, and no packet came from it since.
-    pub fn data_due(&self, m: u64, rloc: &Addr) -> bool
-        ensures { result ≡ data_due m self.now.observed.starts rloc.now }
-    {
-        data_due(m, rloc, &self.starts)
-    }
-
-    /// What the header of a packet to a locator does about echoes: answering goes before asking.
-    pub fn echo_out(&self, m: u64, rloc: &Addr) -> EchoOut
-        ensures { result
-            ≡ echo_out m self.now.observed.starts self.now.observed.wishes rloc.now }
-    {
-        answer_or(
-            ask_or_plain(echo_on(m, rloc, &self.starts)),
-            echo_wanted(m, rloc, &self.wishes),
-        )
-    }
-
-    /// An echo may be asked of a locator: none was for `START_LIFE`, it wants none itself, and fewer
-    /// than `MOST_STARTS` are asked for.
-    pub fn may_start(&self, m: u64, rloc: &Addr) -> bool
-        ensures { result
-            ≡ may_start m self.now.observed.starts self.now.observed.wishes rloc.now }
-    {
-        !is_asked(m, rloc, &self.starts)
-            && echo_wanted(m, rloc, &self.wishes).is_none()
-            && few_starts(m, &self.starts)
-    }
-
-    /// That a locator wants this nonce may be noted: it doesn't want it already, and fewer than
-    /// `MOST_WISHES` are wanted.
-    pub fn may_want(&self, m: u64, rloc: &Addr, nonce: u32) -> bool
-        ensures { result ≡ may_want m self.now.observed.wishes rloc.now nonce }
-    {
-        is_other(nonce, echo_wanted(m, rloc, &self.wishes)) && few_wishes(m, &self.wishes)
-    }
-
-    /// A locator may be solicited for an EID: it wasn't for `SOLICIT_LIFE`, and fewer than
-    /// `MOST_SOLICITS` were.
-    pub fn may_solicit(&self, m: u64, rloc: &Addr, eid: &Eid) -> bool
-        ensures { result ≡ may_solicit m self.now.observed.solicits rloc.now eid.now }
-    {
-        !is_solicited(m, rloc, eid, &self.solicits) && few_solicits(m, &self.solicits)
-    }
-
-    /// Nothing speaks against a locator: the last probe that is judged was answered, and packets
-    /// came with the echo that was asked for. A probe is judged once it is answered or
-    /// `PROBE_WAIT` old, until it is `PROBE_LIFE` old; an echo from `ECHO_WAIT` to `START_LIFE`.
-    pub fn up(&self, m: u64, rloc: &Addr) -> bool
-        ensures { result ≡ is_up m self.now.observed rloc.now }
-    {
-        up_by(m, last_judged(m, rloc, &self.probes)) && echo_up(m, rloc, &self.starts)
     }
 }
 

@@ -204,7 +204,7 @@ impl MapCache {
     }
 
     /// The mapping in force for an EID: the longest of those that haven't ended and cover it. None
-    /// where none does. It has at most 32 locators. Reads at most 129 nodes.
+    /// where none does. It has at most 32 locators. Reads at most `MOST_NODES` nodes.
     pub fn in_force(&self, m: u64, eid: &Eid, reads: &mut Reads) -> Option<&Mapping>
         requires later { self.now.now ≤ m }
         requires reads { reads.old < 2 ^ 63 }
@@ -217,8 +217,8 @@ impl MapCache {
         self.indexed.in_force(m, eid, reads)
     }
 
-    /// The mapping of just that EID. None where there is none, or it has ended. Reads at most 129
-    /// nodes.
+    /// The mapping of just that EID. None where there is none, or it has ended. Reads at most
+    /// `MOST_NODES` nodes.
     pub fn exact(&self, m: u64, eid: &Eid, reads: &mut Reads) -> Option<&Mapping>
         requires later { self.now.now ≤ m }
         requires reads { reads.old < 2 ^ 63 }

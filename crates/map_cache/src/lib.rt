@@ -6,6 +6,7 @@ mod cache;
 mod copies;
 mod endings;
 mod fault;
+mod finding;
 mod indexed;
 mod keys;
 mod lasting;

@@ -15,7 +15,8 @@ use keyed_list::{Key, KeyedList};
 use mapping_records::Eid;
 use prefix_table::PrefixTable;
 
-/// A request that waits is for an EID that covers this one. Reads at most 129 nodes, and nothing else.
+/// A request that waits is for an EID that covers this one. Reads at most `MOST_NODES` nodes, and
+/// nothing else.
 pub(crate) fn is_covered(m: u64, eid: &Eid, eids: &PrefixTable<u64>, reads: &mut Reads) -> bool
     requires { reads.old < 2 ^ 63 }
     ensures covered { (requests : List Request) → AreEids eids.now.pairs requests

@@ -186,7 +186,7 @@ impl RequestQueue {
             .last(&Key::nonce(nonce), |request| is_waiting(m, request))
     }
 
-    /// A request that waits is for an EID that covers this one. Reads at most 129 nodes, and
+    /// A request that waits is for an EID that covers this one. Reads at most `MOST_NODES` nodes, and
     /// nothing else.
     pub fn open_for(&self, m: u64, eid: &Eid, reads: &mut Reads) -> bool
         requires { reads.old < 2 ^ 63 }

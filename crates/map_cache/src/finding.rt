@@ -1,0 +1,82 @@
+// Mappings, found by EID, by end and by locator.
+ghost use Rattle.std.specs.Prelude.{◌≡◌, ◌≤◌, ◌<◌, ◌+◌, ◌/◌, ◌^◌, false, length, Some, is_some, IfSome};
+ghost use Rattle.std.specs.Option.{option_copied};
+ghost use Rattle.prefix_table.specs.Limits.{most_nodes};
+ghost use Rattle.map_cache.specs.Cache.{exact, in_force, lasting, without_eid};
+ghost use Rattle.map_cache.specs.Named.{least_named, named_above};
+
+use crate::indexed::Indexed;
+use crate::lasting::first_lasting;
+use crate::searching::comes_after;
+use crate::stay::stay_lasts;
+use crate::{Mapping, Reads};
+use ip_headers::Addr;
+use mapping_records::Eid;
+
+impl Indexed {
+    /// The EID of the mapping that ended first, if one has at a moment.
+    pub(crate) fn first_ended(&self, m: u64) -> Option<Eid>
+        ensures ended { IfSome result (λ eid.
+            lasting m (without_eid eid self.now.mappings) ≡ lasting m self.now.mappings) }
+        ensures less { IfSome result (λ eid.
+            length (without_eid eid self.now.mappings) < length self.now.mappings) }
+        ensures none { is_some result ≡ false → lasting m self.now.mappings ≡ self.now.mappings }
+    {
+        // The set says that its keys are in order.
+        let _ = self.endings.len();
+        let ending = self.endings.get(0)?;
+        if u128::from(m) < ending.end {
+            return None;
+        }
+        Some(ending.eid)
+    }
+
+    /// The longest of the mappings that haven't ended at a moment and cover an EID.
+    pub(crate) fn in_force(&self, m: u64, eid: &Eid, reads: &mut Reads) -> Option<&Mapping>
+        requires { reads.old < 2 ^ 63 }
+        ensures found { option_copied result ≡ in_force (lasting m self.now.mappings) eid.now }
+        ensures counted { reads.old ≤ reads.new }
+        ensures bound { reads.new ≤ reads.old + most_nodes }
+    {
+        // The list says that each mapping has a name.
+        let _ = self.mappings.len();
+        match self
+            .by_eid
+            .longest_where(eid, |stay| stay_lasts(m, stay), reads)
+        {
+            None => None,
+            Some((_, stay)) => Some(self.mappings.named(stay.name)),
+        }
+    }
+
+    /// The mapping of just that EID, unless it has ended at a moment.
+    pub(crate) fn exact(&self, m: u64, eid: &Eid, reads: &mut Reads) -> Option<&Mapping>
+        requires { reads.old < 2 ^ 63 }
+        ensures found { option_copied result ≡ exact (lasting m self.now.mappings) eid.now }
+        ensures counted { reads.old ≤ reads.new }
+        ensures bound { reads.new ≤ reads.old + most_nodes }
+    {
+        // The list says that each mapping has a name.
+        let _ = self.mappings.len();
+        let stay = self.by_eid.get(eid, reads)?;
+        if !stay_lasts(m, stay) {
+            return None;
+        }
+        Some(self.mappings.named(stay.name))
+    }
+
+    /// The least address above `after` that a mapping names which hasn't ended at a moment, and the
+    /// least such EID.
+    pub(crate) fn next_named(&self, m: u64, after: Option<&Addr>) -> Option<(Addr, Eid)>
+        ensures { result ≡ least_named
+            (named_above (option_copied after.entry) (lasting m self.now.mappings)) }
+    {
+        // The set says that its keys are in order, the list that each mapping has a name.
+        let _ = (self.naming.len(), self.mappings.len());
+        let first = self
+            .naming
+            .place(|naming| !comes_after(after, &naming.addr));
+        let naming = first_lasting(m, first, &self.naming, &self.by_eid)?;
+        Some((naming.addr, naming.eid))
+    }
+}
