@@ -1,5 +1,5 @@
 -- What is noticed, as a table notes it.
-use Rattle.std.proofs.Common.{◌≡◌, ◌∙◌, ℕ, ◌^◌, ◌%◌, ◌<◌, ◌≤◌, ◌==◌, ◌||◌, ◌&&◌, nat_lt, Bool, true, false, cond, List, [], ◌∷◌, ◌++◌, append_assoc, Option, Some, None, is_some, refl, sym, ap, ap₂, subst, arith, mod-lt}
+use Rattle.std.proofs.Common.{◌≡◌, ◌∙◌, ℕ, ◌^◌, ◌%◌, ◌<◌, ◌≤◌, ◌==◌, ◌||◌, ◌&&◌, nat_lt, Bool, true, false, cond, List, [], ◌∷◌, ◌++◌, append_assoc, Option, Some, None, is_some, refl, sym, ap, ap₂, arith, mod-lt}
 use Rattle.std.proofs.lemmas.Bool.Decides.{nat_tests}
 use Rattle.std.proofs.lemmas.List.{append-nil}
 use Rattle.std.proofs.lemmas.Nat.{pow_pos}
@@ -14,14 +14,12 @@ use Rattle.router_log.specs.declared.entry.Entry.TheVariants.{Bits, DataFrom, Ec
 use Rattle.router_log.specs.declared.notice.Notice.{Notice}
 use Rattle.router_log.specs.declared.notice.Notice.TheVariants as notice
 use Rattle.router_model.specs.Changes.{Change, each, entered, may_ask, next_nonce, unchanged}
-use Rattle.router_model.specs.Journal.{Journal, moment_of}
-use Rattle.router_model.specs.Lifting.{Follows, MayGo, is_sound}
+use Rattle.router_model.specs.Journal.{moment_of}
 use Rattle.router_model.specs.Mappings.{exact}
-use Rattle.router_model.specs.Note.{is_echo, is_learned, is_missing, is_news, note, noted, solicited}
-use Rattle.router_model.specs.Parts.{Parts, Stands, table, view_in, with_entry}
+use Rattle.router_model.specs.Note.{is_echo, is_learned, is_missing, is_news, noted, solicited}
+use Rattle.router_model.specs.Parts.{Parts, table, view_in, with_entry}
 use Rattle.router_model.specs.Proper.{is_short, suits}
 use Rattle.router_model.specs.Site.{ours}
-use Rattle.router_model.proofs.FollowLemmas.{table-notes}
 use Rattle.router_model.proofs.NoteLemmas.{news-some}
 use Rattle.router_core.specs.Table.{change_of, changed_seen}
 use Rattle.router_core.specs.declared.changed.Changed.{Changed}
@@ -104,11 +102,6 @@ module _ (settings : Settings) (m : ℕ) (p : Parts) (after : p.now ≤ m) (few 
 module _ (settings : Settings) (m : ℕ) (p : Parts) (change : Change Parts) (known given : Notice) (same : given ≡ known) where
   pub noted-as : change ≡ noted table settings m known (unchanged p) → change ≡ noted table settings m given (unchanged p)
   noted-as is = is ∙ ap (λ (n : Notice). noted table settings m n (unchanged p)) (sym same)
-
-  -- is noted as by the journal
-  pub follows-as : change ≡ noted table settings m known (unchanged p) → is_sound given ≡ true → (journal : Journal) → Stands settings p journal → MayGo journal m → Follows settings change (note settings journal m given)
-  follows-as is sound journal stands may =
-      subst (λ (t : Change Parts). Follows settings t (note settings journal m given)) (sym (noted-as is)) (table-notes settings p journal m given stands may sound)
 
 -- ### notices that are noted one after another
 

@@ -1,15 +1,14 @@
 // A Map-Request for mappings of the site, answered (RFC 9301, sections 5.3 to 5.5).
-ghost use Rattle.std.specs.Prelude.{◌≡◌, ◌≤◌, ◌++◌, ◌∷◌, [], Some, None, filter, filter_map, length, map, option_map, option_to_list, All, IfOk, IfSome, OnOk, if◌then◌else◌};
-ghost use Rattle.std.specs.List.{list_any};
+ghost use Rattle.std.specs.Prelude.{◌≡◌, ◌≤◌, ◌++◌, Some, None, filter, filter_map, length, map, option_map, IfOk, IfSome, OnOk, if◌then◌else◌};
 ghost use Rattle.ip_headers.specs.Addr.{width};
 ghost use Rattle.map_messages.specs.Range.{InRangeReply};
 ghost use Rattle.map_messages.specs.Reply.{canonical_reply};
 ghost use Rattle.map_messages.specs.Limits.{most_message_octets};
-ghost use Rattle.mapping_records.specs.Eids.{longer, same_address};
+ghost use Rattle.mapping_records.specs.Eids.{longer};
 ghost use Rattle.lisp_settings.specs.Lawful.{IsLawful};
 ghost use Rattle.lisp_settings.specs.declared.settings.Settings.{Settings as SettingsValue};
 ghost use Rattle.router_model.specs.Changes.{unchanged};
-ghost use Rattle.router_model.specs.Hear.{answered, answering, first_path, own_locator, own_record, path_back, replied, reply_of, reply_path};
+ghost use Rattle.router_model.specs.Hear.{answered, answering, first_path, own_record, path_back, replied, reply_of, reply_path};
 ghost use Rattle.router_model.specs.Site.{database_of};
 ghost use Rattle.router_core.specs.Answering.{is_hit};
 ghost use Rattle.router_core.specs.Seen.{asker_seen, path_seen};
@@ -17,12 +16,13 @@ ghost use Rattle.router_core.specs.Sendable.{IsSendableReply};
 ghost use Rattle.router_core.specs.Steps.{AreSent};
 ghost use Rattle.router_core.specs.Table.{heard_seen};
 
-use crate::site::{ours, same_address};
+use crate::own_records::own_record;
+use crate::site::Site;
 use crate::{Heard, Table};
 use ip_headers::Addr;
-use lisp_settings::{Database, Locator, OwnLocator, Settings};
-use map_messages::{MapReply, MapRequest, Record, Records};
-use mapping_records::{Eid, Locators};
+use lisp_settings::Database;
+use map_messages::{MapReply, MapRequest, Records};
+use mapping_records::Eid;
 use octets::{Items, NoMemory};
 use router_log::{Done, Emit, Reason, Verdict};
 use std::alloc::{AllocFailed, Global};
@@ -46,21 +46,21 @@ impl Table {
     /// Answers a Map-Request for mappings of the site, which changes nothing.
     pub(crate) fn answer_request(
         &self,
-        settings: &Settings,
+        site: &Site<'_>,
         asker: Asker,
         request: &MapRequest,
     ) -> Result<Heard, NoMemory>
-        requires lawful { IsLawful settings.now }
+        requires lawful { IsLawful site.now }
         ensures parts { IfOk result (λ heard. heard_seen self.now.parts heard
-            ≡ answered settings.now (asker_seen asker) request.now
+            ≡ answered site.now (asker_seen asker) request.now
             (unchanged self.now.parts)) }
-        ensures sent { IfOk result (λ heard. AreSent settings.now 1 heard.emits) }
+        ensures sent { IfOk result (λ heard. AreSent site.now 1 heard.emits) }
     {
-        let reply = reply_of(self.alloc, settings, asker, request)?;
+        let reply = reply_of(self.alloc, site, asker, request)?;
         if reply.mappings.len() == 0 {
             return Ok(self.dropped(Reason::NotOurs));
         }
-        let Some(path) = reply_path(settings, asker, request) else {
+        let Some(path) = reply_path(site, asker, request) else {
             return Ok(self.dropped(Reason::NoReplyPath));
         };
         self.reply(asker, path, reply)
@@ -94,30 +94,23 @@ impl Table {
 // The reply to a Map-Request, with the records of the databases that answer it.
 fn reply_of(
     alloc: Global,
-    settings: &Settings,
+    site: &Site<'_>,
     asker: Asker,
     request: &MapRequest,
 ) -> Result<MapReply, NoMemory>
-    requires lawful { IsLawful settings.now }
+    requires lawful { IsLawful site.now }
     ensures reply { IfOk result (λ reply. reply
-        ≡ reply_of settings.now (asker_seen asker) request.now
-        (answering settings.now.databases request.now.eids)) }
+        ≡ reply_of site.now (asker_seen asker) request.now
+        (answering site.now.databases request.now.eids)) }
     ensures range { IfOk result (λ reply. InRangeReply reply) }
     ensures short { IfOk result (λ reply.
         length (canonical_reply reply) ≤ most_message_octets) }
 {
-    let databases = settings.databases.as_slice();
+    let databases = site.databases();
     let mut hits = Vec::new(alloc);
     add_hits(databases, request.eids.as_slice(), &mut hits)?;
     let mut mappings = Records::new(alloc);
-    add_records(
-        alloc,
-        settings,
-        probed(asker),
-        &hits,
-        databases,
-        &mut mappings,
-    )?;
+    add_records(alloc, site, probed(asker), &hits, databases, &mut mappings)?;
     Ok(MapReply {
         probe: asker.probe,
         nonce: request.nonce,
@@ -178,23 +171,23 @@ fn longer<'a>(best: Option<&'a Database>, next: &'a Database) -> Option<&'a Data
 // Adds the records of the databases that lie within a hit.
 fn add_records(
     alloc: Global,
-    settings: &Settings,
+    site: &Site<'_>,
     probed: Option<Addr>,
     hits: &[Eid],
     databases: &[Database],
     records: &mut Records,
 ) -> Result<(), NoMemory>
     ensures { OnOk result (records.new ≡ records.old
-        ++ map (own_record settings.now probed) (filter (is_hit hits.now) databases.now)) }
+        ++ map (own_record site.now probed) (filter (is_hit hits.now) databases.now)) }
 {
     let [database, others @ ..] = databases else {
         return Ok(());
     };
     if !is_hit(hits, database) {
-        return add_records(alloc, settings, probed, hits, others, records);
+        return add_records(alloc, site, probed, hits, others, records);
     }
-    records.push(own_record(alloc, settings, probed, database)?)?;
-    add_records(alloc, settings, probed, hits, others, records)
+    records.push(own_record(alloc, site, probed, database)?)?;
+    add_records(alloc, site, probed, hits, others, records)
 }
 
 // The database lies within a hit.
@@ -207,90 +200,30 @@ fn is_hit(hits: &[Eid], database: &Database) -> bool
     hit.covers(&database.eid) || is_hit(others, database)
 }
 
-// The record of a database.
-fn own_record(
-    alloc: Global,
-    settings: &Settings,
-    probed: Option<Addr>,
-    database: &Database,
-) -> Result<Record, NoMemory>
-    ensures { IfOk result (λ mapping. mapping ≡ own_record settings.now probed database.now) }
-{
-    let locators = own_locators(alloc, probed, settings.locators.as_slice())?;
-    Ok(Record {
-        ttl: settings.ttl,
-        action: 0,
-        authoritative: true,
-        version: database.version,
-        eid: database.eid,
-        locators: Locators::from_vec(locators),
-    })
-}
-
-fn own_locators(
-    alloc: Global,
-    probed: Option<Addr>,
-    locators: &[OwnLocator],
-) -> Result<Vec<Locator>, AllocFailed<Locator>>
-    ensures { IfOk result (λ made. made.items ≡ map (own_locator probed) locators.now) }
-{
-    let mut made = Vec::new(alloc);
-    for own in locators {
-        made.push(own_locator(probed, own))?;
-    }
-    Ok(made)
-}
-
-// An own locator in a record; p marks the one that a probe came to.
-fn own_locator(probed: Option<Addr>, own: &OwnLocator) -> Locator
-    ensures { result ≡ own_locator probed own.now }
-{
-    Locator {
-        addr: own.addr,
-        priority: own.priority,
-        weight: own.weight,
-        m_priority: 255,
-        m_weight: 0,
-        local: true,
-        probed: is_probed(probed, own.addr),
-        reachable: own.up,
-    }
-}
-
-fn is_probed(probed: Option<Addr>, addr: Addr) -> bool
-    ensures { result
-        ≡ list_any (λ probed. same_address probed addr) (option_to_list probed) }
-{
-    match probed {
-        Some(probed) => same_address(probed, addr),
-        None => false,
-    }
-}
-
 // Between which addresses the reply goes, if there are any.
-fn reply_path(settings: &Settings, asker: Asker, request: &MapRequest) -> Option<Path>
+fn reply_path(site: &Site<'_>, asker: Asker, request: &MapRequest) -> Option<Path>
     ensures path { option_map path_seen result
-        ≡ reply_path settings.now (asker_seen asker) request.now }
+        ≡ reply_path site.now (asker_seen asker) request.now }
     ensures family { IfSome result (λ path. width path.from ≡ width path.to) }
 {
     let replies_to = request.replies_to.as_slice();
     if asker.probe {
         return path_back(asker.dest, replies_to);
     }
-    first_path(settings.locators.as_slice(), replies_to)
+    first_path(site, replies_to)
 }
 
 // To the first address whose family has an own one.
-fn first_path(locators: &[OwnLocator], addrs: &[Addr]) -> Option<Path>
-    ensures path { option_map path_seen result ≡ first_path locators.now addrs.now }
+fn first_path(site: &Site<'_>, addrs: &[Addr]) -> Option<Path>
+    ensures path { option_map path_seen result ≡ first_path site.now.locators addrs.now }
     ensures family { IfSome result (λ path. width path.from ≡ width path.to) }
 {
     let [to, others @ ..] = addrs else {
         return None;
     };
-    match ours(locators, *to) {
+    match site.ours(*to) {
         Some(from) => Some(Path { from, to: *to }),
-        None => first_path(locators, others),
+        None => first_path(site, others),
     }
 }
 

@@ -9,63 +9,55 @@ ghost use Rattle.lisp_settings.specs.Home.{home_of};
 ghost use Rattle.router_model.specs.Cache.{held_of};
 ghost use Rattle.router_model.specs.Decide.{for_home, force_for, iid_of, leaves, tunnelled, unless_decided, version_cases};
 ghost use Rattle.router_model.specs.Lifting.{AreSound};
-ghost use Rattle.router_model.specs.Parts.{view_in};
 ghost use Rattle.router_model.specs.Plain.{FitsRecord};
 ghost use Rattle.router_core.specs.Seen.{datagram_seen};
+ghost use Rattle.router_core.specs.Table.{seen};
 
 use crate::Table;
 use crate::datagram::Datagram;
 use crate::hosts::host_eid;
+use crate::site::Site;
 use crate::tellings::notices;
 use crate::versions::wrong_version;
+use crate::view::View;
 use decap::{DecapDrop, OpenDrop, Tunnelled, deliver, open_tunnel};
-use lisp_settings::{Database, Settings, home};
+use lisp_settings::Database;
 use map_cache::Mapping;
 use octets::NoMemory;
 use router_log::{Decision, Reason, Verdict};
 
 /// The decision on a packet in a tunnel.
-pub(crate) fn tunnelled(
-    table: &Table,
-    settings: &Settings,
-    m: u64,
-    datagram: &Datagram,
-) -> Result<Decision, NoMemory>
+pub(crate) fn tunnelled(view: &View<'_>, datagram: &Datagram) -> Result<Decision, NoMemory>
     ensures decision { IfOk result (λ decision. decision
-        ≡ tunnelled settings.now (view_in table.now.parts m) (datagram_seen datagram.now)) }
+        ≡ tunnelled view.now.site (seen view.now) (datagram_seen datagram.now)) }
     ensures size { IfOk result (λ decision. FitsRecord decision.verdict) }
     ensures notices { IfOk result (λ decision. AreSound decision.notices) }
 {
     match open_tunnel(&datagram.packet, &datagram.udp) {
-        Ok(tunnel) => for_home(table, settings, m, &tunnel),
+        Ok(tunnel) => for_home(view, &tunnel),
         Err(OpenDrop::Refused(refused)) => {
-            Ok(table.alone(Verdict::Drop(Reason::Refused(refused))))
+            Ok(view.table.alone(Verdict::Drop(Reason::Refused(refused))))
         }
-        Err(OpenDrop::Encrypted) => Ok(table.alone(Verdict::Drop(Reason::Encrypted))),
+        Err(OpenDrop::Encrypted) => Ok(view.table.alone(Verdict::Drop(Reason::Encrypted))),
     }
 }
 
 // The decision on a packet that came out of its tunnel, by the prefix of the site that it is for.
-fn for_home(
-    table: &Table,
-    settings: &Settings,
-    m: u64,
-    tunnel: &Tunnelled,
-) -> Result<Decision, NoMemory>
+fn for_home(view: &View<'_>, tunnel: &Tunnelled) -> Result<Decision, NoMemory>
     requires { InRange tunnel.now.header }
     ensures decision { let lisp = tunnel.now.header in let inner = tunnel.now.inner in
         IfOk result (λ decision. decision ≡ for_home tunnel.now.outer lisp inner.octets.now
-        (force_for (view_in table.now.parts m) (iid_of lisp) (source_of inner.header))
-        (home_of settings.now.databases (iid_of lisp) (dest_of inner.header))) }
+        (force_for (seen view.now) (iid_of lisp) (source_of inner.header))
+        (home_of view.now.site.databases (iid_of lisp) (dest_of inner.header))) }
     ensures size { IfOk result (λ decision. FitsRecord decision.verdict) }
     ensures notices { IfOk result (λ decision. AreSound decision.notices) }
 {
     let iid = tunnel.header.instance.unwrap_or(0);
-    match home(settings, iid, &tunnel.inner.header.dest()) {
-        None => Ok(table.alone(Verdict::Drop(Reason::NotOurs))),
+    match view.home(iid, &tunnel.inner.header.dest()) {
+        None => Ok(view.table.alone(Verdict::Drop(Reason::NotOurs))),
         Some(database) => {
             let source = host_eid(iid, tunnel.inner.header.source());
-            arrive(table, iid, tunnel, database, table.in_force(m, &source))
+            arrive(view.table, iid, tunnel, &database, view.in_force(&source))
         }
     }
 }

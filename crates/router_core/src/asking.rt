@@ -8,9 +8,9 @@ ghost use Rattle.router_core.specs.Steps.{AreSent, IsStep, MayStep};
 ghost use Rattle.router_core.specs.Table.{changed_seen};
 
 use crate::changed::only;
+use crate::site::Site;
 use crate::{Changed, Table};
 use ip_headers::Addr;
-use lisp_settings::{Settings, nonce_at};
 use mapping_records::Eid;
 use node_store::Reads;
 use octets::NoMemory;
@@ -20,10 +20,10 @@ use router_log::{Emit, Entry};
 impl Table {
     /// There is a resolver, no open request covers the EID, and there is room for one more.
     #[tactic(auto, unfolding(router_model::specs::Parts::view_in))]
-    pub(crate) fn may_ask(&self, settings: &Settings, m: u64, eid: &Eid) -> bool
-        ensures { result ≡ may_ask settings.now (view_in self.now.parts m) eid.now }
+    pub(crate) fn may_ask(&self, site: &Site<'_>, m: u64, eid: &Eid) -> bool
+        ensures { result ≡ may_ask site.now (view_in self.now.parts m) eid.now }
     {
-        settings.resolver.is_some()
+        site.resolver().is_some()
             && !self
                 .queue
                 .open_for(self.moment_at(m), eid, &mut Reads::new())
@@ -41,7 +41,7 @@ impl Table {
     /// Makes a request with the next nonce.
     pub(crate) fn make_request(
         &mut self,
-        settings: &Settings,
+        site: &Site<'_>,
         m: u64,
         eid: Eid,
         source: Option<Addr>,
@@ -49,13 +49,13 @@ impl Table {
     ) -> Result<Changed, NoMemory>
         requires may { MayStep m self.old.parts }
         requires place { length (waiting m self.old.parts.requests) < most_requests }
-        requires resolver { IsTrue (is_some settings.now.resolver) }
+        requires resolver { IsTrue (is_some site.now.resolver) }
         ensures parts { IfOk result (λ changed. changed_seen self.new.parts changed
-            ≡ asked table settings.now m eid source invoked (unchanged self.old.parts)) }
-        ensures sent { IfOk result (λ changed. AreSent settings.now 1 changed.emits) }
+            ≡ asked table site.now m eid source invoked (unchanged self.old.parts)) }
+        ensures sent { IfOk result (λ changed. AreSent site.now 1 changed.emits) }
         ensures step { IsStep 1 m self.old.parts self.new.parts result }
     {
-        let nonce = nonce_at(settings, self.drawn);
+        let nonce = site.nonce_at(self.drawn);
         let entries = only(
             self.alloc,
             Entry::Asked {

@@ -5,13 +5,12 @@ ghost use Rattle.map_cache.specs.Lists.{IsFew};
 ghost use Rattle.router_model.specs.Cache.{known_up};
 ghost use Rattle.router_model.specs.Choice.{candidate_of, candidates, chosen, is_usable};
 ghost use Rattle.router_model.specs.Mappings.{status_of};
-ghost use Rattle.router_model.specs.Parts.{view_in};
+ghost use Rattle.router_core.specs.Table.{seen};
 
-use crate::Table;
-use crate::site::{is_own, ours};
 use crate::status::is_up;
+use crate::view::View;
 use ip_headers::Addr;
-use lisp_settings::{Locator, Settings};
+use lisp_settings::Locator;
 use locator_choice::{Candidate, MOST_CANDIDATES, choose};
 use map_cache::Mapping;
 
@@ -23,30 +22,22 @@ const NOBODY: Candidate = Candidate {
 };
 
 /// The locator of a mapping that a flow with that hash goes to.
-pub(crate) fn chosen(
-    table: &Table,
-    settings: &Settings,
-    m: u64,
-    mapping: &Mapping,
-    hash: u32,
-) -> Option<Addr>
+pub(crate) fn chosen(view: &View<'_>, mapping: &Mapping, hash: u32) -> Option<Addr>
     requires few { IsFew mapping.now }
-    ensures { result ≡ chosen settings.now (view_in table.now.parts m)
+    ensures { result ≡ chosen view.now.site (seen view.now)
         (status_of (known_up mapping.now) 0 mapping.now.details.locators)
         mapping.now.details.locators hash }
 {
     let locators = mapping.details.locators.as_slice();
     let mut places = [NOBODY; MOST_CANDIDATES];
-    fill(table, settings, m, mapping, 0, locators, &mut places);
+    fill(view, mapping, 0, locators, &mut places);
     let index = choose(&places[..locators.len()], hash)?;
     Some(locators[index].addr)
 }
 
 // Writes the candidates that the locators of a mapping from number `index` on are to their places.
 fn fill(
-    table: &Table,
-    settings: &Settings,
-    m: u64,
+    view: &View<'_>,
     mapping: &Mapping,
     index: usize,
     locators: &[Locator],
@@ -55,34 +46,34 @@ fn fill(
     requires { index + length locators.now ≤ length places.old }
     ensures length { length places.new ≡ length places.old }
     ensures places { take (index + length locators.now) places.new
-        ≡ take index places.old ++ candidates settings.now (view_in table.now.parts m)
+        ≡ take index places.old ++ candidates view.now.site (seen view.now)
         (status_of (known_up mapping.now) index locators.now) locators.now }
 {
     let [locator, others @ ..] = locators else {
         return;
     };
-    places[index] = candidate(table, settings, m, is_up(mapping, index, locator), locator);
-    fill(table, settings, m, mapping, index + 1, others, places);
+    places[index] = candidate(view, is_up(mapping, index, locator), locator);
+    fill(view, mapping, index + 1, others, places);
 }
 
 // A locator, as a candidate, where `up` is its status.
-fn candidate(table: &Table, settings: &Settings, m: u64, up: bool, locator: &Locator) -> Candidate
+fn candidate(view: &View<'_>, up: bool, locator: &Locator) -> Candidate
     ensures { result
-        ≡ candidate_of settings.now (view_in table.now.parts m) up locator.now }
+        ≡ candidate_of view.now.site (seen view.now) up locator.now }
 {
     Candidate {
-        usable: is_usable(table, settings, m, up, locator),
+        usable: is_usable(view, up, locator),
         priority: locator.priority,
         weight: locator.weight,
     }
 }
 
 // It may be taken, where `up` is its status.
-fn is_usable(table: &Table, settings: &Settings, m: u64, up: bool, locator: &Locator) -> bool
+fn is_usable(view: &View<'_>, up: bool, locator: &Locator) -> bool
     ensures { result
-        ≡ is_usable settings.now (view_in table.now.parts m) up locator.now }
+        ≡ is_usable view.now.site (seen view.now) up locator.now }
 {
-    let own = settings.locators.as_slice();
-    (locator.priority != 255 && !is_own(own, locator.addr))
-        && (ours(own, locator.addr).is_some() && (up && table.is_up(m, &locator.addr)))
+    let site = view.site;
+    (locator.priority != 255 && !site.is_own(locator.addr))
+        && (site.ours(locator.addr).is_some() && (up && view.is_up(&locator.addr)))
 }

@@ -13,6 +13,8 @@ use crate::Table;
 use crate::arrival::tunnelled;
 use crate::courses::{Course, course_of};
 use crate::departure::routed;
+use crate::site::Site;
+use crate::view::View;
 use capture_io::Frame;
 use lisp_settings::Settings;
 use octets::{Items, NoMemory};
@@ -55,11 +57,13 @@ impl Table {
         ensures size { IfOk result (λ decision. FitsRecord decision.verdict) }
         ensures notices { IfOk result (λ decision. AreSound decision.notices) }
     {
+        let site = Site::of(settings);
+        let view = View::of(self, &site, m);
         match course {
             Course::Settled(verdict) => Ok(self.alone(verdict)),
-            Course::Data(datagram) => tunnelled(self, settings, m, &datagram),
+            Course::Data(datagram) => tunnelled(&view, &datagram),
             Course::Control(_) => Ok(self.alone(Verdict::Drop(Reason::NotTunnel))),
-            Course::Leaving { iid, packet } => routed(self, settings, m, iid, &packet),
+            Course::Leaving { iid, packet } => routed(&view, iid, &packet),
         }
     }
 

@@ -13,22 +13,22 @@ ghost use Rattle.router_model.specs.Cache.{held_of};
 ghost use Rattle.router_model.specs.Decide.{asking, by_action, echo_notice, from_ours, hash_of, home_version, is_multicast, mapped, natively, routed, sent, site_cases};
 ghost use Rattle.router_model.specs.Hosts.{host_eid};
 ghost use Rattle.router_model.specs.Lifting.{AreSound};
-ghost use Rattle.router_model.specs.Parts.{view_in};
 ghost use Rattle.router_model.specs.Plain.{packet_of, FitsRecord};
 ghost use Rattle.router_model.specs.Site.{ours};
 ghost use Rattle.router_log.specs.declared.verdict.Verdict.TheVariants.{Drop};
 ghost use Rattle.router_core.specs.Seen.{packet_seen};
 ghost use Rattle.router_core.specs.Bounded.{IsVersioned};
+ghost use Rattle.router_core.specs.Table.{seen};
 
 use crate::Table;
 use crate::choice::chosen;
 use crate::hosts::host_eid;
-use crate::site::ours;
+use crate::site::Site;
 use crate::tunnel_headers::header_to;
+use crate::view::View;
 use encap::{EncapDrop, encapsulate, forward_native};
 use ip_headers::{Addr, IpPacket, five_tuple};
 use lisp_header::LispHeader;
-use lisp_settings::{Settings, home};
 use locator_choice::{flow_hash, source_port};
 use map_cache::Mapping;
 use mapping_records::{Action, Eid};
@@ -38,28 +38,22 @@ use std::alloc::Global;
 
 /// The decision on a packet of an instance.
 #[tactic(auto, unfolding(router_model::specs::Decide::routed))]
-pub(crate) fn routed(
-    table: &Table,
-    settings: &Settings,
-    m: u64,
-    iid: u32,
-    packet: &IpPacket,
-) -> Result<Decision, NoMemory>
-    requires lawful { IsLawful settings.now }
+pub(crate) fn routed(view: &View<'_>, iid: u32, packet: &IpPacket) -> Result<Decision, NoMemory>
+    requires lawful { IsLawful view.now.site }
     requires instance { iid < 2 ^ 24 }
     ensures decision { IfOk result (λ decision. decision
-        ≡ routed settings.now (view_in table.now.parts m) iid (packet_seen packet.now)) }
+        ≡ routed view.now.site (seen view.now) iid (packet_seen packet.now)) }
     ensures size { IfOk result (λ decision. FitsRecord decision.verdict) }
     ensures notices { IfOk result (λ decision. AreSound decision.notices) }
 {
-    let version = match leaving(settings, iid, packet) {
+    let version = match leaving(view.site, iid, packet) {
         Ok(version) => version,
-        Err(verdict) => return Ok(table.alone(verdict)),
+        Err(verdict) => return Ok(view.table.alone(verdict)),
     };
     let eid = host_eid(iid, packet.header.dest());
-    match table.in_force(m, &eid) {
-        Some(mapping) => mapped(table, settings, m, iid, version, packet, mapping),
-        None => asking(table.alloc, eid, packet, Reason::Miss),
+    match view.in_force(&eid) {
+        Some(mapping) => mapped(view, iid, version, packet, mapping),
+        None => asking(view.alloc(), eid, packet, Reason::Miss),
     }
 }
 
@@ -84,25 +78,25 @@ fn asking(alloc: Global, eid: Eid, packet: &IpPacket, reason: Reason) -> Result<
 
 // The version of the prefix of the site that a packet leaves, or the verdict on one that stays out of a
 // tunnel.
-fn leaving(settings: &Settings, iid: u32, packet: &IpPacket) -> Result<u16, Verdict>
-    requires { IsLawful settings.now }
+fn leaving(site: &Site<'_>, iid: u32, packet: &IpPacket) -> Result<u16, Verdict>
+    requires { IsLawful site.now }
     ensures leaves { IfOk result (λ version.
-        first_failing (site_cases settings.now iid packet.now.header) ≡ None) }
+        first_failing (site_cases site.now iid packet.now.header) ≡ None) }
     ensures version { IfOk result (λ version. version
-        ≡ home_version (home_of settings.now.databases iid (source_of packet.now.header))) }
+        ≡ home_version (home_of site.now.databases iid (source_of packet.now.header))) }
     ensures bits { IfOk result (λ version. version ≤ 4095) }
     ensures stays { IfErr result (λ verdict.
-        first_failing (site_cases settings.now iid packet.now.header) ≡ Some verdict) }
+        first_failing (site_cases site.now iid packet.now.header) ≡ Some verdict) }
     ensures quiet { IfErr result (λ verdict. packet_of verdict ≡ None) }
 {
     let dest = packet.header.dest();
     if is_multicast(dest) {
         return Err(Verdict::Drop(Reason::Multicast));
     }
-    if home(settings, iid, &dest).is_some() {
+    if site.home(iid, &dest).is_some() {
         return Err(Verdict::Local);
     }
-    match home(settings, iid, &packet.header.source()) {
+    match site.home(iid, &packet.header.source()) {
         Some(home) => Ok(home.version),
         None => Err(Verdict::Drop(Reason::NotSite)),
     }
@@ -119,38 +113,36 @@ fn is_multicast(address: Addr) -> bool
 
 // The decision by the mapping in force, on a packet from a prefix of the site that has that version.
 fn mapped(
-    table: &Table,
-    settings: &Settings,
-    m: u64,
+    view: &View<'_>,
     iid: u32,
     version: u16,
     packet: &IpPacket,
     mapping: &Mapping,
 ) -> Result<Decision, NoMemory>
-    requires lawful { IsLawful settings.now }
+    requires lawful { IsLawful view.now.site }
     requires instance { iid < 2 ^ 24 }
     requires source { version
-        ≡ home_version (home_of settings.now.databases iid (source_of packet.now.header)) }
+        ≡ home_version (home_of view.now.site.databases iid (source_of packet.now.header)) }
     requires bits { version ≤ 4095 }
     requires few { IsFew mapping.now }
     requires version { IsVersioned mapping.now }
     ensures decision { IfOk result (λ decision. decision
-        ≡ mapped settings.now (view_in table.now.parts m) iid (packet_seen packet.now)
+        ≡ mapped view.now.site (seen view.now) iid (packet_seen packet.now)
         (Some (held_of mapping.now))) }
     ensures size { IfOk result (λ decision. FitsRecord decision.verdict) }
     ensures notices { IfOk result (λ decision. AreSound decision.notices) }
 {
     if mapping.details.locators.len() == 0 {
-        return by_action(table, iid, packet, Action::of(mapping.details.action));
+        return by_action(view.table, iid, packet, Action::of(mapping.details.action));
     }
     let hash = flow_hash(&five_tuple(packet));
-    match chosen(table, settings, m, mapping, hash) {
+    match chosen(view, mapping, hash) {
         Some(to) => {
             let versions = (version, mapping.details.version);
-            let header = header_to(table, settings, m, iid, to, versions);
-            towards(table, settings, m, packet, to, source_port(hash), &header)
+            let header = header_to(view, iid, to, versions);
+            towards(view, packet, to, source_port(hash), &header)
         }
-        None => Ok(table.alone(Verdict::Drop(Reason::NoLocator))),
+        None => Ok(view.table.alone(Verdict::Drop(Reason::NoLocator))),
     }
 }
 
@@ -208,9 +200,7 @@ struct Tunnel {
 
 // The packet with its LISP header, in a tunnel to that locator.
 fn towards(
-    table: &Table,
-    settings: &Settings,
-    m: u64,
+    view: &View<'_>,
     packet: &IpPacket,
     to: Addr,
     port: u16,
@@ -219,30 +209,21 @@ fn towards(
     requires range { InRange header.now }
     requires port { port ≡ source_port (hash_of (packet_seen packet.now)) }
     ensures decision { IfOk result (λ decision. decision
-        ≡ from_ours settings.now (view_in table.now.parts m) header.now (packet_seen packet.now) to
-        (ours settings.now.locators to)) }
+        ≡ from_ours view.now.site (seen view.now) header.now (packet_seen packet.now) to
+        (ours view.now.site.locators to)) }
     ensures size { IfOk result (λ decision. FitsRecord decision.verdict) }
     ensures notices { IfOk result (λ decision. AreSound decision.notices) }
 {
-    match ours(settings.locators.as_slice(), to) {
-        Some(from) => sent(
-            table,
-            settings,
-            m,
-            packet,
-            Tunnel { from, to, port },
-            header,
-        ),
-        None => Ok(table.alone(Verdict::Drop(Reason::NoLocator))),
+    match view.site.ours(to) {
+        Some(from) => sent(view, packet, Tunnel { from, to, port }, header),
+        None => Ok(view.table.alone(Verdict::Drop(Reason::NoLocator))),
     }
 }
 
 // The packet with its LISP header, in a tunnel between two locators, and an echo that may be asked of
 // the second.
 fn sent(
-    table: &Table,
-    settings: &Settings,
-    m: u64,
+    view: &View<'_>,
     packet: &IpPacket,
     tunnel: Tunnel,
     header: &LispHeader,
@@ -251,13 +232,13 @@ fn sent(
     requires family { width tunnel.from ≡ width tunnel.to }
     requires port { tunnel.port ≡ source_port (hash_of (packet_seen packet.now)) }
     ensures decision { IfOk result (λ decision. decision
-        ≡ sent settings.now (view_in table.now.parts m) header.now (packet_seen packet.now)
+        ≡ sent view.now.site (seen view.now) header.now (packet_seen packet.now)
         tunnel.from tunnel.to (first_failing (encap_rules packet.now.octets.now tunnel.from))) }
     ensures size { IfOk result (λ decision. FitsRecord decision.verdict) }
     ensures notices { IfOk result (λ decision. AreSound decision.notices) }
 {
     let Tunnel { from, to, port } = tunnel;
-    match encapsulate(table.alloc, packet, from, to, port, header) {
+    match encapsulate(view.alloc(), packet, from, to, port, header) {
         Ok(packet) => Ok(Decision {
             verdict: Verdict::Encapsulated {
                 from,
@@ -265,22 +246,22 @@ fn sent(
                 port,
                 packet,
             },
-            notices: echo_notices(table, settings, m, to)?,
+            notices: echo_notices(view, to)?,
         }),
-        Err(EncapDrop::TtlExpired) => Ok(table.alone(Verdict::Drop(Reason::TtlExpired))),
-        Err(EncapDrop::TooBig) => Ok(table.alone(Verdict::Drop(Reason::TooBig))),
+        Err(EncapDrop::TtlExpired) => Ok(view.table.alone(Verdict::Drop(Reason::TtlExpired))),
+        Err(EncapDrop::TooBig) => Ok(view.table.alone(Verdict::Drop(Reason::TooBig))),
         Err(EncapDrop::Memory) => Err(NoMemory),
     }
 }
 
 // An echo that may be asked of the locator that a packet went to.
-fn echo_notices(table: &Table, settings: &Settings, m: u64, to: Addr) -> Result<Notices, NoMemory>
+fn echo_notices(view: &View<'_>, to: Addr) -> Result<Notices, NoMemory>
     ensures notices { IfOk result (λ notices. notices
-        ≡ echo_notice settings.now (view_in table.now.parts m) to) }
+        ≡ echo_notice view.now.site (seen view.now) to) }
     ensures sound { IfOk result AreSound }
 {
-    let mut notices = Items::new(table.alloc);
-    if table.is_echo_due(settings, m, &to) {
+    let mut notices = Items::new(view.alloc());
+    if view.is_echo_due(&to) {
         notices.push(Notice::EchoDue { rloc: to })?;
     }
     Ok(notices)

@@ -13,7 +13,7 @@ ghost use Rattle.router_core.specs.Sendable.{IsSendable, IsSendableReply};
 
 use crate::control_writing::{message_packet, reply_packet};
 use crate::own_requests::{probe_message, request_message, solicit_message};
-use crate::site::ours;
+use crate::site::Site;
 use ip_headers::Addr;
 use lisp_settings::Settings;
 use map_messages::{Eid, LISP_CONTROL_PORT, MapReply, Message};
@@ -30,15 +30,16 @@ pub fn emit_octets(alloc: Global, settings: &Settings, emit: &Emit) -> Result<Oc
     ensures octets { IfOk result (λ packet. packet ≡ emit_packet settings.now emit.now) }
     ensures size { IfOk result (λ packet. length packet ≤ most_frame_octets) }
 {
+    let site = Site::of(settings);
     match emit {
         Emit::Request {
             eid,
             source,
             invoked,
             nonce,
-        } => request_octets(alloc, settings, *eid, *source, *invoked, *nonce),
-        Emit::Probe { to, eid, nonce } => probe_octets(alloc, settings, *to, *eid, *nonce),
-        Emit::Solicit { to, eid, nonce } => solicit_octets(alloc, settings, *to, *eid, *nonce),
+        } => request_octets(alloc, &site, *eid, *source, *invoked, *nonce),
+        Emit::Probe { to, eid, nonce } => probe_octets(alloc, &site, *to, *eid, *nonce),
+        Emit::Solicit { to, eid, nonce } => solicit_octets(alloc, &site, *to, *eid, *nonce),
         Emit::Reply {
             from,
             to,
@@ -52,60 +53,60 @@ pub fn emit_octets(alloc: Global, settings: &Settings, emit: &Emit) -> Result<Oc
 #[tactic(auto, unfolding(router_model::specs::Emits::emit_packet))]
 fn request_octets(
     alloc: Global,
-    settings: &Settings,
+    site: &Site<'_>,
     eid: Eid,
     source: Option<Addr>,
     invoked: bool,
     nonce: u64,
 ) -> Result<Octets, NoMemory>
-    requires lawful { IsLawful settings.now }
+    requires lawful { IsLawful site.now }
     ensures octets { IfOk result (λ packet. packet
-        ≡ emit_packet settings.now (emits.Request eid source invoked nonce)) }
+        ≡ emit_packet site.now (emits.Request eid source invoked nonce)) }
     ensures size { IfOk result (λ packet. length packet ≤ most_frame_octets) }
 {
-    let Some(resolver) = settings.resolver else {
+    let Some(resolver) = site.resolver() else {
         return Ok(Octets::new(alloc));
     };
-    let message = request_message(alloc, settings, eid, source, invoked, nonce)?;
-    packet_to(alloc, settings, resolver, &message)
+    let message = request_message(alloc, site, eid, source, invoked, nonce)?;
+    packet_to(alloc, site, resolver, &message)
 }
 
 // A Map-Request that probes a locator.
 #[tactic(auto, unfolding(router_model::specs::Emits::emit_packet))]
 fn probe_octets(
     alloc: Global,
-    settings: &Settings,
+    site: &Site<'_>,
     to: Addr,
     eid: Eid,
     nonce: u64,
 ) -> Result<Octets, NoMemory>
-    requires lawful { IsLawful settings.now }
-    requires sender { IsTrue (is_some (ours settings.now.locators to)) }
+    requires lawful { IsLawful site.now }
+    requires sender { IsTrue (is_some (ours site.now.locators to)) }
     ensures octets { IfOk result (λ packet. packet
-        ≡ emit_packet settings.now (emits.Probe to eid nonce)) }
+        ≡ emit_packet site.now (emits.Probe to eid nonce)) }
     ensures size { IfOk result (λ packet. length packet ≤ most_frame_octets) }
 {
-    let message = probe_message(alloc, settings, eid, nonce)?;
-    packet_to(alloc, settings, to, &message)
+    let message = probe_message(alloc, site, eid, nonce)?;
+    packet_to(alloc, site, to, &message)
 }
 
 // An SMR.
 #[tactic(auto, unfolding(router_model::specs::Emits::emit_packet))]
 fn solicit_octets(
     alloc: Global,
-    settings: &Settings,
+    site: &Site<'_>,
     to: Addr,
     eid: Eid,
     nonce: u64,
 ) -> Result<Octets, NoMemory>
-    requires lawful { IsLawful settings.now }
-    requires sender { IsTrue (is_some (ours settings.now.locators to)) }
+    requires lawful { IsLawful site.now }
+    requires sender { IsTrue (is_some (ours site.now.locators to)) }
     ensures octets { IfOk result (λ packet. packet
-        ≡ emit_packet settings.now (emits.Solicit to eid nonce)) }
+        ≡ emit_packet site.now (emits.Solicit to eid nonce)) }
     ensures size { IfOk result (λ packet. length packet ≤ most_frame_octets) }
 {
-    let message = solicit_message(alloc, settings, eid, nonce)?;
-    packet_to(alloc, settings, to, &message)
+    let message = solicit_message(alloc, site, eid, nonce)?;
+    packet_to(alloc, site, to, &message)
 }
 
 // A Map-Reply.
@@ -128,17 +129,17 @@ fn reply_octets(
 // A message to an address, from the own one of its family.
 fn packet_to(
     alloc: Global,
-    settings: &Settings,
+    site: &Site<'_>,
     to: Addr,
     message: &Message,
 ) -> Result<Octets, NoMemory>
-    requires sender { IsTrue (is_some (ours settings.now.locators to)) }
+    requires sender { IsTrue (is_some (ours site.now.locators to)) }
     requires range { InRange message.now }
     requires short { length (canonical_message message.now) ≤ most_message_octets }
-    ensures octets { IfOk result (λ packet. packet ≡ packet_to settings.now to message.now) }
+    ensures octets { IfOk result (λ packet. packet ≡ packet_to site.now to message.now) }
     ensures size { IfOk result (λ packet. length packet ≤ most_frame_octets) }
 {
-    let Some(from) = ours(settings.locators.as_slice(), to) else {
+    let Some(from) = site.ours(to) else {
         unreachable!()
     };
     message_packet(alloc, from, to, LISP_CONTROL_PORT, message)

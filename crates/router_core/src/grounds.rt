@@ -1,11 +1,11 @@
 // By what the records of a Map-Reply are judged.
-use lisp_settings::Settings;
+use crate::site::Site;
 use mapping_records::{Eid, Record};
 
-/// The settings, the moment, the EID that was asked for, and all records of the reply.
+/// The site, the moment, the EID that was asked for, and all records of the reply.
 #[derive(Clone, Copy)]
 pub(crate) struct Grounds<'a> {
-    pub settings: &'a Settings,
+    pub site: &'a Site<'a>,
     pub m: u64,
     pub asked: &'a Eid,
     pub mappings: &'a [Record],

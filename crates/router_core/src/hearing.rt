@@ -18,7 +18,7 @@ ghost use Rattle.router_core.specs.Table.{change_of, heard_seen};
 use crate::answering::Asker;
 use crate::changed::only;
 use crate::courses::{Course, course_of};
-use crate::site::same_address;
+use crate::site::{Site, same_address};
 use crate::{Datagram, Heard, Table};
 use capture_io::Frame;
 use ip_headers::{Addr, check_udp, udp_payload};
@@ -86,26 +86,27 @@ impl Table {
         ensures sent { IfOk result (λ heard. AreSent settings.now most_heard heard.emits) }
         ensures step { IsStep most_heard m self.old.parts self.new.parts result }
     {
+        let site = Site::of(settings);
         match course {
-            Course::Control(datagram) => self.hear_datagram(settings, m, &datagram),
+            Course::Control(datagram) => self.hear_datagram(&site, m, &datagram),
             _ => Ok(self.dropped(Reason::NotTunnel)),
         }
     }
 
-    /// Hears the control message of a datagram.
+    // Hears the control message of a datagram.
     #[tactic(auto, unfolding(router_model::specs::Hear::datagram_heard))]
-    pub fn hear_datagram(
+    fn hear_datagram(
         &mut self,
-        settings: &Settings,
+        site: &Site<'_>,
         m: u64,
         datagram: &Datagram,
     ) -> Result<Heard, NoMemory>
-        requires lawful { IsLawful settings.now }
+        requires lawful { IsLawful site.now }
         requires may { MayStep m self.old.parts }
         ensures parts { IfOk result (λ heard. heard_seen self.new.parts heard
-            ≡ datagram_heard table settings.now m (datagram_seen datagram.now)
+            ≡ datagram_heard table site.now m (datagram_seen datagram.now)
             (unchanged self.old.parts)) }
-        ensures sent { IfOk result (λ heard. AreSent settings.now most_heard heard.emits) }
+        ensures sent { IfOk result (λ heard. AreSent site.now most_heard heard.emits) }
         ensures step { IsStep most_heard m self.old.parts self.new.parts result }
     {
         let (packet, udp) = (&datagram.packet, &datagram.udp);
@@ -113,7 +114,7 @@ impl Table {
             Ok(()) => {
                 let place = packet.base + udp.at + 8;
                 let payload = udp_payload(packet, udp);
-                self.hear_payload(settings, m, route_of(datagram), place, payload)
+                self.hear_payload(site, m, route_of(datagram), place, payload)
             }
             Err(refused) => Ok(self.dropped(Reason::Refused(refused))),
         }
@@ -123,23 +124,23 @@ impl Table {
     #[tactic(auto, unfolding(router_model::specs::Hear::payload_heard))]
     fn hear_payload(
         &mut self,
-        settings: &Settings,
+        site: &Site<'_>,
         m: u64,
         route: Route,
         base: u32,
         payload: &[u8],
     ) -> Result<Heard, NoMemory>
-        requires lawful { IsLawful settings.now }
+        requires lawful { IsLawful site.now }
         requires may { MayStep m self.old.parts }
         requires place { base + length payload.now < 2 ^ 32 }
         ensures parts { IfOk result (λ heard. heard_seen self.new.parts heard
-            ≡ payload_heard table settings.now m (route_seen route) base payload.now
+            ≡ payload_heard table site.now m (route_seen route) base payload.now
             (unchanged self.old.parts)) }
-        ensures sent { IfOk result (λ heard. AreSent settings.now most_heard heard.emits) }
+        ensures sent { IfOk result (λ heard. AreSent site.now most_heard heard.emits) }
         ensures step { IsStep most_heard m self.old.parts self.new.parts result }
     {
         match read_message(self.alloc, payload, base) {
-            Ok((message, _)) => self.hear_message(settings, m, route, &message),
+            Ok((message, _)) => self.hear_message(site, m, route, &message),
             Err(MessageFault::Refused(refused)) => Ok(self.dropped(Reason::Refused(refused))),
             Err(MessageFault::Memory) => Err(NoMemory),
         }
@@ -148,46 +149,46 @@ impl Table {
     // Hears a message that came so.
     fn hear_message(
         &mut self,
-        settings: &Settings,
+        site: &Site<'_>,
         m: u64,
         route: Route,
         message: &Message,
     ) -> Result<Heard, NoMemory>
-        requires lawful { IsLawful settings.now }
+        requires lawful { IsLawful site.now }
         requires may { MayStep m self.old.parts }
         requires range { InRange message.now }
         ensures parts { IfOk result (λ heard. heard_seen self.new.parts heard
-            ≡ message_heard table settings.now m (route_seen route) message.now
+            ≡ message_heard table site.now m (route_seen route) message.now
             (unchanged self.old.parts)) }
-        ensures sent { IfOk result (λ heard. AreSent settings.now most_heard heard.emits) }
+        ensures sent { IfOk result (λ heard. AreSent site.now most_heard heard.emits) }
         ensures step { IsStep most_heard m self.old.parts self.new.parts result }
     {
         match message {
-            Message::Reply(reply) => self.hear_reply(settings, m, route.from, reply),
+            Message::Reply(reply) => self.hear_reply(site, m, route.from, reply),
             Message::Request(request) => {
                 let Route { dest, port, .. } = route;
                 let probe = request.probe;
-                self.hear_request(settings, m, Asker { dest, port, probe }, request)
+                self.hear_request(site, m, Asker { dest, port, probe }, request)
             }
-            Message::Control(ecm) => self.hear_carried(settings, m, route.dest, ecm),
+            Message::Control(ecm) => self.hear_carried(site, m, route.dest, ecm),
         }
     }
 
     // Hears what is encapsulated: only a Map-Request is, with the port inside, and as no probe.
     fn hear_carried(
         &mut self,
-        settings: &Settings,
+        site: &Site<'_>,
         m: u64,
         dest: Addr,
         ecm: &Ecm,
     ) -> Result<Heard, NoMemory>
-        requires lawful { IsLawful settings.now }
+        requires lawful { IsLawful site.now }
         requires may { MayStep m self.old.parts }
         requires range { InRangeEcm ecm.now }
         ensures parts { IfOk result (λ heard. heard_seen self.new.parts heard
-            ≡ carried table settings.now m dest ecm.now.source_port ecm.now.request
+            ≡ carried table site.now m dest ecm.now.source_port ecm.now.request
             (unchanged self.old.parts)) }
-        ensures sent { IfOk result (λ heard. AreSent settings.now most_heard heard.emits) }
+        ensures sent { IfOk result (λ heard. AreSent site.now most_heard heard.emits) }
         ensures step { IsStep most_heard m self.old.parts self.new.parts result }
     {
         let Some(request) = &ecm.request else {
@@ -195,47 +196,47 @@ impl Table {
         };
         let port = ecm.source_port;
         let probe = false;
-        self.hear_request(settings, m, Asker { dest, port, probe }, request)
+        self.hear_request(site, m, Asker { dest, port, probe }, request)
     }
 
     // Hears a Map-Request: an SMR, or a question for mappings of the site.
     #[tactic(auto, unfolding(router_model::specs::Hear::requested))]
     fn hear_request(
         &mut self,
-        settings: &Settings,
+        site: &Site<'_>,
         m: u64,
         asker: Asker,
         request: &MapRequest,
     ) -> Result<Heard, NoMemory>
-        requires lawful { IsLawful settings.now }
+        requires lawful { IsLawful site.now }
         requires may { MayStep m self.old.parts }
         requires range { InRangeRequest request.now }
         ensures parts { IfOk result (λ heard. heard_seen self.new.parts heard
-            ≡ requested table settings.now m (asker_seen asker) request.now
+            ≡ requested table site.now m (asker_seen asker) request.now
             (unchanged self.old.parts)) }
-        ensures sent { IfOk result (λ heard. AreSent settings.now most_heard heard.emits) }
+        ensures sent { IfOk result (λ heard. AreSent site.now most_heard heard.emits) }
         ensures step { IsStep most_heard m self.old.parts self.new.parts result }
     {
         if request.smr && !asker.probe {
-            return self.renew(settings, m, request);
+            return self.renew(site, m, request);
         }
-        self.answer_request(settings, asker, request)
+        self.answer_request(site, asker, request)
     }
 
     // Hears a Map-Reply from an address.
     #[tactic(auto, unfolding(router_model::specs::Hear::reply_heard))]
     fn hear_reply(
         &mut self,
-        settings: &Settings,
+        site: &Site<'_>,
         m: u64,
         from: Addr,
         reply: &MapReply,
     ) -> Result<Heard, NoMemory>
-        requires lawful { IsLawful settings.now }
+        requires lawful { IsLawful site.now }
         requires may { MayStep m self.old.parts }
         requires range { InRangeReply reply.now }
         ensures parts { IfOk result (λ heard. heard_seen self.new.parts heard
-            ≡ reply_heard table settings.now m from reply.now (unchanged self.old.parts)) }
+            ≡ reply_heard table site.now m from reply.now (unchanged self.old.parts)) }
         ensures quiet { IfOk result (λ heard. heard.emits ≡ []) }
         ensures step { IsStep most_heard m self.old.parts self.new.parts result }
     {
@@ -243,7 +244,7 @@ impl Table {
             return self.hear_probe_reply(m, from, reply);
         }
         match self.queue.find(m, reply.nonce).copied() {
-            Some(request) => self.learn_reply(settings, m, &request, reply),
+            Some(request) => self.learn_reply(site, m, &request, reply),
             None => Ok(self.dropped(Reason::Unsolicited)),
         }
     }

@@ -19,8 +19,8 @@ ghost use Rattle.router_core.specs.Table.{change_of, heard_seen};
 
 use crate::copies::{Copies, all_copies};
 use crate::grounds::Grounds;
+use crate::site::Site;
 use crate::{Heard, Table};
-use lisp_settings::Settings;
 use map_cache::{MOST_LOCATORS, MOST_MAPPINGS};
 use map_messages::MapReply;
 use mapping_records::{Eid, Record};
@@ -34,18 +34,18 @@ impl Table {
     /// Takes a Map-Reply to a request that is open at a moment.
     pub(crate) fn learn_reply(
         &mut self,
-        settings: &Settings,
+        site: &Site<'_>,
         m: u64,
         request: &Request,
         reply: &MapReply,
     ) -> Result<Heard, NoMemory>
-        requires lawful { IsLawful settings.now }
+        requires lawful { IsLawful site.now }
         requires may { MayStep m self.old.parts }
         requires range { InRangeReply reply.now }
         requires open { with_nonce (waiting m self.old.parts.requests) reply.now.nonce
             ≡ Some request.now }
         ensures parts { IfOk result (λ heard. heard_seen self.new.parts heard
-            ≡ replied_to table settings.now m reply.now (Some request.now)
+            ≡ replied_to table site.now m reply.now (Some request.now)
             (unchanged self.old.parts)) }
         ensures quiet { IfOk result (λ heard. heard.emits ≡ []) }
         ensures step { IsStep most_heard m self.old.parts self.new.parts result }
@@ -65,7 +65,7 @@ impl Table {
             nonce: reply.nonce,
         });
         let grounds = Grounds {
-            settings,
+            site,
             m,
             asked: &request.eid,
             mappings,
@@ -88,7 +88,7 @@ impl Table {
         copies: &mut Vec<Copies>,
         entries: &mut Vec<Entry>,
     )
-        requires lawful { IsLawful grounds.now.settings.now }
+        requires lawful { IsLawful grounds.now.site.now }
         requires may { MayEnter (length records.now) grounds.now.m self.old.parts }
         requires range { All InRange records.now }
         requires copies { copies.old.items ≡ all_copies records.now }
@@ -96,7 +96,7 @@ impl Table {
         requires locator_room { most_locators * length records.now ≤ self.old.locator_room }
         requires room { vec_len entries.old + length records.now ≤ vec_capacity entries.old }
         ensures change { change_of self.new.parts entries.new.items []
-            ≡ each (taught table grounds.now.settings.now grounds.now.m grounds.now.asked.now
+            ≡ each (taught table grounds.now.site.now grounds.now.m grounds.now.asked.now
             grounds.now.mappings.now) records.now
             (change_of self.old.parts entries.old.items []) }
         ensures entered { HasEntered (length records.now) grounds.now.m self.old.parts self.new.parts }
@@ -118,7 +118,7 @@ impl Table {
         copies: Copies,
         entries: &mut Vec<Entry>,
     )
-        requires lawful { IsLawful grounds.now.settings.now }
+        requires lawful { IsLawful grounds.now.site.now }
         requires may { MayEnter 1 grounds.now.m self.old.parts }
         requires range { InRange mapping.now }
         requires copies { copies ≡ copies_of mapping.now }
@@ -126,7 +126,7 @@ impl Table {
         requires locator_room { most_locators ≤ self.old.locator_room }
         requires room { vec_len entries.old < vec_capacity entries.old }
         ensures change { change_of self.new.parts entries.new.items []
-            ≡ taught table grounds.now.settings.now grounds.now.m grounds.now.asked.now
+            ≡ taught table grounds.now.site.now grounds.now.m grounds.now.asked.now
             grounds.now.mappings.now mapping.now
             (change_of self.old.parts entries.old.items []) }
         ensures entered { HasEntered 1 grounds.now.m self.old.parts self.new.parts }
@@ -147,13 +147,13 @@ impl Table {
 
     // The record is to be learned.
     fn is_taken(&self, grounds: &Grounds<'_>, mapping: &Record) -> bool
-        requires { IsLawful grounds.now.settings.now }
+        requires { IsLawful grounds.now.site.now }
         ensures { result ≡ (is_asked_for grounds.now.asked.now grounds.now.mappings.now mapping.now
-            && (not (is_static grounds.now.settings.now mapping.now)
+            && (not (is_static grounds.now.site.now mapping.now)
             && has_room (view_in self.now.parts grounds.now.m) mapping.now)) }
     {
         is_asked_for(grounds.asked, grounds.mappings, mapping)
-            && !is_static(grounds.settings, mapping)
+            && !is_static(grounds.site, mapping)
             && self.has_room(grounds.m, mapping)
     }
 
@@ -198,11 +198,11 @@ fn is_asked_for(asked: &Eid, mappings: &[Record], mapping: &Record) -> bool
 }
 
 // Its EID is that of a static mapping, of which the settings have each EID once and in order.
-fn is_static(settings: &Settings, mapping: &Record) -> bool
-    requires { IsLawful settings.now }
-    ensures { result ≡ is_static settings.now mapping.now }
+fn is_static(site: &Site<'_>, mapping: &Record) -> bool
+    requires { IsLawful site.now }
+    ensures { result ≡ is_static site.now mapping.now }
 {
-    has_eid(settings.mappings.as_slice(), &mapping.eid)
+    has_eid(site.mappings(), &mapping.eid)
 }
 
 // One of these, in order of EID, has the EID.

@@ -12,6 +12,7 @@ ghost use Rattle.router_core.specs.Steps.{AreSent, IsStep, MayStep};
 ghost use Rattle.router_core.specs.Table.{changed_seen};
 
 use crate::changed::only;
+use crate::site::Site;
 use crate::status::{differs, is_named};
 use crate::{Changed, Table};
 use ip_headers::Addr;
@@ -23,7 +24,6 @@ use router_log::{Entry, Notice};
 impl Table {
     /// Notes what was noticed at a moment: it takes the entries that come of it. Where memory is
     /// refused, the table is as it was. There are 8 status bits in a notice, or 32, and a nonce has 24.
-    #[tactic(auto, unfolding(router_model::specs::Note::noted))]
     pub fn note(
         &mut self,
         settings: &Settings,
@@ -41,20 +41,33 @@ impl Table {
         ensures sent { IfOk result (λ changed. AreSent settings.now 1 changed.emits) }
         ensures step { IsStep 1 m self.old.parts self.new.parts result }
     {
+        self.note_by(&Site::of(settings), m, notice)
+    }
+
+    // Notes it, for the site as it stands.
+    #[tactic(auto, unfolding(router_model::specs::Note::noted))]
+    fn note_by(&mut self, site: &Site<'_>, m: u64, notice: &Notice) -> Result<Changed, NoMemory>
+        requires may { MayStep m self.old.parts }
+        requires sound { is_sound notice.now ≡ true }
+        ensures parts { IfOk result (λ changed. changed_seen self.new.parts changed
+            ≡ noted table site.now m notice.now (unchanged self.old.parts)) }
+        ensures sent { IfOk result (λ changed. AreSent site.now 1 changed.emits) }
+        ensures step { IsStep 1 m self.old.parts self.new.parts result }
+    {
         match notice {
-            Notice::Ask { eid, source } => self.note_missing(settings, m, eid, *source),
+            Notice::Ask { eid, source } => self.note_missing(site, m, eid, *source),
             Notice::Bits {
                 eid,
                 rloc,
                 bits,
                 width,
             } => self.note_bits(m, eid, rloc, *bits, *width),
-            Notice::Refresh { eid } => self.note_old(settings, m, eid),
+            Notice::Refresh { eid } => self.note_old(site, m, eid),
             Notice::EchoWanted { rloc, nonce } => self.note_wanted(m, *rloc, *nonce),
             Notice::EchoHeard { rloc, nonce } => self.note_heard(m, rloc, *nonce),
             Notice::DataFrom { rloc } => self.note_data(m, rloc),
-            Notice::Solicit { rloc, eid } => self.note_solicit(settings, m, *rloc, *eid),
-            Notice::EchoDue { rloc } => self.note_due(settings, m, *rloc),
+            Notice::Solicit { rloc, eid } => self.note_solicit(site, m, *rloc, *eid),
+            Notice::EchoDue { rloc } => self.note_due(site, m, *rloc),
         }
     }
 
@@ -110,29 +123,29 @@ impl Table {
     #[tactic(auto, unfolding(router_model::specs::Note::noted))]
     fn note_missing(
         &mut self,
-        settings: &Settings,
+        site: &Site<'_>,
         m: u64,
         eid: &Eid,
         source: Option<Addr>,
     ) -> Result<Changed, NoMemory>
         requires may { MayStep m self.old.parts }
         ensures parts { IfOk result (λ changed. changed_seen self.new.parts changed
-            ≡ noted table settings.now m (Ask eid.now source) (unchanged self.old.parts)) }
-        ensures sent { IfOk result (λ changed. AreSent settings.now 1 changed.emits) }
+            ≡ noted table site.now m (Ask eid.now source) (unchanged self.old.parts)) }
+        ensures sent { IfOk result (λ changed. AreSent site.now 1 changed.emits) }
         ensures step { IsStep 1 m self.old.parts self.new.parts result }
     {
-        if !self.is_missing(settings, m, eid) {
+        if !self.is_missing(site, m, eid) {
             return Ok(self.nothing());
         }
-        self.make_request(settings, m, *eid, source, false)
+        self.make_request(site, m, *eid, source, false)
     }
 
     // The EID may be asked for, and has no mapping by which packets go. While a request for it waits,
     // which is so for each packet behind the first, its mapping isn't looked up a second time.
-    fn is_missing(&self, settings: &Settings, m: u64, eid: &Eid) -> bool
-        ensures { result ≡ is_missing settings.now (view_in self.now.parts m) eid.now }
+    fn is_missing(&self, site: &Site<'_>, m: u64, eid: &Eid) -> bool
+        ensures { result ≡ is_missing site.now (view_in self.now.parts m) eid.now }
     {
-        self.may_ask(settings, m, eid) && self.is_wanting(m, eid)
+        self.may_ask(site, m, eid) && self.is_wanting(m, eid)
     }
 
     // No mapping is in force for the EID, or one that says to ask.

@@ -10,9 +10,9 @@ ghost use Rattle.router_core.specs.Steps.{IsStep, MayStep};
 ghost use Rattle.router_core.specs.Table.{changed_seen};
 
 use crate::changed::only;
+use crate::site::Site;
 use crate::{Changed, Table};
 use ip_headers::Addr;
-use lisp_settings::{Settings, nonce_at};
 use octets::NoMemory;
 use router_log::Entry;
 
@@ -133,20 +133,20 @@ impl Table {
     #[tactic(auto, unfolding(router_model::specs::Note::noted))]
     pub(crate) fn note_due(
         &mut self,
-        settings: &Settings,
+        site: &Site<'_>,
         m: u64,
         rloc: Addr,
     ) -> Result<Changed, NoMemory>
         requires may { MayStep m self.old.parts }
         ensures parts { IfOk result (λ changed. changed_seen self.new.parts changed
-            ≡ noted table settings.now m (EchoDue rloc) (unchanged self.old.parts)) }
+            ≡ noted table site.now m (EchoDue rloc) (unchanged self.old.parts)) }
         ensures quiet { IfOk result (λ changed. changed.emits ≡ []) }
         ensures step { IsStep 1 m self.old.parts self.new.parts result }
     {
-        if !self.is_echo_due(settings, m, &rloc) {
+        if !self.is_echo_due(site, m, &rloc) {
             return Ok(self.nothing());
         }
-        let nonce = (nonce_at(settings, self.drawn) % (1 << 24)) as u32;
+        let nonce = (site.nonce_at(self.drawn) % (1 << 24)) as u32;
         let entries = only(
             self.alloc,
             Entry::EchoStarted {
@@ -161,10 +161,10 @@ impl Table {
     }
 
     /// An echo is asked of the locators of packets, and may be asked of this one.
-    pub(crate) fn is_echo_due(&self, settings: &Settings, m: u64, rloc: &Addr) -> bool
+    pub(crate) fn is_echo_due(&self, site: &Site<'_>, m: u64, rloc: &Addr) -> bool
         ensures { result
-            ≡ (settings.now.echo && (view_in self.now.parts m).may_start rloc.now) }
+            ≡ (site.now.echo && (view_in self.now.parts m).may_start rloc.now) }
     {
-        settings.echo && self.may_start(m, rloc)
+        site.asks_echoes() && self.may_start(m, rloc)
     }
 }

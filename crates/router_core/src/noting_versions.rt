@@ -10,10 +10,9 @@ ghost use Rattle.router_core.specs.Steps.{AreSent, IsStep, MayStep};
 ghost use Rattle.router_core.specs.Table.{changed_seen};
 
 use crate::changed::only;
-use crate::site::ours;
+use crate::site::Site;
 use crate::{Changed, Table};
 use ip_headers::Addr;
-use lisp_settings::{Settings, nonce_at};
 use mapping_records::Eid;
 use octets::NoMemory;
 use router_log::{Emit, Entry};
@@ -24,28 +23,28 @@ impl Table {
     #[tactic(auto, unfolding(router_model::specs::Note::noted))]
     pub(crate) fn note_old(
         &mut self,
-        settings: &Settings,
+        site: &Site<'_>,
         m: u64,
         eid: &Eid,
     ) -> Result<Changed, NoMemory>
         requires may { MayStep m self.old.parts }
         ensures parts { IfOk result (λ changed. changed_seen self.new.parts changed
-            ≡ noted table settings.now m (Refresh eid.now) (unchanged self.old.parts)) }
-        ensures sent { IfOk result (λ changed. AreSent settings.now 1 changed.emits) }
+            ≡ noted table site.now m (Refresh eid.now) (unchanged self.old.parts)) }
+        ensures sent { IfOk result (λ changed. AreSent site.now 1 changed.emits) }
         ensures step { IsStep 1 m self.old.parts self.new.parts result }
     {
-        if !self.may_renew(settings, m, eid) {
+        if !self.may_renew(site, m, eid) {
             return Ok(self.nothing());
         }
-        self.make_request(settings, m, *eid, None, false)
+        self.make_request(site, m, *eid, None, false)
     }
 
     // The EID has a learned mapping of its own, and may be asked for.
-    fn may_renew(&self, settings: &Settings, m: u64, eid: &Eid) -> bool
+    fn may_renew(&self, site: &Site<'_>, m: u64, eid: &Eid) -> bool
         ensures { result ≡ (is_learned (exact (view_in self.now.parts m).mappings eid.now)
-            && may_ask settings.now (view_in self.now.parts m) eid.now) }
+            && may_ask site.now (view_in self.now.parts m) eid.now) }
     {
-        self.is_learned(m, eid) && self.may_ask(settings, m, eid)
+        self.is_learned(m, eid) && self.may_ask(site, m, eid)
     }
 
     fn is_learned(&self, m: u64, eid: &Eid) -> bool
@@ -62,21 +61,21 @@ impl Table {
     #[tactic(auto, unfolding(router_model::specs::Note::noted))]
     pub(crate) fn note_solicit(
         &mut self,
-        settings: &Settings,
+        site: &Site<'_>,
         m: u64,
         rloc: Addr,
         eid: Eid,
     ) -> Result<Changed, NoMemory>
         requires may { MayStep m self.old.parts }
         ensures parts { IfOk result (λ changed. changed_seen self.new.parts changed
-            ≡ noted table settings.now m (Solicit rloc eid) (unchanged self.old.parts)) }
-        ensures sent { IfOk result (λ changed. AreSent settings.now 1 changed.emits) }
+            ≡ noted table site.now m (Solicit rloc eid) (unchanged self.old.parts)) }
+        ensures sent { IfOk result (λ changed. AreSent site.now 1 changed.emits) }
         ensures step { IsStep 1 m self.old.parts self.new.parts result }
     {
-        if !self.may_solicit(settings, m, &rloc, &eid) {
+        if !self.may_solicit(site, m, &rloc, &eid) {
             return Ok(self.nothing());
         }
-        let nonce = nonce_at(settings, self.drawn);
+        let nonce = site.nonce_at(self.drawn);
         let entries = only(
             self.alloc,
             Entry::Solicited {
@@ -101,11 +100,10 @@ impl Table {
 
     // An own locator of its family is up, and an SMR for the EID may be sent.
     #[tactic(auto, unfolding(router_model::specs::Parts::view_in))]
-    fn may_solicit(&self, settings: &Settings, m: u64, rloc: &Addr, eid: &Eid) -> bool
-        ensures { result ≡ (is_some (ours settings.now.locators rloc.now)
+    fn may_solicit(&self, site: &Site<'_>, m: u64, rloc: &Addr, eid: &Eid) -> bool
+        ensures { result ≡ (is_some (ours site.now.locators rloc.now)
             && (view_in self.now.parts m).may_solicit rloc.now eid.now) }
     {
-        ours(settings.locators.as_slice(), *rloc).is_some()
-            && self.locators.may_solicit(self.moment_at(m), rloc, eid)
+        site.ours(*rloc).is_some() && self.locators.may_solicit(self.moment_at(m), rloc, eid)
     }
 }

@@ -4,9 +4,9 @@ ghost use Rattle.map_messages.specs.declared.message.Message.TheVariants.{Contro
 ghost use Rattle.router_model.specs.Emits.{database_address, ecm_for, inner_source, no_address, request_for, source_eid};
 ghost use Rattle.router_model.specs.Site.{up_locators};
 
-use crate::site::ours;
+use crate::site::Site;
 use ip_headers::Addr;
-use lisp_settings::{Database, OwnLocator, Settings};
+use lisp_settings::{Database, OwnLocator};
 use map_messages::{Addrs, Ecm, Eid, Eids, LISP_CONTROL_PORT, MapRequest, Message};
 use octets::NoMemory;
 use std::alloc::{AllocError, Global};
@@ -14,32 +14,32 @@ use std::alloc::{AllocError, Global};
 /// A Map-Request for an EID, in the packet that would have gone to it.
 pub(crate) fn request_message(
     alloc: Global,
-    settings: &Settings,
+    site: &Site<'_>,
     eid: Eid,
     source: Option<Addr>,
     invoked: bool,
     nonce: u64,
 ) -> Result<Message, NoMemory>
     ensures { let source = source_eid eid source in
-        let request = request_for settings.now false false invoked nonce source eid in
-        IfOk result (λ message. message ≡ Control (ecm_for settings.now eid request)) }
+        let request = request_for site.now false false invoked nonce source eid in
+        IfOk result (λ message. message ≡ Control (ecm_for site.now eid request)) }
 {
-    let mut request = request_for(alloc, settings, nonce, source_eid(eid, source), eid)?;
+    let mut request = request_for(alloc, site, nonce, source_eid(eid, source), eid)?;
     request.invoked = invoked;
-    Ok(Message::Control(ecm_for(settings, eid, request)))
+    Ok(Message::Control(ecm_for(site, eid, request)))
 }
 
 /// A Map-Request that probes the locator that it goes to.
 pub(crate) fn probe_message(
     alloc: Global,
-    settings: &Settings,
+    site: &Site<'_>,
     eid: Eid,
     nonce: u64,
 ) -> Result<Message, NoMemory>
-    ensures { let request = request_for settings.now true false false nonce None eid in
+    ensures { let request = request_for site.now true false false nonce None eid in
         IfOk result (λ message. message ≡ Request request) }
 {
-    let mut request = request_for(alloc, settings, nonce, None, eid)?;
+    let mut request = request_for(alloc, site, nonce, None, eid)?;
     request.probe = true;
     Ok(Message::Request(request))
 }
@@ -47,16 +47,16 @@ pub(crate) fn probe_message(
 /// An SMR: a Map-Request with S, from an EID of the site.
 pub(crate) fn solicit_message(
     alloc: Global,
-    settings: &Settings,
+    site: &Site<'_>,
     eid: Eid,
     nonce: u64,
 ) -> Result<Message, NoMemory>
     ensures { let source = source_eid eid (Some eid.prefix.addr) in
         IfOk result (λ message. message
-        ≡ Request (request_for settings.now false true false nonce source eid)) }
+        ≡ Request (request_for site.now false true false nonce source eid)) }
 {
     let source = source_eid(eid, Some(eid.prefix.addr));
-    let mut request = request_for(alloc, settings, nonce, source, eid)?;
+    let mut request = request_for(alloc, site, nonce, source, eid)?;
     request.smr = true;
     Ok(Message::Request(request))
 }
@@ -64,15 +64,15 @@ pub(crate) fn solicit_message(
 // A Map-Request for one EID without flags, to which replies may go to each own locator that is up.
 fn request_for(
     alloc: Global,
-    settings: &Settings,
+    site: &Site<'_>,
     nonce: u64,
     source: Option<(u32, Addr)>,
     eid: Eid,
 ) -> Result<MapRequest, NoMemory>
     ensures { IfOk result (λ request. request
-        ≡ request_for settings.now false false false nonce source eid) }
+        ≡ request_for site.now false false false nonce source eid) }
 {
-    let replies_to = Addrs::from_vec(up_addrs(alloc, settings.locators.as_slice())?);
+    let replies_to = Addrs::from_vec(up_addrs(alloc, site.locators())?);
     let mut eids = Eids::new(alloc);
     eids.push(eid)?;
     Ok(MapRequest {
@@ -110,11 +110,11 @@ fn source_eid(eid: Eid, source: Option<Addr>) -> Option<(u32, Addr)>
 }
 
 // A Map-Request in the packet that would have gone to the EID.
-fn ecm_for(settings: &Settings, eid: Eid, request: MapRequest) -> Ecm
-    ensures { result ≡ ecm_for settings.now eid request }
+fn ecm_for(site: &Site<'_>, eid: Eid, request: MapRequest) -> Ecm
+    ensures { result ≡ ecm_for site.now eid request }
 {
     Ecm {
-        source: inner_source(settings, eid),
+        source: inner_source(site, eid),
         dest: eid.prefix.addr,
         source_port: LISP_CONTROL_PORT,
         request: Some(request),
@@ -123,14 +123,14 @@ fn ecm_for(settings: &Settings, eid: Eid, request: MapRequest) -> Ecm
 }
 
 // From where the inner packet of a request comes: an own address, one of the site, or none.
-fn inner_source(settings: &Settings, eid: Eid) -> Addr
-    ensures { result ≡ inner_source settings.now eid }
+fn inner_source(site: &Site<'_>, eid: Eid) -> Addr
+    ensures { result ≡ inner_source site.now eid }
 {
     let addr = eid.prefix.addr;
-    if let Some(own) = ours(settings.locators.as_slice(), addr) {
+    if let Some(own) = site.ours(addr) {
         return own;
     }
-    database_address(settings.databases.as_slice(), eid).unwrap_or(no_address(addr))
+    database_address(site.databases(), eid).unwrap_or(no_address(addr))
 }
 
 // The address of the first of the site's prefixes in the instance and the family of an EID.

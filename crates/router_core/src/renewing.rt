@@ -12,9 +12,9 @@ ghost use Rattle.router_core.specs.Steps.{AreAdded, AreSent, HasEntered, HaveRoo
 ghost use Rattle.router_core.specs.Table.{change_of, heard_seen};
 
 use crate::hosts::host_eid;
+use crate::site::Site;
 use crate::{Heard, Table};
 use ip_headers::Addr;
-use lisp_settings::{Settings, nonce_at};
 use map_messages::MapRequest;
 use mapping_records::Eid;
 use octets::{Items, NoMemory};
@@ -24,16 +24,16 @@ impl Table {
     /// Takes an SMR: what its Source EID and its EIDs go by is asked for again.
     pub(crate) fn renew(
         &mut self,
-        settings: &Settings,
+        site: &Site<'_>,
         m: u64,
         request: &MapRequest,
     ) -> Result<Heard, NoMemory>
         requires may { MayStep m self.old.parts }
         requires range { InRangeRequest request.now }
         ensures parts { IfOk result (λ heard. heard_seen self.new.parts heard
-            ≡ counted table settings.now m (each (renewed table settings.now m)
+            ≡ counted table site.now m (each (renewed table site.now m)
             (ranges_of request.now) (unchanged self.old.parts))) }
-        ensures sent { IfOk result (λ heard. AreSent settings.now most_heard heard.emits) }
+        ensures sent { IfOk result (λ heard. AreSent site.now most_heard heard.emits) }
         ensures step { IsStep most_heard m self.old.parts self.new.parts result }
     {
         let eids = request.eids.as_slice();
@@ -42,8 +42,8 @@ impl Table {
         let mut emits = Vec::new(self.alloc);
         emits.reserve(1 + eids.len())?;
         self.reserve_requests(1 + eids.len() as u32)?;
-        self.renew_source(settings, m, request.source, &mut entries, &mut emits);
-        self.renew_each(settings, m, eids, &mut entries, &mut emits);
+        self.renew_source(site, m, request.source, &mut entries, &mut emits);
+        self.renew_each(site, m, eids, &mut entries, &mut emits);
         Ok(Heard {
             verdict: Verdict::Control(Done::Solicited(entries.len() as u32)),
             entries: Items::from_vec(entries),
@@ -54,7 +54,7 @@ impl Table {
     // Asks again for the mapping of a Source EID, if there is one.
     fn renew_source(
         &mut self,
-        settings: &Settings,
+        site: &Site<'_>,
         m: u64,
         source: Option<(u32, Addr)>,
         entries: &mut Vec<Entry>,
@@ -64,11 +64,11 @@ impl Table {
         requires instance { IfSome source (λ source. source.0 < 2 ^ 24) }
         requires request_room { 0 < self.old.request_room }
         requires places { HaveRoom 1 entries.old emits.old }
-        requires sendable { All (IsSendable settings.now) emits.old.items }
+        requires sendable { All (IsSendable site.now) emits.old.items }
         ensures change { change_of self.new.parts entries.new.items emits.new.items
-            ≡ each (renewed table settings.now m) (map source_range (option_to_list source))
+            ≡ each (renewed table site.now m) (map source_range (option_to_list source))
             (change_of self.old.parts entries.old.items emits.old.items) }
-        ensures sendable { All (IsSendable settings.now) emits.new.items }
+        ensures sendable { All (IsSendable site.now) emits.new.items }
         ensures entered { HasEntered 1 m self.old.parts self.new.parts }
         ensures request_room { self.old.request_room ≤ self.new.request_room + 1 }
         ensures entries { AreAdded 1 entries.old entries.new }
@@ -77,13 +77,13 @@ impl Table {
         let Some((iid, addr)) = source else {
             return;
         };
-        self.renew_one(settings, m, &host_eid(iid, addr), entries, emits);
+        self.renew_one(site, m, &host_eid(iid, addr), entries, emits);
     }
 
     // Asks again for the mapping of each of these EIDs.
     fn renew_each(
         &mut self,
-        settings: &Settings,
+        site: &Site<'_>,
         m: u64,
         eids: &[Eid],
         entries: &mut Vec<Entry>,
@@ -92,11 +92,11 @@ impl Table {
         requires may { MayEnter (length eids.now) m self.old.parts }
         requires request_room { length eids.now ≤ self.old.request_room }
         requires places { HaveRoom (length eids.now) entries.old emits.old }
-        requires sendable { All (IsSendable settings.now) emits.old.items }
+        requires sendable { All (IsSendable site.now) emits.old.items }
         ensures change { change_of self.new.parts entries.new.items emits.new.items
-            ≡ each (renewed table settings.now m) (map range_of eids.now)
+            ≡ each (renewed table site.now m) (map range_of eids.now)
             (change_of self.old.parts entries.old.items emits.old.items) }
-        ensures sendable { All (IsSendable settings.now) emits.new.items }
+        ensures sendable { All (IsSendable site.now) emits.new.items }
         ensures entered { HasEntered (length eids.now) m self.old.parts self.new.parts }
         ensures entries { AreAdded (length eids.now) entries.old entries.new }
         ensures emits { AreAdded (length eids.now) emits.old emits.new }
@@ -104,14 +104,14 @@ impl Table {
         let [eid, others @ ..] = eids else {
             return;
         };
-        self.renew_one(settings, m, eid, entries, emits);
-        self.renew_each(settings, m, others, entries, emits);
+        self.renew_one(site, m, eid, entries, emits);
+        self.renew_each(site, m, others, entries, emits);
     }
 
     // Asks again for the mapping of an EID, if it was learned and may be asked for.
     fn renew_one(
         &mut self,
-        settings: &Settings,
+        site: &Site<'_>,
         m: u64,
         eid: &Eid,
         entries: &mut Vec<Entry>,
@@ -120,20 +120,20 @@ impl Table {
         requires may { MayEnter 1 m self.old.parts }
         requires request_room { 0 < self.old.request_room }
         requires places { HaveRoom 1 entries.old emits.old }
-        requires sendable { All (IsSendable settings.now) emits.old.items }
+        requires sendable { All (IsSendable site.now) emits.old.items }
         ensures change { change_of self.new.parts entries.new.items emits.new.items
-            ≡ renewed table settings.now m (range_of eid.now)
+            ≡ renewed table site.now m (range_of eid.now)
             (change_of self.old.parts entries.old.items emits.old.items) }
-        ensures sendable { All (IsSendable settings.now) emits.new.items }
+        ensures sendable { All (IsSendable site.now) emits.new.items }
         ensures entered { HasEntered 1 m self.old.parts self.new.parts }
         ensures request_room { self.old.request_room ≤ self.new.request_room + 1 }
         ensures entries { AreAdded 1 entries.old entries.new }
         ensures emits { AreAdded 1 emits.old emits.new }
     {
-        let Some(eid) = self.renewable(settings, m, eid) else {
+        let Some(eid) = self.renewable(site, m, eid) else {
             return;
         };
-        let nonce = nonce_at(settings, self.drawn);
+        let nonce = site.nonce_at(self.drawn);
         self.ask(m, eid, None, true, nonce);
         entries.push_reserved(Entry::Asked {
             moment: m,
@@ -151,13 +151,13 @@ impl Table {
     }
 
     // The EID of the mapping in force, if that was learned and may be asked for again.
-    fn renewable(&self, settings: &Settings, m: u64, eid: &Eid) -> Option<Eid>
-        ensures { result ≡ renewable settings.now (view_in self.now.parts m)
+    fn renewable(&self, site: &Site<'_>, m: u64, eid: &Eid) -> Option<Eid>
+        ensures { result ≡ renewable site.now (view_in self.now.parts m)
             (force (view_in self.now.parts m).mappings eid.now.iid eid.now.prefix.addr
             eid.now.prefix.len) }
     {
         let mapping = self.in_force(m, eid)?;
-        if mapping.fixed || !self.may_ask(settings, m, &mapping.eid) {
+        if mapping.fixed || !self.may_ask(site, m, &mapping.eid) {
             return None;
         }
         Some(mapping.eid)

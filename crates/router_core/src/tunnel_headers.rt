@@ -3,54 +3,46 @@ ghost use Rattle.std.specs.Prelude.{◌≡◌, ◌≢◌, ◌<◌, ◌≤◌, �
 ghost use Rattle.lisp_header.specs.Header.{InRange};
 ghost use Rattle.lisp_settings.specs.Lawful.{IsLawful};
 ghost use Rattle.router_model.specs.Decide.{asks_echo, echo_nonce, lisp_header, versions_of};
-ghost use Rattle.router_model.specs.Parts.{view_in};
 ghost use Rattle.router_model.specs.Site.{own_bits};
 ghost use Rattle.router_core.specs.Bounded.{IsShortOut};
+ghost use Rattle.router_core.specs.Table.{seen};
 
-use crate::Table;
-use crate::site::own_bits;
+use crate::site::Site;
 use crate::versions::is_version;
+use crate::view::View;
 use ip_headers::Addr;
 use lisp_header::LispHeader;
-use lisp_settings::Settings;
 use router_log::EchoOut;
 
 /// The header of a packet of an instance to a locator, with the versions of its source and its
 /// destination.
-pub(crate) fn header_to(
-    table: &Table,
-    settings: &Settings,
-    m: u64,
-    iid: u32,
-    to: Addr,
-    versions: (u16, u16),
-) -> LispHeader
-    requires lawful { IsLawful settings.now }
+pub(crate) fn header_to(view: &View<'_>, iid: u32, to: Addr, versions: (u16, u16)) -> LispHeader
+    requires lawful { IsLawful view.now.site }
     requires instance { iid < 2 ^ 24 }
     requires source { versions.0 ≤ 4095 }
     requires dest { versions.1 ≤ 4095 }
-    ensures header { result ≡ lisp_header settings.now iid
-        ((view_in table.now.parts m).echo_out to) versions.0 versions.1 }
+    ensures header { result ≡ lisp_header view.now.site iid ((seen view.now).echo_out to)
+        versions.0 versions.1 }
     ensures range { InRange result }
 {
-    lisp_header(settings, iid, table.echo_out(m, &to), versions)
+    lisp_header(view.site, iid, view.echo_out(&to), versions)
 }
 
 // The header that does that about echoes: an echo, or else versions, and the own status bits.
-fn lisp_header(settings: &Settings, iid: u32, out: EchoOut, versions: (u16, u16)) -> LispHeader
-    requires lawful { IsLawful settings.now }
+fn lisp_header(site: &Site<'_>, iid: u32, out: EchoOut, versions: (u16, u16)) -> LispHeader
+    requires lawful { IsLawful site.now }
     requires instance { iid < 2 ^ 24 }
     requires short { IsShortOut out }
     requires source { versions.0 ≤ 4095 }
     requires dest { versions.1 ≤ 4095 }
-    ensures header { result ≡ lisp_header settings.now iid out versions.0 versions.1 }
+    ensures header { result ≡ lisp_header site.now iid out versions.0 versions.1 }
     ensures range { InRange result }
 {
     LispHeader {
         nonce: echo_nonce(out),
         echo: asks_echo(out),
         versions: versions_of(out, versions.0, versions.1),
-        status: Some(own_status(settings, iid)),
+        status: Some(own_status(site, iid)),
         instance: told_instance(iid),
         key: 0,
     }
@@ -90,13 +82,13 @@ fn versions_of(out: EchoOut, source: u16, dest: u16) -> Option<(u16, u16)>
 }
 
 // The status bits of the own locators, beside an instance the lowest 8.
-fn own_status(settings: &Settings, iid: u32) -> u32
-    requires { IsLawful settings.now }
-    ensures bits { result ≡ if iid == 0 then own_bits settings.now.locators
-        else own_bits settings.now.locators % 256 }
+fn own_status(site: &Site<'_>, iid: u32) -> u32
+    requires { IsLawful site.now }
+    ensures bits { result ≡ if iid == 0 then own_bits site.now.locators
+        else own_bits site.now.locators % 256 }
     ensures short { iid ≢ 0 → result < 2 ^ 8 }
 {
-    let bits = own_bits(settings.locators.as_slice()) as u32;
+    let bits = site.own_bits();
     if iid == 0 { bits } else { bits % 256 }
 }
 

@@ -14,23 +14,23 @@ use Rattle.router_core.proofs.answering.reply_of.Goals as goal
 
 pub returns-clause-reply : goal.returns-clause-reply
 returns-clause-reply c =
-    let settings = c.args.settings.now in
+    let settings = c.args.site.now in
     let request = c.args.request.now in
     let found : List Database → List Eid → List Eid = λ databases eids. map (λ (database : Database). database.eid) (filter_map (database_of databases) eids) in
     let hits = c.deref.ensures.value
     ∙ c.in_ok-add_hits.ensures
-    ∙ ap (λ (l : List Eid). l ++ found c.as_slice-databases.result.now c.as_slice.result.now) c.new-hits.ensures.items
-    ∙ ap (λ (l : List Database). found l c.as_slice.result.now) c.as_slice-databases.ensures
+    ∙ ap (λ (l : List Eid). l ++ found c.databases-databases.result.now c.as_slice.result.now) c.new-hits.ensures.items
+    ∙ ap (λ (l : List Database). found l c.as_slice.result.now) c.databases-databases.ensures
     ∙ ap (found settings.databases) c.as_slice.ensures in
     let records = c.in_ok-add_records.ensures
-    ∙ ap (λ (l : List Record). l ++ map (own_record settings c.probed.result) (filter (is_hit c.deref.result.now) c.as_slice-databases.result.now)) c.new-mappings.ensures
-    ∙ ap (λ (l : List Database). map (own_record settings c.probed.result) (filter (is_hit c.deref.result.now) l)) c.as_slice-databases.ensures in
+    ∙ ap (λ (l : List Record). l ++ map (own_record settings c.probed.result) (filter (is_hit c.deref.result.now) c.databases-databases.result.now)) c.new-mappings.ensures
+    ∙ ap (λ (l : List Database). map (own_record settings c.probed.result) (filter (is_hit c.deref.result.now) l)) c.databases-databases.ensures in
     reply-made settings (asker_seen c.args.asker) request c.probed.result c.deref.result.now c.add_records.new.records records c.probed.ensures hits
 
 pub returns-clause-range : goal.returns-clause-range
 returns-clause-range c =
-    subst InRangeReply (sym (returns-clause-reply c)) (reply-range c.args.settings.now c.requires.lawful (asker_seen c.args.asker) c.args.request.now)
+    subst InRangeReply (sym (returns-clause-reply c)) (reply-range c.args.site.now c.requires.lawful (asker_seen c.args.asker) c.args.request.now)
 
 pub returns-clause-short : goal.returns-clause-short
 returns-clause-short c =
-    subst (λ (reply : MapReply). length (canonical_reply reply) ≤ 65000) (sym (returns-clause-reply c)) (reply-short c.args.settings.now c.requires.lawful (asker_seen c.args.asker) c.args.request.now)
+    subst (λ (reply : MapReply). length (canonical_reply reply) ≤ 65000) (sym (returns-clause-reply c)) (reply-short c.args.site.now c.requires.lawful (asker_seen c.args.asker) c.args.request.now)

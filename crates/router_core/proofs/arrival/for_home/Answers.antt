@@ -7,7 +7,7 @@ use Rattle.lisp_settings.specs.Home.{home_of}
 use Rattle.router_model.specs.Cache.{held_of}
 use Rattle.router_model.specs.Decide.{for_home, force_for, iid_of}
 use Rattle.router_model.specs.Mappings.{Held, force}
-use Rattle.router_model.specs.Parts.{view_in}
+use Rattle.router_core.specs.Table.{seen}
 use Rattle.router_core.proofs.arrival.for_home.Goals as goal
 
 pub returns-in-Some-clause-decision : goal.returns-in-Some-clause-decision
@@ -15,11 +15,11 @@ returns-in-Some-clause-decision c =
     let tunnel = c.args.tunnel.now in
     let lisp = tunnel.header in
     let inner = tunnel.inner.octets.now in
-    let v = view_in c.args.table.now.parts c.args.m in
-    let databases = c.args.settings.now.databases in
-    let home = c.in-Some.database.now in
+    let v = seen c.args.view.now in
+    let databases = c.args.view.now.site.databases in
+    let home = c.in-Some.database in
     let eid = c.host_eid-source.ensures in
-    let found : Some home ≡ home_of databases (iid_of lisp) (dest_of tunnel.inner.header) = sym (ap (option_map (λ database. database.now)) c.in-Some.is) ∙ c.home.ensures ∙ ap₂ (home_of databases) c.unwrap_or-iid.ensures c.dest.ensures in
+    let found : Some home ≡ home_of databases (iid_of lisp) (dest_of tunnel.inner.header) = sym c.in-Some.is ∙ c.home.ensures ∙ ap₂ (home_of databases) c.unwrap_or-iid.ensures c.dest.ensures in
     let held : option_map held_of (option_copied c.in_force.result) ≡ force_for v (iid_of lisp) (source_of tunnel.inner.header) =
     c.in_force.ensures.found
     ∙ ap (λ (iid : ℕ). force v.mappings iid c.host_eid-source.result.prefix.addr c.host_eid-source.result.prefix.len) (eid.iid ∙ c.unwrap_or-iid.ensures)

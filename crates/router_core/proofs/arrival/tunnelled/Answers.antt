@@ -12,9 +12,9 @@ use Rattle.lisp_settings.specs.Home.{home_of}
 use Rattle.lisp_settings.specs.declared.settings.Settings.{Settings}
 use Rattle.router_log.specs.declared.decision.Decision.{Decision}
 use Rattle.router_model.specs.Decide.{for_home, force_for, iid_of, opened}
-use Rattle.router_model.specs.Parts.{view_in}
 use Rattle.router_model.specs.View.{View}
 use Rattle.router_core.specs.Seen.{datagram_seen}
+use Rattle.router_core.specs.Table.{seen}
 use Rattle.router_core.proofs.arrival.tunnelled.Goals as goal
 
 -- ### a packet out of its tunnel, by what its octets spell
@@ -26,8 +26,8 @@ inside settings v outer lisp octets header =
 
 pub returns-in-Ok-clause-decision : goal.returns-in-Ok-clause-decision
 returns-in-Ok-clause-decision c =
-    let settings = c.args.settings.now in
-    let v = view_in c.args.table.now.parts c.args.m in
+    let settings = c.args.view.now.site in
+    let v = seen c.args.view.now in
     let d = datagram_seen c.args.datagram.now in
     let payload = payload_in d.packet.octets d.udp in
     let tunnel = c.in-Ok.tunnel in

@@ -8,7 +8,7 @@ use Rattle.mapping_records.specs.declared.record.Locator.{Locator}
 use Rattle.router_model.specs.Cache.{known_up}
 use Rattle.router_model.specs.Choice.{candidates, chosen}
 use Rattle.router_model.specs.Mappings.{status_of}
-use Rattle.router_model.specs.Parts.{view_in}
+use Rattle.router_core.specs.Table.{seen}
 use Rattle.router_core.proofs.choice.chosen.Goals as goal
 
 zero-plus : (n : ℕ) → n ≡ 0 + n
@@ -19,8 +19,8 @@ less-taken i n k m less is = omega (arith, less, is)
 
 pub returns : goal.returns
 returns c =
-    let settings = c.args.settings.now in
-    let v = view_in c.args.table.now.parts c.args.m in
+    let settings = c.args.view.now.site in
+    let v = seen c.args.view.now in
     let hash = c.args.hash in
     let index = c.in_ok-index.index in
     let slice : List Locator = c.as_slice-locators.result.now in

@@ -8,15 +8,15 @@ use Rattle.router_log.specs.declared.decision.Decision.{Decision}
 use Rattle.router_model.specs.Cache.{held_of}
 use Rattle.router_model.specs.Choice.{chosen}
 use Rattle.router_model.specs.Decide.{from_ours, hash_of, lisp_header, towards}
-use Rattle.router_model.specs.Parts.{view_in}
 use Rattle.router_model.specs.Site.{ours}
 use Rattle.router_core.specs.Seen.{packet_seen}
+use Rattle.router_core.specs.Table.{seen}
 use Rattle.router_core.proofs.departure.mapped.Goals as goal
 
 pub returns-in-Some-clause-decision : goal.returns-in-Some-clause-decision
 returns-in-Some-clause-decision c =
-    let settings = c.args.settings.now in
-    let v = view_in c.args.table.now.parts c.args.m in
+    let settings = c.args.view.now.site in
+    let v = seen c.args.view.now in
     let iid = c.args.iid in
     let packet = packet_seen c.args.packet.now in
     let held = held_of c.args.mapping.now in

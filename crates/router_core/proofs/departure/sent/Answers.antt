@@ -3,21 +3,19 @@ use Rattle.octets.specs.Rules.{first_failing}
 use Rattle.encap.specs.Rules.{encap_rules}
 use Rattle.encap.specs.Rules as unsent
 use Rattle.encap.specs.Wrapped.{wrapped}
-use Rattle.ip_headers.specs.declared.tuple.FiveTuple.{FiveTuple}
-use Rattle.locator_choice.specs.Hash.{flow_hash, source_port}
 use Rattle.router_log.specs.declared.decision.Decision.{Decision}
 use Rattle.router_log.specs.declared.notice.Notice.{Notice}
 use Rattle.router_log.specs.declared.verdict.Verdict.TheVariants.{Encapsulated}
-use Rattle.router_model.specs.Decide.{echo_notice, hash_of, sent}
-use Rattle.router_model.specs.Parts.{view_in}
+use Rattle.router_model.specs.Decide.{echo_notice, sent}
 use Rattle.router_core.specs.Seen.{packet_seen}
+use Rattle.router_core.specs.Table.{seen}
 use Rattle.router_core.proofs.Drops.{sent_big, sent_expired, sent_none}
 use Rattle.router_core.proofs.departure.sent.Goals as goal
 
 pub returns-in_ok-echo_notices-in-Ok-clause-decision : goal.returns-in_ok-echo_notices-in-Ok-clause-decision
 returns-in_ok-echo_notices-in-Ok-clause-decision c =
-    let settings = c.args.settings.now in
-    let v = view_in c.args.table.now.parts c.args.m in
+    let settings = c.args.view.now.site in
+    let v = seen c.args.view.now in
     let lisp = c.args.header.now in
     let octets = c.args.packet.now.octets.now in
     let from = c.args.tunnel.from in
@@ -30,14 +28,14 @@ returns-in_ok-echo_notices-in-Ok-clause-decision c =
 
 pub returns-in-Err-TtlExpired-clause-decision : goal.returns-in-Err-TtlExpired-clause-decision
 returns-in-Err-TtlExpired-clause-decision c =
-    let v = view_in c.args.table.now.parts c.args.m in
+    let v = seen c.args.view.now in
     let octets = c.args.packet.now.octets.now in
     let some : first_failing (encap_rules octets c.args.tunnel.from) ≡ Some unsent.TtlExpired = sent_expired _ (first_failing (encap_rules octets c.args.tunnel.from)) (rw c.in-Err-TtlExpired.field-0-is at c.in-Err-TtlExpired.ensures.refused) in
-    c.alone.ensures ∙ sym (ap (sent c.args.settings.now v c.args.header.now (packet_seen c.args.packet.now) c.args.tunnel.from c.args.tunnel.to) some)
+    c.alone.ensures ∙ sym (ap (sent c.args.view.now.site v c.args.header.now (packet_seen c.args.packet.now) c.args.tunnel.from c.args.tunnel.to) some)
 
 pub returns-in-Err-TooBig-clause-decision : goal.returns-in-Err-TooBig-clause-decision
 returns-in-Err-TooBig-clause-decision c =
-    let v = view_in c.args.table.now.parts c.args.m in
+    let v = seen c.args.view.now in
     let octets = c.args.packet.now.octets.now in
     let some : first_failing (encap_rules octets c.args.tunnel.from) ≡ Some unsent.TooBig = sent_big _ (first_failing (encap_rules octets c.args.tunnel.from)) (rw c.in-Err-TooBig.field-0-is at c.in-Err-TooBig.ensures.refused) in
-    c.alone-in-Err-TooBig.ensures ∙ sym (ap (sent c.args.settings.now v c.args.header.now (packet_seen c.args.packet.now) c.args.tunnel.from c.args.tunnel.to) some)
+    c.alone-in-Err-TooBig.ensures ∙ sym (ap (sent c.args.view.now.site v c.args.header.now (packet_seen c.args.packet.now) c.args.tunnel.from c.args.tunnel.to) some)

@@ -1,4 +1,4 @@
-use Rattle.std.proofs.Common.{◌≤◌, IfSome, IsTrue, length, false, Option, sym, subst, arith}
+use Rattle.std.proofs.Common.{◌∙◌, ◌≤◌, IfSome, IsTrue, length, false, Option, sym, subst, arith}
 use Rattle.ip_headers.specs.declared.addr.Addr.{Addr}
 use Rattle.map_messages.specs.Message.{canonical_message}
 use Rattle.map_messages.specs.Range.{InRange}
@@ -10,12 +10,12 @@ use Rattle.router_core.proofs.emitting.request_octets.Goals as goal
 
 pub packet_to-requires-clause-sender : goal.packet_to-requires-clause-sender
 packet_to-requires-clause-sender c =
-    let own = c.args.settings.now.locators in
-    ours-reachable own c.in-Some.resolver (subst (λ (resolver : Option Addr). IfSome resolver (λ addr. IsTrue (is_reachable own addr))) c.in-Some.is c.requires.lawful.resolver)
+    let own = c.args.site.now.locators in
+    ours-reachable own c.in-Some.resolver (subst (λ (resolver : Option Addr). IfSome resolver (λ addr. IsTrue (is_reachable own addr))) (sym c.resolver.ensures ∙ c.in-Some.is) c.requires.lawful.resolver)
 
 pub packet_to-requires-clause-range : goal.packet_to-requires-clause-range
 packet_to-requires-clause-range c =
-    let settings = c.args.settings.now in
+    let settings = c.args.site.now in
     let eid = c.args.eid in
     let source = source_eid eid c.args.source in
     let request = request_for settings false false c.args.invoked c.args.nonce source eid in
@@ -24,7 +24,7 @@ packet_to-requires-clause-range c =
 
 pub packet_to-requires-clause-short : goal.packet_to-requires-clause-short
 packet_to-requires-clause-short c =
-    let settings = c.args.settings.now in
+    let settings = c.args.site.now in
     let eid = c.args.eid in
     let source = source_eid eid c.args.source in
     let request = request_for settings false false c.args.invoked c.args.nonce source eid in

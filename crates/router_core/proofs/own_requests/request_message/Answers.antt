@@ -7,7 +7,7 @@ use Rattle.router_core.proofs.own_requests.request_message.Goals as goal
 
 pub returns : goal.returns
 returns c =
-    let settings = c.args.settings.now in
+    let settings = c.args.site.now in
     let eid = c.args.eid in
     let made = c.in_ok-request.ensures ∙ ap (λ (source : Option (ℕ × Addr)). request_for settings false false false c.args.nonce source eid) c.source_eid.ensures in
     ap Control

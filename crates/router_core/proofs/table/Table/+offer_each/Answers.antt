@@ -10,5 +10,5 @@ returns-clause-items t c =
     let locators = c.args.locators.now in
     let left = take (length locators - 1) (drop 1 locators) in
     c.offer_each.ensures.items
-    ∙ ap (offered (chosen c.args.settings.now c.args.m v c.args.eid.now left)) c.offer_one.ensures.items
-    ∙ offered-each c.args.settings.now c.args.m v c.args.eid.now locators _ left c.args.first.now.items (first-left locators _ c.in-len1-up.len_at_least)
+    ∙ ap (offered (chosen c.args.site.now c.args.m v c.args.eid.now left)) c.offer_one.ensures.items
+    ∙ offered-each c.args.site.now c.args.m v c.args.eid.now locators _ left c.args.first.now.items (first-left locators _ c.in-len1-up.len_at_least)

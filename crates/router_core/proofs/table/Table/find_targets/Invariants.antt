@@ -8,5 +8,5 @@ use Rattle.router_core.proofs.table.Table.find_targets.Given as goal
 -- once those to come are offered too, they are the next ones
 abbrev pub invariant-loop-index : goal.invariant-loop-index
 invariant-loop-index l =
-    (offered (to_come l.settings l.m (view_in l.self.parts l.m) (drop l.index l.self.parts.mappings)) l.first.items ≡ next_targets l.settings (view_in l.self.parts l.m))
+    (offered (to_come l.site l.m (view_in l.self.parts l.m) (drop l.index l.self.parts.mappings)) l.first.items ≡ next_targets l.site (view_in l.self.parts l.m))
     × ((vec_len l.first ≤ 16) × (16 < vec_capacity l.first))

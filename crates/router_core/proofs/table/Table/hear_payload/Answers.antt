@@ -9,4 +9,4 @@ pub returns-in-Ok-clause-parts : goal.returns-in-Ok-clause-parts
 returns-in-Ok-clause-parts c =
     let payload = c.args.payload.now in
     IfOk-weaker c.hear_message.result _ _ (λ heard is.
-    is ∙ payload-read c.args.settings.now c.args.m (route_seen c.args.route) c.args.base payload c.in-Ok.message c.args.self.now.parts c.in-Ok.ensures.refused (message_in_is payload c.in-Ok.message c.in-Ok.ensures.value)) c.hear_message.ensures.parts
+    is ∙ payload-read c.args.site.now c.args.m (route_seen c.args.route) c.args.base payload c.in-Ok.message c.args.self.now.parts c.in-Ok.ensures.refused (message_in_is payload c.in-Ok.message c.in-Ok.ensures.value)) c.hear_message.ensures.parts

@@ -38,7 +38,7 @@ pub learn-requires-clause-place : goal.learn-requires-clause-place
 learn-requires-clause-place c =
     let mapping = c.args.mapping.now in
     let p = c.args.self.now.parts in
-    let is : (is_asked_for c.args.grounds.now.asked.now c.args.grounds.now.mappings.now mapping && (not (is_static c.args.grounds.now.settings.now mapping) && has_room (view_in p c.args.grounds.now.m) mapping)) ≡ true = sym c.is_taken.ensures ∙ c.if-not-is_taken.false in
+    let is : (is_asked_for c.args.grounds.now.asked.now c.args.grounds.now.mappings.now mapping && (not (is_static c.args.grounds.now.site.now mapping) && has_room (view_in p c.args.grounds.now.m) mapping)) ≡ true = sym c.is_taken.ensures ∙ c.if-not-is_taken.false in
     rw (ap (λ (copy : Copies). copy.kept) c.requires.copies)
     (learned-place p c.args.grounds.now.m (shortened mapping) c.requires.may.later (both _ _ (both (is_asked_for c.args.grounds.now.asked.now c.args.grounds.now.mappings.now mapping) _ is).1).1)
 
@@ -52,5 +52,5 @@ returns-clause-change c =
     ap (λ (q : Parts). change_of q c.push_reserved.new.self.items []) c.learn.ensures.parts
     ∙ ap (λ (e : List Entry). after c.args.copies.kept e) c.push_reserved.ensures.items
     ∙ ap (λ (copy : Copies). after copy.kept (entries ++ Learned c.args.grounds.now.m copy.told false ∷ [])) c.requires.copies
-    ∙ taught-so c.args.grounds.now.settings.now c.args.grounds.now.m c.args.grounds.now.asked.now c.args.grounds.now.mappings.now mapping p entries c.requires.may.later (omega (arith, c.requires.may.count))
+    ∙ taught-so c.args.grounds.now.site.now c.args.grounds.now.m c.args.grounds.now.asked.now c.args.grounds.now.mappings.now mapping p entries c.requires.may.later (omega (arith, c.requires.may.count))
     range.action range.version (few mapping) (sym c.is_taken.ensures ∙ c.if-not-is_taken.false)

@@ -14,7 +14,7 @@ use Rattle.router_core.proofs.table.Table.learn_reply.Goals as goal
 
 pub returns-clause-parts : goal.returns-clause-parts
 returns-clause-parts c =
-    let settings = c.args.settings.now in
+    let settings = c.args.site.now in
     let m = c.args.m in
     let p = c.args.self.now.parts in
     let reply = c.args.reply.now in

@@ -11,7 +11,7 @@ use Rattle.router_core.proofs.table.Table.make_request.Goals as goal
 
 pub returns-clause-parts : goal.returns-clause-parts
 returns-clause-parts c =
-    let settings = c.args.settings.now in
+    let settings = c.args.site.now in
     let p = c.args.self.now.parts in
     let few = c.requires.may.count in
     let entry : ℕ → Entry = λ n. Asked c.args.m c.args.eid c.args.source c.args.invoked n in

@@ -11,11 +11,11 @@ use Rattle.router_core.proofs.table.Table.note_due.Goals as goal
 pub start_echo-requires-clause-place : goal.start_echo-requires-clause-place
 start_echo-requires-clause-place c =
     subst (λ (p : Parts). IsTrue ((view_in p c.args.m).may_start c.args.rloc)) (sym c.in_ok-reserve_others.ensures.parts)
-    (both c.args.settings.now.echo _ (sym c.is_echo_due.ensures ∙ c.if-not-is_echo_due.false)).1
+    (both c.args.site.now.echo _ (sym c.is_echo_due.ensures ∙ c.if-not-is_echo_due.false)).1
 
 pub returns-clause-parts : goal.returns-clause-parts
 returns-clause-parts c =
-    let settings = c.args.settings.now in
+    let settings = c.args.site.now in
     let p = c.args.self.now.parts in
     let few = c.requires.may.count in
     let n = c.nonce_at.result in

@@ -13,4 +13,4 @@ make_request-requires-clause-place c =
     let v = view_in p c.args.m in
     let old = sym c.may_renew.ensures ∙ c.if-not-may_renew.false in
     let may = (both (is_learned (exact v.mappings eid)) _ old).1 in
-    may_ask-place p c.args.m c.requires.may.later (both (not (covered v.requests eid)) _ (both (is_some c.args.settings.now.resolver) _ may).1).1
+    may_ask-place p c.args.m c.requires.may.later (both (not (covered v.requests eid)) _ (both (is_some c.args.site.now.resolver) _ may).1).1

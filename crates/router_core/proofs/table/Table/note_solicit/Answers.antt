@@ -13,11 +13,11 @@ use Rattle.router_core.proofs.table.Table.note_solicit.Goals as goal
 pub solicit-requires-clause-place : goal.solicit-requires-clause-place
 solicit-requires-clause-place c =
     subst (λ (p : Parts). IsTrue ((view_in p c.args.m).may_solicit c.args.rloc c.args.eid)) (sym c.in_ok-reserve_others.ensures.parts)
-    (both (is_some (ours c.args.settings.now.locators c.args.rloc)) _ (sym c.may_solicit.ensures ∙ c.if-not-may_solicit.false)).1
+    (both (is_some (ours c.args.site.now.locators c.args.rloc)) _ (sym c.may_solicit.ensures ∙ c.if-not-may_solicit.false)).1
 
 pub returns-clause-parts : goal.returns-clause-parts
 returns-clause-parts c =
-    let settings = c.args.settings.now in
+    let settings = c.args.site.now in
     let p = c.args.self.now.parts in
     let few = c.requires.may.count in
     let n = c.nonce_at-nonce.result in

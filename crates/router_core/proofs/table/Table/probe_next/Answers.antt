@@ -1,4 +1,4 @@
-use Rattle.std.proofs.Common.{◌∙◌, List, ap}
+use Rattle.std.proofs.Common.{◌∙◌, List, ap, sym}
 use Rattle.locator_state.specs.declared.target.Target.{Target}
 use Rattle.router_model.specs.Changes.{each}
 use Rattle.router_model.specs.Parts.{table}
@@ -7,13 +7,13 @@ use Rattle.router_core.specs.Table.{change_of}
 use Rattle.router_core.proofs.TickingLemmas.{probed-all, probed-none}
 use Rattle.router_core.proofs.table.Table.probe_next.Goals as goal
 
-pub returns-then-not-settings-clause-change : goal.returns-then-not-settings-clause-change
-returns-then-not-settings-clause-change c = probed-none c.args.settings.now c.args.m _ c.if-not-settings.true
+pub returns-then-not-probes-clause-change : goal.returns-then-not-probes-clause-change
+returns-then-not-probes-clause-change c = probed-none c.args.site.now c.args.m _ (sym c.probes.ensures ∙ c.if-not-probes.true)
 
 pub returns-clause-change : goal.returns-clause-change
 returns-clause-change c =
-    let settings = c.args.settings.now in
+    let settings = c.args.site.now in
     let before = change_of c.args.self.now.parts c.args.entries.now.items c.args.emits.now.items in
     c.probe_each.ensures.change
     ∙ ap (λ (l : List Target). each (probed table settings c.args.m) l before) (c.deref.ensures.value ∙ c.find_targets.ensures.items)
-    ∙ probed-all settings c.args.m before c.if-not-settings.false
+    ∙ probed-all settings c.args.m before (sym c.probes.ensures ∙ c.if-not-probes.false)

@@ -15,7 +15,7 @@ pub returns-then-not-may_probe-clause-change : goal.returns-then-not-may_probe-c
 returns-then-not-may_probe-clause-change c =
     let p = c.args.self.now.parts in
     let full = count-now p c.args.m c.requires.may.later ∙ sym (ap (λ (t : TableSeen). nat_lt (probe_count c.args.m t.parts.observed.probes) 9600) c.self.view_is) ∙ sym c.may_probe.ensures ∙ c.if-not-may_probe.true in
-    probed-not c.args.settings.now c.args.m c.args.target.now (change_of p c.args.entries.now.items c.args.emits.now.items) full
+    probed-not c.args.site.now c.args.m c.args.target.now (change_of p c.args.entries.now.items c.args.emits.now.items) full
 
 pub probe-requires-clause-place : goal.probe-requires-clause-place
 probe-requires-clause-place c =
@@ -25,7 +25,7 @@ probe-requires-clause-place c =
 
 pub returns-clause-change : goal.returns-clause-change
 returns-clause-change c =
-    let settings = c.args.settings.now in
+    let settings = c.args.site.now in
     let m = c.args.m in
     let p = c.args.self.now.parts in
     let target = c.args.target.now in

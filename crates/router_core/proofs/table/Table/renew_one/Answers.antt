@@ -12,11 +12,11 @@ use Rattle.router_core.proofs.table.Table.renew_one.Goals as goal
 
 pub ask-requires-clause-place : goal.ask-requires-clause-place
 ask-requires-clause-place c =
-    renewable-place c.args.settings.now c.args.m c.args.self.now.parts _ c.in-Some.eid c.requires.may.later (sym c.renewable.ensures ∙ c.in-Some.is)
+    renewable-place c.args.site.now c.args.m c.args.self.now.parts _ c.in-Some.eid c.requires.may.later (sym c.renewable.ensures ∙ c.in-Some.is)
 
 pub returns-clause-change : goal.returns-clause-change
 returns-clause-change c =
-    let settings = c.args.settings.now in
+    let settings = c.args.site.now in
     let m = c.args.m in
     let p = c.args.self.now.parts in
     let eid = c.in-Some.eid in

@@ -1,4 +1,5 @@
-use Rattle.std.proofs.Common.{◌∙◌, ℕ, ap, sym, subst}
+use Rattle.std.proofs.Common.{◌∙◌, ℕ, ap, ap₂, sym, subst}
+use Rattle.lisp_settings.specs.declared.settings.Settings.{Settings}
 use Rattle.router_log.specs.Moments.{seconds}
 use Rattle.router_model.specs.Changes.{Change, unchanged}
 use Rattle.router_model.specs.Lifting.{Follows}
@@ -13,7 +14,7 @@ returns-then-is_idle-clause-parts c =
     let p = c.args.self.now.parts in
     ap (changed_seen p) c.nothing.ensures
     ∙ sym (c.is_idle.ensures c.if-is_idle.true)
-    ∙ ap (λ (n : ℕ). ticked table c.args.settings.now (seconds n) (unchanged p)) c.from-m.ensures
+    ∙ ap₂ (λ (settings : Settings) (n : ℕ). ticked table settings (seconds n) (unchanged p)) c.of-site.ensures c.from-m.ensures
 
 pub returns-then-is_idle-clause-journal : goal.returns-then-is_idle-clause-journal
 returns-then-is_idle-clause-journal c journal stands may =
@@ -25,7 +26,7 @@ pub returns-clause-parts : goal.returns-clause-parts
 returns-clause-parts c =
     ap (λ (p : Parts). changed_seen p c.in_ok-changed.changed) c.look_ahead.ensures.parts
     ∙ c.in_ok-changed.ensures.parts
-    ∙ ap (λ (n : ℕ). ticked table c.args.settings.now (seconds n) (unchanged c.args.self.now.parts)) c.from-m.ensures
+    ∙ ap₂ (λ (settings : Settings) (n : ℕ). ticked table settings (seconds n) (unchanged c.args.self.now.parts)) c.of-site.ensures c.from-m.ensures
 
 pub returns-clause-journal : goal.returns-clause-journal
 returns-clause-journal c journal stands may =

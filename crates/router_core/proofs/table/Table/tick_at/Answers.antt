@@ -14,12 +14,12 @@ use Rattle.router_core.proofs.table.Table.tick_at.Goals as goal
 
 pub probe_next-requires-clause-sendable : goal.probe_next-requires-clause-sendable
 probe_next-requires-clause-sendable c =
-    c.retry_each.ensures.sendable c.args.settings.now
-    (subst (All (IsSendable c.args.settings.now)) (sym (c.in_ok-reserve-2.ensures.items ∙ c.new-emits.ensures.items)) (All-nil (IsSendable c.args.settings.now)))
+    c.retry_each.ensures.sendable c.args.site.now
+    (subst (All (IsSendable c.args.site.now)) (sym (c.in_ok-reserve-2.ensures.items ∙ c.new-emits.ensures.items)) (All-nil (IsSendable c.args.site.now)))
 
 pub returns-clause-parts : goal.returns-clause-parts
 returns-clause-parts c =
-    let settings = c.args.settings.now in
+    let settings = c.args.site.now in
     let m = c.args.m in
     let p = c.args.self.now.parts in
     let change = change_of c.retry_each.new.self.parts c.retry_each.new.entries.items c.retry_each.new.emits.items in

@@ -1,0 +1,200 @@
+// Entries of each kind, taken into a table that has room for them.
+ghost use Rattle.std.specs.Prelude.{◌≡◌, ◌<◌, ◌≤◌, ◌+◌, ◌^◌, ◌≢◌, IsTrue, length};
+ghost use Rattle.map_cache.specs.Cache.{has_room, lasting};
+ghost use Rattle.request_queue.specs.Queue.{may_send_again, waiting};
+ghost use Rattle.router_log.specs.declared.entry.Entry.TheVariants.{Answered, Asked, Bits, DataFrom, EchoHeard, EchoStarted, EchoWanted, Learned, ProbeAnswered, Probed, Retried, Solicited};
+ghost use Rattle.router_model.specs.Limits.{most_locators, most_probes, most_requests};
+ghost use Rattle.router_model.specs.Parts.{view_in, with_entry};
+ghost use Rattle.router_core.specs.Steps.{MayEnter};
+
+use crate::Table;
+use ip_headers::Addr;
+use mapping_records::{Eid, Record};
+
+impl Table {
+    /// Takes the entry of a mapping that was learned, for which there is room.
+    pub(crate) fn learn(&mut self, m: u64, mapping: Record, fixed: bool)
+        requires may { MayEnter 1 m self.old.parts }
+        requires locators { length mapping.locators ≤ most_locators }
+        requires version { mapping.version ≤ 4095 }
+        requires fixed { IsTrue fixed → mapping.ttl ≢ 0 }
+        requires place { IsTrue (has_room mapping (lasting m self.old.parts.mappings)) }
+        requires room { 0 < self.old.mapping_room }
+        requires locator_room { length mapping.locators ≤ self.old.locator_room }
+        ensures parts { self.new.parts ≡ with_entry (Learned m mapping fixed) self.old.parts }
+        ensures mapping_room { self.old.mapping_room ≤ self.new.mapping_room + 1 }
+        ensures locator_room { self.old.locator_room
+            ≤ self.new.locator_room + length mapping.locators }
+        ensures request_room { self.old.request_room ≤ self.new.request_room }
+    {
+        self.rest = 0;
+        // The length says that there are at most as many as may live.
+        let _ = self.cache.len();
+        let _ = self.cache.learn(m, mapping, fixed);
+        self.queue.purge(m);
+        self.locators.purge(m);
+        self.count += 1;
+    }
+
+    /// Takes the entry of a request that was made, for which there is room.
+    pub(crate) fn ask(&mut self, m: u64, eid: Eid, source: Option<Addr>, invoked: bool, nonce: u64)
+        requires may { MayEnter 1 m self.old.parts }
+        requires place { length (waiting m self.old.parts.requests) < most_requests }
+        requires room { 0 < self.old.request_room }
+        ensures parts { self.new.parts
+            ≡ with_entry (Asked m eid source invoked nonce) self.old.parts }
+        ensures request_room { self.old.request_room ≤ self.new.request_room + 1 }
+    {
+        self.rest = 0;
+        self.cache.purge(m);
+        // The length says that there are at most as many as may wait.
+        let _ = self.queue.len();
+        let _ = self.queue.ask(m, eid, source, invoked, nonce);
+        self.locators.purge(m);
+        self.count += 1;
+        self.drawn += 1;
+    }
+
+    /// Takes the entry of a request that was answered.
+    pub(crate) fn answer(&mut self, m: u64, nonce: u64)
+        requires may { MayEnter 1 m self.old.parts }
+        ensures parts { self.new.parts ≡ with_entry (Answered m nonce) self.old.parts }
+        ensures mapping_room { self.old.mapping_room ≤ self.new.mapping_room }
+        ensures locator_room { self.old.locator_room ≤ self.new.locator_room }
+        ensures request_room { self.old.request_room ≤ self.new.request_room }
+    {
+        self.rest = 0;
+        self.cache.purge(m);
+        self.queue.purge(m);
+        self.locators.purge(m);
+        self.queue.answer(nonce);
+        self.count += 1;
+    }
+
+    /// Takes the entry of a request that was sent again.
+    pub(crate) fn retry(&mut self, m: u64, nonce: u64)
+        requires may { MayEnter 1 m self.old.parts }
+        requires again { IsTrue (may_send_again nonce (waiting m self.old.parts.requests)) }
+        ensures parts { self.new.parts ≡ with_entry (Retried m nonce) self.old.parts }
+        ensures probe_room { self.old.probe_room ≤ self.new.probe_room }
+    {
+        self.rest = 0;
+        self.cache.purge(m);
+        self.queue.purge(m);
+        self.locators.purge(m);
+        self.queue.retry(nonce);
+        self.count += 1;
+    }
+
+    /// Takes the entry of a probe that was sent, for which there is room.
+    pub(crate) fn probe(&mut self, m: u64, rloc: Addr, nonce: u64)
+        requires may { MayEnter 1 m self.old.parts }
+        requires room { 0 < self.old.probe_room }
+        requires place { (view_in self.old.parts m).probe_count < most_probes }
+        ensures parts { self.new.parts ≡ with_entry (Probed m rloc nonce) self.old.parts }
+        ensures probe_room { self.old.probe_room ≤ self.new.probe_room + 1 }
+    {
+        self.rest = 0;
+        self.cache.purge(m);
+        self.queue.purge(m);
+        let _ = self.locators.probed(m, rloc, nonce);
+        self.count += 1;
+        self.drawn += 1;
+    }
+
+    /// Takes the entry of a probe that was answered.
+    pub(crate) fn answer_probe(&mut self, m: u64, nonce: u64)
+        requires may { MayEnter 1 m self.old.parts }
+        ensures parts { self.new.parts ≡ with_entry (ProbeAnswered m nonce) self.old.parts }
+    {
+        self.rest = 0;
+        self.cache.purge(m);
+        self.queue.purge(m);
+        self.locators.probe_answered(m, nonce);
+        self.count += 1;
+    }
+
+    /// Takes the entry of an echo that is asked for, for which there is room.
+    pub(crate) fn start_echo(&mut self, m: u64, rloc: Addr, nonce: u32)
+        requires may { MayEnter 1 m self.old.parts }
+        requires room { 0 < self.old.start_room }
+        requires place { IsTrue ((view_in self.old.parts m).may_start rloc) }
+        requires short { nonce < 2 ^ 24 }
+        ensures parts { self.new.parts ≡ with_entry (EchoStarted m rloc nonce) self.old.parts }
+    {
+        self.rest = 0;
+        self.cache.purge(m);
+        self.queue.purge(m);
+        let _ = self.locators.echo_started(m, rloc, nonce);
+        self.count += 1;
+        self.drawn += 1;
+    }
+
+    /// Takes the entry of an echo that came.
+    pub(crate) fn hear_echo(&mut self, m: u64, rloc: &Addr)
+        requires may { MayEnter 1 m self.old.parts }
+        ensures parts { self.new.parts ≡ with_entry (EchoHeard m rloc.now) self.old.parts }
+    {
+        self.rest = 0;
+        self.cache.purge(m);
+        self.queue.purge(m);
+        self.locators.echo_heard(m, rloc);
+        self.count += 1;
+    }
+
+    /// Takes the entry of a packet that came from a locator.
+    pub(crate) fn take_data(&mut self, m: u64, rloc: &Addr)
+        requires may { MayEnter 1 m self.old.parts }
+        ensures parts { self.new.parts ≡ with_entry (DataFrom m rloc.now) self.old.parts }
+    {
+        self.rest = 0;
+        self.cache.purge(m);
+        self.queue.purge(m);
+        self.locators.data_from(m, rloc);
+        self.count += 1;
+    }
+
+    /// Takes the entry of an echo that a locator wants, for which there is room.
+    pub(crate) fn want_echo(&mut self, m: u64, rloc: Addr, nonce: u32)
+        requires may { MayEnter 1 m self.old.parts }
+        requires room { 0 < self.old.wish_room }
+        requires place { IsTrue ((view_in self.old.parts m).may_want rloc nonce) }
+        requires short { nonce < 2 ^ 24 }
+        ensures parts { self.new.parts ≡ with_entry (EchoWanted m rloc nonce) self.old.parts }
+    {
+        self.rest = 0;
+        self.cache.purge(m);
+        self.queue.purge(m);
+        let _ = self.locators.echo_wanted(m, rloc, nonce);
+        self.count += 1;
+    }
+
+    /// Takes the entry of an SMR that was sent to a locator, for which there is room.
+    pub(crate) fn solicit(&mut self, m: u64, rloc: Addr, eid: Eid, nonce: u64)
+        requires may { MayEnter 1 m self.old.parts }
+        requires room { 0 < self.old.solicit_room }
+        requires place { IsTrue ((view_in self.old.parts m).may_solicit rloc eid) }
+        ensures parts { self.new.parts ≡ with_entry (Solicited m rloc eid nonce) self.old.parts }
+    {
+        self.rest = 0;
+        self.cache.purge(m);
+        self.queue.purge(m);
+        let _ = self.locators.solicited(m, rloc, eid);
+        self.count += 1;
+        self.drawn += 1;
+    }
+
+    /// Takes the entry of status bits that were told.
+    pub(crate) fn tell(&mut self, m: u64, eid: &Eid, bits: u32, width: u8)
+        requires may { MayEnter 1 m self.old.parts }
+        requires width { width ≤ 32 }
+        ensures parts { self.new.parts ≡ with_entry (Bits m eid.now bits width) self.old.parts }
+    {
+        self.rest = 0;
+        self.cache.purge(m);
+        self.queue.purge(m);
+        self.locators.purge(m);
+        self.cache.set_bits(eid, bits, width);
+        self.count += 1;
+    }
+}

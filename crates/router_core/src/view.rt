@@ -1,0 +1,93 @@
+// A table, as it is asked at a moment.
+ghost use Rattle.std.specs.Prelude.{◌≡◌, ◌&&◌, IfSome, option_map};
+ghost use Rattle.std.specs.Option.{option_copied};
+ghost use Rattle.lisp_settings.specs.Home.{home_of};
+ghost use Rattle.map_cache.specs.Lists.{IsFew};
+ghost use Rattle.router_model.specs.Cache.{held_of};
+ghost use Rattle.router_model.specs.Mappings.{force};
+ghost use Rattle.router_core.specs.Bounded.{IsShortOut, IsVersioned};
+ghost use Rattle.router_core.specs.Table.{seen};
+
+use crate::Table;
+use crate::site::Site;
+use ip_headers::Addr;
+use lisp_settings::Database;
+use map_cache::Mapping;
+use mapping_records::Eid;
+use router_log::EchoOut;
+use std::alloc::Global;
+use std::marker::Model;
+
+/// A table as it is asked at a moment, which may be one before the last entry's, for the site as it stands.
+#[derive(Drop)]
+pub(crate) struct View<'t> {
+    pub(crate) table: &'t Table,
+    pub(crate) site: &'t Site<'t>,
+    m: u64,
+}
+
+impl<'t> Model for View<'t> {
+    ghost use Rattle.router_core.specs.Table.{Viewed};
+
+    ghost Value = { Viewed };
+
+    ghost view = { λ view. record {
+      site = view.site.now;
+      parts = view.table.now.parts;
+      m = view.m;
+    } };
+}
+
+impl<'t> View<'t> {
+    /// The table as it is asked then.
+    pub(crate) fn of(table: &'t Table, site: &'t Site<'t>, m: u64) -> View<'t>
+        ensures { result ≡ record { site = site.now; parts = table.now.parts; m = m } }
+    {
+        View { table, site, m }
+    }
+
+    /// What lists are made with.
+    pub(crate) fn alloc(&self) -> Global {
+        let table = self.table;
+        table.alloc
+    }
+
+    /// Neither probes nor echoes speak against a locator.
+    pub(crate) fn is_up(&self, rloc: &Addr) -> bool
+        ensures { result ≡ (seen self.now).up rloc.now }
+    {
+        self.table.is_up(self.m, rloc)
+    }
+
+    /// What the header of a packet to a locator does about echoes.
+    pub(crate) fn echo_out(&self, rloc: &Addr) -> EchoOut
+        ensures out { result ≡ (seen self.now).echo_out rloc.now }
+        ensures short { IsShortOut result }
+    {
+        self.table.echo_out(self.m, rloc)
+    }
+
+    /// An echo is asked of the locators of packets, and may be asked of this one.
+    pub(crate) fn is_echo_due(&self, rloc: &Addr) -> bool
+        ensures { result ≡ (self.now.site.echo && (seen self.now).may_start rloc.now) }
+    {
+        self.table.is_echo_due(self.site, self.m, rloc)
+    }
+
+    /// The longest prefix of the site in an instance that covers an address.
+    pub(crate) fn home(&self, iid: u32, address: &Addr) -> Option<Database>
+        ensures { result ≡ home_of self.now.site.databases iid address.now }
+    {
+        self.site.home(iid, address)
+    }
+
+    /// The mapping in force for an EID.
+    pub(crate) fn in_force(&self, eid: &Eid) -> Option<&'t Mapping>
+        ensures found { option_map held_of (option_copied result)
+            ≡ force (seen self.now).mappings eid.now.iid eid.now.prefix.addr eid.now.prefix.len }
+        ensures few { IfSome (option_copied result) IsFew }
+        ensures version { IfSome (option_copied result) IsVersioned }
+    {
+        self.table.in_force(self.m, eid)
+    }
+}
