@@ -16,7 +16,7 @@ import settings as rules
 from captures import CaptureFault, frames_of
 from captures_ng import SIMPLE, Reader
 from compare import SPOILED, capture, frames_before, large_frames, some_frames
-from journal import Probed
+from journal import SECOND, Probed, Solicited
 from lisp import ECHO, NONCE, VERSIONS
 from makers import settings
 from makers_ng import spoiled, written
@@ -28,7 +28,7 @@ from wire import Packet, Refused, link_payload, number
 
 NOTICES = "Ask", "Refresh", "ToldBits", "WantedEcho", "HeardEcho", "HeardData", "Solicit", "EchoDue"
 ENTRIES = ("Learned", "Asked", "Retried", "Answered", "Probed", "ProbeAnswered", "Bits", "EchoStarted", "EchoHeard",
-           "DataFrom", "EchoWanted", "Solicited")
+           "DataFrom", "EchoWanted", "Solicited", "Changed")
 # But for that of a file of too many blocks or frames.
 FAULTS = ("bad-interface", "bad-length", "bad-link-type", "bad-magic", "bad-moment", "bad-option", "bad-version",
           "cut-block", "old-packet", "span-too-long", "too-long", "too-many-interfaces")
@@ -47,7 +47,14 @@ TO_COME = [
         "a packet with octets behind it", "a packet in a VLAN", "a packet that fits over IPv4 alone", "the largest packet")),
     *(f"no halves of a large packet {why}" for why in (
         "with DF", "whose options are at fault", "past the last offset", "that doesn't leave the site", "of IPv6")),
-    "half encapsulated", "half that is too large", "half that is a miss", "half natively"]
+    "half encapsulated", "half that is too large", "half that is a miss", "half natively",
+    *(f"change {kind}" for kind in (
+        "beside another of its second", "from before the first frame", "to what already was", "that tells somebody",
+        "that tells nobody", "with a probe in its second")),
+    "second in which a request is held back", "miss that isn't asked for, as the resolver isn't reached",
+    *(f"behind a change: verdict {word}" for word in (
+        "encapsulated", "drop 6 dest-version-newer", "drop 19 no-locator", "drop 24 no-reply-path",
+        "control request answered=1", "control probe-reply"))]
 
 
 def verdict_kind(verdict):
@@ -107,6 +114,27 @@ class Counted(Router):
         effect = "kept" if len(self.journal) > known else "without effect"
         self.counts[f"notice {type(notice).__name__} {effect}"] += 1
         return packets
+
+    def ticked(self, moment):
+        """Counts what changes do, and what is held back while the resolver isn't reached."""
+        known, second = len(self.journal), moment // SECOND
+        due, before = [change for change in self.waiting() if change.at <= second], self.site
+        packets = super().ticked(moment)
+        new = list(map(type, self.journal[known:]))
+        self.counts["change beside another of its second"] += len(due) > 1
+        self.counts["change from before the first frame"] += sum(change.at < second for change in due)
+        self.counts["change to what already was"] += len(due) == 1 and before.locators == self.site.locators
+        if due:
+            self.counts[f"change that tells {'somebody' if Solicited in new else 'nobody'}"] += 1
+            self.counts["change with a probe in its second"] += Probed in new
+        if self.site.resolver and not self.site.reaches_resolver():
+            self.counts["second in which a request is held back"] += bool(self.journal.due(moment))
+        return packets
+
+    def missed(self, moment, eid, source):
+        wants = self.site.resolver and not self.site.reaches_resolver() and self.journal.may_ask(moment, eid)
+        self.counts["miss that isn't asked for, as the resolver isn't reached"] += bool(wants)
+        return super().missed(moment, eid, source)
 
     def usable(self, moment, mapping):
         deaf = self.journal.deaf(moment)
@@ -225,11 +253,12 @@ def counted(r, folder, counts):
     for moment, link, frame in frames_of(path):
         counts.update(packet_kind(packet) for _, packet in router.until(moment))
         verdict, packets = router.take(moment, link, frame)
-        counts.update(["verdict " + verdict_kind(verdict), *packet_kinds(verdict, packets)])
+        kind = "verdict " + verdict_kind(verdict)
+        counts.update([kind, *packet_kinds(verdict, packets)] + [f"behind a change: {kind}"] * bool(router.journal.changes()))
     counts.update("entry " + type(entry).__name__ for entry in router.journal)
     at_once = collections.Counter(entry.moment for entry in router.journal if type(entry) is Probed)
     counts["second with sixteen probes"] += sum(count == 16 for count in at_once.values())
-    counted_large(random.Random(r.random()), router.site, text, path, counts)
+    counted_large(random.Random(r.random()), router.as_set, text, path, counts)
 
 
 def main():

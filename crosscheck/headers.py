@@ -40,20 +40,24 @@ class Headers:
         nonce = self.last_nonce(EchoWanted, peer)
         return NONCE | ECHO, nonce if self.r.random() < 0.6 else self.r.getrandbits(24)
 
+    def known(self, home):
+        """The version of a prefix of the site as it stands."""
+        return self.site.standing(self.journal.changes()).versions.get(home, 0)
+
     def versions(self, peer, mapping, home):
         """Versions as the router knows them, or near; of a prefix without one they are any."""
-        r, known = self.r, self.site.versions.get(home, 0)
+        r, known = self.r, self.known(home)
         source = mapping.version if r.random() < 0.6 else near(r, mapping.version)
         dest = known if r.random() < 0.4 else near(r, known)
         return VERSIONS | r.choice([0, 0, 0, ECHO]), source << 12 | dest
 
     def old(self, peer, mapping, home):
         """A version of the site's prefix that is a step too old."""
-        return VERSIONS, mapping.version << 12 | (self.site.versions.get(home, 0) - self.r.choice([1, 1, 2])) % 4096
+        return VERSIONS, mapping.version << 12 | (self.known(home) - self.r.choice([1, 1, 2])) % 4096
 
     def fresh(self, peer, mapping, home):
         """A version of the mapping that is a step newer than the one that is known."""
-        return VERSIONS, (mapping.version + self.r.choice([1, 1, 2])) % 4096 << 12 | self.site.versions.get(home, 0)
+        return VERSIONS, (mapping.version + self.r.choice([1, 1, 2])) % 4096 << 12 | self.known(home)
 
     def anything(self, peer, mapping, home):
         flags = self.r.choice([NONCE, NONCE | ECHO, NONCE | VERSIONS, NONCE | ECHO | VERSIONS, VERSIONS, 0x04, 0x01, 0])

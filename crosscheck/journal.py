@@ -87,6 +87,13 @@ class Solicited(NamedTuple):
     nonce: int
 
 
+class Changed(NamedTuple):
+    """An own locator goes down or comes up."""
+    moment: int
+    address: bytes
+    up: bool
+
+
 class Echo(NamedTuple):
     """An echo request, and what came from its locator since."""
     start: EchoStarted
@@ -157,6 +164,9 @@ class Journal(list):
     def drawn(self):
         kinds = list(map(type, self))
         return sum(map(kinds.count, (Asked, Probed, EchoStarted, Solicited)))
+
+    def changes(self):
+        return [entry for entry in self if type(entry) is Changed]
 
     def younger(self, kind, age, moment):
         """The entries of a kind that are younger than an age."""

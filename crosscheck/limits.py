@@ -102,9 +102,15 @@ def inbound(header, source=bytes([198, 51, 100, 7])):
 
 def solicitation(i):
     """The Map-Request with S for the site's prefix, to the numbered locator."""
-    message = f"11000001{drawn(i):016x}" + "00010a010000" + "0001c0000201" + "001000010a010000"
+    return told(i, "10010a010000", 1, locator(i))
+
+
+def told(i, prefix, count, to):
+    """The Map-Request with S for a prefix (its length and address) to a locator, with the first so many own locators."""
+    owns = "".join(f"0001c00002{own:02x}" for own in range(1, count + 1))
+    message = f"1100{count - 1:02x}01{drawn(i):016x}0001{prefix[4:]}{owns}00{prefix[:2]}0001{prefix[4:]}"
     size = 8 + len(message) // 2
-    octets = bytearray(struct.pack(">HHIHH", 0x4500, 20 + size, 0x4000, 0x4011, 0) + bytes([192, 0, 2, 1]) + locator(i)
+    octets = bytearray(struct.pack(">HHIHH", 0x4500, 20 + size, 0x4000, 0x4011, 0) + bytes([192, 0, 2, 1]) + to
                        + struct.pack(">HHHH", 4342, 4342, size, 0) + bytes.fromhex(message))
     ip_summed(octets, 0)
     udp_summed(octets, 0)
@@ -171,6 +177,48 @@ def started_echoes():
     return row("a locator more than may be asked for an echo",
                "The first was asked 60 s ago, so that one more is asked from the packet after that moment on.",
                frames, packets, 2 + 2 * MOST, settings)
+
+
+# Changes of own locators.
+
+
+def change(second, own, up):
+    return f'[[change]]\nat = {START // SECOND + second}\naddress = "192.0.2.{own}"\nup = {str(up).lower()}\n'
+
+
+def most_changes():
+    """32 own locators go down and come up in the eight seconds before the first frame."""
+    site = versioned(1).replace('[[locator]]\naddress = "192.0.2.1"\n', "".join(
+        f'[[locator]]\naddress = "192.0.2.{own}"\n' for own in range(1, 33)), 1)
+    changes = [change(-second, own, second % 2 == 1) for second in range(1, 9) for own in range(32, 0, -1)]
+    sent = "encapsulated 192.0.2.1 198.51.100.7 64519"
+    first, second = (octets_of({"like": "sent", "change": [[28, header]]}, PACKETS)
+                     for header in ("50001000ffffffff", "50101000ffffffff"))
+    frames = [(0, shared("packet"), f"n=1 {sent}"), (SECOND, shared("packet"), f"n=258 {sent}")]
+    packets = [(0, first), (SECOND, told(0, "10010a010000", 32, bytes([198, 51, 100, 7]))), (SECOND, second)]
+    return row("256 changes in one second", "All of them lie before the first frame; each steps the version, and the peer "
+               "is told once.", frames, packets, 258, site + "".join(changes))
+
+
+def most_told():
+    """64 prefixes, and 65 locators in three mappings; a change at 1 s, at 2 s and at 11 s."""
+    settings = TEXTS["fixed"].partition("[[database]]")[0] + "".join(
+        f'[[database]]\niid = 0\nprefix = "10.1.{i}.0/24"\nversion = 5\n' for i in range(64))
+    for i in range(65):
+        settings += f'[[mapping]]\niid = 0\nprefix = "10.2.{i}.0/24"\n' * (i % 32 == 0)
+        settings += f'[[mapping.locator]]\naddress = "198.51.{i // 256}.{i % 256}"\n'
+    settings += "".join(change(second, 1, True) for second in (1, 2, 11))
+    old, away = inbound("1000000400000000", locator(65)), bytes([0])
+    refused, out = "drop 1 refused ip 0 version", shared("delivered")
+    frames = [(0, away, f"n=3 {refused}"), (3 * SECOND, old, f"n={5 + MOST} {DELIVERED}"),
+              (11 * SECOND - 1, old, f"n={5 + MOST} {DELIVERED}"), (11 * SECOND, old, f"n={6 + 2 * MOST} {DELIVERED}")]
+    all_told = [[told(64 * i + k + wave * MOST, f"18010a01{k:02x}00", 1, locator(i))
+                 for i in range(64) for k in range(64)] for wave in (0, 1)]
+    packets = [*((SECOND, one) for one in all_told[0]), (3 * SECOND, out), (11 * SECOND - 1, out),
+               *((11 * SECOND, one) for one in all_told[1]), (11 * SECOND, out)]
+    return row("as many are told of a change as count",
+               "64 locators of 64 prefixes each; so nobody can be told behind that until 10 s are over, of a change or a "
+               "version, and then they are told again.", frames, packets, 6 + 2 * MOST, settings)
 
 
 # Rounds.
@@ -243,5 +291,6 @@ def rounds_by_halves():
 
 
 def rows():
-    return [open_requests(), live_mappings(), wanted_echoes(), solicited_peers(), started_echoes(),
+    return [open_requests(), live_mappings(), wanted_echoes(), solicited_peers(), started_echoes(), most_changes(),
+            most_told(),
             *rounds_by_size(), *rounds_by_octets(), *rounds_by_halves()]

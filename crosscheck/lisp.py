@@ -40,6 +40,11 @@ def newer(a, b):
     return 0 < a - b <= 2048 or b - a > 2048
 
 
+def successor(version):
+    """The version behind another: 1 behind the greatest; a version of 0 stays so, and tells nothing."""
+    return 0 if version == 0 else version % 4095 + 1
+
+
 def is_ahead(a, b):
     """Whether both versions tell something, and the first is newer."""
     return a != 0 and b != 0 and newer(a, b)

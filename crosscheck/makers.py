@@ -70,10 +70,22 @@ def mapping(r, iid, prefix, pool, counts=COUNTS):
                     f"up = {r.choice(['true', 'true', 'false'])}"]
 
 
+def changes(r, owns):
+    """In most settings up to 20 changes of own locators: around the first frames, soon behind them, or never."""
+    start, found = 1_700_000_000, set()
+    for _ in range(r.choice([0, 0, 1, 2, 5, 20])):
+        at = start + r.choice([r.randrange(-2, 3), r.randrange(8), r.randrange(60), r.randrange(700), 10**6])
+        found.update((at, address) for address in r.sample(owns, r.choice([1, 1, min(2, len(owns)), len(owns)])))
+    found.update((r.choice([0, 2**32 - 1]), address) for address in owns[:1] if r.random() < 0.05)
+    for at, address in r.sample(sorted(found), min(20, len(found))):
+        yield from ["[[change]]", f"at = {at}", f'address = "{address}"',
+                    f"up = {r.choice(['true', 'true', 'true', 'false'])}"]
+
+
 def settings(r):
     """Settings of one to three instances, in half of them of two."""
-    lines, up = [], []
-    for address in r.sample(OWN, r.randint(1, 4)):
+    lines, up, owns = [], [], r.sample(OWN, r.randint(1, 4))
+    for address in owns:
         word = r.choice(["true", "true", "true", "false"])
         up += [address] if word == "true" else []
         lines += ["[[locator]]", f'address = "{address}"', f"up = {word}"]
@@ -87,6 +99,7 @@ def settings(r):
             lines += ["[[database]]", f"iid = {iid}", f'prefix = "{prefix}"', *version(r)]
         for prefix in r.sample(AWAY, r.randint(0, most)):
             lines += mapping(r, iid, prefix, pool)
+    lines += changes(r, owns)
     return "\n".join(lines) + "\n"
 
 
@@ -94,9 +107,10 @@ WORDS = ["1", "-1", "0", "255", "256", "4095", "4096", "16777215", "16777216", "
          "[1]", '""', '"::"', '"::1"', '"1:2:3:4:5:6:7::"', '"1::2:3:4:5:6:7:8"', '"1:2:3:4:5:6:7:8"', '"::1.2.3.4"',
          '"1.2.3.04"', '"1.2.3.4"', '"1.2.3"', '"1.2.3.256"', '"10.1.2.3/16"', '"10.1.2.3/33"', '"10.1.2.3/016"',
          '"::/128"', '"::/129"', '"2001:DB8::/32"', '"12345::"', '"a::b::c"', '"192.0.2.1"', '"+1.2.3.4"', '"::1/+1"',
-         '"' + "0aF" * 21 + "9" + '"', '"0123456789abcDEF"', '["0123456789abcdef", "0123456789abcdeg"]', "8", "7"]
+         '"' + "0aF" * 21 + "9" + '"', '"0123456789abcDEF"', '["0123456789abcdef", "0123456789abcdeg"]', "8", "7",
+         "4294967295", "4294967296"]
 KEYS, UNKNOWN = ["seed", "nonces", "resolver", "ttl", "probe", "echo"], ["seeds", "A"]
-INNER = ["address", "priority", "weight", "up", "vlan", "iid", "prefix", "version", "action", "locator", "zone"]
+INNER = ["address", "priority", "weight", "up", "vlan", "iid", "prefix", "version", "action", "locator", "zone", "at"]
 
 
 def spoiled_settings(r):

@@ -103,7 +103,7 @@ def audits(program, shim, output, name, files, sent):
 def refusals(program, folder):
     shim, output = os.path.join(folder, "refuse.so"), os.path.join(folder, "out.pcap")
     subprocess.run(["cc", "-shared", "-fPIC", "-o", shim, os.path.join(HERE, "refuse.c"), "-ldl"], check=True)
-    for name in "site", "cache", "ticks", "echoes", "ng":
+    for name in "site", "cache", "ticks", "echoes", "uplink", "ng":
         example = os.path.join(EXAMPLES, name)
         settings, (capture, more) = os.path.join(example, "settings.toml"), capture_of(example)
         read = reader_of(Format.NG if more else Format.CLASSIC)

@@ -14,7 +14,7 @@ import struct
 from compare import Round, main, write
 from fitting import longer, randomly, record, shorter
 from journal import SECOND, Learned
-from makers import HOMES, MANY, OTHERS, OWN, first_keys, mapping, raw, version
+from makers import HOMES, MANY, OTHERS, OWN, changes, first_keys, mapping, raw, version
 from messages import Eid
 from sites import Site
 from talk import Talk
@@ -132,6 +132,7 @@ def settings(r, iids, fixed):
     pool, counts = r.choice([OTHERS, MANY, NUMBERED]), r.choice([COUNTS, COUNTS, [0, *COUNTS, 9, 32]])
     for eid in fixed:
         lines += mapping(r, eid.iid, f"{text_of(randomly(r, eid))}/{eid.length}", pool, counts)
+    lines += changes(r, OWN)
     return "\n".join(lines) + "\n"
 
 

@@ -74,14 +74,22 @@ def fixed(site):
 
 
 class Noting:
-    """A site and its journal, which each notice is judged by as it then stands."""
+    """A site and its journal, which each notice is judged by as it then stands.
+
+    The site is first as its settings say (`as_set`), and then as its changes in the journal leave it (`site`).
+    """
 
     def __init__(self, site, entries=None):
-        self.site = site
+        self.as_set = site
         self.journal = Journal(fixed(site) if entries is None else entries)
+        self.stand()
         self.notes = {
             Ask: self.missed, Refresh: self.refreshed, ToldBits: self.told, WantedEcho: self.wanted,
             HeardEcho: self.heard_echo, HeardData: self.heard_data, Solicit: self.solicited, EchoDue: self.started}
+
+    def stand(self):
+        changes = self.journal.changes()
+        self.site = self.as_set.standing(changes) if changes else self.as_set
 
     def note(self, moment, notice):
         """What is sent for a notice."""
@@ -93,8 +101,8 @@ class Noting:
     # Requests.
 
     def asked(self, moment, eid, source=None, invoked=False):
-        """Asks for an EID, where no open request covers it."""
-        if self.site.resolver is None or not self.journal.may_ask(moment, eid):
+        """Asks for an EID, where the resolver can be reached and no open request covers it."""
+        if not self.site.reaches_resolver() or not self.journal.may_ask(moment, eid):
             return []
         self.journal.append(Asked(moment, eid, source, invoked, self.nonce()))
         return [request_packet(self.site, self.journal[-1])]

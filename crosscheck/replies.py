@@ -1,12 +1,13 @@
 #!/usr/bin/env python3
 """Lets tshark read each Map-Reply in a capture that was written, and tells which it finds fault with.
 
-usage: replies.py SETTINGS PCAP
+usage: replies.py SETTINGS CAPTURE PCAP
 The headers must have right checksums, no octet may be malformed, reserved or left over, and tshark must read what
-the settings say of the site. It ends with status 1 where one is at fault.
+the settings say of the site at that moment of the capture. It ends with status 1 where one is at fault.
 """
 import sys
 
+from captures import frames_of
 from messages import Reply
 from sites import Site
 from tshark import addresses, kept, report, reserved
@@ -74,10 +75,18 @@ def faults(site, row, packet, port, message):
     return found + locators_at_fault(row, site, count, packet.source if message.probe else None)
 
 
-def main():
-    with open(sys.argv[1], "rb") as file:
+def standing(settings, capture, output):
+    """What tells the site as it stands at the moment of a packet of the output, by what tshark reads of that."""
+    with open(settings, "rb") as file:
         site = Site(file.read())
-    report("replies", sys.argv[2], 2, FIELDS + UNUSED, lambda *parts: faults(site, *parts))
+    begin = next(frames_of(capture))[0]
+    moments = [moment for moment, _, _ in frames_of(output)]
+    return lambda row: site.at(begin, moments[int(row["frame.number"][0]) - 1])
+
+
+def main():
+    site_of = standing(*sys.argv[1:])
+    report("replies", sys.argv[3], 2, FIELDS + UNUSED, lambda row, *parts: faults(site_of(row), row, *parts))
 
 
 if __name__ == "__main__":

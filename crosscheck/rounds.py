@@ -98,7 +98,7 @@ class Round:
     def decided(self, frame, known):
         """What is told of a data packet by so many entries, and what is noticed."""
         if known not in self.deciders:
-            self.deciders[known] = Router(self.router.site, self.router.journal[:known])
+            self.deciders[known] = Router(self.router.as_set, self.router.journal[:known])
         verdict, packets, notices = self.deciders[known].judged(*frame[1:])
         return self.told(frame, known, verdict, packets), notices
 

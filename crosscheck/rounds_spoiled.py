@@ -20,7 +20,7 @@ import rounds
 import worked_rounds
 from captures import frames_of, output_header, output_record
 from compare import capture, frames, write
-from limits import PACKETS, TEXTS, shared, to
+from limits import PACKETS, TEXTS, change, shared, to
 from makers import settings
 from row_runs import SECOND, capture_of, octets_of
 from rounds import Round, Stepwise
@@ -87,6 +87,15 @@ def ended_before(folder):
         (61_200, packet)])
 
 
+def uplink(folder):
+    """Rounds of four; in the first two an own locator goes down, and comes up, between packets."""
+    packet, other = shared("packet"), to(bytes([10, 3, 0, 9]))
+    text = TEXTS["tenant"] + "version = 5\n" + MAPPING + '[[locator]]\naddress = "192.0.2.2"\n' + "".join(
+        change(second, 1, up) for second, up in ((1, False), (3, True)))
+    return made(folder, 4, text, [
+        (0, packet), (900, other), (1000, packet), (1100, other), (2000, packet), (2900, packet), (3000, packet), (3100, packet)])
+
+
 def from_number(folder, r):
     case, text = Case(folder, r.choice(SIZES)), settings(r)
     write(case.settings, text)
@@ -99,7 +108,7 @@ def from_number(folder, r):
 
 def stepwise(case):
     size = case.size
-    return case.ended(plain.replay, lambda router, *parts: plain.played(Stepwise(router.site, size), *parts))
+    return case.ended(plain.replay, lambda router, *parts: plain.played(Stepwise(router.as_set, size), *parts))
 
 
 def lawful(case, r):
@@ -267,7 +276,7 @@ def main():
     counts, wrong = collections.Counter(), 0
     with tempfile.TemporaryDirectory() as folder:
         wrong += judged(worked(folder), [("lawful: worked", end) for end in worked_rounds.ends()], "worked", counts)
-        for make in [worked, sent_again, ended_before] * 5:
+        for make in [worked, sent_again, ended_before, uplink] * 5:
             case, r = make(folder), random.Random(f"{seed} {sum(counts.values())}")
             ends = [*lawful(case, r), *spoiled(case, r), *of_other_sizes(case, r)]
             wrong += judged(case, ends, make.__name__, counts)

@@ -1,16 +1,18 @@
 """A plain router: what it decides of each frame and does at each second, by the whole journal as it then stands."""
 from choice import chosen, flow_hash
-from journal import PROBE_AGAIN, SECOND, Answered, Learned, ProbeAnswered, Probed, Retried
+from journal import PROBE_AGAIN, SECOND, Answered, Changed, Learned, ProbeAnswered, Probed, Retried
 from lisp import ECHO, NONCE, VERSIONS, header_of, is_ahead
 from messages import Eid, Request, message_of
 from noting import Ask, EchoDue, Noting, of_delivered
 from sending import probe_packet, reply_packet, request_packet, wrapped
+from sites import by_address
 from wire import Packet, Refused, link_payload, need, text_of
 
 ACTIONS = {0: "14 no-action", 2: "15 send-request", 4: "17 drop-policy", 5: "18 drop-auth"}
 ECN = {(0, 0): 0, (0, 2): 0, (0, 1): 0, (2, 0): 2, (2, 2): 2, (2, 1): 1, (2, 3): 3,
        (1, 0): 1, (1, 2): 1, (1, 1): 1, (1, 3): 3, (3, 0): 3, (3, 2): 3, (3, 1): 3, (3, 3): 3}
-MOST_AT_ONCE = 16
+# How many locators are probed at a second, and how many are told of a change.
+MOST_AT_ONCE, MOST_TOLD = 16, 64
 
 
 def is_group(address):
@@ -39,22 +41,50 @@ class Router(Noting):
         while second is not None and second * SECOND <= moment:
             packets = self.ticked(second * SECOND)
             yield [(second * SECOND, packet) for packet in packets]
-            second = second + 1 if packets else self.journal.next_second(second)
+            second = second + 1 if packets else self.next_second(second)
+
+    def next_second(self, second):
+        """Behind a second in which nothing was sent: the first one in which something may be to be done, or None."""
+        found = [self.journal.next_second(second), *(change.at for change in self.waiting()[:1])]
+        return min((at for at in found if at is not None), default=None)
 
     def ticked(self, moment):
-        """What is sent at a whole second: due requests once more, and probes."""
+        """What is sent at a whole second: what changes of the site make, due requests once more, and probes."""
+        sent = self.told_all(moment) if self.changed(moment) else []
+        if self.site.reaches_resolver():
+            sent += self.sent_again(moment)
+        return sent + self.probed(moment) if self.site.probe else sent
+
+    def waiting(self):
+        """The changes of the settings that are still to come, in order."""
+        return self.as_set.changes[len(self.journal.changes()):]
+
+    def changed(self, moment):
+        """Makes the changes up to a moment, and tells whether there is one."""
+        due = [change for change in self.waiting() if change.at * SECOND <= moment]
+        self.journal += [Changed(moment, change.address, change.up) for change in due]
+        self.stand()
+        return bool(due)
+
+    def told_all(self, moment):
+        """Solicitations to the first locators, in order of address, that can be reached; for each prefix of the site."""
+        told = sorted(self.named(moment), key=by_address)[:MOST_TOLD]
+        return [sent for address in told for eid in self.site.databases
+                for sent in self.solicited(moment, address, eid) or []]
+
+    def sent_again(self, moment):
         sent = []
         for asked in self.journal.due(moment):
             self.journal.append(Retried(moment, asked.nonce))
             sent.append(request_packet(self.site, asked))
-        return sent + self.probed(moment) if self.site.probe else sent
+        return sent
 
     def probed(self, moment):
         """Probes of the locators that were never probed, or not for longest, by address where that is alike."""
         last, named, sent = self.journal.last_probes(moment), self.named(moment), []
         waiting = [address for address in named
                    if address not in last or self.journal.now(moment) - last[address] >= PROBE_AGAIN]
-        waiting.sort(key=lambda address: (last.get(address, -1), len(address), address))
+        waiting.sort(key=lambda address: (last.get(address, -1), by_address(address)))
         for address in waiting[:min(MOST_AT_ONCE, self.journal.may_probe(moment))]:
             nonce = self.nonce()
             self.journal.append(Probed(moment, address, nonce))
@@ -62,7 +92,7 @@ class Router(Noting):
         return sent
 
     def named(self, moment):
-        """The locators that can be probed, and for each the least EID whose mapping names it for packets."""
+        """The locators that can be reached, and for each the least EID whose mapping names it for packets."""
         named = {}
         for eid, entry in sorted(self.journal.live(moment).items()):
             for locator in entry.mapping.locators:

@@ -2,7 +2,8 @@
 """Replays captures made from a number, and lets tshark read each Map-Request and Map-Reply that is written.
 
 usage: sent.py PROGRAM [ROUNDS [SEED]]
-Each round makes settings and a capture, as compare.py has them, and gives the output to requests.py and replies.py.
+Each round makes settings and a capture, as compare.py has them, and gives the output to requests.py, replies.py and
+solicits.py.
 Where the settings are spoiled there is none. It ends with status 1 where one of these finds fault.
 """
 import collections
@@ -30,7 +31,7 @@ def readings(program, folder, r):
                    stdout=subprocess.DEVNULL)
     if not os.path.exists(names[2]):
         return
-    for script, *words in ["requests.py", names[2]], ["replies.py", names[0], names[2]]:
+    for script, *words in ["requests.py", names[2]], ["replies.py", *names], ["solicits.py", *names]:
         command = [sys.executable, "-B", os.path.join(HERE, script), *words]
         done = subprocess.run(command, capture_output=True, text=True)
         yield done.returncode, done.stdout + done.stderr * (done.returncode != 0)
@@ -48,7 +49,8 @@ def main():
                 counts.update({word: int(number) for number, word, _ in COUNT.findall(said)})
                 print(f"round {i} of seed {seed}\n{said}" * (status != 0), end="", flush=True)
                 failed += status != 0
-    print(f"{counts['requests']} requests, {counts['replies']} replies, {failed} outputs at fault")
+    print(", ".join(f"{counts[word]} {word}" for word in ("requests", "replies", "solicits"))
+          + f", {failed} outputs at fault")
     sys.exit(failed > 0)
 
 

@@ -8,6 +8,8 @@ HEX = re.compile(r"[0-9a-fA-F]*")
 NUMBER = re.compile(r"0|[1-9][0-9]{0,2}")
 GROUP = re.compile(r"[0-9a-fA-F]{1,4}")
 MOST_OCTETS = 2**24
+# The keys of the top table, in the order in which they are judged.
+KEYS = ("seed", "nonces", "resolver", "ttl", "probe", "echo", "locator", "attachment", "database", "mapping", "change")
 
 
 class Fault(Exception):
@@ -142,6 +144,21 @@ def mapping(table, path):
     return name
 
 
+def change(owns):
+    """What reads a change of one of these own locators."""
+    def own(value):
+        octets = address(value)
+        return octets if octets in owns else None
+
+    def read(table, path):
+        only(table, ("at", "address", "up"), path)
+        second = required(table, "at", whole(2**32 - 1), path)
+        octets = required(table, "address", own, path)
+        required(table, "up", lambda value: value if truth(value) else None, path)
+        return second, octets
+    return read
+
+
 def reaches(table, resolver):
     """Whether an own locator is up in the resolver's family."""
     return table.get("up", True) and len(address(table["address"])) == len(address(resolver))
@@ -149,8 +166,7 @@ def reaches(table, resolver):
 
 def check(top):
     """Raises the first fault of the top table."""
-    keys = ("seed", "nonces", "resolver", "ttl", "probe", "echo", "locator", "attachment", "database", "mapping")
-    only(top, keys, [])
+    only(top, KEYS, [])
     optional(top, "seed", hexadecimal(64), [])
     nonces = top.get("nonces", [])
     if not isinstance(nonces, list):
@@ -168,6 +184,7 @@ def check(top):
     items(top, "attachment", 4096, attachment, [])
     items(top, "database", 64, database, [])
     items(top, "mapping", 65536, mapping, [])
+    items(top, "change", 256, change({address(table["address"]) for table in top["locator"]}), [])
     if "resolver" in top and not any(reaches(table, top["resolver"]) for table in top["locator"]):
         fail("bad-value", ["resolver"])
 

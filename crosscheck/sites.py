@@ -1,8 +1,19 @@
 """The site of a settings file: its own locators, EIDs, instances and static mappings."""
+import copy
 import ipaddress
+from typing import NamedTuple
 
 import settings as rules
+from journal import SECOND
+from lisp import successor
 from messages import Eid, Locator, Record
+
+
+class Change(NamedTuple):
+    """At a second an own locator goes down or comes up."""
+    at: int
+    address: bytes
+    up: bool
 
 
 def raw(text):
@@ -20,6 +31,24 @@ def locators_of(table):
         for item in table.get("locator", []))
 
 
+def by_address(address):
+    """What addresses are ordered by."""
+    return len(address), address
+
+
+def changes_of(top):
+    """The changes in order of their seconds, those of a second in order of address."""
+    changes = [Change(table["at"], raw(table["address"]), table["up"]) for table in top.get("change", [])]
+    return sorted(changes, key=lambda change: (change.at, by_address(change.address)))
+
+
+def stepped(version, steps):
+    """A version so many steps on."""
+    for _ in range(steps):
+        version = successor(version)
+    return version
+
+
 def mapping_of(table):
     return Record(eid_of(table), 1440, table.get("action", 0), table.get("version", 0), locators_of(table))
 
@@ -28,7 +57,7 @@ class Site:
     def __init__(self, octets):
         top = rules.top_of(octets)
         rules.check(top)
-        self.locators = sorted(locators_of(top), key=lambda own: (len(own.address), own.address))
+        self.locators = sorted(locators_of(top), key=lambda own: by_address(own.address))
         self.attachments = {table["vlan"]: table["iid"] for table in top.get("attachment", [])}
         self.versions = {eid_of(table): table.get("version", 0) for table in top.get("database", [])}
         self.databases = sorted(self.versions)
@@ -39,6 +68,20 @@ class Site:
         self.probe, self.echo = top.get("probe", False), top.get("echo", False)
         self.nonces = [int(text, 16) for text in top.get("nonces", [])]
         self.seed = bytes.fromhex(top.get("seed", 64 * "0"))
+        self.changes = changes_of(top)
+
+    def standing(self, changes):
+        """The site behind changes: each own locator is as its last one says, and each version so many steps on."""
+        up = {change.address: change.up for change in changes}
+        site = copy.copy(self)
+        site.locators = [own._replace(reachable=up.get(own.address, own.reachable)) for own in self.locators]
+        site.versions = {eid: stepped(version, len(changes)) for eid, version in self.versions.items()}
+        return site
+
+    def at(self, begin, moment):
+        """The site at a moment of a run whose first frame is at another: each second behind that makes what is due."""
+        second = moment // SECOND
+        return self.standing([change for change in self.changes if change.at <= second and begin < second * SECOND])
 
     def is_own(self, address):
         return any(own.address == address for own in self.locators)
@@ -49,6 +92,9 @@ class Site:
     def ours(self, family):
         """The address that packets of a family, told by the size of its addresses, come from, or None."""
         return next((address for address in self.up() if len(address) == family), None)
+
+    def reaches_resolver(self):
+        return self.resolver is not None and self.ours(len(self.resolver)) is not None
 
     def home(self, eid):
         """The site's longest EID that covers an EID, or None."""

@@ -249,10 +249,17 @@ class Talk:
             (deaf, ECHO_ON, to_it), (deaf, ECHO_COUNTS, to_it)])
         yield from ((entry.moment + age, make, entry) for entry in entries)
 
+    def changes(self):
+        """Where an own locator goes down or comes up soon."""
+        for change in self.router.waiting()[:4]:
+            if change.at * SECOND - self.now < 700 * SECOND:
+                yield change.at * SECOND, lambda change: self.any(), change
+
     def aimed(self):
         """The end of something, or one unit before, and what makes a frame then; or None."""
         r, early = self.r, self.r.choice([0, self.unit])
-        for find in r.sample([self.request_ends, self.mapping_ends, self.probe_ends, self.echo_ends, self.renewed], 5):
+        finds = [self.request_ends, self.mapping_ends, self.probe_ends, self.echo_ends, self.renewed, self.changes]
+        for find in r.sample(finds, len(finds)):
             found = [one for one in find() if one[0] - early >= self.now]
             if found:
                 moment, make, regarded = r.choice(found)

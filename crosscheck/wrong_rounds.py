@@ -85,6 +85,15 @@ class ByMoment(Round):
         return super().decided(frame, known)
 
 
+class AllChanges(Round):
+    """packets decided by all changes of their round"""
+
+    def decided(self, frame, known):
+        super().decided(frame, known)
+        self.deciders[known].site = self.router.site
+        return super().decided(frame, known)
+
+
 class OneAfterAnother(Round):
     """notices noted right after their frames"""
 
@@ -94,4 +103,4 @@ class OneAfterAnother(Round):
         return Told(told.lines, told.packets + sent), []
 
 
-KINDS = [AtFrames, Early, Reversed, Forgotten, NoticesFirst, SecondsLast, AtLast, ByMoment, OneAfterAnother]
+KINDS = [AtFrames, Early, Reversed, Forgotten, NoticesFirst, SecondsLast, AtLast, ByMoment, AllChanges, OneAfterAnother]

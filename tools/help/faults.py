@@ -8,7 +8,7 @@ import threading
 from words import value_of
 
 REPORT, TAIL, SECONDS = 1, 65_536, 3
-# The sentences, with the numbers that stand behind the word. A key may have one of its own.
+# The sentences, with the numbers that stand behind the word. A key may have one of its own, with N for its positions.
 SENTENCES = {
     "settings": {
         "not-toml": "the file isn't TOML",
@@ -17,7 +17,8 @@ SENTENCES = {
         "missing": "this key must be there, and isn't",
         "bad-value": "the value of this key isn't one that it takes",
         "bad-value resolver": "it takes an address, of whose family an own locator is up",
-        "duplicate": "an earlier item of the list has the same address, VLAN, or instance and prefix",
+        "bad-value change.N.address": "it takes the address of an own locator",
+        "duplicate": "an earlier item of the list has the same address, VLAN, instance and prefix, or second and address",
         "too-many": "the list at this key has more items than it may have",
     },
     "capture": {
@@ -74,8 +75,9 @@ def sentence(line, words):
     kind, _, rest = line.partition(" ")
     word, *others = rest.split(" ")
     known = {**table(kind, words), **(AUDITED if is_audit(words) else {})}
+    numbered = re.sub(r"\.\d+", ".N", rest)
     try:
-        return known.get(rest, known.get(word, "")).format(*others) or None
+        return known.get(numbered, known.get(word, "")).format(*others) or None
     except IndexError:
         return None
 

@@ -35,6 +35,7 @@ from faults import SENTENCES  # noqa: E402
 from words import MAPPINGS, NUMBERS  # noqa: E402
 
 LOCATOR = '[[locator]]\naddress = "192.0.2.1"\n'
+OTHER, CHANGE = LOCATOR.replace("2.1", "2.2"), '[[change]]\nat = 1\naddress = "192.0.2.1"\nup = true\n'
 REPLAY = ["replay", "--settings", "s.toml", "--in", "i.pcap", "--out", "o.pcap"]
 AUDIT = ["audit", "--settings", "s.toml", "--in", "i.pcap", "--sent", "o.pcap"]
 wrong = []
@@ -214,6 +215,11 @@ SETTINGS = [
     (LOCATOR + "[[mapping]]\niid = 1\nprefix = '''10.0.0.0/8'''\n[[mapping.locator]]\n# [[mapping]]\n",
      "missing mapping.0.locator.0.address", "s.toml:6: [[mapping.locator]]  (it should be"),
     (LOCATOR + "[[database]]\niid = 1\n" * 65, "too-many database", "s.toml:3: [[database]]"),
+    (OTHER + CHANGE, "bad-value change.0.address", "it takes the address of an own locator"),
+    (OTHER + CHANGE, "bad-value change.0.address", 's.toml:5: address = "192.0.2.1"'),
+    (LOCATOR + CHANGE * 2, "duplicate change.1", "s.toml:7: [[change]]"),
+    (LOCATOR + CHANGE * 2, "duplicate change.1", "or second and address"),
+    ("change = [\n{at = 1, up = true}]\n" + LOCATOR, "missing change.0.address", "s.toml:2: {at = 1, up = true}]  (it should"),
 ]
 
 

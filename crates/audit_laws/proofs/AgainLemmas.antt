@@ -19,11 +19,12 @@ use Rattle.router_model.specs.Hear.{Heard, hear_by}
 use Rattle.router_model.specs.Journal.{Journal, drawn, statics}
 use Rattle.router_model.specs.Note.{noted}
 use Rattle.router_model.specs.Plain.{Router, after_decision, after_message, emit_packets, packet_of, packets_of, plain}
+use Rattle.router_model.specs.Standing.{standing}
 use Rattle.router_model.specs.Tick.{ticked}
 use Rattle.router_model.specs.View.{View, view}
 use Rattle.audit_laws.specs.Drawn.{drawn_nonces, first_nonces, journal_after, nonce_at, with_nonces}
 use Rattle.audit_laws.specs.Sent.{sent_packets}
-use Rattle.audit_laws.proofs.AlikeLemmas.{alike-each, alike-noted, alike-ticked}
+use Rattle.audit_laws.proofs.AlikeLemmas.{alike-each, alike-noted, alike-ticked, standing-others}
 use Rattle.audit_laws.proofs.DrawnLemmas.{length-first_nonces}
 use Rattle.audit_laws.proofs.HeardLemmas.{alike-heard}
 
@@ -73,11 +74,14 @@ module _ (settings : Settings) (seed nonces : List ℕ) (n : ℕ) (agree : (i : 
 
   -- an outcome by a change
   abbrev made : Settings → ℕ → List ℕ → List Packet → Change Journal → Outcome (Router Journal)
-  made s m lines first change = record { lines = lines; packets = first ++ emit_packets s m change.emits; after = router_of s change.after }
+  made s m lines first change = record { lines = lines; packets = first ++ emit_packets (standing s change.after) m change.emits; after = router_of s change.after }
 
   made-same : (m : ℕ) (other_lines lines : List ℕ) (first : List Packet) (other change : Change Journal) → other ≡ change → IsSame (made others m other_lines first other) (made settings m lines first change)
   made-same m other_lines lines first other change is = record {
-    packets = ap (λ (c : Change Journal). first ++ emit_packets others m c.emits) is ∙ ap (λ (l : List Packet). first ++ l) (emits-alike settings seed nonces m change.emits);
+    packets =
+        ap (λ (c : Change Journal). first ++ emit_packets (standing others c.after) m c.emits) is
+        ∙ ap (λ (s : Settings). first ++ emit_packets s m change.emits) (standing-others settings seed nonces change.after)
+        ∙ ap (λ (l : List Packet). first ++ l) (emits-alike (standing settings change.after) seed nonces m change.emits);
     memory = change.after;
     other_after = ap (λ (c : Change Journal). router_of others c.after) is;
     after = refl;
@@ -93,50 +97,60 @@ module _ (settings : Settings) (seed nonces : List ℕ) (n : ℕ) (agree : (i : 
       let alike = alike-ticked n settings seed nonces agree (seconds s) in
       either journal (seconds s) [] [] [] (ticked of_journal others (seconds s) (unchanged journal)) (ticked of_journal settings (seconds s) (unchanged journal)) (alike.kept (unchanged journal)) (alike.same (unchanged journal))
 
-  message-alike : (frame : Frame) (journal : Journal)
-      → EventAlike journal (after_message of_journal (router_of others journal) frame (hear_by of_journal others frame.moment frame (unchanged journal))) (after_message of_journal (router_of settings journal) frame (hear_by of_journal settings frame.moment frame (unchanged journal)))
-  message-alike frame journal =
-      let alike = alike-heard n settings seed nonces agree frame.moment frame in
-      by (alike.kept (unchanged journal)) (alike.same (unchanged journal))
-    where
-      other : Heard Journal
-      other = hear_by of_journal others frame.moment frame (unchanged journal)
+  -- what is heard and noted over the settings that stand
+  module _ (frame : Frame) (journal : Journal) where
+    abbrev here : Settings
+    here = standing settings journal
 
-      heard : Heard Journal
-      heard = hear_by of_journal settings frame.moment frame (unchanged journal)
+    abbrev heard_by : Settings → Heard Journal
+    heard_by by = hear_by of_journal by frame.moment frame (unchanged journal)
 
-      by : (n < drawn journal → n < drawn heard.change.after) → (n < drawn heard.change.after) ⊎ (other ≡ heard)
-          → EventAlike journal (after_message of_journal (router_of others journal) frame other) (after_message of_journal (router_of settings journal) frame heard)
-      by kept (inl past) = record { kept = kept; same = inl past }
-      by kept (inr is) = record { kept = kept; same = inr (made-same frame.moment _ _ [] other.change heard.change (ap (λ (h : Heard Journal). h.change) is)) }
+    abbrev noted_by : Settings → Decision → Change Journal
+    noted_by by decision = each (noted of_journal by frame.moment) decision.notices (unchanged journal)
 
-  decision-alike : (frame : Frame) (journal : Journal) (decision : Decision)
-      → EventAlike journal (after_decision of_journal (router_of others journal) frame decision) (after_decision of_journal (router_of settings journal) frame decision)
-  decision-alike frame journal decision =
-      let m = frame.moment in
-      let alike = alike-each n (noted of_journal others m) (noted of_journal settings m) (alike-noted n settings seed nonces agree m) decision.notices in
-      either journal m _ _ (packets_of m (packet_of decision.verdict)) (each (noted of_journal others m) decision.notices (unchanged journal)) (each (noted of_journal settings m) decision.notices (unchanged journal))
-      (alike.kept (unchanged journal)) (alike.same (unchanged journal))
+    heard-over : (n < drawn (heard_by here).change.after) ⊎ (heard_by (standing others journal) ≡ heard_by here)
+    heard-over =
+        subst (λ (by : Settings). (n < drawn (heard_by here).change.after) ⊎ (heard_by by ≡ heard_by here)) (sym (standing-others settings seed nonces journal))
+        ((alike-heard n here seed nonces agree frame.moment frame).same (unchanged journal))
 
-  frame-alike : (frame : Frame) (journal : Journal) → EventAlike journal (plain (router_of others journal) (Arrival frame)) (plain (router_of settings journal) (Arrival frame))
-  frame-alike frame journal =
-      let m = frame.moment in
-      let other_heard : Heard Journal = hear_by of_journal others m frame (unchanged journal) in
-      let heard : Heard Journal = hear_by of_journal settings m frame (unchanged journal) in
-      let decision : Decision = decide_by settings (view journal m) frame in
-      subst (λ (b : Bool). EventAlike journal (cond b (after_message of_journal (router_of others journal) frame other_heard) (after_decision of_journal (router_of others journal) frame (decide_by others (view journal m) frame))) (plain (router_of settings journal) (Arrival frame)))
-      (sym (control-alike settings seed nonces frame))
-      (subst (λ (d : Decision). EventAlike journal (cond (control settings frame) (after_message of_journal (router_of others journal) frame other_heard) (after_decision of_journal (router_of others journal) frame d)) (plain (router_of settings journal) (Arrival frame)))
-      (sym (decide-alike settings seed nonces (view journal m) frame))
-      (by (control settings frame) other_heard heard decision (message-alike frame journal) (decision-alike frame journal decision)))
-    where
-      by : (b : Bool) (other_heard heard : Heard Journal) (decision : Decision)
-          → EventAlike journal (after_message of_journal (router_of others journal) frame other_heard) (after_message of_journal (router_of settings journal) frame heard)
-          → EventAlike journal (after_decision of_journal (router_of others journal) frame decision) (after_decision of_journal (router_of settings journal) frame decision)
-          → EventAlike journal (cond b (after_message of_journal (router_of others journal) frame other_heard) (after_decision of_journal (router_of others journal) frame decision))
-          (cond b (after_message of_journal (router_of settings journal) frame heard) (after_decision of_journal (router_of settings journal) frame decision))
-      by true other_heard heard decision told decided = told
-      by false other_heard heard decision told decided = decided
+    noted-over : (decision : Decision) → (n < drawn (noted_by here decision).after) ⊎ (noted_by (standing others journal) decision ≡ noted_by here decision)
+    noted-over decision =
+        subst (λ (by : Settings). (n < drawn (noted_by here decision).after) ⊎ (noted_by by decision ≡ noted_by here decision)) (sym (standing-others settings seed nonces journal))
+        ((alike-each n (noted of_journal (with_nonces here seed nonces) frame.moment) (noted of_journal here frame.moment) (alike-noted n here seed nonces agree frame.moment) decision.notices).same (unchanged journal))
+
+    message-alike : EventAlike journal (after_message of_journal (router_of others journal) frame (heard_by (standing others journal))) (after_message of_journal (router_of settings journal) frame (heard_by here))
+    message-alike = by (heard_by (standing others journal)) (heard_by here) ((alike-heard n here seed nonces agree frame.moment frame).kept (unchanged journal)) heard-over
+      where
+        by : (other heard : Heard Journal) → (n < drawn journal → n < drawn heard.change.after) → (n < drawn heard.change.after) ⊎ (other ≡ heard)
+            → EventAlike journal (after_message of_journal (router_of others journal) frame other) (after_message of_journal (router_of settings journal) frame heard)
+        by other heard kept (inl past) = record { kept = kept; same = inl past }
+        by other heard kept (inr is) = record { kept = kept; same = inr (made-same frame.moment _ _ [] other.change heard.change (ap (λ (h : Heard Journal). h.change) is)) }
+
+    decision-alike : (decision : Decision) → EventAlike journal (after_decision of_journal (router_of others journal) frame decision) (after_decision of_journal (router_of settings journal) frame decision)
+    decision-alike decision =
+        let alike = alike-each n (noted of_journal (with_nonces here seed nonces) frame.moment) (noted of_journal here frame.moment) (alike-noted n here seed nonces agree frame.moment) decision.notices in
+        either journal frame.moment _ _ (packets_of frame.moment (packet_of decision.verdict)) (noted_by (standing others journal) decision) (noted_by here decision) (alike.kept (unchanged journal)) (noted-over decision)
+
+    decided-same : decide_by (standing others journal) (view journal frame.moment) frame ≡ decide_by here (view journal frame.moment) frame
+    decided-same =
+        ap (λ (by : Settings). decide_by by (view journal frame.moment) frame) (standing-others settings seed nonces journal) ∙ decide-alike here seed nonces (view journal frame.moment) frame
+
+    frame-alike : EventAlike journal (plain (router_of others journal) (Arrival frame)) (plain (router_of settings journal) (Arrival frame))
+    frame-alike =
+        let decision : Decision = decide_by here (view journal frame.moment) frame in
+        subst (λ (b : Bool). EventAlike journal (cond b (after_message of_journal (router_of others journal) frame (heard_by (standing others journal))) (after_decision of_journal (router_of others journal) frame (decide_by (standing others journal) (view journal frame.moment) frame))) (plain (router_of settings journal) (Arrival frame)))
+        (sym (control-alike settings seed nonces frame))
+        (subst (λ (d : Decision). EventAlike journal (cond (control settings frame) (after_message of_journal (router_of others journal) frame (heard_by (standing others journal))) (after_decision of_journal (router_of others journal) frame d)) (plain (router_of settings journal) (Arrival frame)))
+        (sym decided-same)
+        (by (control settings frame) (heard_by (standing others journal)) (heard_by here) decision message-alike (decision-alike decision)))
+      where
+        by : (b : Bool) (other_heard heard : Heard Journal) (decision : Decision)
+            → EventAlike journal (after_message of_journal (router_of others journal) frame other_heard) (after_message of_journal (router_of settings journal) frame heard)
+            → EventAlike journal (after_decision of_journal (router_of others journal) frame decision) (after_decision of_journal (router_of settings journal) frame decision)
+            → EventAlike journal (cond b (after_message of_journal (router_of others journal) frame other_heard) (after_decision of_journal (router_of others journal) frame decision))
+            (cond b (after_message of_journal (router_of settings journal) frame heard) (after_decision of_journal (router_of settings journal) frame decision))
+        by true other_heard heard decision told decided = told
+        by false other_heard heard decision told decided = decided
 
   event-alike : (event : Event) (journal : Journal) → EventAlike journal (plain (router_of others journal) event) (plain (router_of settings journal) event)
   event-alike (Tick s) journal = tick-alike s journal
@@ -146,7 +160,7 @@ module _ (settings : Settings) (seed nonces : List ℕ) (n : ℕ) (agree : (i : 
 
   same-settings : (event : Event) (journal : Journal) → (plain (router_of settings journal) event).after ≡ router_of settings (plain (router_of settings journal) event).after.memory
   same-settings (Tick s) journal = refl
-  same-settings (Arrival frame) journal = by (control settings frame) (hear_by of_journal settings frame.moment frame (unchanged journal)) (decide_by settings (view journal frame.moment) frame)
+  same-settings (Arrival frame) journal = by (control settings frame) (hear_by of_journal (standing settings journal) frame.moment frame (unchanged journal)) (decide_by (standing settings journal) (view journal frame.moment) frame)
     where
       by : (b : Bool) (heard : Heard Journal) (decision : Decision)
           → (cond b (after_message of_journal (router_of settings journal) frame heard) (after_decision of_journal (router_of settings journal) frame decision)).after

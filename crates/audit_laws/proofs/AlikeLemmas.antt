@@ -1,9 +1,12 @@
 -- A router with other nonces does alike, as long as it draws the same ones.
-use Rattle.std.proofs.Common.{◌≡◌, ℕ, suc, ◌<◌, ◌≤◌, ◌%◌, ◌^◌, ◌&&◌, nat_lt, Bool, true, false, cond, List, [], ◌∷◌, filter, Option, None, ◌⊎◌, inl, inr, refl, sym, ap, ◌∙◌, arith}
+use Rattle.std.proofs.Common.{◌≡◌, ℕ, suc, ◌<◌, ◌≤◌, ◌%◌, ◌^◌, ◌&&◌, nat_lt, Bool, true, false, cond, List, [], ◌∷◌, filter, Option, None, ◌⊎◌, inl, inr, refl, sym, ap, subst, ◌∙◌, arith}
 use Rattle.std.specs.Prelude.{is_some}
 use Rattle.std.proofs.lemmas.Bool.{cases_lt}
 use Rattle.ip_headers.specs.declared.addr.Addr.{Addr}
 use Rattle.mapping_records.specs.declared.eid.Eid.{Eid}
+use Rattle.lisp_settings.specs.declared.settings.Change.{Change as OwnChange}
+use Rattle.lisp_settings.specs.declared.settings.Database.{Database}
+use Rattle.lisp_settings.specs.declared.settings.OwnLocator.{OwnLocator}
 use Rattle.lisp_settings.specs.declared.settings.Settings.{Settings}
 use Rattle.locator_state.specs.declared.target.Target.{Target}
 use Rattle.request_queue.specs.Queue.{due}
@@ -13,11 +16,12 @@ use Rattle.router_log.specs.declared.entry.Entry.TheVariants as entry
 use Rattle.router_log.specs.declared.notice.Notice.{Notice}
 use Rattle.router_log.specs.declared.notice.Notice.TheVariants as notice
 use Rattle.router_model.specs.Changes.{Change, asked, asked_with, each, entered, journal as of_journal, may_ask, next_nonce, seen}
-use Rattle.router_model.specs.Journal.{Journal, drawn, uses_nonce}
+use Rattle.router_model.specs.Journal.{Journal, changed, drawn, uses_nonce}
 use Rattle.router_model.specs.Mappings.{exact}
 use Rattle.router_model.specs.Note.{is_echo, is_learned, is_missing, is_news, noted, solicited}
-use Rattle.router_model.specs.Site.{ours}
-use Rattle.router_model.specs.Tick.{all_probed, all_retried, next_targets, probed, probed_with, retried, ticked}
+use Rattle.router_model.specs.Site.{ours, reaches_resolver}
+use Rattle.router_model.specs.Standing.{changed_by, own_after, standing, standing_with}
+use Rattle.router_model.specs.Tick.{after_changes, all_changed, all_probed, all_retried, all_told, due_now, first_told, made, named, next_targets, probed, probed_with, retried, retried_where, some_came, ticked, told, told_all}
 use Rattle.router_model.proofs.LiftLemmas.{nonce-next}
 use Rattle.audit_laws.specs.Drawn.{nonce_at, with_nonces}
 use Rattle.audit_laws.proofs.DrawnLemmas.{drawn-one, drawn-same}
@@ -29,6 +33,14 @@ drawn-kept n e before more = by (uses_nonce e) refl
     by : (b : Bool) → uses_nonce e ≡ b → n < drawn (e ∷ before)
     by true uses = let same = drawn-one e before uses in omega (arith, same, more)
     by false none = let same = drawn-same e before none in omega (arith, same, more)
+
+-- the settings that stand with other nonces
+own-others : (settings : Settings) (seed nonces : List ℕ) (journal : Journal) → own_after (with_nonces settings seed nonces) journal ≡ own_after settings journal
+own-others settings seed nonces [] = refl
+own-others settings seed nonces (e ∷ before) = ap (changed_by e) (own-others settings seed nonces before)
+
+pub standing-others : (settings : Settings) (seed nonces : List ℕ) (journal : Journal) → standing (with_nonces settings seed nonces) journal ≡ with_nonces (standing settings journal) seed nonces
+standing-others settings seed nonces journal = ap (λ (l : List OwnLocator). standing_with (with_nonces settings seed nonces) l (changed journal)) (own-others settings seed nonces journal)
 
 -- ### alike, or past the nonces that are the same
 
@@ -133,10 +145,68 @@ module _ (n : ℕ) where
         alike-if (λ change. nat_lt (seen of_journal settings m change).probe_count 9600) _ _
         (alike-drawn (λ nonce change. probed_with of_journal settings m nonce target change) (λ nonce change. drawn-one (entry.Probed m target.rloc nonce) change.after refl))
 
-    pub alike-ticked : Alike (ticked of_journal others m) (ticked of_journal settings m)
+    alike-all_retried : Alike (all_retried of_journal others m) (all_retried of_journal settings m)
+    alike-all_retried =
+        alike-read (λ change. filter (due (seen of_journal settings m change).now) (seen of_journal settings m change).requests) (retried of_journal others m) (retried of_journal settings m) alike-retried
+
+    alike-where : (reaches : Bool) → Alike (retried_where of_journal others m reaches) (retried_where of_journal settings m reaches)
+    alike-where true = alike-all_retried
+    alike-where false = alike-none
+
+    alike-all_probed : Alike (all_probed of_journal others m) (all_probed of_journal settings m)
+    alike-all_probed =
+        alike-if (λ change. settings.probe) _ _ (alike-read (λ change. next_targets settings (seen of_journal settings m change)) (probed of_journal others m) (probed of_journal settings m) alike-probed)
+
+    alike-told : (address : Addr) (database : Database) → Alike (told of_journal others m address database) (told of_journal settings m address database)
+    alike-told address database =
+        alike-if (λ change. (seen of_journal settings m change).may_solicit address database.eid) _ _
+        (alike-drawn (λ nonce change. solicited of_journal settings m nonce address database.eid change) (λ nonce change. drawn-one (entry.Solicited m address database.eid nonce) change.after refl))
+
+    alike-told_all : (address : Addr) → Alike (told_all of_journal others m address) (told_all of_journal settings m address)
+    alike-told_all address = alike-each (told of_journal others m address) (told of_journal settings m address) (alike-told address) settings.databases
+
+    alike-all_told : (came : Bool) → Alike (all_told of_journal others m came) (all_told of_journal settings m came)
+    alike-all_told came =
+        alike-if (λ change. came) _ _ (alike-read (λ change. first_told (named settings (seen of_journal settings m change))) (told_all of_journal others m) (told_all of_journal settings m) alike-told_all)
+
+    -- what follows the changes of own locators
+    alike-followed : (came : Bool) → Alike (after_changes of_journal others m came) (after_changes of_journal settings m came)
+    unfolding after_changes
+    alike-followed came =
+        let reaches : Bool = reaches_resolver settings in
+        alike-then (λ change. retried_where of_journal others m reaches (all_told of_journal others m came change)) (λ change. retried_where of_journal settings m reaches (all_told of_journal settings m came change))
+        (all_probed of_journal others m) (all_probed of_journal settings m)
+        (alike-then (all_told of_journal others m came) (all_told of_journal settings m came) (retried_where of_journal others m reaches) (retried_where of_journal settings m reaches) (alike-all_told came) (alike-where reaches))
+        alike-all_probed
+
+  -- a second, over the settings that stand behind its changes
+  module _ (settings : Settings) (seed nonces : List ℕ) (agree : (i : ℕ) → i < n → nonce_at (with_nonces settings seed nonces) i ≡ nonce_at settings i) (m : ℕ) where
+    kept-changed : (changes : List OwnChange) (change : Change Journal) → IsPast change → IsPast (all_changed of_journal settings m changes change)
+    kept-changed [] change past = past
+    kept-changed (own ∷ changes) change past = kept-changed changes (made of_journal settings m own change) (drawn-kept n (entry.Changed m own.address own.up) change.after past)
+
+    pub alike-ticked : Alike (ticked of_journal (with_nonces settings seed nonces) m) (ticked of_journal settings m)
     unfolding ticked
-    alike-ticked =
-        alike-then (all_retried of_journal others m) (all_retried of_journal settings m) (all_probed of_journal others m) (all_probed of_journal settings m)
-        (alike-read (λ change. filter (due (seen of_journal settings m change).now) (seen of_journal settings m change).requests) (retried of_journal others m) (retried of_journal settings m) alike-retried)
-        (alike-if (λ change. settings.probe) _ _
-        (alike-read (λ change. next_targets settings (seen of_journal settings m change)) (probed of_journal others m) (probed of_journal settings m) alike-probed))
+    alike-ticked = record { kept = kept; same = same }
+      where
+        coming : Change Journal → List OwnChange
+        coming change = due_now of_journal settings m change.after
+
+        first : Change Journal → Change Journal
+        first change = all_changed of_journal settings m (coming change) change
+
+        here : Change Journal → Settings
+        here change = standing settings (first change).after
+
+        after : Settings → Change Journal → Change Journal
+        after by change = after_changes of_journal by m (some_came (coming change)) (first change)
+
+        followed : (change : Change Journal) → Alike (after_changes of_journal (with_nonces (here change) seed nonces) m (some_came (coming change))) (after_changes of_journal (here change) m (some_came (coming change)))
+        followed change = alike-followed (here change) seed nonces agree m (some_came (coming change))
+
+        kept : (change : Change Journal) → IsPast change → IsPast (after (here change) change)
+        kept change past = (followed change).kept (first change) (kept-changed (coming change) change past)
+
+        same : (change : Change Journal) → IsPast (after (here change) change) ⊎ (after (standing (with_nonces settings seed nonces) (first change).after) change ≡ after (here change) change)
+        same change =
+            subst (λ (by : Settings). IsPast (after (here change) change) ⊎ (after by change ≡ after (here change) change)) (sym (standing-others settings seed nonces (first change).after)) ((followed change).same (first change))

@@ -1,6 +1,7 @@
 -- What a router does at an event: each notice, each second and each message makes a change of which that holds.
-use Rattle.std.proofs.Common.{◌≡◌, ℕ, ◌==◌, ◌&&◌, ◌%◌, ◌^◌, ◌≤◌, ◌+◌, nat_lt, not, Bool, true, false, cond, IfSome, IsTrue, List, [], ◌∷◌, ◌++◌, filter, filter_map, fold, length, map, take, zero, suc, Option, Some, None, refl, sym, ap, subst, ◌∙◌}
+use Rattle.std.proofs.Common.{◌≡◌, ℕ, ◌==◌, ◌&&◌, ◌%◌, ◌^◌, ◌≤◌, ◌+◌, nat_lt, not, Bool, true, false, cond, IfSome, IsTrue, List, [], ◌∷◌, ◌++◌, filter, filter_map, flat_map, length, map, Option, Some, None, refl, sym, ap, subst, ◌∙◌}
 use Rattle.std.specs.List.{All}
+use Rattle.std.specs.Ordering.{is_lt}
 use Rattle.std.specs.Prelude.{is_some}
 use Rattle.std.proofs.lemmas.Bool.{and_parts}
 use Rattle.std.proofs.lemmas.List.Elements.{All-push}
@@ -10,6 +11,7 @@ use Rattle.ip_headers.specs.Udp.{payload_in, sum_rules}
 use Rattle.ip_headers.specs.declared.addr.Addr.{Addr}
 use Rattle.capture_io.specs.Frame.{Frame}
 use Rattle.mapping_records.specs.Eids.{same_address}
+use Rattle.mapping_records.specs.Orders.{addr_order}
 use Rattle.mapping_records.specs.declared.eid.Eid.{Eid}
 use Rattle.mapping_records.specs.declared.record.Record.{Record}
 use Rattle.map_messages.specs.Message.{message_rules}
@@ -18,7 +20,7 @@ use Rattle.map_messages.specs.declared.message.MapReply.{MapReply}
 use Rattle.map_messages.specs.declared.message.MapRequest.{MapRequest}
 use Rattle.map_messages.specs.declared.message.Message.{Message}
 use Rattle.map_messages.specs.declared.message.Message.TheVariants as message
-use Rattle.lisp_settings.specs.Lawful.{IsLawful}
+use Rattle.lisp_settings.specs.declared.settings.Database.{Database}
 use Rattle.lisp_settings.specs.declared.settings.Settings.{Settings}
 use Rattle.locator_state.specs.Turns.{goes_before, with_target}
 use Rattle.locator_state.specs.declared.target.Target.{Target}
@@ -28,7 +30,7 @@ use Rattle.router_log.specs.declared.emit.Emit.{Emit}
 use Rattle.router_log.specs.declared.emit.Emit.TheVariants as emit
 use Rattle.router_log.specs.declared.entry.Entry.{Entry}
 use Rattle.router_log.specs.declared.entry.Entry.TheVariants as entry
-use Rattle.router_log.specs.declared.entry.Entry.TheVariants.{Learned, Asked, Retried, Answered, Probed, ProbeAnswered, Bits, EchoStarted, EchoHeard, DataFrom, EchoWanted, Solicited}
+use Rattle.router_log.specs.declared.entry.Entry.TheVariants.{Learned}
 use Rattle.router_log.specs.declared.notice.Notice.{Notice}
 use Rattle.router_log.specs.declared.notice.Notice.TheVariants as notice
 use Rattle.router_log.specs.declared.verdict.Reason.TheVariants.{Foreign, NotOurs, Unfit}
@@ -39,62 +41,62 @@ use Rattle.router_model.specs.Journal.{Journal, drawn, extended, statics}
 use Rattle.router_model.specs.Mappings.{Held, exact, force}
 use Rattle.router_model.specs.Note.{is_echo, is_learned, is_missing, is_news, noted}
 use Rattle.router_model.specs.Received.{message_in}
-use Rattle.router_model.specs.Site.{ours}
-use Rattle.router_model.specs.Tick.{all_probed, all_retried, candidates, is_probed, next_targets, probed, retried, targets, ticked}
+use Rattle.router_model.specs.Site.{ours, reaches_resolver}
+use Rattle.router_model.specs.Tick.{after_changes, all_probed, all_retried, all_told, candidates, first_told, is_probed, is_told, named, named_in, next_targets, probed, retried, retried_where, targets, told, told_all, with_address}
 use Rattle.router_model.specs.View.{View}
+use Rattle.router_core.specs.Site.{IsSite}
 use Rattle.router_core.proofs.AnsweringLemmas.{reply-short}
 use Rattle.audit.specs.Lifted.{each_once}
 use Rattle.audit_laws.specs.Drawn.{first_nonces, IsInRange}
 use Rattle.audit_laws.specs.Sent.{CanBeMade}
-use Rattle.audit_laws.proofs.DrawnLemmas.{drawn-same, drawn-short, each-filter, once-again, requests-drawn, AreNext, Each, IsDrawn}
+use Rattle.audit_laws.proofs.DrawnLemmas.{drawn-same, drawn-short, each-filter, each-passing, each-put, each-take, once-again, requests-drawn, AreNext, Each, IsDrawn}
 use Rattle.audit_laws.proofs.EmitLemmas.{emit_nonce}
 use Rattle.audit_laws.proofs.EmitOctetLemmas.{IsMade, reply-octets}
 use Rattle.audit_laws.proofs.OctetLemmas.{AreOctets}
-use Rattle.audit_laws.proofs.SoundLemmas.{AsksResolver, IsShort, IsSound, asks-more, may-resolver, more-nonces, requests-none, sound-all, sound-asked, sound-drawn, sound-each, sound-echo, sound-entered, sound-if, sound-reply_sent}
+use Rattle.audit_laws.proofs.SoundLemmas.{IsShort, IsSound, may-resolver, more-nonces, sound-all, sound-asked, sound-drawn, sound-each, sound-echo, sound-entered, sound-if, sound-reply_sent}
 
-module _ (settings : Settings) (lawful : IsLawful settings) (before : List ℕ) (m : ℕ) where
+module _ (settings : Settings) (site : IsSite settings) (before : List ℕ) (m : ℕ) where
   -- ### notices
 
   sound-noted : (one : Notice) (change : Change Journal) → IsSound settings before change → IsSound settings before (noted of_journal settings m one change)
   unfolding noted
   sound-noted (notice.Ask eid source) change sound =
-      sound-if settings lawful before m (is_missing settings (seen of_journal settings m change) eid) _ change
-      (λ is. sound-asked settings lawful before m eid source false change (may-resolver settings lawful before m (seen of_journal settings m change) eid (and_parts _ _ is).0) sound) sound
+      sound-if settings before m (is_missing settings (seen of_journal settings m change) eid) _ change
+      (λ is. sound-asked settings before m eid source false change (may-resolver settings before m (seen of_journal settings m change) eid (and_parts _ _ is).0) sound) sound
   sound-noted (notice.Refresh eid) change sound =
-      sound-if settings lawful before m (is_learned (exact (seen of_journal settings m change).mappings eid) && may_ask settings (seen of_journal settings m change) eid) _ change
-      (λ is. sound-asked settings lawful before m eid None false change (may-resolver settings lawful before m (seen of_journal settings m change) eid (and_parts _ _ is).1) sound) sound
+      sound-if settings before m (is_learned (exact (seen of_journal settings m change).mappings eid) && may_ask settings (seen of_journal settings m change) eid) _ change
+      (λ is. sound-asked settings before m eid None false change (may-resolver settings before m (seen of_journal settings m change) eid (and_parts _ _ is).1) sound) sound
   sound-noted (notice.Bits eid rloc bits width) change sound =
-      sound-if settings lawful before m (is_news rloc bits width (exact (seen of_journal settings m change).mappings eid)) _ change
-      (λ is. sound-entered settings lawful before m (entry.Bits m eid bits width) change refl refl tt sound) sound
+      sound-if settings before m (is_news rloc bits width (exact (seen of_journal settings m change).mappings eid)) _ change
+      (λ is. sound-entered settings before m (entry.Bits m eid bits width) change refl tt sound) sound
   sound-noted (notice.EchoWanted rloc nonce) change sound =
-      sound-if settings lawful before m ((seen of_journal settings m change).may_want rloc nonce) _ change (λ is. sound-entered settings lawful before m (entry.EchoWanted m rloc nonce) change refl refl tt sound) sound
+      sound-if settings before m ((seen of_journal settings m change).may_want rloc nonce) _ change (λ is. sound-entered settings before m (entry.EchoWanted m rloc nonce) change refl tt sound) sound
   sound-noted (notice.EchoHeard rloc nonce) change sound =
-      sound-if settings lawful before m (is_echo nonce ((seen of_journal settings m change).echo_on rloc)) _ change (λ is. sound-entered settings lawful before m (entry.EchoHeard m rloc) change refl refl tt sound) sound
+      sound-if settings before m (is_echo nonce ((seen of_journal settings m change).echo_on rloc)) _ change (λ is. sound-entered settings before m (entry.EchoHeard m rloc) change refl tt sound) sound
   sound-noted (notice.DataFrom rloc) change sound =
-      sound-if settings lawful before m ((seen of_journal settings m change).data_due rloc) _ change (λ is. sound-entered settings lawful before m (entry.DataFrom m rloc) change refl refl tt sound) sound
+      sound-if settings before m ((seen of_journal settings m change).data_due rloc) _ change (λ is. sound-entered settings before m (entry.DataFrom m rloc) change refl tt sound) sound
   sound-noted (notice.Solicit rloc eid) change sound =
       let nonce = next_nonce of_journal settings m change in
-      sound-if settings lawful before m (is_some (ours settings.locators rloc) && (seen of_journal settings m change).may_solicit rloc eid) _ change
-      (λ is. sound-drawn settings lawful before m (entry.Solicited m rloc eid nonce) (emit.Solicit rloc eid nonce) change refl tt (asks-more settings.resolver (entry.Solicited m rloc eid nonce) change.after refl sound.asks) (and_parts _ _ is).0 tt refl sound) sound
+      sound-if settings before m (is_some (ours settings.locators rloc) && (seen of_journal settings m change).may_solicit rloc eid) _ change
+      (λ is. sound-drawn settings before m (entry.Solicited m rloc eid nonce) (emit.Solicit rloc eid nonce) change refl tt (and_parts _ _ is).0 tt refl sound) sound
   sound-noted (notice.EchoDue rloc) change sound =
-      sound-if settings lawful before m (settings.echo && (seen of_journal settings m change).may_start rloc) _ change
-      (λ is. sound-echo settings lawful before m rloc (next_nonce of_journal settings m change % 2 ^ 24) change (and_parts _ _ is).0 sound) sound
+      sound-if settings before m (settings.echo && (seen of_journal settings m change).may_start rloc) _ change
+      (λ is. sound-echo settings before m rloc (next_nonce of_journal settings m change % 2 ^ 24) change (and_parts _ _ is).0 sound) sound
 
   pub all-noted : (notices : List Notice) (change : Change Journal) → IsSound settings before change → IsSound settings before (each (noted of_journal settings m) notices change)
-  all-noted notices change sound = sound-all settings lawful before m (noted of_journal settings m) sound-noted notices change sound
+  all-noted notices change sound = sound-all settings before m (noted of_journal settings m) sound-noted notices change sound
 
   -- ### seconds
 
   -- one that is sent again has a nonce that was drawn
-  sound-retried : IsTrue (is_some settings.resolver) → (request : Request) (change : Change Journal) → IsDrawn settings (drawn change.after) request.nonce → IsSound settings before change → IsSound settings before (retried of_journal settings m request change)
-  sound-retried some request change was sound =
+  sound-retried : IsTrue (reaches_resolver settings) → (request : Request) (change : Change Journal) → IsDrawn settings (drawn change.after) request.nonce → IsSound settings before change → IsSound settings before (retried of_journal settings m request change)
+  sound-retried reaches request change was sound =
       let e : Entry = entry.Retried m request.nonce in
       let packet : Emit = emit.Request request.eid request.source request.invoked request.nonce in
-      let entered_sound = sound-entered settings lawful before m e change refl refl tt sound in
+      let entered_sound = sound-entered settings before m e change refl tt sound in
       let nonces : List ℕ = before ++ filter_map emit_nonce change.emits in
       record {
-        asks = entered_sound.asks;
-        made = All-push (CanBeMade settings) change.emits packet sound.made some;
+        made = All-push (CanBeMade settings) change.emits packet sound.made reaches;
         next = entered_sound.next;
         short = λ short. All-push IsShort change.emits packet (sound.short short) (drawn-short settings (drawn change.after) request.nonce short was);
         octets = λ range. All-push IsMade change.emits packet (sound.octets range) tt;
@@ -104,38 +106,25 @@ module _ (settings : Settings) (lawful : IsLawful settings) (before : List ℕ) 
             ∙ ap (λ (k : ℕ). each_once (first_nonces settings k)) (sym (drawn-same e change.after refl));
       }
 
-  each-retried : IsTrue (is_some settings.resolver) → (k : ℕ) (requests : List Request) (change : Change Journal) → Each (λ (request : Request). IsDrawn settings k request.nonce) requests → drawn change.after ≡ k → IsSound settings before change → IsSound settings before (each (retried of_journal settings m) requests change)
-  each-retried some k [] change all is sound = sound
-  each-retried some k (request ∷ requests) change all is sound =
-      each-retried some k requests (retried of_journal settings m request change) all.1 (drawn-same (entry.Retried m request.nonce) change.after refl ∙ is)
-      (sound-retried some request change (subst (λ (n : ℕ). IsDrawn settings n request.nonce) (sym is) all.0) sound)
+  each-retried : IsTrue (reaches_resolver settings) → (k : ℕ) (requests : List Request) (change : Change Journal) → Each (λ (request : Request). IsDrawn settings k request.nonce) requests → drawn change.after ≡ k → IsSound settings before change → IsSound settings before (each (retried of_journal settings m) requests change)
+  each-retried reaches k [] change all is sound = sound
+  each-retried reaches k (request ∷ requests) change all is sound =
+      each-retried reaches k requests (retried of_journal settings m request change) all.1 (drawn-same (entry.Retried m request.nonce) change.after refl ∙ is)
+      (sound-retried reaches request change (subst (λ (n : ℕ). IsDrawn settings n request.nonce) (sym is) all.0) sound)
 
-  sound-all_retried : (change : Change Journal) → IsSound settings before change → IsSound settings before (all_retried of_journal settings m change)
-  sound-all_retried change sound = by settings.resolver refl
-    where
-      requests : List Request
-      requests = (seen of_journal settings m change).requests
+  sound-all_retried : (change : Change Journal) → IsTrue (reaches_resolver settings) → IsSound settings before change → IsSound settings before (all_retried of_journal settings m change)
+  sound-all_retried change reaches sound =
+      let P : Request → Type 0 = λ (request : Request). IsDrawn settings (drawn change.after) request.nonce in
+      let v = seen of_journal settings m change in
+      each-retried reaches (drawn change.after) (filter (due v.now) v.requests) change (each-filter P (due v.now) v.requests (requests-drawn settings change.after m sound.next)) refl sound
 
-      by : (resolver : Option Addr) → settings.resolver ≡ resolver → IsSound settings before (all_retried of_journal settings m change)
-      by (Some addr) is =
-          let P : Request → Type 0 = λ (request : Request). IsDrawn settings (drawn change.after) request.nonce in
-          each-retried (ap is_some is) (drawn change.after) (filter (due (seen of_journal settings m change).now) requests) change
-          (each-filter P (due (seen of_journal settings m change).now) requests (requests-drawn settings change.after m sound.next)) refl sound
-      by None is =
-          let none : requests ≡ [] = requests-none change.after m (subst (λ (o : Option Addr). AsksResolver o change.after) is sound.asks) in
-          subst (λ (l : List Request). IsSound settings before (each (retried of_journal settings m) (filter (due (seen of_journal settings m change).now) l) change)) (sym none) sound
+  sound-where : (reaches : Bool) → reaches_resolver settings ≡ reaches → (change : Change Journal) → IsSound settings before change → IsSound settings before (retried_where of_journal settings m reaches change)
+  sound-where true is change sound = sound-all_retried change is sound
+  sound-where false is change sound = sound
 
   -- a target has an own address of its family
   abbrev IsReached : Target → Type 0
   IsReached target = IsTrue (is_some (ours settings.locators target.rloc))
-
-  probed-reached : (now : ℕ) (items : List Target) → Each IsReached (filter (is_probed settings now) items)
-  probed-reached now [] = tt
-  probed-reached now (target ∷ items) = by (is_probed settings now target) refl (probed-reached now items)
-    where
-      by : (b : Bool) → is_probed settings now target ≡ b → Each IsReached (filter (is_probed settings now) items) → Each IsReached (cond b (target ∷ filter (is_probed settings now) items) (filter (is_probed settings now) items))
-      by true is rest = ((and_parts _ _ (and_parts _ _ is).1).0, rest)
-      by false is rest = rest
 
   with-reached : (target : Target) (items : List Target) → IsReached target → Each IsReached items → Each IsReached (with_target target items)
   with-reached target [] one all = (one, tt)
@@ -146,32 +135,71 @@ module _ (settings : Settings) (lawful : IsLawful settings) (before : List ℕ) 
       by false true rest = (one, all)
       by false false rest = (all.0, rest)
 
-  fold-reached : (items so_far : List Target) → Each IsReached items → Each IsReached so_far → Each IsReached (fold (λ so_far target. with_target target so_far) so_far items)
-  fold-reached [] so_far all reached = reached
-  fold-reached (target ∷ items) so_far all reached = fold-reached items (with_target target so_far) all.1 (with-reached target so_far all.0 reached)
-
-  take-reached : (n : ℕ) (items : List Target) → Each IsReached items → Each IsReached (take n items)
-  take-reached zero items all = tt
-  take-reached (suc n) [] all = tt
-  take-reached (suc n) (target ∷ items) all = (all.0, take-reached n items all.1)
+  is-reached : (now : ℕ) (target : Target) → is_probed settings now target ≡ true → IsReached target
+  is-reached now target is = (and_parts _ _ (and_parts _ _ is).1).0
 
   next-reached : (v : View) → Each IsReached (next_targets settings v)
-  next-reached v = take-reached 16 (candidates settings v) (fold-reached (filter (is_probed settings v.now) (targets v)) [] (probed-reached v.now (targets v)) tt)
+  next-reached v =
+      each-take IsReached 16 (candidates settings v)
+      (each-put IsReached with_target with-reached (filter (is_probed settings v.now) (targets v)) [] (each-passing IsReached (is_probed settings v.now) (is-reached v.now) (targets v)) tt)
 
   sound-probed : (target : Target) (change : Change Journal) → IsReached target → IsSound settings before change → IsSound settings before (probed of_journal settings m target change)
   sound-probed target change reached sound =
       let nonce = next_nonce of_journal settings m change in
-      sound-if settings lawful before m (nat_lt (seen of_journal settings m change).probe_count 9600) _ change
-      (λ is. sound-drawn settings lawful before m (entry.Probed m target.rloc nonce) (emit.Probe target.rloc target.eid nonce) change refl tt (asks-more settings.resolver (entry.Probed m target.rloc nonce) change.after refl sound.asks) reached tt refl sound) sound
+      sound-if settings before m (nat_lt (seen of_journal settings m change).probe_count 9600) _ change
+      (λ is. sound-drawn settings before m (entry.Probed m target.rloc nonce) (emit.Probe target.rloc target.eid nonce) change refl tt reached tt refl sound) sound
 
   sound-all_probed : (change : Change Journal) → IsSound settings before change → IsSound settings before (all_probed of_journal settings m change)
   sound-all_probed change sound =
-      sound-if settings lawful before m settings.probe _ change
-      (λ is. sound-each settings lawful before m (probed of_journal settings m) IsReached sound-probed (next_targets settings (seen of_journal settings m change)) change (next-reached (seen of_journal settings m change)) sound) sound
+      sound-if settings before m settings.probe _ change
+      (λ is. sound-each settings before m (probed of_journal settings m) IsReached sound-probed (next_targets settings (seen of_journal settings m change)) change (next-reached (seen of_journal settings m change)) sound) sound
 
-  pub all-ticked : (change : Change Journal) → IsSound settings before change → IsSound settings before (ticked of_journal settings m change)
-  unfolding ticked
-  all-ticked change sound = sound-all_probed (all_retried of_journal settings m change) (sound-all_retried change sound)
+  -- so has a locator that is told
+  abbrev IsFamiliar : Addr → Type 0
+  IsFamiliar address = IsTrue (is_some (ours settings.locators address))
+
+  with-familiar : (address : Addr) (items : List Addr) → IsFamiliar address → Each IsFamiliar items → Each IsFamiliar (with_address address items)
+  with-familiar address [] one all = (one, tt)
+  with-familiar address (first ∷ others) one all = by (same_address address first) (is_lt (addr_order address first)) (with-familiar address others one all.1)
+    where
+      by : (b c : Bool) → Each IsFamiliar (with_address address others) → Each IsFamiliar (cond b (first ∷ others) (cond c (address ∷ first ∷ others) (first ∷ with_address address others)))
+      by true c rest = all
+      by false true rest = (one, all)
+      by false false rest = (all.0, rest)
+
+  is-familiar : (address : Addr) → is_told settings address ≡ true → IsFamiliar address
+  is-familiar address is = (and_parts _ _ is).1
+
+  named-familiar : (v : View) → Each IsFamiliar (named settings v)
+  named-familiar v =
+      let addresses : List Addr = flat_map named_in v.mappings in
+      each-put IsFamiliar with_address with-familiar (filter (is_told settings) addresses) [] (each-passing IsFamiliar (is_told settings) is-familiar addresses) tt
+
+  first-familiar : (addresses : List Addr) → Each IsFamiliar addresses → Each IsFamiliar (first_told addresses)
+  unfolding first_told
+  first-familiar addresses all = each-take IsFamiliar 64 addresses all
+
+  sound-told : (address : Addr) → IsFamiliar address → (database : Database) (change : Change Journal) → IsSound settings before change → IsSound settings before (told of_journal settings m address database change)
+  sound-told address familiar database change sound =
+      let nonce = next_nonce of_journal settings m change in
+      let e : Entry = entry.Solicited m address database.eid nonce in
+      sound-if settings before m ((seen of_journal settings m change).may_solicit address database.eid) _ change
+      (λ is. sound-drawn settings before m e (emit.Solicit address database.eid nonce) change refl tt familiar tt refl sound) sound
+
+  sound-told_all : (address : Addr) (change : Change Journal) → IsFamiliar address → IsSound settings before change → IsSound settings before (told_all of_journal settings m address change)
+  sound-told_all address change familiar sound = sound-all settings before m (told of_journal settings m address) (sound-told address familiar) settings.databases change sound
+
+  sound-all_told : (came : Bool) (change : Change Journal) → IsSound settings before change → IsSound settings before (all_told of_journal settings m came change)
+  sound-all_told came change sound =
+      let v = seen of_journal settings m change in
+      sound-if settings before m came _ change
+      (λ is. sound-each settings before m (told_all of_journal settings m) IsFamiliar sound-told_all (first_told (named settings v)) change (first-familiar (named settings v) (named-familiar v)) sound) sound
+
+  pub all-followed : (came : Bool) (change : Change Journal) → IsSound settings before change → IsSound settings before (after_changes of_journal settings m came change)
+  unfolding after_changes
+  all-followed came change sound =
+      let told_them : Change Journal = all_told of_journal settings m came change in
+      sound-all_probed (retried_where of_journal settings m (reaches_resolver settings) told_them) (sound-where (reaches_resolver settings) refl told_them (sound-all_told came change sound))
 
   -- ### control messages
 
@@ -179,16 +207,16 @@ module _ (settings : Settings) (lawful : IsLawful settings) (before : List ℕ) 
   sound-choice true one other a o = a
   sound-choice false one other a o = o
 
-  sound-asked_again : (eid : Option Eid) (change : Change Journal) → IfSome eid (λ eid. IsTrue (is_some settings.resolver)) → IsSound settings before change → IsSound settings before (asked_again of_journal settings m eid change)
+  sound-asked_again : (eid : Option Eid) (change : Change Journal) → IfSome eid (λ eid. IsTrue (reaches_resolver settings)) → IsSound settings before change → IsSound settings before (asked_again of_journal settings m eid change)
   sound-asked_again None change some sound = sound
-  sound-asked_again (Some eid) change some sound = sound-asked settings lawful before m eid None true change some sound
+  sound-asked_again (Some eid) change some sound = sound-asked settings before m eid None true change some sound
 
-  renewable-resolver : (v : View) (o : Option Held) → IfSome (renewable settings v o) (λ eid. IsTrue (is_some settings.resolver))
+  renewable-resolver : (v : View) (o : Option Held) → IfSome (renewable settings v o) (λ eid. IsTrue (reaches_resolver settings))
   renewable-resolver v None = tt
   renewable-resolver v (Some held) = by (not held.fixed && may_ask settings v held.eid) refl
     where
-      by : (b : Bool) → (not held.fixed && may_ask settings v held.eid) ≡ b → IfSome (cond b (Some held.eid) None) (λ eid. IsTrue (is_some settings.resolver))
-      by true is = may-resolver settings lawful before m v held.eid (and_parts _ _ is).1
+      by : (b : Bool) → (not held.fixed && may_ask settings v held.eid) ≡ b → IfSome (cond b (Some held.eid) None) (λ eid. IsTrue (reaches_resolver settings))
+      by true is = may-resolver settings before m v held.eid (and_parts _ _ is).1
       by false is = tt
 
   sound-renewed : (range : Range) (change : Change Journal) → IsSound settings before change → IsSound settings before (renewed of_journal settings m range change)
@@ -199,24 +227,24 @@ module _ (settings : Settings) (lawful : IsLawful settings) (before : List ℕ) 
 
   sound-replied : (asker : Asker) (reply : MapReply) (path : Option Path) (change : Change Journal) → length (canonical_reply reply) ≤ 65000 → (All IsInRange settings.locators → AreOctets (canonical_reply reply)) → IsSound settings before change → IsSound settings before (replied asker reply path change).change
   sound-replied asker reply None change short made sound = sound
-  sound-replied asker reply (Some path) change short made sound = sound-reply_sent settings lawful before m (emit.Reply path.from path.to asker.port reply) change short refl made sound
+  sound-replied asker reply (Some path) change short made sound = sound-reply_sent settings before m (emit.Reply path.from path.to asker.port reply) change short refl made sound
 
   sound-answered : (asker : Asker) (request : MapRequest) (change : Change Journal) → IsSound settings before change → IsSound settings before (answered settings asker request change).change
   sound-answered asker request change sound =
       sound-choice (length (answering settings.databases request.eids) == 0) (drops NotOurs change) _ sound
-      (sound-replied asker (reply_of settings asker request (answering settings.databases request.eids)) (reply_path settings asker request) change (reply-short settings lawful asker request) (λ range. reply-octets settings lawful range asker request) sound)
+      (sound-replied asker (reply_of settings asker request (answering settings.databases request.eids)) (reply_path settings asker request) change (reply-short settings site asker request) (λ range. reply-octets settings site range asker request) sound)
 
   sound-requested : (asker : Asker) (request : MapRequest) (change : Change Journal) → IsSound settings before change → IsSound settings before (requested of_journal settings m asker request change).change
   unfolding requested
   sound-requested asker request change sound =
       sound-choice (request.smr && not asker.probe) (counted of_journal settings m (each (renewed of_journal settings m) (ranges_of request) change)) (answered settings asker request change)
-      (sound-all settings lawful before m (renewed of_journal settings m) sound-renewed (ranges_of request) change sound)
+      (sound-all settings before m (renewed of_journal settings m) sound-renewed (ranges_of request) change sound)
       (sound-answered asker request change sound)
 
   sound-taught : (eid : Eid) (mappings : List Record) (mapping : Record) (change : Change Journal) → IsSound settings before change → IsSound settings before (taught of_journal settings m eid mappings mapping change)
   sound-taught eid mappings mapping change sound =
-      sound-if settings lawful before m (is_asked_for eid mappings mapping && (not (is_static settings mapping) && has_room (seen of_journal settings m change) mapping)) _ change
-      (λ is. sound-entered settings lawful before m (entry.Learned m (shortened mapping) false) change refl refl tt sound) sound
+      sound-if settings before m (is_asked_for eid mappings mapping && (not (is_static settings mapping) && has_room (seen of_journal settings m change) mapping)) _ change
+      (λ is. sound-entered settings before m (entry.Learned m (shortened mapping) false) change refl tt sound) sound
 
   sound-replied_to : (reply : MapReply) (o : Option Request) (change : Change Journal) → IsSound settings before change → IsSound settings before (replied_to of_journal settings m reply o change).change
   sound-replied_to reply None change sound = sound
@@ -224,13 +252,13 @@ module _ (settings : Settings) (lawful : IsLawful settings) (before : List ℕ) 
       sound-choice (is_fit request.eid reply.mappings)
       (tallied of_journal settings m reply (each (taught of_journal settings m request.eid reply.mappings) reply.mappings (entered of_journal settings m (entry.Answered m reply.nonce) change)))
       (drops Unfit change)
-      (sound-all settings lawful before m (taught of_journal settings m request.eid reply.mappings) (sound-taught request.eid reply.mappings) reply.mappings (entered of_journal settings m (entry.Answered m reply.nonce) change) (sound-entered settings lawful before m (entry.Answered m reply.nonce) change refl refl tt sound))
+      (sound-all settings before m (taught of_journal settings m request.eid reply.mappings) (sound-taught request.eid reply.mappings) reply.mappings (entered of_journal settings m (entry.Answered m reply.nonce) change) (sound-entered settings before m (entry.Answered m reply.nonce) change refl tt sound))
       sound
 
   sound-probe_replied : (from : Addr) (reply : MapReply) (o : Option Addr) (change : Change Journal) → IsSound settings before change → IsSound settings before (probe_replied of_journal settings m from reply o change).change
   sound-probe_replied from reply None change sound = sound
   sound-probe_replied from reply (Some rloc) change sound =
-      sound-choice (same_address rloc from) _ (drops Foreign change) (sound-entered settings lawful before m (entry.ProbeAnswered m reply.nonce) change refl refl tt sound) sound
+      sound-choice (same_address rloc from) _ (drops Foreign change) (sound-entered settings before m (entry.ProbeAnswered m reply.nonce) change refl tt sound) sound
 
   sound-reply : (from : Addr) (reply : MapReply) (change : Change Journal) → IsSound settings before change → IsSound settings before (reply_heard of_journal settings m from reply change).change
   unfolding reply_heard
@@ -278,22 +306,11 @@ module _ (settings : Settings) (lawful : IsLawful settings) (before : List ℕ) 
 
 -- ### the static mappings
 
-learned-asks : (mappings : List Record) (resolver : Option Addr) (journal : Journal) → AsksResolver resolver journal → AsksResolver resolver (extended journal (map (λ mapping. Learned 0 mapping true) mappings))
-learned-asks [] resolver journal asks = asks
-learned-asks (mapping ∷ mappings) resolver journal asks = learned-asks mappings resolver (Learned 0 mapping true ∷ journal) (asks-more resolver (Learned 0 mapping true) journal refl asks)
-
-none-asks : (resolver : Option Addr) → AsksResolver resolver []
-none-asks None = tt
-none-asks (Some addr) = tt
-
--- a router begins without a request
-pub statics-ask : (settings : Settings) → AsksResolver settings.resolver (statics settings)
-statics-ask settings = learned-asks settings.mappings settings.resolver [] (none-asks settings.resolver)
-
 learned-next : (settings : Settings) (mappings : List Record) (journal : Journal) → AreNext settings journal → AreNext settings (extended journal (map (λ mapping. Learned 0 mapping true) mappings))
 learned-next settings [] journal next = next
 learned-next settings (mapping ∷ mappings) journal next = learned-next settings mappings (Learned 0 mapping true ∷ journal) (tt, next)
 
+-- a router begins without a request
 pub statics-next : (settings : Settings) → AreNext settings (statics settings)
 statics-next settings = learned-next settings settings.mappings [] tt
 
@@ -301,6 +318,6 @@ learned-drawn : (mappings : List Record) (journal : Journal) → drawn journal �
 learned-drawn [] journal none = none
 learned-drawn (mapping ∷ mappings) journal none = learned-drawn mappings (Learned 0 mapping true ∷ journal) (drawn-same (Learned 0 mapping true) journal refl ∙ none)
 
--- and none is drawn
+-- and without a nonce
 pub statics-drawn : (settings : Settings) → drawn (statics settings) ≡ 0
 statics-drawn settings = learned-drawn settings.mappings [] refl

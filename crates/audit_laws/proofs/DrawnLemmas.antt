@@ -1,5 +1,5 @@
 -- Numbers that come again, and the nonces of the requests that are open, which were all drawn.
-use Rattle.std.proofs.Common.{◌≡◌, ℕ, zero, suc, ◌+◌, ◌-◌, ◌*◌, ◌<◌, ◌^◌, nat_lt, All, ◌==◌, ◌||◌, not, nat_eq, Bool, true, false, cond, IfSome, List, [], ◌∷◌, ◌++◌, length, filter, filter_map, Option, Some, None, option_map, ◌⊎◌, inl, inr, refl, sym, ap, subst, ◌∙◌, arith, append-nil, length-append}
+use Rattle.std.proofs.Common.{◌≡◌, ℕ, zero, suc, ◌+◌, ◌-◌, ◌*◌, ◌<◌, ◌^◌, nat_lt, All, ◌==◌, ◌||◌, not, nat_eq, Bool, true, false, cond, IfSome, List, [], ◌∷◌, ◌++◌, length, filter, filter_map, fold, take, Option, Some, None, option_map, ◌⊎◌, inl, inr, refl, sym, ap, ap₂, subst, ◌∙◌, arith, append-nil, length-append}
 use Rattle.std.specs.List.{AllByRecursion, cons_option, IsDistinct}
 use Rattle.std.proofs.lemmas.Bool.{eqb-true, eq-eqb, or_cases, true≢false}
 use Rattle.std.proofs.lemmas.Bool.Decides.{nat_tests}
@@ -13,7 +13,7 @@ use Rattle.locator_state.specs.Lists.{only_if}
 use Rattle.request_queue.specs.Queue.{is_waiting, once_more}
 use Rattle.request_queue.specs.declared.request.Request.{Request}
 use Rattle.router_log.specs.declared.entry.Entry.{Entry}
-use Rattle.router_log.specs.declared.entry.Entry.TheVariants.{Learned, Asked, Retried, Answered, Probed, ProbeAnswered, Bits, EchoStarted, EchoHeard, DataFrom, EchoWanted, Solicited}
+use Rattle.router_log.specs.declared.entry.Entry.TheVariants.{Learned, Asked, Retried, Answered, Probed, ProbeAnswered, Bits, EchoStarted, EchoHeard, DataFrom, EchoWanted, Solicited, Changed}
 use Rattle.router_model.specs.Journal.{Journal, drawn, uses_nonce}
 use Rattle.router_model.specs.Requests.{asked_nonces, open_asked, unanswered}
 use Rattle.router_model.specs.View.{view}
@@ -167,6 +167,20 @@ abbrev pub AreNext : Settings → Journal → Type 0
 AreNext settings [] = Unit {0}
 AreNext settings (entry ∷ before) = IsNext settings before entry × AreNext settings before
 
+-- other settings with the same nonces draw the same ones
+module _ (one other : Settings) (same : (i : ℕ) → nonce_at one i ≡ nonce_at other i) where
+  pub first-same : (n : ℕ) → first_nonces one n ≡ first_nonces other n
+  first-same zero = refl
+  first-same (suc n) = ap₂ (λ (first : List ℕ) (last : ℕ). first ++ last ∷ []) (first-same n) (same n)
+
+  entry-same : (before : Journal) (e : Entry) → IsNext one before e → IsNext other before e
+  entry-same before (Asked moment eid source invoked nonce) next = next ∙ same (drawn before)
+  entry-same before _ next = tt
+
+  pub next-same : (journal : Journal) → AreNext one journal → AreNext other journal
+  next-same [] next = tt
+  next-same (entry ∷ before) next = (entry-same before entry next.0, next-same before next.1)
+
 -- the nonce of a request, if there is one, was drawn
 abbrev HasDrawn : Settings → Journal → Option Request → Type 0
 HasDrawn settings journal o = IfSome o (λ (request : Request). IsDrawn settings (drawn journal) request.nonce)
@@ -208,6 +222,7 @@ unanswered-drawn settings nonce (EchoHeard moment rloc ∷ before) next = has-mo
 unanswered-drawn settings nonce (DataFrom moment rloc ∷ before) next = has-more settings (DataFrom moment rloc) before (unanswered nonce before) (unanswered-drawn settings nonce before next.1)
 unanswered-drawn settings nonce (EchoWanted moment rloc wanted ∷ before) next = has-more settings (EchoWanted moment rloc wanted) before (unanswered nonce before) (unanswered-drawn settings nonce before next.1)
 unanswered-drawn settings nonce (Solicited moment rloc eid solicited ∷ before) next = has-more settings (Solicited moment rloc eid solicited) before (unanswered nonce before) (unanswered-drawn settings nonce before next.1)
+unanswered-drawn settings nonce (Changed moment address up ∷ before) next = has-more settings (Changed moment address up) before (unanswered nonce before) (unanswered-drawn settings nonce before next.1)
 
 -- each item has the property
 abbrev pub Each : {A : Type 0} → (A → Type 0) → List A → Type 0
@@ -221,6 +236,25 @@ each-filter P test (item ∷ items) all = by (test item) (each-filter P test ite
     by : (b : Bool) → Each P (filter test items) → Each P (cond b (item ∷ filter test items) (filter test items))
     by true rest = (all.0, rest)
     by false rest = rest
+
+-- those that pass a test have what it tells
+pub each-passing : {A : Type 0} (P : A → Type 0) (test : A → Bool) → ((item : A) → test item ≡ true → P item) → (items : List A) → Each P (filter test items)
+each-passing P test tells [] = tt
+each-passing P test tells (item ∷ items) = by (test item) refl (each-passing P test tells items)
+  where
+    by : (b : Bool) → test item ≡ b → Each P (filter test items) → Each P (cond b (item ∷ filter test items) (filter test items))
+    by true is rest = (tells item is, rest)
+    by false is rest = rest
+
+pub each-take : {A : Type 0} (P : A → Type 0) (n : ℕ) (items : List A) → Each P items → Each P (take n items)
+each-take P zero items all = tt
+each-take P (suc n) [] all = tt
+each-take P (suc n) (item ∷ items) all = (all.0, each-take P n items all.1)
+
+-- items that are put among others one after another
+pub each-put : {A : Type 0} (P : A → Type 0) (put : A → List A → List A) → ((item : A) (items : List A) → P item → Each P items → Each P (put item items)) → (items so_far : List A) → Each P items → Each P so_far → Each P (fold (λ so_far item. put item so_far) so_far items)
+each-put P put one [] so_far all has = has
+each-put P put one (item ∷ items) so_far all has = each-put P put one items (put item so_far) all.1 (one item so_far all.0 has)
 
 each-map : (P : Request → Type 0) (f : ℕ → Option Request) → ((n : ℕ) → IfSome (f n) P) → (ns : List ℕ) → Each P (filter_map f ns)
 each-map P f one [] = tt

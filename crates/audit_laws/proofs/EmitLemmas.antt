@@ -1,6 +1,6 @@
 -- The packet of an emit is exactly one packet, where there is an address to send it from, and a reply isn't too long.
-use Rattle.std.proofs.Common.{◌≤◌, ◌+◌, ℕ, true, false, IfSome, IsTrue, List, length, Option, Some, None, arith}
-use Rattle.std.specs.Prelude.{is_some}
+use Rattle.std.proofs.Common.{◌≤◌, ◌+◌, ℕ, true, false, IsTrue, List, length, Option, Some, None, arith}
+use Rattle.std.specs.Prelude.{is_some, option_and_then}
 use Rattle.ip_headers.specs.Addr.{number}
 use Rattle.ip_headers.specs.Udp.{datagram, udp_checksum}
 use Rattle.ip_headers.specs.declared.addr.Addr.{Addr}
@@ -12,14 +12,13 @@ use Rattle.map_messages.specs.Request.{canonical_request}
 use Rattle.map_messages.specs.declared.message.MapRequest.{MapRequest}
 use Rattle.map_messages.specs.declared.message.Message.{Message}
 use Rattle.map_messages.specs.declared.message.Message.TheVariants as message
-use Rattle.lisp_settings.specs.Lawful.{IsLawful}
-use Rattle.lisp_settings.specs.Resolver.{is_reachable}
 use Rattle.lisp_settings.specs.declared.settings.Settings.{Settings}
 use Rattle.router_log.specs.declared.emit.Emit.{Emit}
 use Rattle.router_log.specs.declared.emit.Emit.TheVariants.{Request, Probe, Solicit, Reply}
 use Rattle.router_model.specs.Emits.{ecm_for, emit_packet, message_packet, packet_from, packet_to, request_for, source_eid, to_resolver}
 use Rattle.router_model.specs.Site.{ours}
-use Rattle.router_core.proofs.WritableLemmas.{ecm-short, ours-reachable, request-short}
+use Rattle.router_core.specs.Site.{IsSite}
+use Rattle.router_core.proofs.WritableLemmas.{ecm-short, request-short}
 use Rattle.audit_laws.specs.Sent.{CanBeMade}
 use Rattle.audit_laws.specs.Whole.{IsWhole}
 use Rattle.audit_laws.proofs.HeaderLemmas.{v4-whole, v6-whole}
@@ -51,26 +50,25 @@ from-whole (Some from) to told sender short = message-whole from to 4342 (canoni
 to-whole : (settings : Settings) (to : Addr) (told : Message) → IsTrue (is_some (ours settings.locators to)) → length (canonical_message told) ≤ 65000 → IsWhole (packet_to settings to told)
 to-whole settings to told sender short = from-whole (ours settings.locators to) to told sender short
 
--- and to the resolver, which can be reached
-resolver-whole : (settings : Settings) (resolver : Option Addr) (told : Message) → IsTrue (is_some resolver) → IfSome resolver (λ addr. IsTrue (is_reachable settings.locators addr)) → length (canonical_message told) ≤ 65000
-    → IsWhole (to_resolver settings resolver told)
-resolver-whole settings None told some reachable short = cc
-resolver-whole settings (Some resolver) told some reachable short = to-whole settings resolver told (ours-reachable settings.locators resolver reachable) short
+-- and to the resolver, which is reached
+resolver-whole : (settings : Settings) (resolver : Option Addr) (told : Message) → IsTrue (is_some (option_and_then (ours settings.locators) resolver)) → length (canonical_message told) ≤ 65000 → IsWhole (to_resolver settings resolver told)
+resolver-whole settings None told reaches short = cc
+resolver-whole settings (Some resolver) told reaches short = to-whole settings resolver told reaches short
 
-pub emit-whole : (settings : Settings) (emit : Emit) → IsLawful settings → CanBeMade settings emit → IsWhole (emit_packet settings emit)
+pub emit-whole : (settings : Settings) (emit : Emit) → IsSite settings → CanBeMade settings emit → IsWhole (emit_packet settings emit)
 unfolding emit_packet
-emit-whole settings (Request eid source invoked nonce) lawful made =
+emit-whole settings (Request eid source invoked nonce) site made =
     let request : MapRequest = request_for settings false false invoked nonce (source_eid eid source) eid in
-    let short : length (canonical_request request) ≤ 650 = request-short settings lawful false false invoked nonce (source_eid eid source) eid in
+    let short : length (canonical_request request) ≤ 650 = request-short settings site false false invoked nonce (source_eid eid source) eid in
     let whole : length (canonical_ecm (ecm_for settings eid request)) ≤ 702 = ecm-short settings eid request short in
-    resolver-whole settings settings.resolver (message.Control (ecm_for settings eid request)) made lawful.resolver (omega (arith, whole))
-emit-whole settings (Probe to eid nonce) lawful made =
+    resolver-whole settings settings.resolver (message.Control (ecm_for settings eid request)) made (omega (arith, whole))
+emit-whole settings (Probe to eid nonce) site made =
     let request : MapRequest = request_for settings true false false nonce None eid in
-    let short : length (canonical_request request) ≤ 650 = request-short settings lawful true false false nonce None eid in
+    let short : length (canonical_request request) ≤ 650 = request-short settings site true false false nonce None eid in
     to-whole settings to (message.Request request) made (omega (arith, short))
-emit-whole settings (Solicit to eid nonce) lawful made =
+emit-whole settings (Solicit to eid nonce) site made =
     let source = source_eid eid (Some eid.prefix.addr) in
     let request : MapRequest = request_for settings false true false nonce source eid in
-    let short : length (canonical_request request) ≤ 650 = request-short settings lawful false true false nonce source eid in
+    let short : length (canonical_request request) ≤ 650 = request-short settings site false true false nonce source eid in
     to-whole settings to (message.Request request) made (omega (arith, short))
-emit-whole settings (Reply from to port reply) lawful made = message-whole from to port (canonical_message (message.Reply reply)) made
+emit-whole settings (Reply from to port reply) site made = message-whole from to port (canonical_message (message.Reply reply)) made

@@ -1,6 +1,6 @@
 -- The nonce of what the router makes itself is lifted out of its packet, and a Map-Reply has none.
 use Rattle.std.proofs.Common.{◌≡◌, ◌<◌, ◌≤◌, ◌^◌, ◌==◌, ◌&&◌, ℕ, Bool, true, false, cond, IfSome, IsTrue, List, [], ◌∷◌, ◌++◌, length, Option, Some, None, All, refl, sym, ap, subst, ◌∙◌, arith}
-use Rattle.std.specs.Prelude.{is_some}
+use Rattle.std.specs.Prelude.{is_some, option_and_then}
 use Rattle.std.proofs.lemmas.Bool.{and_parts, eq-eqb, eqb-true, or_left, or_right}
 use Rattle.std.proofs.lemmas.List.{append-nil}
 use Rattle.std.proofs.lemmas.List.Elements.{All-head, All-tail}
@@ -17,8 +17,6 @@ use Rattle.map_messages.specs.declared.message.MapRequest.{MapRequest}
 use Rattle.map_messages.specs.declared.message.Message.{Message}
 use Rattle.map_messages.specs.declared.message.Message.TheVariants as message
 use Rattle.map_messages.proofs.MessageLaws.{written_message}
-use Rattle.lisp_settings.specs.Lawful.{IsLawful}
-use Rattle.lisp_settings.specs.Resolver.{is_reachable}
 use Rattle.lisp_settings.specs.declared.settings.OwnLocator.{OwnLocator}
 use Rattle.lisp_settings.specs.declared.settings.Settings.{Settings}
 use Rattle.router_log.specs.declared.emit.Emit.{Emit}
@@ -27,7 +25,8 @@ use Rattle.router_model.specs.Emits.{ecm_for, emit_packet, inner_source, message
 use Rattle.router_model.specs.Received.{message_in}
 use Rattle.router_model.specs.Site.{is_own, ours}
 use Rattle.router_model.proofs.ReceivedLemmas.{message_in_is}
-use Rattle.router_core.proofs.WritableLemmas.{ecm-range, ecm-short, ours-reachable, request-range, request-short, source_eid-range}
+use Rattle.router_core.specs.Site.{IsSite}
+use Rattle.router_core.proofs.WritableLemmas.{ecm-range, ecm-short, request-range, request-short, source_eid-range}
 use Rattle.audit.specs.Requests.{nonce_of}
 use Rattle.audit_laws.specs.Sent.{CanBeMade}
 use Rattle.audit_laws.proofs.CourseLemmas.{message-arrives, IsMessage}
@@ -107,9 +106,9 @@ module _ (settings : Settings) (fit : DoFit settings.locators) (told read : Mess
   to-nonce : (to : Addr) → IsTrue (is_some (ours settings.locators to)) → packet_nonce settings.locators (packet_to settings to told) ≡ nonce_of read
   to-nonce to sender = from-nonce to (ours settings.locators to) sender (ours-family settings.locators to) (ours-own settings.locators to) (ours-fits settings.locators to fit)
 
-  resolver-nonce : (resolver : Option Addr) → IsTrue (is_some resolver) → IfSome resolver (λ addr. IsTrue (is_reachable settings.locators addr)) → packet_nonce settings.locators (to_resolver settings resolver told) ≡ nonce_of read
-  resolver-nonce None some reachable = cc
-  resolver-nonce (Some resolver) some reachable = to-nonce resolver (ours-reachable settings.locators resolver reachable)
+  resolver-nonce : (resolver : Option Addr) → IsTrue (is_some (option_and_then (ours settings.locators) resolver)) → packet_nonce settings.locators (to_resolver settings resolver told) ≡ nonce_of read
+  resolver-nonce None reaches = cc
+  resolver-nonce (Some resolver) reaches = to-nonce resolver reaches
 
 -- ### Map-Requests
 
@@ -161,31 +160,31 @@ module _ (settings : Settings) (eid : Eid) (request : MapRequest) (range : InRan
 
 -- ### any emit
 
-module _ (settings : Settings) (lawful : IsLawful settings) (fit : DoFit settings.locators) where
-  resolver-sender : (resolver : Option Addr) → IsTrue (is_some resolver) → IfSome resolver (λ addr. IsTrue (is_reachable settings.locators addr)) → (to : Addr) × IsTrue (is_some (ours settings.locators to))
-  resolver-sender None some reachable = absurd (cc)
-  resolver-sender (Some resolver) some reachable = (resolver, ours-reachable settings.locators resolver reachable)
+module _ (settings : Settings) (site : IsSite settings) (fit : DoFit settings.locators) where
+  resolver-sender : (resolver : Option Addr) → IsTrue (is_some (option_and_then (ours settings.locators) resolver)) → (to : Addr) × IsTrue (is_some (ours settings.locators to))
+  resolver-sender None reaches = absurd (cc)
+  resolver-sender (Some resolver) reaches = (resolver, reaches)
 
   pub emit-nonce : (emit : Emit) → CanBeMade settings emit → IfSome (emit_nonce emit) (λ nonce. nonce < 2 ^ 64) → packet_nonce settings.locators (emit_packet settings emit) ≡ emit_nonce emit
   unfolding emit_packet
   emit-nonce (Request eid source invoked nonce) made fits =
       let request : MapRequest = request_for settings false false invoked nonce (source_eid eid source) eid in
-      let sender = resolver-sender settings.resolver made lawful.resolver in
-      let range : InRangeRequest request = request-range settings lawful false false invoked nonce (source_eid eid source) eid sender.0 (source_eid-range eid source) sender.1 in
-      let short : length (canonical_request request) ≤ 650 = request-short settings lawful false false invoked nonce (source_eid eid source) eid in
+      let sender = resolver-sender settings.resolver made in
+      let range : InRangeRequest request = request-range settings site false false invoked nonce (source_eid eid source) eid sender.0 (source_eid-range eid source) sender.1 in
+      let short : length (canonical_request request) ≤ 650 = request-short settings site false false invoked nonce (source_eid eid source) eid in
       resolver-nonce settings fit (message.Control (ecm_for settings eid request)) (message.Control (reduced_ecm settings eid request)) (ecm-same settings eid request range refl)
-      (ecm-lawful settings eid request range refl fits short) (ecm-octets settings eid request (for-octets settings lawful false false invoked nonce (source_eid eid source) eid)) settings.resolver made lawful.resolver
+      (ecm-lawful settings eid request range refl fits short) (ecm-octets settings eid request (for-octets settings site false false invoked nonce (source_eid eid source) eid)) settings.resolver made
   emit-nonce (Probe to eid nonce) made fits =
       let request : MapRequest = request_for settings true false false nonce None eid in
-      let range : InRangeRequest request = request-range settings lawful true false false nonce None eid to tt made in
-      let short : length (canonical_request request) ≤ 650 = request-short settings lawful true false false nonce None eid in
+      let range : InRangeRequest request = request-range settings site true false false nonce None eid to tt made in
+      let short : length (canonical_request request) ≤ 650 = request-short settings site true false false nonce None eid in
       to-nonce settings fit (message.Request request) (message.Request (reduced_request request)) (request-reduced request refl)
-      (plain-lawful request range fits refl short) (for-octets settings lawful true false false nonce None eid) to made
+      (plain-lawful request range fits refl short) (for-octets settings site true false false nonce None eid) to made
   emit-nonce (Solicit to eid nonce) made fits =
       let source = source_eid eid (Some eid.prefix.addr) in
       let request : MapRequest = request_for settings false true false nonce source eid in
-      let range : InRangeRequest request = request-range settings lawful false true false nonce source eid to (source_eid-range eid (Some eid.prefix.addr)) made in
-      let short : length (canonical_request request) ≤ 650 = request-short settings lawful false true false nonce source eid in
+      let range : InRangeRequest request = request-range settings site false true false nonce source eid to (source_eid-range eid (Some eid.prefix.addr)) made in
+      let short : length (canonical_request request) ≤ 650 = request-short settings site false true false nonce source eid in
       to-nonce settings fit (message.Request request) (message.Request (reduced_request request)) (request-reduced request refl)
-      (plain-lawful request range fits refl short) (for-octets settings lawful false true false nonce source eid) to made
+      (plain-lawful request range fits refl short) (for-octets settings site false true false nonce source eid) to made
   emit-nonce (Reply from to port reply) made fits = reply-none settings.locators from to port reply made

@@ -23,7 +23,6 @@ use Rattle.map_messages.specs.Request.{canonical_asked_eid, canonical_request, c
 use Rattle.map_messages.specs.declared.message.MapRequest.{MapRequest}
 use Rattle.map_messages.specs.declared.message.Message.{Message}
 use Rattle.map_messages.specs.declared.message.Message.TheVariants as message
-use Rattle.lisp_settings.specs.Lawful.{IsLawful}
 use Rattle.lisp_settings.specs.declared.settings.Database.{Database}
 use Rattle.lisp_settings.specs.declared.settings.OwnLocator.{OwnLocator}
 use Rattle.lisp_settings.specs.declared.settings.Settings.{Settings}
@@ -32,6 +31,7 @@ use Rattle.router_log.specs.declared.emit.Emit.TheVariants.{Request, Probe, Soli
 use Rattle.router_model.specs.Emits.{ecm_for, emit_packet, message_packet, packet_from, request_for, source_eid, to_resolver}
 use Rattle.router_model.specs.Hear.{Asker, answering, own_locator, own_record, reply_of}
 use Rattle.router_model.specs.Site.{ours, up_locators}
+use Rattle.router_core.specs.Site.{IsSite}
 use Rattle.router_core.proofs.AnsweringLemmas.{reply-range}
 use Rattle.audit_laws.specs.Drawn.{IsInRange}
 use Rattle.audit_laws.proofs.OctetLemmas.{AreOctets, datagram-octets, flag_le, join, none, number, one, v4-octets, v6-octets}
@@ -112,12 +112,12 @@ up-few (own ∷ others) = by own.up (up-few others)
     by true few = omega (arith, few)
     by false few = omega (arith, few)
 
-module _ (settings : Settings) (lawful : IsLawful settings) where
+module _ (settings : Settings) (site : IsSite settings) where
   pub for-octets : (probe smr invoked : Bool) (nonce : ℕ) (source : Option (ℕ × Addr)) (eid : Eid) → AreOctets (canonical_request (request_for settings probe smr invoked nonce source eid))
   for-octets probe smr invoked nonce source eid =
       let up : List OwnLocator = up_locators settings.locators in
       let same : length (map (λ (own : OwnLocator). own.addr) up) ≡ length up = length-map up _ in
-      request-octets (request_for settings probe smr invoked nonce source eid) (omega (arith, same, up-few settings.locators, lawful.few_locators)) (omega arith)
+      request-octets (request_for settings probe smr invoked nonce source eid) (omega (arith, same, up-few settings.locators, site.few_locators)) (omega arith)
 
   locator-octets : (probed : Option Addr) (own : OwnLocator) → IsInRange own → AreOctets (canonical_locator (own_locator probed own))
   locator-octets probed own has =
@@ -146,7 +146,7 @@ module _ (settings : Settings) (lawful : IsLawful settings) where
       let all_rest : AreOctets rest = join host (canonical_locators locators) (eid-octets eid.iid eid.prefix.addr) (locators-octets probed settings.locators all) in
       let all_behind : AreOctets behind = join (big_octets 2 database.version) rest (number 2 database.version) all_rest in
       join (big_octets 4 settings.ttl) (length locators ∷ eid.prefix.len ∷ (0 * 32 + 16) ∷ 0 ∷ behind) (number 4 settings.ttl)
-      (one (length locators) (eid.prefix.len ∷ (0 * 32 + 16) ∷ 0 ∷ behind) (omega (arith, same, lawful.few_locators))
+      (one (length locators) (eid.prefix.len ∷ (0 * 32 + 16) ∷ 0 ∷ behind) (omega (arith, same, site.few_locators))
       (one eid.prefix.len ((0 * 32 + 16) ∷ 0 ∷ behind) (mask-octet eid) (one (0 * 32 + 16) (0 ∷ behind) (omega arith) (one 0 behind (omega arith) all_behind))))
 
   records-octets : All IsInRange settings.locators → (probed : Option Addr) (databases : List Database) → AreOctets (flat_map canonical_record (map (own_record settings probed) databases))
@@ -159,7 +159,7 @@ module _ (settings : Settings) (lawful : IsLawful settings) where
       let databases : List Database = answering settings.databases request.eids in
       let probed : Option Addr = cond asker.probe (Some asker.dest) None in
       let mappings : List Record = map (own_record settings probed) databases in
-      let few = (reply-range settings lawful asker request).count in
+      let few = (reply-range settings site asker request).count in
       let records : List ℕ = flat_map canonical_record mappings in
       let behind : List ℕ = big_octets 8 request.nonce ++ records in
       one (32 + flag asker.probe 8) (0 ∷ 0 ∷ length mappings ∷ behind) (omega (arith, flag_le asker.probe 8))
@@ -208,14 +208,14 @@ IsMade (Probe to eid nonce) = Unit {0}
 IsMade (Solicit to eid nonce) = Unit {0}
 IsMade (Reply from to port reply) = AreOctets (canonical_reply reply)
 
-pub emit-octets : (settings : Settings) (emit : Emit) → IsLawful settings → IsMade emit → AreOctets (emit_packet settings emit)
+pub emit-octets : (settings : Settings) (emit : Emit) → IsSite settings → IsMade emit → AreOctets (emit_packet settings emit)
 unfolding emit_packet
-emit-octets settings (Request eid source invoked nonce) lawful made =
+emit-octets settings (Request eid source invoked nonce) site made =
     let request : MapRequest = request_for settings false false invoked nonce (source_eid eid source) eid in
-    resolver-octets settings settings.resolver (message.Control (ecm_for settings eid request)) (ecm-octets settings eid request (for-octets settings lawful false false invoked nonce (source_eid eid source) eid))
-emit-octets settings (Probe to eid nonce) lawful made =
-    from-octets (ours settings.locators to) to (message.Request (request_for settings true false false nonce None eid)) (for-octets settings lawful true false false nonce None eid)
-emit-octets settings (Solicit to eid nonce) lawful made =
+    resolver-octets settings settings.resolver (message.Control (ecm_for settings eid request)) (ecm-octets settings eid request (for-octets settings site false false invoked nonce (source_eid eid source) eid))
+emit-octets settings (Probe to eid nonce) site made =
+    from-octets (ours settings.locators to) to (message.Request (request_for settings true false false nonce None eid)) (for-octets settings site true false false nonce None eid)
+emit-octets settings (Solicit to eid nonce) site made =
     let source = source_eid eid (Some eid.prefix.addr) in
-    from-octets (ours settings.locators to) to (message.Request (request_for settings false true false nonce source eid)) (for-octets settings lawful false true false nonce source eid)
-emit-octets settings (Reply from to port reply) lawful made = message-octets from to port (canonical_reply reply) made
+    from-octets (ours settings.locators to) to (message.Request (request_for settings false true false nonce source eid)) (for-octets settings site false true false nonce source eid)
+emit-octets settings (Reply from to port reply) site made = message-octets from to port (canonical_reply reply) made

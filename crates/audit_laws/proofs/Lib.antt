@@ -17,5 +17,6 @@ mod PlayLemmas
 mod ReducedLemmas
 mod SameLemmas
 mod SoundLemmas
+mod StandLemmas
 mod VerdictLemmas
 mod WrittenLemmas

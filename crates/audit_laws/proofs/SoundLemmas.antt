@@ -1,22 +1,19 @@
 -- What holds of a change: its packets can be made, and their nonces are those that were drawn, each in its turn, or once more.
 use Rattle.std.proofs.Common.{◌≡◌, ℕ, ◌^◌, ◌<◌, Bool, true, false, cond, IfSome, IsTrue, List, [], ◌∷◌, ◌++◌, filter_map, Option, Some, None, refl, sym, ap, subst, ◌∙◌, append-nil, append_assoc}
 use Rattle.std.specs.List.{All, cons_option}
-use Rattle.std.specs.Prelude.{is_some}
 use Rattle.std.proofs.lemmas.Bool.{and_parts, true≢false}
 use Rattle.std.proofs.lemmas.List.Elements.{All-push, filter_map-append}
 use Rattle.ip_headers.specs.declared.addr.Addr.{Addr}
 use Rattle.mapping_records.specs.declared.eid.Eid.{Eid}
-use Rattle.lisp_settings.specs.Lawful.{IsLawful}
 use Rattle.lisp_settings.specs.declared.settings.Settings.{Settings}
 use Rattle.router_log.specs.declared.emit.Emit.{Emit}
 use Rattle.router_log.specs.declared.emit.Emit.TheVariants as emit
 use Rattle.router_log.specs.declared.entry.Entry.{Entry}
 use Rattle.router_log.specs.declared.entry.Entry.TheVariants as entry
-use Rattle.router_log.specs.declared.entry.Entry.TheVariants.{Learned, Asked, Retried, Answered, Probed, ProbeAnswered, Bits, EchoStarted, EchoHeard, DataFrom, EchoWanted, Solicited}
 use Rattle.router_model.specs.Changes.{Change, asked, each, emitted, entered, journal as of_journal, may_ask, next_nonce}
 use Rattle.router_model.specs.Journal.{Journal, drawn, uses_nonce}
-use Rattle.router_model.specs.Requests.{asked_nonces, open_asked}
-use Rattle.router_model.specs.View.{View, view}
+use Rattle.router_model.specs.Site.{reaches_resolver}
+use Rattle.router_model.specs.View.{View}
 use Rattle.router_model.proofs.LiftLemmas.{nonce-next}
 use Rattle.audit.specs.Lifted.{each_once}
 use Rattle.audit_laws.specs.Drawn.{first_nonces, nonce_at, IsInRange}
@@ -24,50 +21,6 @@ use Rattle.audit_laws.specs.Sent.{CanBeMade}
 use Rattle.audit_laws.proofs.DrawnLemmas.{drawn-one, drawn-same, once-alike, AreNext, AreShort, Each, IsNext}
 use Rattle.audit_laws.proofs.EmitLemmas.{emit_nonce}
 use Rattle.audit_laws.proofs.EmitOctetLemmas.{IsMade}
-
--- ### only a router with a resolver asks
-
--- the entry is a Map-Request
-abbrev pub is_asking : Entry → Bool
-is_asking (Asked moment eid source invoked nonce) = true
-is_asking _ = false
-
-abbrev pub NoneAsked : Journal → Type 0
-NoneAsked [] = Unit {0}
-NoneAsked (entry ∷ before) = (is_asking entry ≡ false) × NoneAsked before
-
--- without a resolver nothing was asked
-abbrev pub AsksResolver : Option Addr → Journal → Type 0
-AsksResolver (Some resolver) journal = Unit {0}
-AsksResolver None journal = NoneAsked journal
-
--- where nothing was asked, no request is open
-nonces-none : (journal : Journal) → NoneAsked journal → asked_nonces journal ≡ []
-nonces-none [] none = refl
-nonces-none (Asked moment eid source invoked nonce ∷ before) none = absurd (true≢false none.0)
-nonces-none (Learned moment mapping fixed ∷ before) none = nonces-none before none.1
-nonces-none (Retried moment nonce ∷ before) none = nonces-none before none.1
-nonces-none (Answered moment nonce ∷ before) none = nonces-none before none.1
-nonces-none (Probed moment rloc nonce ∷ before) none = nonces-none before none.1
-nonces-none (ProbeAnswered moment nonce ∷ before) none = nonces-none before none.1
-nonces-none (Bits moment eid bits width ∷ before) none = nonces-none before none.1
-nonces-none (EchoStarted moment rloc nonce ∷ before) none = nonces-none before none.1
-nonces-none (EchoHeard moment rloc ∷ before) none = nonces-none before none.1
-nonces-none (DataFrom moment rloc ∷ before) none = nonces-none before none.1
-nonces-none (EchoWanted moment rloc nonce ∷ before) none = nonces-none before none.1
-nonces-none (Solicited moment rloc eid nonce ∷ before) none = nonces-none before none.1
-
-pub requests-none : (journal : Journal) (m : ℕ) → NoneAsked journal → (view journal m).requests ≡ []
-unfolding view
-requests-none journal m none = ap (λ (nonces : List ℕ). filter_map (λ nonce. open_asked (view journal m).now nonce journal) nonces) (nonces-none journal none)
-
-pub asks-more : (resolver : Option Addr) (e : Entry) (journal : Journal) → is_asking e ≡ false → AsksResolver resolver journal → AsksResolver resolver (e ∷ journal)
-asks-more (Some addr) e journal other asks = tt
-asks-more None e journal other asks = (other, asks)
-
-pub asks-one : (resolver : Option Addr) (journal : Journal) → IsTrue (is_some resolver) → AsksResolver resolver journal
-asks-one (Some addr) journal some = tt
-asks-one None journal some = cc
 
 -- ### what holds of a change
 
@@ -82,7 +35,6 @@ AreDrawn settings nonces journal = each_once nonces ≡ each_once (first_nonces 
 -- behind packets with these nonces: the packet of each emit can be made, without echoes the nonces of all are those that
 -- were drawn, and it goes on so
 pub record IsSound (settings : Settings) (before : List ℕ) (change : Change Journal) : Type 0 where
-  pub asks : AsksResolver settings.resolver change.after
   pub made : All (CanBeMade settings) change.emits
   pub next : AreNext settings change.after
   pub short : AreShort settings → All IsShort change.emits
@@ -104,11 +56,10 @@ same-nonces before emits packet is =
     ap (λ (l : List ℕ). before ++ l)
     (filter_map-append emit_nonce emits (packet ∷ []) ∙ ap (λ (o : Option ℕ). filter_map emit_nonce emits ++ cons_option o []) is ∙ append-nil (filter_map emit_nonce emits))
 
-module _ (settings : Settings) (lawful : IsLawful settings) (before : List ℕ) (m : ℕ) where
+module _ (settings : Settings) (before : List ℕ) (m : ℕ) where
   -- an entry that draws no nonce
-  pub sound-entered : (e : Entry) (change : Change Journal) → is_asking e ≡ false → uses_nonce e ≡ false → IsNext settings change.after e → IsSound settings before change → IsSound settings before (entered of_journal settings m e change)
-  sound-entered e change other none next sound = record {
-    asks = asks-more settings.resolver e change.after other sound.asks;
+  pub sound-entered : (e : Entry) (change : Change Journal) → uses_nonce e ≡ false → IsNext settings change.after e → IsSound settings before change → IsSound settings before (entered of_journal settings m e change)
+  sound-entered e change none next sound = record {
     made = sound.made;
     next = (next, sound.next);
     short = sound.short;
@@ -119,7 +70,6 @@ module _ (settings : Settings) (lawful : IsLawful settings) (before : List ℕ) 
   -- an echo that begins draws one, and sends no packet
   pub sound-echo : (rloc : Addr) (nonce : ℕ) (change : Change Journal) → settings.echo ≡ true → IsSound settings before change → IsSound settings before (entered of_journal settings m (entry.EchoStarted m rloc nonce) change)
   sound-echo rloc nonce change on sound = record {
-    asks = asks-more settings.resolver (entry.EchoStarted m rloc nonce) change.after refl sound.asks;
     made = sound.made;
     next = (tt, sound.next);
     short = sound.short;
@@ -128,15 +78,14 @@ module _ (settings : Settings) (lawful : IsLawful settings) (before : List ℕ) 
   }
 
   -- a packet with the nonce that is next
-  pub sound-drawn : (e : Entry) (packet : Emit) (change : Change Journal) → uses_nonce e ≡ true → IsNext settings change.after e → AsksResolver settings.resolver (e ∷ change.after) → CanBeMade settings packet → IsMade packet
+  pub sound-drawn : (e : Entry) (packet : Emit) (change : Change Journal) → uses_nonce e ≡ true → IsNext settings change.after e → CanBeMade settings packet → IsMade packet
       → emit_nonce packet ≡ Some (next_nonce of_journal settings m change) → IsSound settings before change → IsSound settings before (emitted packet (entered of_journal settings m e change))
-  sound-drawn e packet change uses next asks can made is sound =
+  sound-drawn e packet change uses next can made is sound =
       let nonce = next_nonce of_journal settings m change in
       let same : nonce ≡ nonce_at settings (drawn change.after) = nonce-next settings m change in
       let one : emit_nonce packet ≡ Some (nonce_at settings (drawn change.after)) = is ∙ ap Some same in
       let nonces : List ℕ = before ++ filter_map emit_nonce change.emits in
       record {
-        asks = asks;
         made = All-push (CanBeMade settings) change.emits packet sound.made can;
         next = (next, sound.next);
         short = λ short. All-push IsShort change.emits packet (sound.short short) (subst (λ (o : Option ℕ). IfSome o (λ nonce. nonce < 2 ^ 64)) (sym one) (short (drawn change.after)));
@@ -147,16 +96,15 @@ module _ (settings : Settings) (lawful : IsLawful settings) (before : List ℕ) 
             ∙ ap (λ (k : ℕ). each_once (first_nonces settings k)) (sym (drawn-one e change.after uses));
       }
 
-  pub sound-asked : (eid : Eid) (source : Option Addr) (invoked : Bool) (change : Change Journal) → IsTrue (is_some settings.resolver) → IsSound settings before change → IsSound settings before (asked of_journal settings m eid source invoked change)
-  sound-asked eid source invoked change some sound =
+  pub sound-asked : (eid : Eid) (source : Option Addr) (invoked : Bool) (change : Change Journal) → IsTrue (reaches_resolver settings) → IsSound settings before change → IsSound settings before (asked of_journal settings m eid source invoked change)
+  sound-asked eid source invoked change reaches sound =
       let nonce = next_nonce of_journal settings m change in
       let e : Entry = entry.Asked m eid source invoked nonce in
-      sound-drawn e (emit.Request eid source invoked nonce) change refl (nonce-next settings m change) (asks-one settings.resolver (e ∷ change.after) some) some tt refl sound
+      sound-drawn e (emit.Request eid source invoked nonce) change refl (nonce-next settings m change) reaches tt refl sound
 
   -- a packet without a nonce
   pub sound-reply_sent : (packet : Emit) (change : Change Journal) → CanBeMade settings packet → emit_nonce packet ≡ None → (All IsInRange settings.locators → IsMade packet) → IsSound settings before change → IsSound settings before (emitted packet change)
   sound-reply_sent packet change can none made sound = record {
-    asks = sound.asks;
     made = All-push (CanBeMade settings) change.emits packet sound.made can;
     next = sound.next;
     short = λ short. All-push IsShort change.emits packet (sound.short short) (subst (λ (o : Option ℕ). IfSome o (λ nonce. nonce < 2 ^ 64)) (sym none) tt);
@@ -175,6 +123,6 @@ module _ (settings : Settings) (lawful : IsLawful settings) (before : List ℕ) 
   pub sound-all : {A : Type 0} (step : A → Change Journal → Change Journal) → ((a : A) (change : Change Journal) → IsSound settings before change → IsSound settings before (step a change)) → (items : List A) (change : Change Journal) → IsSound settings before change → IsSound settings before (each step items change)
   sound-all {A} step one items change sound = sound-each step (λ (a : A). Unit {0}) (λ a change any. one a change) items change (each-any items) sound
 
-  -- where an EID may be asked for, there is a resolver
-  pub may-resolver : (v : View) (eid : Eid) → may_ask settings v eid ≡ true → IsTrue (is_some settings.resolver)
-  may-resolver v eid may = (and_parts (is_some settings.resolver) _ may).0
+  -- where an EID may be asked for, the resolver is reached
+  pub may-resolver : (v : View) (eid : Eid) → may_ask settings v eid ≡ true → IsTrue (reaches_resolver settings)
+  may-resolver v eid may = (and_parts (reaches_resolver settings) _ may).0

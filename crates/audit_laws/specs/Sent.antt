@@ -12,7 +12,7 @@ use Rattle.capture_events.specs.Events.{Packet, events, played, records_of}
 use Rattle.router_log.specs.declared.emit.Emit.{Emit}
 use Rattle.router_log.specs.declared.emit.Emit.TheVariants.{Request, Probe, Solicit, Reply}
 use Rattle.router_model.specs.Plain.{plain, started}
-use Rattle.router_model.specs.Site.{ours}
+use Rattle.router_model.specs.Site.{ours, reaches_resolver}
 
 -- the packets that the plain router sends for frames
 abbrev pub sent_packets : Settings → List Frame → List Packet
@@ -22,9 +22,9 @@ sent_packets settings frames = (played plain (started settings) (events frames))
 abbrev pub written : List Packet → Run CaptureFault
 written packets = capture (out_header ++ records_of packets)
 
--- there is a resolver for a Map-Request, or an own locator of the receiver's family that is up; a reply isn't too long
+-- an own locator of the receiver's family is up, for a Map-Request of the resolver's; a reply isn't too long
 abbrev pub CanBeMade : Settings → Emit → Type 0
-CanBeMade settings (Request eid source invoked nonce) = IsTrue (is_some settings.resolver)
+CanBeMade settings (Request eid source invoked nonce) = IsTrue (reaches_resolver settings)
 CanBeMade settings (Probe to eid nonce) = IsTrue (is_some (ours settings.locators to))
 CanBeMade settings (Solicit to eid nonce) = IsTrue (is_some (ours settings.locators to))
 CanBeMade settings (Reply from to port reply) = length (canonical_reply reply) ≤ most_message_octets

@@ -10,8 +10,10 @@ ghost use Rattle.playback.specs.Written.{frames_of};
 ghost use Rattle.router_log.specs.declared.emit.Emit.{Emit};
 ghost use Rattle.router_model.specs.Decide.{decide_by};
 ghost use Rattle.router_model.specs.Emits.{emit_packet};
+ghost use Rattle.router_model.specs.Journal.{Journal};
 ghost use Rattle.router_model.specs.Lifting.{AreOctets};
 ghost use Rattle.router_model.specs.Plain.{packet_of};
+ghost use Rattle.router_model.specs.Standing.{standing};
 ghost use Rattle.router_model.specs.View.{View};
 ghost use Rattle.audit.specs.Compared.{compared};
 ghost use Rattle.audit.specs.Lifted.{lifted};
@@ -21,13 +23,17 @@ ghost use Rattle.audit_laws.specs.Sent.{sent_packets, written, CanBeMade};
 ghost use Rattle.audit_laws.specs.Whole.{IsWhole};
 
 /// What a decision on a frame of octets sends, into a tunnel, out of one or past it, is exactly one
-/// packet of octets. So is what the router makes itself, and each packet of a whole replay, which
-/// are of octets where the settings' numbers fit their types.
+/// packet of octets. So is what the router makes itself, over its settings and over those that
+/// stand, and each packet of a whole replay, which are of octets where the settings' numbers fit
+/// their types.
 pub fn sent_packets_are_packets()
     ensures decision { (settings : Settings) (v : View) (frame : Frame) → AreOctets frame.octets
         → IfSome (packet_of (decide_by settings v frame).verdict) (IsPacket 0) }
     ensures emit { (settings : Settings) (emit : Emit) → IsLawful settings
         → CanBeMade settings emit → IsWhole (emit_packet settings emit) }
+    ensures stands { (settings : Settings) (journal : Journal) (emit : Emit) → IsLawful settings
+        → CanBeMade (standing settings journal) emit
+        → IsWhole (emit_packet (standing settings journal) emit) }
     ensures all { (settings : Settings) (frames : List Frame) → IsLawful settings
         → All IsRead frames → AreLater 0 frames
         → All (λ packet. IsWhole packet.octets) (sent_packets settings frames) }

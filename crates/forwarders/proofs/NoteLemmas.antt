@@ -1,6 +1,7 @@
 -- Notices, noted one after another, with what is gathered of them.
-use Rattle.std.proofs.Common.{◌≡◌, ◌∙◌, ℕ, suc, ◌+◌, ◌*◌, ◌≤◌, List, [], ◌∷◌, ◌++◌, length, map, take, get_or, All, ◌<◌, append_assoc, refl, sym, ap, arith}
-use Rattle.std.proofs.lemmas.List.{append-nil, length-append, length-take, map-append, take_more}
+use Rattle.std.proofs.Common.{◌≡◌, ◌∙◌, ℕ, suc, ◌+◌, ◌*◌, ◌≤◌, List, [], ◌∷◌, ◌++◌, length, map, take, get_or, All, Result, Ok, Err, ◌<◌, append_assoc, refl, sym, ap, subst, arith}
+use Rattle.std.specs.Result.{OnOk}
+use Rattle.std.proofs.lemmas.List.{append-nil, length-append, length-map, length-take, map-append, take_more}
 use Rattle.std.proofs.lemmas.List.Concat.{flat_map-append}
 use Rattle.std.proofs.lemmas.List.Elements.{All-take, All-weaker}
 use Rattle.lisp_settings.specs.declared.settings.Settings.{Settings}
@@ -11,13 +12,16 @@ use Rattle.router_log.specs.declared.notice.Notice.{Notice}
 use Rattle.router_model.specs.Changes.{Change, each, unchanged}
 use Rattle.router_model.specs.Emits.{emit_packet}
 use Rattle.router_model.specs.Note.{noted}
-use Rattle.router_model.specs.Parts.{Parts, table}
+use Rattle.router_model.specs.Parts.{Parts, own_of, standing_in, table}
 use Rattle.router_model.specs.Plain.{emit_packets}
 use Rattle.router_model.specs.Sides.{Ruling, notices_of}
+use Rattle.router_model.specs.Standing.{own_in, standing_by}
+use Rattle.router_model.specs.declared.own.Own.{Own}
+use Rattle.router_core.specs.Steps.{HasEntered}
 use Rattle.router_core.proofs.NotingLemmas.{all-behind, behind}
 use Rattle.forwarders.specs.declared.gathering.Gathered.{Gathered}
 use Rattle.forwarders.specs.declared.ruled.Ruled.{Ruled}
-use Rattle.forwarders.specs.Gathering.{Notes, packet_gathered}
+use Rattle.forwarders.specs.Gathering.{IsFit, Notes, packet_gathered}
 use Rattle.forwarders.specs.Given.{IsGiven}
 use Rattle.forwarders.specs.Ruling.{ruling_of}
 
@@ -63,7 +67,7 @@ module _ (settings : Settings) (moment : ℕ) where
             ∙ sym (ap (λ (t : Change Parts). items ++ map packet_gathered (emit_packets settings moment t.emits)) whole))));
         fits = λ fit. others.fits (first.fits fit);
         few = omega (arith, a, b, long);
-        entered = record { now = y.now; count = omega (arith, xc, yc, long) };
+        entered = record { now = y.now; count = omega (arith, xc, yc, long); own = y.own ∙ x.own; steps = y.steps ∙ x.steps };
       }
 
   pub notes-none : (before : Parts) (entries : List Entry) (items : List Gathered) → before.now ≤ moment → Notes settings moment [] before entries items before entries items
@@ -73,8 +77,51 @@ module _ (settings : Settings) (moment : ℕ) where
     items = sym (append-nil items);
     fits = λ fit. fit;
     few = omega arith;
-    entered = record { now = later; count = omega arith };
+    entered = record { now = later; count = omega arith; own = refl; steps = refl };
   }
+
+-- settings stand as long as neither own locators nor their changes come
+pub stands-still : (settings : Settings) (before after : Parts) → after.own ≡ before.own → after.steps ≡ before.steps → standing_in settings after ≡ standing_in settings before
+stands-still settings before after own steps = λ i. standing_by settings (own_in (own i) (steps i))
+
+-- so notices are noted over those that stood before the first of them
+pub notes-stand : {n : ℕ} (settings : Settings) (moment : ℕ) (next : List Notice) (start before after : Parts) (entries all : List Entry) (items last : List Gathered) → HasEntered n moment start before → Notes (standing_in settings before) moment next before entries items after all last → Notes (standing_in settings start) moment next before entries items after all last
+notes-stand settings moment next start before after entries all items last entered notes =
+    subst (λ (s : Settings). Notes s moment next before entries items after all last) (stands-still settings start before entered.own entered.steps) notes
+
+-- what one notice made, whose packets are those of the settings that stand behind it
+pub notes-one : (settings : Settings) (moment : ℕ) (notice : Notice) (before after : Parts) (own : Own) (change : Change Parts) (sliced : List Emit) (added older newer : List Entry) (old new : List Gathered)
+    → change ≡ noted table (standing_in settings before) moment notice (unchanged before) → change.after ≡ after → own ≡ own_of after → added ≡ change.entries → sliced ≡ change.emits
+    → newer ≡ older ++ added → new ≡ old ++ map packet_gathered (emit_packets (standing_by settings own) moment sliced) → (All IsFit old → All IsFit new)
+    → length change.emits ≤ 1 → HasEntered 1 moment before after
+    → Notes (standing_in settings before) moment (notice ∷ []) before older old after newer new
+notes-one settings moment notice before after own change sliced added older newer old new is moved owns copied cut told sent fits few entered =
+    let stands : standing_by settings own ≡ standing_in settings before =
+    ap (λ (o : Own). standing_by settings o) owns ∙ stands-still settings before after entered.own entered.steps in
+    let packets : List Packet = emit_packets (standing_in settings before) moment change.emits in
+    let items : new ≡ old ++ map packet_gathered packets =
+    sent ∙ (λ i. old ++ map packet_gathered (emit_packets (stands i) moment (cut i))) in
+    let long = ap (λ (l : List Gathered). length l) items ∙ length-append old (map packet_gathered packets) in
+    let same = length-map packets packet_gathered in
+    let number : length packets ≡ length change.emits = length-map change.emits _ in
+    record {
+      parts = sym moved ∙ ap (λ (c : Change Parts). c.after) is;
+      entries = told ∙ (ap (λ (l : List Entry). older ++ l) copied ∙ ap (λ (c : Change Parts). older ++ c.entries) is);
+      items = items ∙ ap (λ (c : Change Parts). old ++ map packet_gathered (emit_packets (standing_in settings before) moment c.emits)) is;
+      fits = fits;
+      few = omega (arith, long, same, number, few);
+      entered = entered;
+    }
+
+-- the same from what the calls say
+pub notes-sent : {T E : Type 0} (r : Result T E) (settings : Settings) (moment : ℕ) (notice : Notice) (before after : Parts) (own : Own) (change : Change Parts) (sliced : List Emit) (added older newer : List Entry) (old new : List Gathered)
+    → change ≡ noted table (standing_in settings before) moment notice (unchanged before) → change.after ≡ after → own ≡ own_of after → added ≡ change.entries → sliced ≡ change.emits
+    → newer ≡ older ++ added → OnOk r (new ≡ old ++ map packet_gathered (emit_packets (standing_by settings own) moment sliced)) → OnOk r (All IsFit old → All IsFit new)
+    → length change.emits ≤ 1 → HasEntered 1 moment before after
+    → OnOk r (Notes (standing_in settings before) moment (notice ∷ []) before older old after newer new)
+notes-sent (Ok x) settings moment notice before after own change sliced added older newer old new is moved owns copied cut told sent fits few entered =
+    notes-one settings moment notice before after own change sliced added older newer old new is moved owns copied cut told sent fits few entered
+notes-sent (Err e) settings moment notice before after own change sliced added older newer old new is moved owns copied cut told sent fits few entered = tt
 
 -- the notices of rulings, and of those of more
 pub notices-append : (one next : List Ruling) → notices_of (one ++ next) ≡ notices_of one ++ notices_of next

@@ -13,7 +13,7 @@ use Rattle.router_log.specs.declared.verdict.Verdict.{Verdict}
 use Rattle.router_model.specs.Changes.{Change, unchanged}
 use Rattle.router_model.specs.Course.{control}
 use Rattle.router_model.specs.Hear.{hear_by}
-use Rattle.router_model.specs.Parts.{Parts, table}
+use Rattle.router_model.specs.Parts.{Parts, standing_in, table}
 use Rattle.router_model.specs.Plain.{emit_packets, packet_of, packets_of}
 use Rattle.router_model.specs.Rounds as rounds
 use Rattle.router_model.specs.Sides.{Item, Second, Message, Data, data_in, left_for_later, lines_by, message_written, packets_by, writing}
@@ -168,13 +168,13 @@ module _ (settings : Settings) (last : ℕ) (more : List events.Packet) where
   Follow events parts = (ruled : List Ruled) → HaveLooked last ruled → Enough (writing table settings parts events).items ruled → Come (arrivals events) (writing table settings parts events).items ruled
 
   -- of a frame, by what follows it
-  frame-comes : (frame : Frame) (events : List Event) (parts : Parts) → Follow events (hear_by table settings frame.moment frame (unchanged parts)).change.after → Follow events parts → Follow (Arrival frame ∷ events) parts
+  frame-comes : (frame : Frame) (events : List Event) (parts : Parts) → Follow events (hear_by table (standing_in settings parts) frame.moment frame (unchanged parts)).change.after → Follow events parts → Follow (Arrival frame ∷ events) parts
   frame-comes frame events parts heard left = by (control settings frame) refl
     where
-      by : (b : Bool) → control settings frame ≡ b → (ruled : List Ruled) → HaveLooked last ruled → let written = cond b (message_written table settings parts.count frame (hear_by table settings frame.moment frame (unchanged parts))) (left_for_later parts frame) in Enough (written.items ++ (writing table settings written.after events).items) ruled → Come (frame ∷ arrivals events) (written.items ++ (writing table settings written.after events).items) ruled
+      by : (b : Bool) → control settings frame ≡ b → (ruled : List Ruled) → HaveLooked last ruled → let written = cond b (message_written table settings parts.count frame (hear_by table (standing_in settings parts) frame.moment frame (unchanged parts))) (left_for_later parts frame) in Enough (written.items ++ (writing table settings written.after events).items) ruled → Come (frame ∷ arrivals events) (written.items ++ (writing table settings written.after events).items) ruled
       by true is ruled looked enough =
-          let h = hear_by table settings frame.moment frame (unchanged parts) in
-          message-comes frame parts.count h.verdict (emit_packets settings frame.moment h.change.emits) (arrivals events) (writing table settings h.change.after events).items ruled is (heard ruled looked enough)
+          let h = hear_by table (standing_in settings parts) frame.moment frame (unchanged parts) in
+          message-comes frame parts.count h.verdict (emit_packets (standing_in settings h.change.after) frame.moment h.change.emits) (arrivals events) (writing table settings h.change.after events).items ruled is (heard ruled looked enough)
       by false is [] looked enough = absurd (let bad : ⊥ = omega (arith, enough) in bad)
       by false is (one ∷ ruled) looked enough =
           data-comes frame (arrivals events) (writing table settings parts events).items one ruled is (first-all (HasLooked last) one ruled looked)
@@ -186,9 +186,9 @@ module _ (settings : Settings) (last : ℕ) (more : List events.Packet) where
   lines-come (Tick s ∷ events) parts ruled looked enough =
       let change : Change Parts = ticked table settings (seconds s) (unchanged parts) in
       let rest : List Item = (writing table settings change.after events).items in
-      subst (AllZip (HasCome settings last) (arrivals events)) (sym (lines-behind (emit_packets settings (seconds s) change.emits) (all_gathered rest) (all_packets more) ruled))
+      subst (AllZip (HasCome settings last) (arrivals events)) (sym (lines-behind (emit_packets (standing_in settings change.after) (seconds s) change.emits) (all_gathered rest) (all_packets more) ruled))
       (lines-come events change.after ruled looked enough)
   lines-come (Arrival frame ∷ events) parts ruled looked enough =
       frame-comes frame events parts
-      (λ r l e. lines-come events (hear_by table settings frame.moment frame (unchanged parts)).change.after r l e)
+      (λ r l e. lines-come events (hear_by table (standing_in settings parts) frame.moment frame (unchanged parts)).change.after r l e)
       (λ r l e. lines-come events parts r l e) ruled looked enough

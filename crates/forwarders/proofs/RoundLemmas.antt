@@ -14,7 +14,7 @@ use Rattle.router_model.specs.Course.{control}
 use Rattle.router_model.specs.Hear.{hear_by}
 use Rattle.router_model.specs.Journal.{Journal, extended, last_moment}
 use Rattle.router_model.specs.Lifting.{FramesInOrder}
-use Rattle.router_model.specs.Parts.{Parts, Stands, table}
+use Rattle.router_model.specs.Parts.{Parts, Stands, standing_in, table}
 use Rattle.router_model.specs.Plain.{emit_packets}
 use Rattle.router_model.specs.Proper.{IsProper}
 use Rattle.router_model.specs.Rounds.{all_advanced, closing_moment, data_frames, round}
@@ -87,9 +87,9 @@ data-few settings parts [] = omega arith
 data-few settings parts (Tick s ∷ events) =
     let rest = data-few settings (event_written table settings parts (Tick s)).after events in omega (arith, rest)
 data-few settings parts (Arrival frame ∷ events) =
-    by (control settings frame) (data-few settings (hear_by table settings frame.moment frame (unchanged parts)).change.after events) (data-few settings parts events)
+    by (control settings frame) (data-few settings (hear_by table (standing_in settings parts) frame.moment frame (unchanged parts)).change.after events) (data-few settings parts events)
   where
-    by : (b : Bool) → length (data_in (writing table settings (hear_by table settings frame.moment frame (unchanged parts)).change.after events).items) ≤ length events → length (data_in (writing table settings parts events).items) ≤ length events → let written = cond b (message_written table settings parts.count frame (hear_by table settings frame.moment frame (unchanged parts))) (left_for_later parts frame) in length (data_in (written.items ++ (writing table settings written.after events).items)) ≤ suc (length events)
+    by : (b : Bool) → length (data_in (writing table settings (hear_by table (standing_in settings parts) frame.moment frame (unchanged parts)).change.after events).items) ≤ length events → length (data_in (writing table settings parts events).items) ≤ length events → let written = cond b (message_written table settings parts.count frame (hear_by table (standing_in settings parts) frame.moment frame (unchanged parts))) (left_for_later parts frame) in length (data_in (written.items ++ (writing table settings written.after events).items)) ≤ suc (length events)
     by true heard left = omega (arith, heard)
     by false heard left = omega (arith, left)
 
@@ -225,7 +225,7 @@ runs-round settings previous frame frames parts now after old middle new from wr
     let f : Finishes settings closing ruled w.after mid written undone after new done =
     subst (λ (t : ℕ × Parts × Publication). Finishes settings t.0 ruled t.1 t.2 written undone after new done) (λ i. (closes i, wrote i, published i)) finishes in
     let change : Change Parts = noted_of settings closing w.after ruled in
-    let more : List events.Packet = emit_packets settings closing change.emits in
+    let more : List events.Packet = emit_packets (standing_in settings change.after) closing change.emits in
     let gathered : List Gathered = with_noted settings closing w.after ruled written.items.items in
     let items : gathered ≡ all_gathered w.items ++ all_packets more = ap (λ (l : List Gathered). l ++ all_packets more) is.items in
     let lines : done.lines ≡ lines_in gathered ruled = f.lines ∙ ap (λ (l : List Line). l ++ lines_in gathered ruled) empty.0 in

@@ -9,7 +9,7 @@ use Rattle.router_log.specs.declared.entry.Entry.{Entry}
 use Rattle.router_model.specs.Changes.{journal as of_journal}
 use Rattle.router_model.specs.Decide.{decide, decide_by}
 use Rattle.router_model.specs.Journal.{Journal, extended}
-use Rattle.router_model.specs.Parts.{Parts, Stands, table, view_in}
+use Rattle.router_model.specs.Parts.{Parts, Stands, standing_in, table, view_in}
 use Rattle.router_model.specs.Sharing.{filled, opening, parts_after}
 use Rattle.router_model.specs.Sides.{Writing, joined, writing}
 use Rattle.router_model.proofs.FollowLemmas.{table-decides}
@@ -81,6 +81,6 @@ decided-are-ruled settings parts before m events frame one stands may decided =
     let stood : Stands settings after journal =
     subst (λ (l : List (List Entry)). Stands settings after (extended (journal_of before) (joined (take k l)))) (sym same) (batches-stand settings parts (journal_of before) m events k stands may) in
     let count : count_of front ≡ after.count = sym (journal-length front) ∙ (ap (λ (j : Journal). length j) is ∙ sym (ap (λ (p : Parts). p.count) stood.whole)) in
-    let decision : decide settings (journal_of front) frame.moment frame ≡ decide_by settings (view_in after frame.moment) frame =
+    let decision : decide settings (journal_of front) frame.moment frame ≡ decide_by (standing_in settings after) (view_in after frame.moment) frame =
     ap (λ (j : Journal). decide settings j frame.moment frame) is ∙ sym (table-decides settings after journal frame.moment frame stood) in
     record { k = k; late = behind.1.0; is = decided.is ∙ (λ i. record { n = count i; decision = decision i }) }

@@ -39,7 +39,7 @@ made-stand settings behind parts proper made =
       proper = proper;
       whole = made ∙ (sym (parts-extended settings [] (joined behind))
           ∙ (ap (parts_of settings) (sym same)
-          ∙ (all-absorbed settings proper.entries proper.fit ∙ ap (parts_in settings) (sym proper.whole))));
+          ∙ (all-absorbed settings proper.entries proper.may proper.fit ∙ ap (parts_in settings) (sym proper.whole))));
     }
 
 -- one batch more

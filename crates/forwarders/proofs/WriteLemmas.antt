@@ -15,12 +15,13 @@ use Rattle.router_model.specs.Changes.{Change, unchanged}
 use Rattle.router_model.specs.Course.{control}
 use Rattle.router_model.specs.Hear.{Heard, hear_by}
 use Rattle.router_model.specs.Limits.{most_ticked}
-use Rattle.router_model.specs.Parts.{Parts, table}
+use Rattle.router_model.specs.Parts.{Parts, standing_in, table}
 use Rattle.router_model.specs.Plain.{emit_packets}
 use Rattle.router_model.specs.Rounds as rounds
 use Rattle.router_model.specs.Rounds.{closing_moment}
 use Rattle.router_model.specs.Sharing.{filled}
 use Rattle.router_model.specs.Sides.{Item, Writing, data_in, joined, left_for_later, message_written, second_written, then_written, unwritten, writing}
+use Rattle.router_model.specs.Standing.{without_ups}
 use Rattle.router_model.specs.Tick.{ticked}
 use Rattle.router_model.proofs.OwnLemmas.{own-entries}
 use Rattle.router_model.proofs.SideLemmas.{data-append, writing-adds, writing-follows}
@@ -89,15 +90,15 @@ writes-both settings frames one next before middle after old mid new first other
 
 pub writes-second : (settings : Settings) (frames : List Frame) (s : ℕ) (before after : Parts) (change : Change Parts) (old new : Written)
     → change ≡ ticked table settings (seconds s) (unchanged before) → change.after ≡ after
-    → new.items.items ≡ old.items.items ++ map packet_gathered (emit_packets settings (seconds s) change.emits)
+    → new.items.items ≡ old.items.items ++ map packet_gathered (emit_packets (standing_in settings change.after) (seconds s) change.emits)
     → new.batches ≡ old.batches ++ filled (change.entries ∷ []) → new.places ≡ old.places
     → (All IsFit old.items.items → All IsFit new.items.items) → length change.emits ≤ most_ticked → after.count ≤ before.count + most_ticked
     → Writes settings frames (Tick s ∷ []) before old after new
 writes-second settings frames s before after change old new is moved items batches places fits few count =
-    let packets = map packet_gathered (emit_packets settings (seconds s) change.emits) in
+    let packets = map packet_gathered (emit_packets (standing_in settings change.after) (seconds s) change.emits) in
     let long = ap (λ (l : List Gathered). length l) items ∙ length-append old.items.items packets in
-    let same = length-map (emit_packets settings (seconds s) change.emits) packet_gathered in
-    let number : length (emit_packets settings (seconds s) change.emits) ≡ length change.emits = length-map change.emits _ in
+    let same = length-map (emit_packets (standing_in settings change.after) (seconds s) change.emits) packet_gathered in
+    let number : length (emit_packets (standing_in settings change.after) (seconds s) change.emits) ≡ length change.emits = length-map change.emits _ in
     subst (λ (c : Change Parts). Adds frames 1 (then_written (second_written table settings s c) (unwritten c.after)) before old after new) is (record {
       parts = sym moved;
       items = items ∙ ap (λ (l : List Gathered). old.items.items ++ l) (sym (append-nil packets));
@@ -110,20 +111,20 @@ writes-second settings frames s before after change old new is moved items batch
     })
 
 pub writes-message : (settings : Settings) (frames : List Frame) (frame : Frame) (before after : Parts) (heard : Heard Parts) (old new : Written)
-    → control settings frame ≡ true → heard ≡ hear_by table settings frame.moment frame (unchanged before) → heard.change.after ≡ after
-    → new.items.items ≡ (old.items.items ++ mark.Message (line_made (rounds.line_of frame before.count heard.verdict)) ∷ []) ++ map packet_gathered (emit_packets settings frame.moment heard.change.emits)
+    → control settings frame ≡ true → heard ≡ hear_by table (standing_in settings before) frame.moment frame (unchanged before) → heard.change.after ≡ after
+    → new.items.items ≡ (old.items.items ++ mark.Message (line_made (rounds.line_of frame before.count heard.verdict)) ∷ []) ++ map packet_gathered (emit_packets (standing_in settings heard.change.after) frame.moment heard.change.emits)
     → new.batches ≡ old.batches ++ filled (heard.change.entries ∷ []) → new.places ≡ old.places
     → (All IsFit old.items.items → All IsFit new.items.items) → length heard.change.emits + 1 ≤ most_ticked → after.count ≤ before.count + most_ticked
     → Writes settings frames (Arrival frame ∷ []) before old after new
 writes-message settings frames frame before after heard old new message is moved items batches places fits few count =
-    let packets = map packet_gathered (emit_packets settings frame.moment heard.change.emits) in
+    let packets = map packet_gathered (emit_packets (standing_in settings heard.change.after) frame.moment heard.change.emits) in
     let line : List Gathered = mark.Message (line_made (rounds.line_of frame before.count heard.verdict)) ∷ [] in
     let all = items ∙ append_assoc old.items.items line packets in
     let long = ap (λ (l : List Gathered). length l) all ∙ length-append old.items.items (line ++ packets) in
-    let same = length-map (emit_packets settings frame.moment heard.change.emits) packet_gathered in
-    let number : length (emit_packets settings frame.moment heard.change.emits) ≡ length heard.change.emits = length-map heard.change.emits _ in
+    let same = length-map (emit_packets (standing_in settings heard.change.after) frame.moment heard.change.emits) packet_gathered in
+    let number : length (emit_packets (standing_in settings heard.change.after) frame.moment heard.change.emits) ≡ length heard.change.emits = length-map heard.change.emits _ in
     subst (λ (w : Writing Parts). Adds frames 1 (then_written w (unwritten w.after)) before old after new)
-    (ap (λ (h : Heard Parts). message_written table settings before.count frame h) is ∙ sym (ap (λ (b : Bool). cond b (message_written table settings before.count frame (hear_by table settings frame.moment frame (unchanged before))) (left_for_later before frame)) message))
+    (ap (λ (h : Heard Parts). message_written table settings before.count frame h) is ∙ sym (ap (λ (b : Bool). cond b (message_written table settings before.count frame (hear_by table (standing_in settings before) frame.moment frame (unchanged before))) (left_for_later before frame)) message))
     (record {
       parts = sym moved;
       items = all ∙ ap (λ (l : List Gathered). old.items.items ++ l) (sym (append-nil (line ++ packets)));
@@ -145,7 +146,7 @@ writes-left settings frames frame place before after old new apart moved early i
     let long = ap (λ (l : List Gathered). length l) items ∙ length-append old.items.items (mark.Left frame.number frame.moment ∷ []) in
     let same = ap (λ (p : Parts). p.count) moved in
     subst (λ (w : Writing Parts). Adds frames 1 (then_written w (unwritten w.after)) before old after new)
-    (sym (ap (λ (b : Bool). cond b (message_written table settings before.count frame (hear_by table settings frame.moment frame (unchanged before))) (left_for_later before frame)) apart))
+    (sym (ap (λ (b : Bool). cond b (message_written table settings before.count frame (hear_by table (standing_in settings before) frame.moment frame (unchanged before))) (left_for_later before frame)) apart))
     (record {
       parts = sym moved;
       items = items;
@@ -216,11 +217,11 @@ second-behind from second later = grind (arith, later)
 
 -- ### settings
 
--- the settings that a table is for stay
-pub own-written : (settings : Settings) (before : Parts) (events : List Event) → (writing table settings before events).after.own ≡ before.own
+-- the own locators that a table is for stay, whichever of them are up
+pub own-written : (settings : Settings) (before : Parts) (events : List Event) → without_ups (writing table settings before events).after.own ≡ without_ups before.own
 own-written settings before events =
-    ap (λ (p : Parts). p.own) (writing-adds table settings before events) ∙ own-entries before (joined (writing table settings before events).batches)
+    ap (λ (p : Parts). without_ups p.own) (writing-adds table settings before events) ∙ own-entries before (joined (writing table settings before events).batches)
 
-pub writes-own : (settings : Settings) (frames : List Frame) (events : List Event) (before after : Parts) (old new : Written) → Writes settings frames events before old after new → after.own ≡ before.own
+pub writes-own : (settings : Settings) (frames : List Frame) (events : List Event) (before after : Parts) (old new : Written) → Writes settings frames events before old after new → without_ups after.own ≡ without_ups before.own
 writes-own settings frames events before after old new writes =
-    ap (λ (p : Parts). p.own) writes.parts ∙ own-written settings before events
+    ap (λ (p : Parts). without_ups p.own) writes.parts ∙ own-written settings before events

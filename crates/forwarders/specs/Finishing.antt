@@ -2,7 +2,7 @@
 use Rattle.std.specs.Prelude.{◌≡◌, ℕ, ◌+◌, ◌*◌, ◌≤◌, List, [], ◌∷◌, ◌++◌, length, map, All}
 use Rattle.lisp_settings.specs.declared.settings.Settings.{Settings}
 use Rattle.router_model.specs.Changes.{Change}
-use Rattle.router_model.specs.Parts.{Parts, table}
+use Rattle.router_model.specs.Parts.{Parts, standing_in, table}
 use Rattle.router_model.specs.Plain.{emit_packets}
 use Rattle.router_model.specs.Sharing.{filled}
 use Rattle.router_model.specs.Sides.{noting}
@@ -21,7 +21,7 @@ noted_of settings moment before ruled = noting table settings moment before (map
 -- what was gathered, and behind it the packets of notices
 abbrev pub with_noted : Settings → ℕ → Parts → List Ruled → List Gathered → List Gathered
 with_noted settings moment before ruled items =
-    items ++ map packet_gathered (emit_packets settings moment (noted_of settings moment before ruled).emits)
+    items ++ map packet_gathered (emit_packets (standing_in settings (noted_of settings moment before ruled).after) moment (noted_of settings moment before ruled).emits)
 
 -- the notices were noted and published, and all was put behind what was done
 pub record Finishes (settings : Settings) (moment : ℕ) (ruled : List Ruled) (before : Parts) (old : Publication) (written : Written) (undone : RoundDone) (after : Parts) (new : Publication) (done : RoundDone) : Type 0 where

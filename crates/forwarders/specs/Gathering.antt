@@ -109,7 +109,7 @@ pub record IsWritten (settings : Settings) (previous : Option ℕ) (frames : Lis
 
 -- ### what notices made
 
--- notices were noted at a moment: their entries and packets came behind those of before
+-- notices were noted at a moment, over the settings that stand: their entries and packets came behind those of before
 pub record Notes (settings : Settings) (moment : ℕ) (notices : List Notice) (before : Parts) (older : List Entry) (old : List Gathered) (after : Parts) (newer : List Entry) (new : List Gathered) : Type 0 where
   pub parts : after ≡ (each (noted table settings moment) notices (unchanged before)).after
   pub entries : newer ≡ older ++ (each (noted table settings moment) notices (unchanged before)).entries

@@ -5,7 +5,7 @@ use Rattle.capture_io.specs.Frame.{Frame}
 use Rattle.lisp_settings.specs.declared.settings.Settings.{Settings}
 use Rattle.capture_events.specs.Events as events
 use Rattle.capture_events.specs.Events.{events_after}
-use Rattle.router_core.specs.Steps.{HasEntered}
+use Rattle.router_core.specs.Steps.{HasTicked}
 use Rattle.router_model.specs.Course.{control}
 use Rattle.router_model.specs.Limits.{most_entries, most_event_packets}
 use Rattle.router_model.specs.Parts.{Parts, Stands}
@@ -76,5 +76,5 @@ pub record RunsRound (settings : Settings) (previous : Option ℕ) (frames : Lis
   pub round : IsRound settings previous frames before after new done
   pub published : GrewBy before after
   pub looks : AllZip (HasCome settings (last_length settings previous frames before)) frames done.lines
-  pub entered : HasEntered (most_entries * length (events_after previous frames)) (closing_moment frames) old new
+  pub entered : HasTicked (most_entries * length (events_after previous frames)) (closing_moment frames) old new
   pub packets : AreWritable (length (events_after previous frames)) done.written

@@ -37,6 +37,7 @@ no_settings = record {
   attachments = [];
   databases = [];
   mappings = [];
+  changes = [];
 }
 
 abbrev pub settings_in : View → Settings

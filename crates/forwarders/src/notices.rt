@@ -5,6 +5,7 @@ ghost use Rattle.lisp_settings.specs.Lawful.{IsLawful};
 ghost use Rattle.router_core.specs.Steps.{MayStep};
 ghost use Rattle.router_model.specs.Journal.{extended};
 ghost use Rattle.router_model.specs.Lifting.{is_sound};
+ghost use Rattle.router_model.specs.Parts.{standing_in};
 ghost use Rattle.router_model.specs.Proper.{IsProper};
 ghost use Rattle.router_model.specs.Sharing.{filled};
 ghost use Rattle.router_model.specs.Sides.{notices_of};
@@ -52,15 +53,17 @@ fn note_one(
     requires sound { is_sound notice.now ≡ true }
     requires may { MayStep moment table.old.parts }
     requires moment { moment < 2 ^ 32 * 1000000000 }
-    ensures { OnOk result (Notes settings.now moment (notice.now ∷ []) table.old.parts
+    ensures { OnOk result (Notes (standing_in settings.now table.old.parts) moment
+        (notice.now ∷ []) table.old.parts
         entries.old items.old.items table.new.parts entries.new items.new.items) }
 {
     let Changed {
         entries: more,
         emits,
     } = table.note(settings, moment, notice)?;
+    let own = table.own();
     push_entries(alloc, more.as_slice(), entries)?;
-    push_emits(alloc, settings, moment, emits.as_slice(), items)
+    push_emits(alloc, settings, &own, moment, emits.as_slice(), items)
 }
 
 // Notes notices one after another.
@@ -78,7 +81,8 @@ fn note_each(
     requires later { table.old.parts.now ≤ moment }
     requires count { table.old.parts.count + length notices.now < 2 ^ 61 }
     requires moment { moment < 2 ^ 32 * 1000000000 }
-    ensures { OnOk result (Notes settings.now moment notices.now table.old.parts
+    ensures { OnOk result (Notes (standing_in settings.now table.old.parts) moment
+        notices.now table.old.parts
         entries.old items.old.items table.new.parts entries.new items.new.items) }
 {
     for notice in notices {
@@ -102,8 +106,9 @@ fn note_all(
     requires later { table.old.parts.now ≤ moment }
     requires count { table.old.parts.count + 5 * length ruled.now < 2 ^ 61 }
     requires moment { moment < 2 ^ 32 * 1000000000 }
-    ensures { OnOk result (Notes settings.now moment (notices_of (map ruling_of ruled.now))
-        table.old.parts entries.old items.old.items table.new.parts entries.new items.new.items) }
+    ensures { OnOk result (Notes (standing_in settings.now table.old.parts) moment
+        (notices_of (map ruling_of ruled.now)) table.old.parts
+        entries.old items.old.items table.new.parts entries.new items.new.items) }
 {
     for one in ruled {
         let notices = one.decision.notices.as_slice();
@@ -158,8 +163,8 @@ pub(crate) fn note_round<R: Wait>(
     requires stands { IsProper settings.now (journal_of published.old.batches) }
     requires proper { IsProper settings.now (extended (journal_of published.old.batches)
         (noted_of settings.now moment table.old.parts ruled.now).entries) }
-    ensures notes { OnOk result (Notes settings.now moment (notices_of (map ruling_of ruled.now))
-        table.old.parts [] items.old.items table.new.parts
+    ensures notes { OnOk result (Notes (standing_in settings.now table.old.parts) moment
+        (notices_of (map ruling_of ruled.now)) table.old.parts [] items.old.items table.new.parts
         (noted_of settings.now moment table.old.parts ruled.now).entries
         items.new.items) }
     ensures published { OnOk result (published.new ≡ record published.old {

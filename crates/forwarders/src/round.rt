@@ -3,7 +3,7 @@ ghost use Rattle.std.specs.Prelude.{◌≡◌, ◌+◌, ◌*◌, ◌^◌, ◌<�
 ghost use Rattle.std.specs.List.{AllZip};
 ghost use Rattle.lisp_settings.specs.Lawful.{IsLawful};
 ghost use Rattle.capture_events.specs.Events.{events_after};
-ghost use Rattle.router_core.specs.Steps.{HasEntered};
+ghost use Rattle.router_core.specs.Steps.{HasTicked};
 ghost use Rattle.router_model.specs.Journal.{extended};
 ghost use Rattle.router_model.specs.Lifting.{FramesInOrder};
 ghost use Rattle.router_model.specs.Limits.{most_entries};
@@ -216,7 +216,7 @@ pub fn run_round<R: Threads + Wait + Sync, G: Gate>(
     ensures looks { IfOk result (λ done. AllZip
         (HasCome settings.now (last_length settings.now previous frames.now published.old))
         frames.now done.lines) }
-    ensures entered { OnOk result (HasEntered
+    ensures entered { OnOk result (HasTicked
         (most_entries * length (events_after previous frames.now)) (closing_moment frames.now)
         table.old.parts table.new.parts) }
     ensures packets { IfOk result (λ done.

@@ -4,6 +4,7 @@ ghost use Rattle.lisp_settings.specs.Lawful.{IsLawful};
 ghost use Rattle.router_core.specs.Sendable.{IsSendable};
 ghost use Rattle.router_model.specs.Emits.{emit_packet};
 ghost use Rattle.router_model.specs.Plain.{emit_packets};
+ghost use Rattle.router_model.specs.Standing.{standing_by};
 ghost use Rattle.forwarders.specs.Gathering.{packet_gathered, IsFit};
 
 use crate::gathering::Gathered;
@@ -12,26 +13,28 @@ use lisp_settings::Settings;
 use octets::NoMemory;
 use router_core::emit_octets;
 use router_log::Emit;
+use router_model::Own;
 use std::alloc::Global;
 use std::collections::VecDeque;
 
-/// Gathers the packets of emits, at a moment.
+/// Gathers the packets of emits, at a moment, by the own locators and versions that stand then.
 pub(crate) fn push_emits(
     alloc: Global,
     settings: &Settings,
+    own: &Own,
     moment: u64,
     emits: &[Emit],
     items: &mut VecDeque<Gathered>,
 ) -> Result<(), NoMemory>
     requires lawful { IsLawful settings.now }
-    requires sendable { All (IsSendable settings.now) emits.now }
+    requires sendable { All (IsSendable (standing_by settings.now own.now)) emits.now }
     requires moment { moment < 2 ^ 32 * 1000000000 }
     ensures items { OnOk result (items.new.items ≡ items.old.items
-        ++ map packet_gathered (emit_packets settings.now moment emits.now)) }
+        ++ map packet_gathered (emit_packets (standing_by settings.now own.now) moment emits.now)) }
     ensures fits { OnOk result (All IsFit items.old.items → All IsFit items.new.items) }
 {
     for emit in emits {
-        push_emit(alloc, settings, moment, emit, items)?;
+        push_emit(alloc, settings, own, moment, emit, items)?;
     }
     Ok(())
 }
@@ -40,18 +43,22 @@ pub(crate) fn push_emits(
 fn push_emit(
     alloc: Global,
     settings: &Settings,
+    own: &Own,
     moment: u64,
     emit: &Emit,
     items: &mut VecDeque<Gathered>,
 ) -> Result<(), NoMemory>
     requires lawful { IsLawful settings.now }
-    requires sendable { IsSendable settings.now emit.now }
+    requires sendable { IsSendable (standing_by settings.now own.now) emit.now }
     requires moment { moment < 2 ^ 32 * 1000000000 }
     ensures items { OnOk result (items.new.items ≡ items.old.items
-        ++ packet_gathered (record { moment = moment; octets = emit_packet settings.now emit.now }) ∷ []) }
+        ++ packet_gathered (record {
+          moment = moment;
+          octets = emit_packet (standing_by settings.now own.now) emit.now;
+        }) ∷ []) }
     ensures fits { OnOk result (All IsFit items.old.items → All IsFit items.new.items) }
 {
-    let octets = emit_octets(alloc, settings, emit)?;
+    let octets = emit_octets(alloc, settings, own, emit)?;
     items.push_back(Gathered::Packet(Packet { moment, octets }))?;
     Ok(())
 }

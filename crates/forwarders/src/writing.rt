@@ -6,12 +6,13 @@ ghost use Rattle.lisp_settings.specs.Lawful.{IsLawful};
 ghost use Rattle.capture_events.specs.Events.{Arrival, Tick, events_after, second_of, ticks};
 ghost use Rattle.router_log.specs.Moments.{seconds};
 ghost use Rattle.router_core.specs.Seen.{course_seen};
-ghost use Rattle.router_core.specs.Steps.{HasEntered, MayStep};
+ghost use Rattle.router_core.specs.Steps.{HasTicked, MayStep};
 ghost use Rattle.router_model.specs.Course.{course_of, control};
 ghost use Rattle.router_model.specs.Lifting.{FramesInOrder};
 ghost use Rattle.router_model.specs.Limits.{most_ticked};
 ghost use Rattle.router_model.specs.Rounds.{closing_moment};
 ghost use Rattle.router_model.specs.Sharing.{filled};
+ghost use Rattle.router_model.specs.Standing.{without_ups};
 ghost use Rattle.forwarders.specs.Gathering.{IsWritten, Writes, round_writing};
 ghost use Rattle.forwarders.specs.Rounding.{begun_at};
 
@@ -44,17 +45,19 @@ fn write_second(
     written: &mut Written,
 ) -> Result<(), NoMemory>
     requires lawful { IsLawful settings.now }
-    requires own { settings.now.locators ≡ table.old.parts.own }
+    requires own { without_ups table.old.parts.own ≡ without_ups settings.now.locators }
     requires may { MayStep (seconds second) table.old.parts }
     ensures writes { OnOk result ((frames : List FrameValue) → Writes settings.now frames
         (Tick second ∷ []) table.old.parts written.old table.new.parts written.new) }
     ensures now { OnOk result (table.new.parts.now ≤ seconds second) }
 {
     let Changed { entries, emits } = table.tick(settings, second)?;
+    let own = table.own();
     let moment = u64::from(second) * 1_000_000_000;
     push_emits(
         alloc,
         settings,
+        &own,
         moment,
         emits.as_slice(),
         &mut written.items,
@@ -73,7 +76,7 @@ fn write_seconds(
     written: &mut Written,
 ) -> Result<(), NoMemory>
     requires lawful { IsLawful settings.now }
-    requires own { settings.now.locators ≡ table.old.parts.own }
+    requires own { without_ups table.old.parts.own ≡ without_ups settings.now.locators }
     requires later { table.old.parts.now ≤ unwrap_or previous moment }
     requires order { unwrap_or previous moment ≤ moment }
     requires moment { moment < 2 ^ 32 * 1000000000 }
@@ -150,6 +153,7 @@ fn write_message(
         entries,
         emits,
     } = table.hear_course(settings, frame.moment, course)?;
+    let own = table.own();
     written.items.push_back(Gathered::Message(Line {
         number: frame.number,
         moment: frame.moment,
@@ -160,6 +164,7 @@ fn write_message(
     push_emits(
         alloc,
         settings,
+        &own,
         frame.moment,
         emits.as_slice(),
         &mut written.items,
@@ -191,7 +196,7 @@ fn write_frames(
     written: &mut Written,
 ) -> Result<(), NoMemory>
     requires lawful { IsLawful settings.now }
-    requires own { settings.now.locators ≡ table.old.parts.own }
+    requires own { without_ups table.old.parts.own ≡ without_ups settings.now.locators }
     requires later { table.old.parts.now ≤ from }
     requires from { from < 2 ^ 32 * 1000000000 }
     requires number { length frames.now ≤ 4096 }
@@ -223,7 +228,7 @@ pub(crate) fn write_round(
     written: &mut Written,
 ) -> Result<usize, NoMemory>
     requires lawful { IsLawful settings.now }
-    requires own { settings.now.locators ≡ table.old.parts.own }
+    requires own { without_ups table.old.parts.own ≡ without_ups settings.now.locators }
     requires later { table.old.parts.now ≤ begun_at previous frames.now }
     requires number { (1 ≤ length frames.now) × (length frames.now ≤ 4096) }
     requires order { FramesInOrder (begun_at previous frames.now) frames.now }
@@ -235,7 +240,7 @@ pub(crate) fn write_round(
         IsWritten settings.now previous frames.now table.old.parts from written.new) }
     ensures table { OnOk result (table.new.parts
         ≡ (round_writing settings.now previous frames.now table.old.parts).after) }
-    ensures entered { OnOk result (HasEntered
+    ensures entered { OnOk result (HasTicked
         (most_ticked * length (events_after previous frames.now)) (closing_moment frames.now)
         table.old.parts table.new.parts) }
 {

@@ -14,7 +14,7 @@ use Rattle.lisp_settings.specs.declared.settings.OwnLocator.{OwnLocator}
 use Rattle.lisp_settings.proofs.EidLemmas.{eid_of-parts}
 
 -- 0 is the least
-zero_leb : (n : ℕ) → nat_le 0 n ≡ true
+pub zero_leb : (n : ℕ) → nat_le 0 n ≡ true
 zero_leb n = le-leb 0 n (omega arith)
 
 -- the four keys of a locator

@@ -7,11 +7,12 @@ use Rattle.std.specs.Cmp.{IsTotalOrder}
 use Rattle.std.specs.List.Sorted.{IsStrictlySortedBy}
 use Rattle.toml.specs.Data.{Data, Members, as_bool, as_integer}
 use Rattle.ip_headers.specs.declared.addr.Addr.{Addr}
-use Rattle.lisp_settings.specs.Limits.{default_minutes, most_attachments, most_databases, most_locators, most_mappings, most_nonces}
+use Rattle.lisp_settings.specs.Changes.{IsChangeOf, change_key, change_order}
+use Rattle.lisp_settings.specs.Limits.{default_minutes, most_attachments, most_changes, most_databases, most_locators, most_mappings, most_nonces}
 use Rattle.lisp_settings.specs.Lawful.{IsLawful, IsLawfulAttachment, IsLawfulDatabase, IsLawfulLocator, IsLawfulMapping}
 use Rattle.lisp_settings.specs.Lists.{any_ascending, ascending, nonces_at, one_or_more}
 use Rattle.mapping_records.specs.Orders.{addr_order, eid_order}
-use Rattle.lisp_settings.specs.Settings.{attachment_in, attachments, database_in, databases, eid_in, locator_in, locator_of, mapped_in, mapped_locators, mapping_in, mappings, own_locators, settings_in, top_keys, version_in}
+use Rattle.lisp_settings.specs.Settings.{attachment_in, attachments, change_in, changes, database_in, databases, eid_in, locator_in, locator_of, mapped_in, mapped_locators, mapping_in, mappings, own_locators, settings_in, top_keys, version_in}
 use Rattle.lisp_settings.specs.Fields.{only_keys, optional}
 use Rattle.lisp_settings.specs.Resolver.{is_reachable, only_reachable, resolver_in}
 use Rattle.lisp_settings.specs.Values.{seed, in_range, number}
@@ -19,6 +20,7 @@ use Rattle.lisp_settings.specs.declared.settings.OwnLocator.{OwnLocator}
 use Rattle.lisp_settings.specs.declared.fault.SettingsFault.{SettingsFault}
 use Rattle.lisp_settings.specs.declared.fault.SettingsFault.TheVariants.{BadValue}
 use Rattle.lisp_settings.proofs.AscendingLemmas.{ascending-all, ascending-few, ascending-some, ascending-sorted}
+use Rattle.lisp_settings.proofs.ChangeLemmas.{change_in-own, change_order-total}
 use Rattle.lisp_settings.proofs.EachLemmas.{AreFew, IfOk-any, pass, step, required-holds, optional-holds, any_number-few, one_or_more-some}
 use Rattle.mapping_records.proofs.OrderLemmas.{addr_order-total, eid_order-total}
 
@@ -111,6 +113,10 @@ mappings-lawful : (top : Members) → IfOk (mappings top) (AreKept (λ mapping. 
 mappings-lawful top =
     any_ascending-kept (codes "mapping") mapping_in (λ mapping. mapping.eid) eid_order eid_order-total IsLawfulMapping mapping_in-lawful most_mappings top
 
+changes-lawful : (locators : List OwnLocator) (top : Members) → IfOk (changes locators top) (AreKept change_key change_order (IsChangeOf locators) most_changes)
+changes-lawful locators top =
+    any_ascending-kept (codes "change") (change_in locators) change_key change_order change_order-total (IsChangeOf locators) (change_in-own locators) most_changes top
+
 -- the resolver is reachable where there is one
 abbrev IsReached : List OwnLocator → Option Addr → Type 0
 IsReached locators resolver = IfSome resolver (λ addr. IsTrue (is_reachable locators addr))
@@ -134,6 +140,7 @@ settings_in-lawful top =
     step (AreKept (λ attachment. attachment.vlan) nat_cmp IsLawfulAttachment most_attachments) IsLawful (attachments top) _ (attachments-lawful top) (λ attachments attached.
     step (AreKept (λ database. database.eid) eid_order IsLawfulDatabase most_databases) IsLawful (databases top) _ (databases-lawful top) (λ databases based.
     step (AreKept (λ mapping. mapping.eid) eid_order IsLawfulMapping most_mappings) IsLawful (mappings top) _ (mappings-lawful top) (λ mappings mapped.
+    step (AreKept change_key change_order (IsChangeOf locators) most_changes) IsLawful (changes locators top) _ (changes-lawful locators top) (λ changes changed.
     step (λ r. IsReached locators resolver) IsLawful (only_reachable locators resolver)
     (λ r. Ok (record {
       seed = seed;
@@ -146,6 +153,7 @@ settings_in-lawful top =
       attachments = attachments;
       databases = databases;
       mappings = mappings;
+      changes = changes;
     })) (only_reachable-reached locators resolver) (λ r reached.
     record {
       resolver = reached;
@@ -162,4 +170,7 @@ settings_in-lawful top =
       few_mappings = mapped.few;
       mappings = mapped.all;
       eids = mapped.sorted;
-    }))))))))))))
+      few_changes = changed.few;
+      changes = changed.all;
+      moments = changed.sorted;
+    })))))))))))))

@@ -1,6 +1,7 @@
 pub mod AddressLemmas
 pub mod ArrayLemmas
 pub mod AscendingLemmas
+pub mod ChangeLemmas
 pub mod EachLemmas
 pub mod EidLemmas
 pub mod FieldLemmas

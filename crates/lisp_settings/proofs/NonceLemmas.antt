@@ -12,7 +12,7 @@ use Rattle.lisp_settings.specs.Hex.{hex_number}
 use Rattle.lisp_settings.specs.Lists.{count, each_nonce, few_items, nonces_at}
 use Rattle.lisp_settings.specs.Places.{item_key}
 use Rattle.lisp_settings.specs.Resolver.{only_reachable, resolver_in}
-use Rattle.lisp_settings.specs.Settings.{attachments, databases, mappings, own_locators, settings_in, top_keys}
+use Rattle.lisp_settings.specs.Settings.{attachments, changes, databases, mappings, own_locators, settings_in, top_keys}
 use Rattle.lisp_settings.specs.Values.{nonce, number, seed}
 use Rattle.lisp_settings.specs.Writing.{IsNonceArray}
 use Rattle.lisp_settings.specs.declared.settings.Settings.{Settings}
@@ -51,7 +51,8 @@ settings_in-few top =
     pass HasFew (attachments top) _ (λ attachments.
     pass HasFew (databases top) _ (λ databases.
     pass HasFew (mappings top) _ (λ mappings.
-    pass HasFew (only_reachable locators resolver) _ (λ reachable. few))))))))))))
+    pass HasFew (changes locators top) _ (λ changes.
+    pass HasFew (only_reachable locators resolver) _ (λ reachable. few)))))))))))))
 
 -- a text behind those that were read
 each_nonce-push : (list earlier : List ℕ) (array : Items) (text nonces : List ℕ) (next : ℕ) → each_nonce list earlier array ≡ Ok nonces → hex_number text ≡ Some next → each_nonce list earlier (push_item array (string text)) ≡ Ok (nonces ++ next ∷ [])

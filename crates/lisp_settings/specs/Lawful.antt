@@ -6,7 +6,8 @@ use Rattle.std.specs.Ordering.{eq_by_cmp, nat_cmp}
 use Rattle.mapping_records.specs.declared.record.Locator.{Locator}
 use Rattle.mapping_records.specs.declared.record.Record.{Record}
 use Rattle.mapping_records.specs.Orders.{addr_order, eid_order}
-use Rattle.lisp_settings.specs.Limits.{default_minutes, most_attachments, most_databases, most_locators, most_mappings}
+use Rattle.lisp_settings.specs.Changes.{IsChangeOf, change_key, change_order}
+use Rattle.lisp_settings.specs.Limits.{default_minutes, most_attachments, most_changes, most_databases, most_locators, most_mappings}
 use Rattle.lisp_settings.specs.Resolver.{is_reachable}
 use Rattle.lisp_settings.specs.declared.settings.Attachment.{Attachment}
 use Rattle.lisp_settings.specs.declared.settings.Database.{Database}
@@ -54,3 +55,6 @@ pub record IsLawful (settings : Settings) : Type 0 where
   pub few_mappings : length settings.mappings ≤ most_mappings
   pub mappings : All IsLawfulMapping settings.mappings
   pub eids : IsStrictlySortedBy eid_order (map (λ mapping. mapping.eid) settings.mappings)
+  pub few_changes : length settings.changes ≤ most_changes
+  pub changes : All (IsChangeOf settings.locators) settings.changes
+  pub moments : IsStrictlySortedBy change_order (map change_key settings.changes)

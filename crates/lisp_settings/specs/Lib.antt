@@ -1,4 +1,5 @@
 pub mod AddressText
+pub mod Changes
 pub mod Fields
 pub mod Hex
 pub mod Home

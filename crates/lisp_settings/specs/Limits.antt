@@ -17,3 +17,7 @@ most_attachments = 4096
 -- EID prefixes of the site, at most
 abbrev pub most_databases : ℕ
 most_databases = 64
+
+-- changes of own locators, at most
+abbrev pub most_changes : ℕ
+most_changes = 256

@@ -11,8 +11,9 @@ use Rattle.mapping_records.specs.declared.eid.Eid.{Eid}
 use Rattle.mapping_records.specs.declared.record.Locator.{Locator}
 use Rattle.mapping_records.specs.declared.record.Record.{Record}
 use Rattle.lisp_settings.specs.AddressText.{some_if}
+use Rattle.lisp_settings.specs.Changes.{change_key, change_order, own_address}
 use Rattle.lisp_settings.specs.Fields.{◌>>=◌, only_keys, taken, required, optional}
-use Rattle.lisp_settings.specs.Limits.{default_minutes, most_attachments, most_databases, most_locators, most_mappings, most_nonces, most_text_octets}
+use Rattle.lisp_settings.specs.Limits.{default_minutes, most_attachments, most_changes, most_databases, most_locators, most_mappings, most_nonces, most_text_octets}
 use Rattle.lisp_settings.specs.Lists.{any_ascending, any_number, one_or_more, ascending, nonces_at}
 use Rattle.mapping_records.specs.Orders.{addr_order, eid_order}
 use Rattle.lisp_settings.specs.Resolver.{resolver_in, only_reachable}
@@ -21,6 +22,7 @@ use Rattle.lisp_settings.specs.declared.fault.SettingsFault.{SettingsFault}
 use Rattle.lisp_settings.specs.declared.fault.SettingsFault.TheVariants.{NotToml, TooLong}
 use Rattle.lisp_settings.specs.declared.settings.OwnLocator.{OwnLocator}
 use Rattle.lisp_settings.specs.declared.settings.Attachment.{Attachment}
+use Rattle.lisp_settings.specs.declared.settings.Change.{Change}
 use Rattle.lisp_settings.specs.declared.settings.Database.{Database}
 use Rattle.lisp_settings.specs.declared.settings.Settings.{Settings}
 
@@ -109,6 +111,15 @@ mapping_in table = do
     locators = locators;
   })
 
+-- a table of `change`, of one of these own locators
+abbrev pub change_in : List OwnLocator → Members → Result Change SettingsFault
+change_in locators table = do
+  known ← only_keys (codes "at" ∷ codes "address" ∷ codes "up" ∷ []) table
+  at ← required (codes "at") (number 0 4294967295) table
+  address ← required (codes "address") (own_address locators) table
+  up ← required (codes "up") as_bool table
+  Ok (record { at = at; address = address; up = up })
+
 -- the tables of `locator`
 abbrev pub own_locators : Members → Result (List OwnLocator) SettingsFault
 own_locators top = do
@@ -130,11 +141,16 @@ abbrev pub mappings : Members → Result (List Record) SettingsFault
 mappings top =
     any_ascending (codes "mapping") mapping_in (λ mapping. mapping.eid) eid_order most_mappings top
 
+-- the tables of `change`, of these own locators
+abbrev pub changes : List OwnLocator → Members → Result (List Change) SettingsFault
+changes locators top =
+    any_ascending (codes "change") (change_in locators) change_key change_order most_changes top
+
 -- the keys of the top table
 abbrev pub top_keys : List (List ℕ)
 top_keys =
     codes "seed" ∷ codes "nonces" ∷ codes "resolver" ∷ codes "ttl" ∷ codes "probe" ∷ codes "echo"
-    ∷ codes "locator" ∷ codes "attachment" ∷ codes "database" ∷ codes "mapping" ∷ []
+    ∷ codes "locator" ∷ codes "attachment" ∷ codes "database" ∷ codes "mapping" ∷ codes "change" ∷ []
 
 -- the minutes for which the site's mappings stay, at the key `ttl`
 abbrev pub ttl_in : Members → Result ℕ SettingsFault
@@ -152,14 +168,16 @@ choices_then next top = do
 
 -- what comes next, where no list of the top table is at fault
 abbrev pub lists_then :
-    (List OwnLocator → List Attachment → List Database → List Record → Result Settings SettingsFault)
+    (List OwnLocator → List Attachment → List Database → List Record → List Change
+    → Result Settings SettingsFault)
     → Members → Result Settings SettingsFault
 lists_then next top = do
   locators ← own_locators top
   attachments ← attachments top
   databases ← databases top
   mappings ← mappings top
-  next locators attachments databases mappings
+  changes ← changes locators top
+  next locators attachments databases mappings changes
 
 -- the settings in the top table
 abbrev pub settings_in : Members → Result Settings SettingsFault
@@ -175,6 +193,7 @@ settings_in top = do
   attachments ← attachments top
   databases ← databases top
   mappings ← mappings top
+  changes ← changes locators top
   reachable ← only_reachable locators resolver
   Ok (record {
     seed = seed;
@@ -187,6 +206,7 @@ settings_in top = do
     attachments = attachments;
     databases = databases;
     mappings = mappings;
+    changes = changes;
   })
 
 -- the settings in a document

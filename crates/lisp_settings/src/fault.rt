@@ -53,7 +53,7 @@ pub enum SettingsFault {
     Missing(Key),
     /// A key's value isn't one that it may have.
     BadValue(Key),
-    /// An item of a list has the address, VLAN or EID of an earlier one.
+    /// An item of a list has the address, VLAN, EID, or second and address of an earlier one.
     Duplicate(Key),
     /// A list has too many items.
     TooMany(Key),

@@ -47,7 +47,7 @@ fn is_among(key: &str, known: &[&str]) -> bool
 }
 
 /// The value at a key that must be there.
-fn needed<'a>(alloc: Global, table: &'a Table, key: &str) -> Result<&'a Value, SettingsFault>
+pub fn needed<'a>(alloc: Global, table: &'a Table, key: &str) -> Result<&'a Value, SettingsFault>
     ensures ok { IfOk result (λ value.
         value_at key.now (get_member key.now (table_view table.now)) ≡ Ok (view value.now)) }
     ensures err { IfErr result (λ e. e ≢ fault.Memory
@@ -151,4 +151,14 @@ pub fn flag_or(
         Some(value) => taken(alloc, key, value.as_bool()),
         None => Ok(default),
     }
+}
+
+/// The truth value at a key.
+pub fn flag_at(alloc: Global, table: &Table, key: &str) -> Result<bool, SettingsFault>
+    ensures ok { IfOk result (λ flag. required key.now as_bool (table_view table.now) ≡ Ok flag) }
+    ensures err { IfErr result (λ e. e ≢ fault.Memory
+        → required key.now as_bool (table_view table.now) ≡ Err e) }
+{
+    let value = needed(alloc, table, key)?;
+    taken(alloc, key, value.as_bool())
 }

@@ -27,7 +27,9 @@ const GREATEST_INSTANCE: u32 = 16_777_215;
 impl Item for OwnLocator {
     type Key = Addr;
 
-    ghost reads = { locator_in };
+    type Known = ();
+
+    ghost reads = { λ known. locator_in };
 
     ghost key = { λ locator. locator.addr };
 
@@ -35,9 +37,11 @@ impl Item for OwnLocator {
 
     ghost lawful = { λ own. Unit {0} };
 
+    ghost fits = { λ known item. Unit {0} };
+
     ghost nested = { 0 };
 
-    fn read(alloc: Global, table: &Table) -> Result<Self, SettingsFault> {
+    fn read(alloc: Global, _: &(), table: &Table) -> Result<Self, SettingsFault> {
         only_keys(alloc, table, &["address", "priority", "weight", "up"])?;
         let addr = address_at(alloc, table, "address")?;
         let priority = number_or(alloc, table, "priority", (0, 255), 1)? as u8;
@@ -75,7 +79,9 @@ impl Item for OwnLocator {
 impl Item for Attachment {
     type Key = u16;
 
-    ghost reads = { attachment_in };
+    type Known = ();
+
+    ghost reads = { λ known. attachment_in };
 
     ghost key = { λ attachment. attachment.vlan };
 
@@ -83,9 +89,11 @@ impl Item for Attachment {
 
     ghost lawful = { IsLawfulAttachment };
 
+    ghost fits = { λ known item. Unit {0} };
+
     ghost nested = { 0 };
 
-    fn read(alloc: Global, table: &Table) -> Result<Self, SettingsFault> {
+    fn read(alloc: Global, _: &(), table: &Table) -> Result<Self, SettingsFault> {
         only_keys(alloc, table, &["vlan", "iid"])?;
         let vlan = number_at(alloc, table, "vlan", 4095)? as u16;
         let iid = number_at(alloc, table, "iid", GREATEST_INSTANCE)?;
@@ -109,7 +117,9 @@ impl Item for Attachment {
 impl Item for Database {
     type Key = Eid;
 
-    ghost reads = { database_in };
+    type Known = ();
+
+    ghost reads = { λ known. database_in };
 
     ghost key = { λ database. database.eid };
 
@@ -117,9 +127,11 @@ impl Item for Database {
 
     ghost lawful = { IsLawfulDatabase };
 
+    ghost fits = { λ known item. Unit {0} };
+
     ghost nested = { 0 };
 
-    fn read(alloc: Global, table: &Table) -> Result<Self, SettingsFault> {
+    fn read(alloc: Global, _: &(), table: &Table) -> Result<Self, SettingsFault> {
         only_keys(alloc, table, &["iid", "prefix", "version"])?;
         let eid = eid_at(alloc, table)?;
         let version = version_at(alloc, table)?;

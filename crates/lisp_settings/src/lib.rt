@@ -3,6 +3,7 @@
 #![tactic(auto)]
 
 mod addresses;
+mod changes;
 mod fault;
 mod fields;
 mod hex;
@@ -23,13 +24,15 @@ mod writing;
 pub use fault::{Key, SettingsFault};
 pub use homes::home;
 pub use ip_headers::{Addr, Prefix};
-pub use limits::{MOST_ATTACHMENTS, MOST_DATABASES, MOST_NONCES, MOST_TEXT_OCTETS, limits_are};
+pub use limits::{
+    MOST_ATTACHMENTS, MOST_CHANGES, MOST_DATABASES, MOST_NONCES, MOST_TEXT_OCTETS, limits_are,
+};
 pub use mapping_records::{Eid, Locator, Locators, Record};
 pub use nonces::nonce_at;
 pub use octets::{Items, NoMemory, Octets};
 pub use reading::read_settings;
 pub use settings::{
-    Attachment, Attachments, Database, Databases, Nonces, OwnLocator, OwnLocators, Records,
-    Settings,
+    Attachment, Attachments, Change, Changes, Database, Databases, Nonces, OwnLocator, OwnLocators,
+    Records, Settings,
 };
 pub use writing::write_settings;

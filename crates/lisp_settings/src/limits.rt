@@ -1,7 +1,7 @@
 // The limits of a settings file, beside those of mappings.
 ghost use Rattle.std.specs.Prelude.{◌≡◌};
-ghost use Rattle.lisp_settings.specs.Limits.{most_attachments, most_databases, most_nonces, most_text_octets};
-ghost use Rattle.lisp_settings.specs.declared.limits.TheConstants.{MOST_ATTACHMENTS, MOST_DATABASES, MOST_NONCES, MOST_TEXT_OCTETS};
+ghost use Rattle.lisp_settings.specs.Limits.{most_attachments, most_changes, most_databases, most_nonces, most_text_octets};
+ghost use Rattle.lisp_settings.specs.declared.limits.TheConstants.{MOST_ATTACHMENTS, MOST_CHANGES, MOST_DATABASES, MOST_NONCES, MOST_TEXT_OCTETS};
 
 /// The most octets of the text.
 pub const MOST_TEXT_OCTETS: usize = 16_777_216;
@@ -15,10 +15,14 @@ pub const MOST_ATTACHMENTS: usize = 4096;
 /// The most EID prefixes of the site.
 pub const MOST_DATABASES: usize = 64;
 
+/// The most changes of own locators.
+pub const MOST_CHANGES: usize = 256;
+
 /// The limits are the defined ones.
 pub fn limits_are()
     ensures octets { MOST_TEXT_OCTETS ≡ most_text_octets }
     ensures nonces { MOST_NONCES ≡ most_nonces }
     ensures attachments { MOST_ATTACHMENTS ≡ most_attachments }
     ensures databases { MOST_DATABASES ≡ most_databases }
+    ensures changes { MOST_CHANGES ≡ most_changes }
 {}

@@ -25,7 +25,10 @@ use toml::{Table, Value};
 pub trait Item: Drop {
     type Key: Ord + Drop;
 
-    ghost reads: { Members → Result Self SettingsFault };
+    /// What must be known of the settings before an item, to judge it.
+    type Known;
+
+    ghost reads: { Self.Known → Members → Result Self SettingsFault };
 
     ghost key: { Self → Self.Key };
 
@@ -34,18 +37,23 @@ pub trait Item: Drop {
     // What an item keeps to where it can be written.
     ghost lawful: { Self → Type 0 };
 
+    // What an item that is read keeps to, of what is known.
+    ghost fits: { Self.Known → Self → Type 0 };
+
     // How deep arrays and tables nest in an item's table.
     ghost nested: { ℕ };
 
     /// The item in a table, or the first fault.
-    fn read(alloc: Global, table: &Table) -> Result<Self, SettingsFault>
-        ensures ok { IfOk result (λ item. reads (table_view table.now) ≡ Ok item) }
-        ensures err { IfErr result (λ e. e ≢ fault.Memory → reads (table_view table.now) ≡ Err e) };
+    fn read(alloc: Global, known: &Self::Known, table: &Table) -> Result<Self, SettingsFault>
+        ensures ok { IfOk result (λ item. reads known.now (table_view table.now) ≡ Ok item) }
+        ensures err { IfErr result (λ e. e ≢ fault.Memory
+            → reads known.now (table_view table.now) ≡ Err e) };
 
     /// The table that reads as the item.
     fn write(&self, alloc: Global) -> Result<Table, NoMemory>
         requires { lawful self.now }
-        ensures reads { IfOk result (λ table. reads (table_view table) ≡ Ok self.now) }
+        ensures reads { IfOk result (λ table. (known : Self.Known) → fits known self.now
+            → reads known (table_view table) ≡ Ok self.now) }
         ensures plain { IfOk result (λ table. IsPlain nested (table_view table)) };
 
     fn key(&self) -> Self::Key
@@ -55,16 +63,22 @@ pub trait Item: Drop {
 }
 
 /// The items of a list, in the order of the file.
-fn read_items<T: Item>(alloc: Global, list: &str, tables: &[Value]) -> Result<Vec<T>, SettingsFault>
+fn read_items<T: Item>(
+    alloc: Global,
+    known: &T::Known,
+    list: &str,
+    tables: &[Value],
+) -> Result<Vec<T>, SettingsFault>
     ensures ok { IfOk result (λ items.
-        each list.now T.reads T.key T.order [] (items_view tables.now) ≡ Ok items.items) }
+        each list.now (T.reads known.now) T.key T.order [] (items_view tables.now)
+        ≡ Ok items.items) }
     ensures err { IfErr result (λ e. e ≢ fault.Memory
-        → each list.now T.reads T.key T.order [] (items_view tables.now) ≡ Err e) }
+        → each list.now (T.reads known.now) T.key T.order [] (items_view tables.now) ≡ Err e) }
 {
     let mut seen = BTreeSet::new(alloc);
     let mut items = Vec::new(alloc);
     for value in tables {
-        let item: T = read_item(alloc, list, items.len(), value)?;
+        let item: T = read_item(alloc, known, list, items.len(), value)?;
         if !seen.insert(item.key())? {
             let key = places::item_key(alloc, list, items.len())?;
             return Err(SettingsFault::Duplicate(key));
@@ -77,23 +91,24 @@ fn read_items<T: Item>(alloc: Global, list: &str, tables: &[Value]) -> Result<Ve
 /// The item at a position of a list.
 fn read_item<T: Item>(
     alloc: Global,
+    known: &T::Known,
     list: &str,
     position: usize,
     value: &Value,
 ) -> Result<T, SettingsFault>
     ensures ok { IfOk result (λ item.
-        if_ok (λ table. within list.now position (T.reads table))
+        if_ok (λ table. within list.now position (T.reads known.now table))
         (taken list.now (as_table (view value.now)))
         ≡ Ok item) }
     ensures err { IfErr result (λ e. e ≢ fault.Memory
-        → if_ok (λ table. within list.now position (T.reads table))
+        → if_ok (λ table. within list.now position (T.reads known.now table))
         (taken list.now (as_table (view value.now)))
         ≡ Err e) }
 {
     let Some(table) = value.as_table() else {
         return Err(SettingsFault::BadValue(Key::copied(alloc, list)?));
     };
-    match T::read(alloc, table) {
+    match T::read(alloc, known, table) {
         Ok(item) => Ok(item),
         Err(inner) => Err(places::within(alloc, list, position, inner)?),
     }
@@ -166,51 +181,60 @@ pub fn few_items(
 /// The items of a list, in the order of the file. None of them is needed.
 pub fn any_number<T: Item>(
     alloc: Global,
+    known: &T::Known,
     table: &Table,
     list: &str,
     most: usize,
 ) -> Result<Vec<T>, SettingsFault>
     ensures ok { IfOk result (λ items.
-        any_number list.now T.reads T.key T.order most (table_view table.now) ≡ Ok items.items) }
+        any_number list.now (T.reads known.now) T.key T.order most (table_view table.now)
+        ≡ Ok items.items) }
     ensures err { IfErr result (λ e. e ≢ fault.Memory
-        → any_number list.now T.reads T.key T.order most (table_view table.now) ≡ Err e) }
+        → any_number list.now (T.reads known.now) T.key T.order most (table_view table.now)
+        ≡ Err e) }
 {
     let items = tables_at(alloc, table, list)?;
     few_items(alloc, list, most, items)?;
-    read_items(alloc, list, items)
+    read_items(alloc, known, list, items)
 }
 
 /// The items of a list, in the order of the file. One at least is needed.
 pub fn one_or_more<T: Item>(
     alloc: Global,
+    known: &T::Known,
     table: &Table,
     list: &str,
     most: usize,
 ) -> Result<Vec<T>, SettingsFault>
     ensures ok { IfOk result (λ items.
-        one_or_more list.now T.reads T.key T.order most (table_view table.now) ≡ Ok items.items) }
+        one_or_more list.now (T.reads known.now) T.key T.order most (table_view table.now)
+        ≡ Ok items.items) }
     ensures err { IfErr result (λ e. e ≢ fault.Memory
-        → one_or_more list.now T.reads T.key T.order most (table_view table.now) ≡ Err e) }
+        → one_or_more list.now (T.reads known.now) T.key T.order most (table_view table.now)
+        ≡ Err e) }
 {
     let items = tables_at(alloc, table, list)?;
     some_items(alloc, list, items)?;
     few_items(alloc, list, most, items)?;
-    read_items(alloc, list, items)
+    read_items(alloc, known, list, items)
 }
 
 /// The items of a list in ascending order of their keys. None of them is needed.
 pub fn any_ascending<T: Item>(
     alloc: Global,
+    known: &T::Known,
     table: &Table,
     list: &str,
     most: usize,
 ) -> Result<Items<T>, SettingsFault>
     ensures ok { IfOk result (λ items.
-        any_ascending list.now T.reads T.key T.order most (table_view table.now) ≡ Ok items) }
+        any_ascending list.now (T.reads known.now) T.key T.order most (table_view table.now)
+        ≡ Ok items) }
     ensures err { IfErr result (λ e. e ≢ fault.Memory
-        → any_ascending list.now T.reads T.key T.order most (table_view table.now) ≡ Err e) }
+        → any_ascending list.now (T.reads known.now) T.key T.order most (table_view table.now)
+        ≡ Err e) }
 {
-    let items = any_number(alloc, table, list, most)?;
+    let items = any_number(alloc, known, table, list, most)?;
     ascending(alloc, items)
 }
 
@@ -218,8 +242,8 @@ pub fn any_ascending<T: Item>(
 pub fn write_items<T: Item>(alloc: Global, items: &[T]) -> Result<Vec<Value>, NoMemory>
     requires lawful { All T.lawful items.now }
     requires distinct { IsDistinct (eq_by_cmp T.order) (map T.key items.now) }
-    ensures { IfOk result (λ array.
-        IsArrayOf T.reads T.key T.order (suc T.nested) items.now (array_view array)) }
+    ensures { IfOk result (λ array. (known : T.Known) → All (T.fits known) items.now
+        → IsArrayOf (T.reads known) T.key T.order (suc T.nested) items.now (array_view array)) }
 {
     let mut array = Vec::new(alloc);
     for item in items {

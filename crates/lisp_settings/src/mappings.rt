@@ -23,7 +23,9 @@ use toml::Table;
 impl Item for Locator {
     type Key = Addr;
 
-    ghost reads = { mapped_in };
+    type Known = ();
+
+    ghost reads = { λ known. mapped_in };
 
     ghost key = { λ locator. locator.addr };
 
@@ -31,10 +33,12 @@ impl Item for Locator {
 
     ghost lawful = { IsLawfulLocator };
 
+    ghost fits = { λ known item. Unit {0} };
+
     ghost nested = { 0 };
 
-    fn read(alloc: Global, table: &Table) -> Result<Self, SettingsFault> {
-        let own = OwnLocator::read(alloc, table)?;
+    fn read(alloc: Global, _: &(), table: &Table) -> Result<Self, SettingsFault> {
+        let own = OwnLocator::read(alloc, &(), table)?;
         Ok(Locator {
             addr: own.addr,
             priority: own.priority,
@@ -68,7 +72,9 @@ impl Item for Locator {
 impl Item for Record {
     type Key = Eid;
 
-    ghost reads = { mapping_in };
+    type Known = ();
+
+    ghost reads = { λ known. mapping_in };
 
     ghost key = { λ mapping. mapping.eid };
 
@@ -76,9 +82,11 @@ impl Item for Record {
 
     ghost lawful = { IsLawfulMapping };
 
+    ghost fits = { λ known item. Unit {0} };
+
     ghost nested = { 2 };
 
-    fn read(alloc: Global, table: &Table) -> Result<Self, SettingsFault> {
+    fn read(alloc: Global, _: &(), table: &Table) -> Result<Self, SettingsFault> {
         only_keys(
             alloc,
             table,
@@ -120,6 +128,6 @@ fn mapped_locators(alloc: Global, table: &Table) -> Result<Locators, SettingsFau
     ensures err { IfErr result (λ e. e ≢ fault.Memory
         → mapped_locators (table_view table.now) ≡ Err e) }
 {
-    let locators = any_number(alloc, table, "locator", MOST_LOCATORS)?;
+    let locators = any_number(alloc, &(), table, "locator", MOST_LOCATORS)?;
     Ok(Items::from_vec(locators))
 }

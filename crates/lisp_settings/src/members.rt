@@ -27,8 +27,9 @@ pub fn put_text(alloc: Global, table: &mut Table, key: &str, text: String) -> Re
 
 /// Sets the whole number at a key.
 pub fn put_number(alloc: Global, table: &mut Table, key: &str, number: u32) -> Result<(), NoMemory>
-    ensures { OnOk result (table_view table.new
+    ensures ok { OnOk result (table_view table.new
         ≡ with_member key.now (integer (pos number)) (table_view table.old)) }
+    ensures within { number ≤ 4294967295 }
 {
     put(alloc, table, key, Value::Integer(i64::from(number)))
 }

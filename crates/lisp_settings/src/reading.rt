@@ -6,17 +6,19 @@ ghost use Rattle.lisp_settings.specs.Fields.{optional};
 ghost use Rattle.lisp_settings.specs.Lawful.{IsLawful};
 ghost use Rattle.lisp_settings.specs.Limits.{most_nonces};
 ghost use Rattle.lisp_settings.specs.Resolver.{resolver_in};
-ghost use Rattle.lisp_settings.specs.Settings.{attachments, choices_then, databases, lists_then, mappings, own_locators, settings_in, settings_of, ttl_in};
+ghost use Rattle.lisp_settings.specs.Settings.{attachments, changes, choices_then, databases, lists_then, mappings, own_locators, settings_in, settings_of, ttl_in};
 ghost use Rattle.lisp_settings.specs.Values.{seed};
 ghost use Rattle.lisp_settings.specs.declared.fault.SettingsFault.TheVariants as fault;
 
 use crate::fault::SettingsFault;
 use crate::fields::{flag_or, number_or, only_keys, taken, value_at};
-use crate::limits::{MOST_ATTACHMENTS, MOST_DATABASES, MOST_TEXT_OCTETS};
+use crate::limits::{MOST_ATTACHMENTS, MOST_CHANGES, MOST_DATABASES, MOST_TEXT_OCTETS};
 use crate::lists::{any_ascending, ascending, one_or_more};
 use crate::nonces::nonces_at;
 use crate::resolver::{only_reachable, resolver_at};
-use crate::settings::{Attachments, Databases, OwnLocator, OwnLocators, Records, Settings};
+use crate::settings::{
+    Attachments, Changes, Databases, OwnLocator, OwnLocators, Records, Settings,
+};
 use crate::values;
 use ip_headers::Addr;
 use mapping_records::{DEFAULT_MINUTES, MOST_LOCATORS, MOST_MAPPINGS};
@@ -55,12 +57,13 @@ fn read_top(alloc: Global, top: &Table) -> Result<Settings, SettingsFault>
         "attachment",
         "database",
         "mapping",
+        "change",
     ];
     only_keys(alloc, top, &known)?;
     let seed = seed_at(alloc, top)?;
     let nonces = nonces_at(alloc, top)?;
     let (resolver, ttl, probe, echo) = choices_at(alloc, top)?;
-    let (locators, attachments, databases, mappings) = lists_at(alloc, top)?;
+    let (locators, attachments, databases, mappings, changes) = lists_at(alloc, top)?;
     only_reachable(alloc, locators.as_slice(), resolver)?;
     Ok(Settings {
         seed,
@@ -73,6 +76,7 @@ fn read_top(alloc: Global, top: &Table) -> Result<Settings, SettingsFault>
         attachments,
         databases,
         mappings,
+        changes,
     })
 }
 
@@ -98,19 +102,21 @@ fn choices_at(alloc: Global, top: &Table) -> Result<(Option<Addr>, u32, bool, bo
 fn lists_at(
     alloc: Global,
     top: &Table,
-) -> Result<(OwnLocators, Attachments, Databases, Records), SettingsFault>
+) -> Result<(OwnLocators, Attachments, Databases, Records, Changes), SettingsFault>
     ensures locators { IfOk result (λ read. own_locators (table_view top.now) ≡ Ok read.0) }
     ensures attachments { IfOk result (λ read. attachments (table_view top.now) ≡ Ok read.1) }
     ensures databases { IfOk result (λ read. databases (table_view top.now) ≡ Ok read.2) }
     ensures mappings { IfOk result (λ read. mappings (table_view top.now) ≡ Ok read.3) }
+    ensures changes { IfOk result (λ read. changes read.0 (table_view top.now) ≡ Ok read.4) }
     ensures err { IfErr result (λ e. e ≢ fault.Memory
         → (next : _) → lists_then next (table_view top.now) ≡ Err e) }
 {
     let locators = own_locators(alloc, top)?;
-    let attachments = any_ascending(alloc, top, "attachment", MOST_ATTACHMENTS)?;
-    let databases = any_ascending(alloc, top, "database", MOST_DATABASES)?;
-    let mappings = any_ascending(alloc, top, "mapping", MOST_MAPPINGS)?;
-    Ok((locators, attachments, databases, mappings))
+    let attachments = any_ascending(alloc, &(), top, "attachment", MOST_ATTACHMENTS)?;
+    let databases = any_ascending(alloc, &(), top, "database", MOST_DATABASES)?;
+    let mappings = any_ascending(alloc, &(), top, "mapping", MOST_MAPPINGS)?;
+    let changes = any_ascending(alloc, &locators, top, "change", MOST_CHANGES)?;
+    Ok((locators, attachments, databases, mappings, changes))
 }
 
 fn seed_at(alloc: Global, top: &Table) -> Result<[u8; 32], SettingsFault>
@@ -129,6 +135,6 @@ fn own_locators(alloc: Global, top: &Table) -> Result<OwnLocators, SettingsFault
     ensures ok { IfOk result (λ items. own_locators (table_view top.now) ≡ Ok items) }
     ensures err { IfErr result (λ e. e ≢ fault.Memory → own_locators (table_view top.now) ≡ Err e) }
 {
-    let locators = one_or_more::<OwnLocator>(alloc, top, "locator", MOST_LOCATORS)?;
+    let locators = one_or_more::<OwnLocator>(alloc, &(), top, "locator", MOST_LOCATORS)?;
     ascending(alloc, locators)
 }

@@ -18,6 +18,9 @@ pub type Databases = Items<Database>;
 /// Mappings, in ascending order of EID.
 pub type Records = Items<Record>;
 
+/// Changes of own locators, in ascending order of second, then address.
+pub type Changes = Items<Change>;
+
 /// One of the router's own locators (RFC 9301, section 5.4).
 #[derive(Clone, Copy, Debug, PartialEq, Eq)]
 pub struct OwnLocator {
@@ -46,6 +49,16 @@ pub struct Database {
     pub version: u16,
 }
 
+/// One of the router's own locators goes up or down.
+#[derive(Clone, Copy, Debug, PartialEq, Eq)]
+pub struct Change {
+    /// The second since 1970 from which the locator is up, or isn't.
+    pub at: u32,
+    /// The own locator's.
+    pub address: Addr,
+    pub up: bool,
+}
+
 /// The settings of a router.
 #[derive(Debug, Drop)]
 pub struct Settings {
@@ -69,4 +82,6 @@ pub struct Settings {
     pub databases: Databases,
     /// The static mappings, at most 65,536.
     pub mappings: Records,
+    /// What becomes of the own locators, at most 256 changes.
+    pub changes: Changes,
 }

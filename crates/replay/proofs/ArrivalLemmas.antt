@@ -13,6 +13,7 @@ use Rattle.router_model.specs.Parts.{Parts, parts_in, table}
 use Rattle.router_model.specs.Plain.{after_event, plain, started}
 use Rattle.router_model.proofs.ReplayLemmas.{events-order, table-replays}
 use Rattle.router_model.proofs.RunLemmas.{count, in_order}
+use Rattle.router_model.proofs.StandingLemmas.{lawful-may}
 use Rattle.router_model.proofs.StaticsLemmas.{length-statics}
 use Rattle.replay.specs.Taking.{router_of}
 
@@ -34,8 +35,8 @@ tabled settings parts frames first lawful begins came front =
     let shares = length-append first front.0 in
     let fixed = length-statics settings in
     let mappings = lawful.few_mappings in
-    let room : length (statics settings) + 2048 * length first ≤ 2 ^ 62 = omega (arith, most, few, places, shares, fixed, mappings) in
-    rw begins (table-replays settings first order room).0
+    let room : length (statics settings) + 8192 * length first ≤ 2 ^ 62 = omega (arith, most, few, places, shares, fixed, mappings) in
+    rw begins (table-replays settings first (lawful-may settings lawful) order room).0
 
 -- of all of them
 pub arrived-replays : (settings : Settings) (frames : List Frame) → IsLawful settings → Arrived frames

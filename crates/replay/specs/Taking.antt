@@ -5,13 +5,21 @@ use Rattle.capture_events.specs.Events.{Outcome, Packet, records_of, second_of}
 use Rattle.playback.specs.Playing.{Gathers}
 use Rattle.playback.specs.declared.progress.Progress.{Progress}
 use Rattle.playback.specs.declared.output.Output.{Output}
+use Rattle.router_log.specs.declared.notice.Notice.{Notice}
+use Rattle.router_model.specs.Changes.{Change, each, unchanged}
 use Rattle.router_model.specs.Limits.{most_event_packets}
-use Rattle.router_model.specs.Parts.{Parts}
+use Rattle.router_model.specs.Note.{noted}
+use Rattle.router_model.specs.Parts.{Parts, standing_in, table}
 use Rattle.router_model.specs.Plain.{Router}
 
 -- a router by its settings and the parts of its table
 abbrev pub router_of : Settings → Parts → Router Parts
 router_of settings parts = record { settings = settings; memory = parts }
+
+-- notices, noted one after another over the settings that stand
+abbrev pub all_noted : Settings → Parts → ℕ → List Notice → Change Parts
+all_noted settings parts moment notices =
+    each (noted table (standing_in settings parts) moment) notices (unchanged parts)
 
 -- the most packets of so many frames and of the seconds so far
 abbrev pub most_packets : Progress → ℕ

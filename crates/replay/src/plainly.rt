@@ -12,6 +12,7 @@ ghost use Rattle.playback.specs.Limits.{most_frames};
 ghost use Rattle.router_model.specs.Limits.{most_heard, most_mappings, most_ticked};
 ghost use Rattle.router_model.specs.Parts.{Parts, table};
 ghost use Rattle.router_model.specs.Plain.{Router, after_event};
+ghost use Rattle.router_model.specs.Standing.{without_ups};
 ghost use Rattle.replay.specs.Taking.{most_packets, router_of};
 ghost use Rattle.replay.specs.Answer.{replayed};
 ghost use Rattle.replay.specs.Audit.{AuditsAs};
@@ -46,10 +47,10 @@ impl<'a> Machine for Replay<'a> {
 
     ghost full = { λ _. false };
 
-    // The table is for the settings. What frames and seconds add at most to the static mappings, and how
-    // many packets they send.
+    // The table is for the settings, whichever own locators are up. What frames and seconds add at most
+    // to the static mappings, and how many packets they send.
     ghost IsReady = { λ progress written replay. IsLawful replay.settings.now
-        × ((replay.settings.now.locators ≡ replay.table.parts.own)
+        × ((without_ups replay.table.parts.own ≡ without_ups replay.settings.now.locators)
         × ((replay.table.parts.now ≤ unwrap_or progress.moment 0)
         × ((replay.table.parts.count
         ≤ most_mappings + most_heard * progress.frames + most_ticked * second_of (unwrap_or progress.moment 0))

@@ -5,23 +5,23 @@ ghost use Rattle.lisp_settings.specs.Lawful.{IsLawful};
 ghost use Rattle.capture_events.specs.Events.{Arrival, Tick};
 ghost use Rattle.router_core.specs.Seen.{course_seen, IfLeaving, IfSettled};
 ghost use Rattle.router_core.specs.Sendable.{IsSendable};
-ghost use Rattle.router_core.specs.Steps.{HasEntered, MayStep};
+ghost use Rattle.router_core.specs.Steps.{HasEntered, HasTicked, MayStep};
 ghost use Rattle.router_log.specs.Moments.{seconds};
-ghost use Rattle.router_model.specs.Changes.{each, unchanged};
+ghost use Rattle.router_model.specs.Changes.{unchanged};
 ghost use Rattle.router_model.specs.Decide.{decide_course};
 ghost use Rattle.router_model.specs.Hear.{course_heard};
 ghost use Rattle.router_model.specs.Lifting.{is_sound};
 ghost use Rattle.router_model.specs.Limits.{most_heard, most_notices, most_ticked};
-ghost use Rattle.router_model.specs.Note.{noted};
-ghost use Rattle.router_model.specs.Parts.{table, view_in};
+ghost use Rattle.router_model.specs.Parts.{standing_in, table, view_in};
 ghost use Rattle.router_model.specs.Plain.{after_decision, after_event, after_message, emit_packets, packet_of, packets_of, FitsRecord};
-ghost use Rattle.replay.specs.Taking.{router_of, GathersFew, Sends};
+ghost use Rattle.router_model.specs.Standing.{standing_by};
+ghost use Rattle.replay.specs.Taking.{all_noted, router_of, GathersFew, Sends};
 
 use capture_io::Frame;
 use lisp_settings::Settings;
 use octets::{NoMemory, Octets};
 use playback::Output;
-use router_core::{Course, Decision, Table, course_of, emit_octets};
+use router_core::{Course, Decision, Own, Table, course_of, emit_octets};
 use router_log::{Emit, Notice, Verdict, push_frame_line};
 use std::alloc::Global;
 
@@ -34,7 +34,7 @@ pub(crate) fn take_second(
     output: &mut Output,
 ) -> Result<(), NoMemory>
     requires lawful { IsLawful settings.now }
-    requires own { settings.now.locators ≡ memory.old.parts.own }
+    requires own { (standing_in settings.now memory.old.parts).locators ≡ memory.old.parts.own }
     requires may { MayStep (seconds second) memory.old.parts }
     requires room { output.old.written < 2 ^ 48 }
     ensures gathers { OnOk result (GathersFew
@@ -43,11 +43,19 @@ pub(crate) fn take_second(
     ensures state { OnOk result (router_of settings.now memory.new.parts
         ≡ (after_event table (router_of settings.now memory.old.parts) (Tick second)).after) }
     ensures entered { OnOk result
-        (HasEntered most_ticked (seconds second) memory.old.parts memory.new.parts) }
+        (HasTicked most_ticked (seconds second) memory.old.parts memory.new.parts) }
 {
     let changed = memory.tick(settings, second)?;
+    let own = memory.own();
     let moment = u64::from(second) * 1_000_000_000;
-    push_emits(alloc, settings, moment, changed.emits.as_slice(), output)
+    push_emits(
+        alloc,
+        settings,
+        &own,
+        moment,
+        changed.emits.as_slice(),
+        output,
+    )
 }
 
 /// Hears a frame or decides it, and gathers its line and the packets that are sent for it.
@@ -94,16 +102,17 @@ fn hear(
     requires room { output.old.written < 2 ^ 48 }
     ensures gathers { OnOk result (GathersFew
         (after_message table (router_of settings.now memory.old.parts) frame.now
-        (course_heard table settings.now frame.now.moment (course_seen course.entry)
-        (unchanged memory.old.parts))) output.old output.new) }
+        (course_heard table (standing_in settings.now memory.old.parts) frame.now.moment
+        (course_seen course.entry) (unchanged memory.old.parts))) output.old output.new) }
     ensures state { OnOk result (memory.new.parts
-        ≡ (course_heard table settings.now frame.now.moment (course_seen course.entry)
-        (unchanged memory.old.parts)).change.after) }
+        ≡ (course_heard table (standing_in settings.now memory.old.parts) frame.now.moment
+        (course_seen course.entry) (unchanged memory.old.parts)).change.after) }
     ensures entered { OnOk result
         (HasEntered most_heard frame.now.moment memory.old.parts memory.new.parts) }
 {
     let entries = memory.count();
     let heard = memory.hear_course(settings, frame.moment, course)?;
+    let own = memory.own();
     push_frame_line(
         frame.number,
         frame.moment,
@@ -114,6 +123,7 @@ fn hear(
     push_emits(
         alloc,
         settings,
+        &own,
         frame.moment,
         heard.emits.as_slice(),
         output,
@@ -139,12 +149,12 @@ fn decide(
     requires room { output.old.written < 2 ^ 48 }
     ensures gathers { OnOk result (GathersFew
         (after_decision table (router_of settings.now memory.old.parts) frame.now
-        (decide_course settings.now (view_in memory.old.parts frame.now.moment)
-        (course_seen course.entry))) output.old output.new) }
+        (decide_course (standing_in settings.now memory.old.parts)
+        (view_in memory.old.parts frame.now.moment) (course_seen course.entry))) output.old output.new) }
     ensures state { OnOk result (router_of settings.now memory.new.parts
         ≡ (after_decision table (router_of settings.now memory.old.parts) frame.now
-        (decide_course settings.now (view_in memory.old.parts frame.now.moment)
-        (course_seen course.entry))).after) }
+        (decide_course (standing_in settings.now memory.old.parts)
+        (view_in memory.old.parts frame.now.moment) (course_seen course.entry))).after) }
     ensures entered { OnOk result
         (HasEntered most_notices frame.now.moment memory.old.parts memory.new.parts) }
 {
@@ -208,13 +218,13 @@ fn note_all(
     requires count { memory.old.parts.count + length notices.now ≤ 2 ^ 61 }
     requires moment { moment < 2 ^ 32 * 1000000000 }
     requires room { output.old.written + length notices.now < 2 ^ 50 }
-    ensures sends { OnOk result (Sends (emit_packets settings.now moment
-        (each (noted table settings.now moment) notices.now (unchanged memory.old.parts)).emits)
-        output.old output.new) }
+    ensures sends { OnOk result (Sends (emit_packets (standing_in settings.now memory.new.parts) moment
+        (all_noted settings.now memory.old.parts moment notices.now).emits) output.old output.new) }
     ensures state { OnOk result (memory.new.parts
-        ≡ (each (noted table settings.now moment) notices.now (unchanged memory.old.parts)).after) }
-    ensures few { OnOk result (length (each (noted table settings.now moment) notices.now
-        (unchanged memory.old.parts)).emits ≤ length notices.now) }
+        ≡ (all_noted settings.now memory.old.parts moment notices.now).after) }
+    ensures few { OnOk result
+        (length (all_noted settings.now memory.old.parts moment notices.now).emits
+        ≤ length notices.now) }
     ensures entered { OnOk result
         (HasEntered (length notices.now) moment memory.old.parts memory.new.parts) }
 {
@@ -222,46 +232,57 @@ fn note_all(
         return Ok(());
     };
     let changed = memory.note(settings, moment, notice)?;
-    push_emits(alloc, settings, moment, changed.emits.as_slice(), output)?;
+    let own = memory.own();
+    push_emits(
+        alloc,
+        settings,
+        &own,
+        moment,
+        changed.emits.as_slice(),
+        output,
+    )?;
     note_all(alloc, settings, memory, moment, others, output)
 }
 
-// Gathers the packets of emits.
+// Gathers the packets of emits, by the own locators and versions that stand.
 fn push_emits(
     alloc: Global,
     settings: &Settings,
+    own: &Own,
     moment: u64,
     emits: &[Emit],
     output: &mut Output,
 ) -> Result<(), NoMemory>
     requires lawful { IsLawful settings.now }
-    requires sendable { All (IsSendable settings.now) emits.now }
+    requires sendable { All (IsSendable (standing_by settings.now own.now)) emits.now }
     requires moment { moment < 2 ^ 32 * 1000000000 }
     requires room { output.old.written + length emits.now < 2 ^ 50 }
-    ensures { OnOk result (Sends (emit_packets settings.now moment emits.now) output.old output.new) }
+    ensures { OnOk result (Sends (emit_packets (standing_by settings.now own.now) moment emits.now)
+        output.old output.new) }
 {
     let [emit, others @ ..] = emits else {
         return Ok(());
     };
-    push_emit(alloc, settings, moment, emit, output)?;
-    push_emits(alloc, settings, moment, others, output)
+    push_emit(alloc, settings, own, moment, emit, output)?;
+    push_emits(alloc, settings, own, moment, others, output)
 }
 
-// Gathers the packet of an emit.
+// Gathers the packet of an emit, by those.
 fn push_emit(
     alloc: Global,
     settings: &Settings,
+    own: &Own,
     moment: u64,
     emit: &Emit,
     output: &mut Output,
 ) -> Result<(), NoMemory>
     requires lawful { IsLawful settings.now }
-    requires sendable { IsSendable settings.now emit.now }
+    requires sendable { IsSendable (standing_by settings.now own.now) emit.now }
     requires moment { moment < 2 ^ 32 * 1000000000 }
     requires room { output.old.written < 2 ^ 50 }
-    ensures { OnOk result (Sends (emit_packets settings.now moment (emit.now ∷ []))
+    ensures { OnOk result (Sends (emit_packets (standing_by settings.now own.now) moment (emit.now ∷ []))
         output.old output.new) }
 {
-    let packet = emit_octets(alloc, settings, emit)?;
+    let packet = emit_octets(alloc, settings, own, emit)?;
     output.push_packet(moment, packet.as_slice())
 }

@@ -1,6 +1,6 @@
 -- What a Map-Request is answered with.
-use Rattle.std.proofs.Common.{◌≡◌, ℕ, ◌+◌, ◌*◌, ◌≤◌, ◌||◌, Bool, true, false, cond, List, [], ◌∷◌, length, map, filter, filter_map, flat_map, Option, Some, None, refl, ap, ◌∙◌, arith}
-use Rattle.std.specs.List.{All, list_any}
+use Rattle.std.proofs.Common.{◌≡◌, ℕ, ◌+◌, ◌*◌, ◌≤◌, ◌||◌, Bool, true, false, cond, List, [], ◌∷◌, length, map, filter, filter_map, flat_map, Option, Some, None, refl, ap, ◌∙◌, option_map, arith}
+use Rattle.std.specs.List.{All, list_any, cons_option}
 use Rattle.std.proofs.lemmas.List.{length-append, length-map}
 use Rattle.std.proofs.lemmas.List.Concat.{flat_map-cons}
 use Rattle.std.proofs.lemmas.List.Elements.{All-filter, All-map, All-weaker, filter_agree}
@@ -17,13 +17,16 @@ use Rattle.map_messages.specs.Range.{InRangeReply}
 use Rattle.map_messages.specs.Reply.{canonical_reply}
 use Rattle.map_messages.specs.declared.message.MapReply.{MapReply}
 use Rattle.map_messages.specs.declared.message.MapRequest.{MapRequest}
-use Rattle.lisp_settings.specs.Lawful.{IsLawful, IsLawfulDatabase}
+use Rattle.lisp_settings.specs.Lawful.{IsLawfulDatabase}
 use Rattle.lisp_settings.specs.declared.settings.Database.{Database}
 use Rattle.lisp_settings.specs.declared.settings.Settings.{Settings}
 use Rattle.router_model.specs.Hear.{Asker, answering, answers, own_locator, own_record, reply_of}
 use Rattle.router_model.specs.Site.{database_of}
-use Rattle.router_core.specs.Answering.{is_hit}
+use Rattle.router_core.specs.Site.{IsSite}
+use Rattle.router_core.specs.Answering.{is_hit, standing_record}
 use Rattle.router_core.proofs.WritableLemmas.{eid-short}
+use Rattle.router_model.specs.Standing.{stood}
+use Rattle.router_model.proofs.StoodLemmas.{database-stood}
 
 any-map : {A B : Type 0} (test : B → Bool) (f : A → B) (items : List A) → list_any test (map f items) ≡ list_any (λ a. test (f a)) items
 any-map test f [] = refl
@@ -53,7 +56,7 @@ filter-few test (database ∷ others) = by (test database) (filter-few test othe
     by true less = omega (arith, less)
     by false less = omega (arith, less)
 
-module _ (settings : Settings) (lawful : IsLawful settings) (probed : Option Addr) where
+module _ (settings : Settings) (lawful : IsSite settings) (probed : Option Addr) where
   record-range : (database : Database) → IsLawfulDatabase database → InRange (own_record settings probed database)
   record-range database is =
       let same : length (map (own_locator probed) settings.locators) ≡ length settings.locators = length-map settings.locators _ in
@@ -105,7 +108,7 @@ module _ (settings : Settings) (lawful : IsLawful settings) (probed : Option Add
       ap (λ (t : List ℕ). length t) (flat_map-cons canonical_record (own_record settings probed database) (map (own_record settings probed) others)) ∙ length-append one rest in
       omega (arith, split, record-short database, records-short others)
 
-module _ (settings : Settings) (lawful : IsLawful settings) (asker : Asker) (request : MapRequest) where
+module _ (settings : Settings) (lawful : IsSite settings) (asker : Asker) (request : MapRequest) where
   abbrev given : MapReply
   given = reply_of settings asker request (answering settings.databases request.eids)
 
@@ -125,3 +128,26 @@ module _ (settings : Settings) (lawful : IsLawful settings) (asker : Asker) (req
   pub reply-short : length (canonical_reply (reply_of settings asker request (answering settings.databases request.eids))) ≤ 65000
   reply-short =
       omega (arith, few, records-short settings lawful (cond asker.probe (Some asker.dest) None) (answering settings.databases request.eids))
+
+-- ### versions as they stand
+
+-- what is hit doesn't depend on them
+pub hits-stood : (steps : ℕ) (databases : List Database) (eids : List Eid) → map (λ (d : Database). d.eid) (filter_map (database_of (map (stood steps) databases)) eids) ≡ map (λ (d : Database). d.eid) (filter_map (database_of databases) eids)
+hits-stood steps databases [] = refl
+hits-stood steps databases (eid ∷ eids) =
+    ap (λ (o : Option Database). map (λ (d : Database). d.eid) (cons_option o (filter_map (database_of (map (stood steps) databases)) eids))) (database-stood steps databases eid)
+    ∙ by (database_of databases eid) (hits-stood steps databases eids)
+  where
+    by : (o : Option Database) → map (λ (d : Database). d.eid) (filter_map (database_of (map (stood steps) databases)) eids) ≡ map (λ (d : Database). d.eid) (filter_map (database_of databases) eids) → map (λ (d : Database). d.eid) (cons_option (option_map (stood steps) o) (filter_map (database_of (map (stood steps) databases)) eids)) ≡ map (λ (d : Database). d.eid) (cons_option o (filter_map (database_of databases) eids))
+    by None rest = rest
+    by (Some database) rest = ap (λ (l : List Eid). database.eid ∷ l) rest
+
+-- and the records have them
+pub standing-records : (site : Settings) (steps : ℕ) (probed : Option Addr) (hits : List Eid) (databases : List Database) → map (standing_record site steps probed) (filter (is_hit hits) databases) ≡ map (own_record site probed) (filter (is_hit hits) (map (stood steps) databases))
+unfolding standing_record
+standing-records site steps probed hits [] = refl
+standing-records site steps probed hits (database ∷ others) = by (is_hit hits database) (standing-records site steps probed hits others)
+  where
+    by : (b : Bool) → map (standing_record site steps probed) (filter (is_hit hits) others) ≡ map (own_record site probed) (filter (is_hit hits) (map (stood steps) others)) → map (standing_record site steps probed) (cond b (database ∷ filter (is_hit hits) others) (filter (is_hit hits) others)) ≡ map (own_record site probed) (cond b (stood steps database ∷ filter (is_hit hits) (map (stood steps) others)) (filter (is_hit hits) (map (stood steps) others)))
+    by true rest = ap (λ (l : List Record). own_record site probed (stood steps database) ∷ l) rest
+    by false rest = rest

@@ -16,23 +16,26 @@ use Rattle.router_log.specs.declared.entry.Entry.TheVariants.{Learned, Asked, Bi
 use Rattle.router_model.specs.Journal.{Journal, moment_of}
 use Rattle.router_model.specs.Mappings.{exact}
 use Rattle.router_model.specs.Parts.{Parts, Stands, absorbed, admits, view_in, with_entry}
-use Rattle.router_model.specs.Proper.{fits, may_retry, suits}
+use Rattle.router_model.specs.Proper.{fits, may_retry, suits, is_admitted}
 use Rattle.router_model.proofs.StandsLemmas.{standing-absorbs}
 use Rattle.router_core.proofs.ChangeLemmas.{both, learned-place, may_ask-place, requests-now}
 use Rattle.router_core.proofs.LengthLemmas.{below-most}
+use Rattle.router_model.specs.Standing.{may_change}
 
 -- there is room in the journal, its moment isn't before the last one, and it suits what is seen
 pub record May (p : Parts) (e : Entry) : Type 0 where
   pub few : p.count < 2 ^ 62
   pub later : p.now ≤ moment_of e
   pub suit : suits (view_in p (moment_of e)) e ≡ true
+  pub change : may_change p.own p.steps e ≡ true
 
 pub may : (p : Parts) (e : Entry) → admits p e ≡ true → May p e
 unfolding admits
 may p e is =
-    let parts = both (nat_lt p.count (2 ^ 62) && nat_le p.now (moment_of e)) _ is in
+    let whole = both (is_admitted p.count p.now (view_in p (moment_of e)) e) _ is in
+    let parts = both (nat_lt p.count (2 ^ 62) && nat_le p.now (moment_of e)) _ whole.0 in
     let numbers = both (nat_lt p.count (2 ^ 62)) _ parts.0 in
-    record { few = below p.count numbers.0; later = upto p.now (moment_of e) numbers.1; suit = parts.1 }
+    record { few = below p.count numbers.0; later = upto p.now (moment_of e) numbers.1; suit = parts.1; change = whole.1 }
   where
     below : (n : ℕ) → nat_lt n (2 ^ 62) ≡ true → n < 2 ^ 62
     below n less = grind (arith, nat_tests)

@@ -90,7 +90,7 @@ force-versioned m eid ms are =
     longest-has IsVersioned key (lasting m ms) eid.iid eid.prefix.addr eid.prefix.len (lasting-versioned m ms are)
 
 -- the prefix of the site
-home-lawful : (databases : List Database) (iid : ℕ) (addr : Addr) → All IsLawfulDatabase databases → IfSome (home_of databases iid addr) IsLawfulDatabase
+pub home-lawful : (databases : List Database) (iid : ℕ) (addr : Addr) → All IsLawfulDatabase databases → IfSome (home_of databases iid addr) IsLawfulDatabase
 home-lawful databases iid addr are =
     longest-has IsLawfulDatabase (λ (database : Database). database.eid) databases iid addr (width addr) are
 

@@ -28,6 +28,8 @@ use Rattle.router_model.specs.Parts.{Parts, absorbed, admits, table, view_in, wi
 use Rattle.router_model.specs.Proper.{suits}
 use Rattle.router_core.specs.Table.{change_of}
 use Rattle.router_core.proofs.HeldLemmas.{drawn-seen, requests-seen, room-seen}
+use Rattle.router_model.specs.Standing.{may_change}
+use Rattle.lisp_settings.specs.declared.settings.OwnLocator.{OwnLocator}
 
 pub both : (a b : Bool) → (a && b) ≡ true → (a ≡ true) × (b ≡ true)
 both true b is = (refl, is)
@@ -36,15 +38,24 @@ both false b is = (cc, cc)
 pub later : (m now : ℕ) → now ≤ m → max m now ≡ m
 later m now less = omega (arith, less)
 
+two-hold : (a b : Bool) → a ≡ true → b ≡ true → (a && b) ≡ true
+two-hold a b p q = rw (p, q) refl
+
 all-three : (a b c : Bool) → a ≡ true → b ≡ true → c ≡ true → ((a && b) && c) ≡ true
 all-three a b c p q r = rw (p, q, r) refl
 
--- an entry that suits is taken
-pub taken : (p : Parts) (m : ℕ) (e : Entry) → moment_of e ≡ m → p.now ≤ m → p.count < 2 ^ 62 → suits (view_in p m) e ≡ true → absorbed p e ≡ with_entry e p
+-- an entry of that moment, which is none of a change of own locators
+abbrev pub IsOther : ℕ → Entry → Type 0
+IsOther m e = (moment_of e ≡ m) × ((own : List OwnLocator) (steps : ℕ) → may_change own steps e ≡ true)
+
+-- one that suits is taken
+pub taken : (p : Parts) (m : ℕ) (e : Entry) → IsOther m e → p.now ≤ m → p.count < 2 ^ 62 → suits (view_in p m) e ≡ true → absorbed p e ≡ with_entry e p
 unfolding admits absorbed
-taken p m e now after few suit =
+taken p m e other after few suit =
     ap (λ b. cond b (with_entry e p) p)
-    (all-three _ _ _ (below p.count few) (upto p.now (moment_of e) (subst (λ (t : ℕ). p.now ≤ t) (sym now) after)) (subst (λ (t : ℕ). suits (view_in p t) e ≡ true) (sym now) suit))
+    (two-hold _ _
+    (all-three _ _ _ (below p.count few) (upto p.now (moment_of e) (subst (λ (t : ℕ). p.now ≤ t) (sym other.0) after)) (subst (λ (t : ℕ). suits (view_in p t) e ≡ true) (sym other.0) suit))
+    (other.1 p.own p.steps))
   where
     below : (n : ℕ) → n < 2 ^ 62 → nat_lt n (2 ^ 62) ≡ true
     below n less = grind (arith, nat_tests)
@@ -75,7 +86,7 @@ taught-not settings m asked mappings mapping change isn't =
 -- one that is
 pub taught-so : (settings : Settings) (m : ℕ) (asked : Eid) (mappings : List Record) (mapping : Record) (p : Parts) (entries : List Entry) → p.now ≤ m → p.count < 2 ^ 62 → mapping.action ≤ 7 → mapping.version ≤ 4095 → length (shortened mapping).locators ≤ 32 → (is_asked_for asked mappings mapping && (not (is_static settings mapping) && has_room (view_in p m) mapping)) ≡ true → change_of (with_entry (Learned m (shortened mapping) false) p) (entries ++ Learned m (shortened mapping) false ∷ []) [] ≡ taught table settings m asked mappings mapping (change_of p entries [])
 taught-so settings m asked mappings mapping p entries after few action version locators is =
-    ap (λ (q : Parts). change_of q (entries ++ entry ∷ []) []) (sym (taken p m entry refl after few suit))
+    ap (λ (q : Parts). change_of q (entries ++ entry ∷ []) []) (sym (taken p m entry (refl, λ own steps. refl) after few suit))
     ∙ sym (ap (λ b. cond b (entered table settings m entry (change_of p entries [])) (change_of p entries [])) is)
   where
     entry : Entry
@@ -91,7 +102,7 @@ taught-so settings m asked mappings mapping p entries after few action version l
 
 pub asked-change : (settings : Settings) (m : ℕ) (eid : Eid) (source : Option Addr) (invoked : Bool) (p : Parts) (entries : List Entry) (emits : List Emit) → p.now ≤ m → p.count < 2 ^ 62 → length (waiting m p.requests) < 1024 → let nonce = nonce_of settings.seed settings.nonces p.drawn in change_of (with_entry (Asked m eid source invoked nonce) p) (entries ++ Asked m eid source invoked nonce ∷ []) (emits ++ AskFor eid source invoked nonce ∷ []) ≡ asked table settings m eid source invoked (change_of p entries emits)
 asked-change settings m eid source invoked p entries emits after few place =
-    ap (λ (q : Parts). change_of q (entries ++ entry ∷ []) (emits ++ AskFor eid source invoked nonce ∷ [])) (sym (taken p m entry refl after few suit))
+    ap (λ (q : Parts). change_of q (entries ++ entry ∷ []) (emits ++ AskFor eid source invoked nonce ∷ [])) (sym (taken p m entry (refl, λ own steps. refl) after few suit))
     ∙ ap (λ (n : ℕ). change_of (absorbed p (Asked m eid source invoked n)) (entries ++ Asked m eid source invoked n ∷ []) (emits ++ AskFor eid source invoked n ∷ [])) (ap (nonce_of settings.seed settings.nonces) (sym (drawn-seen p m)))
   where
     nonce : ℕ
@@ -108,7 +119,7 @@ asked-change settings m eid source invoked p entries emits after few place =
 
 pub answered-change : (settings : Settings) (m nonce : ℕ) (p : Parts) → p.now ≤ m → p.count < 2 ^ 62 → is_some (with_nonce (waiting m p.requests) nonce) ≡ true → change_of (with_entry (Answered m nonce) p) (Answered m nonce ∷ []) [] ≡ entered table settings m (Answered m nonce) (unchanged p)
 answered-change settings m nonce p after few open_now =
-    ap (λ (q : Parts). change_of q (Answered m nonce ∷ []) []) (sym (taken p m (Answered m nonce) refl after few (ap (λ l. is_some (with_nonce l nonce)) (requests-now p m after) ∙ open_now)))
+    ap (λ (q : Parts). change_of q (Answered m nonce ∷ []) []) (sym (taken p m (Answered m nonce) (refl, λ own steps. refl) after few (ap (λ l. is_some (with_nonce l nonce)) (requests-now p m after) ∙ open_now)))
 
 -- that may be made
 pub may_ask-place : (p : Parts) (m : ℕ) → p.now ≤ m → nat_lt (length (view_in p m).requests) 1024 ≡ true → length (waiting m p.requests) < 1024

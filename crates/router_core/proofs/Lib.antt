@@ -15,7 +15,11 @@ pub mod ProbeLemmas
 pub mod RenewingLemmas
 pub mod RestLemmas
 pub mod SearchLemmas
+pub mod SecondLemmas
 pub mod SiteLemmas
+pub mod StandLemmas
 pub mod StaticLemmas
+pub mod TellingLemmas
 pub mod TickingLemmas
+pub mod ToldLemmas
 pub mod WritableLemmas

@@ -14,7 +14,6 @@ use Rattle.router_log.specs.declared.entry.Entry.TheVariants.{Bits, DataFrom, Ec
 use Rattle.router_log.specs.declared.notice.Notice.{Notice}
 use Rattle.router_log.specs.declared.notice.Notice.TheVariants as notice
 use Rattle.router_model.specs.Changes.{Change, each, entered, may_ask, next_nonce, unchanged}
-use Rattle.router_model.specs.Journal.{moment_of}
 use Rattle.router_model.specs.Mappings.{exact}
 use Rattle.router_model.specs.Note.{is_echo, is_learned, is_missing, is_news, noted, solicited}
 use Rattle.router_model.specs.Parts.{Parts, table, view_in, with_entry}
@@ -23,7 +22,7 @@ use Rattle.router_model.specs.Site.{ours}
 use Rattle.router_model.proofs.NoteLemmas.{news-some}
 use Rattle.router_core.specs.Table.{change_of, changed_seen}
 use Rattle.router_core.specs.declared.changed.Changed.{Changed}
-use Rattle.router_core.proofs.ChangeLemmas.{both, taken}
+use Rattle.router_core.proofs.ChangeLemmas.{both, taken, IsOther}
 use Rattle.router_core.proofs.HeldLemmas.{drawn-seen}
 
 two : (a b : Bool) → a ≡ true → b ≡ true → (a && b) ≡ true
@@ -40,11 +39,11 @@ quiet-entered p q e entries changed after is quiet = ap (changed_seen q) quiet �
 
 module _ (settings : Settings) (m : ℕ) (p : Parts) (after : p.now ≤ m) (few : p.count < 2 ^ 62) where
   -- an entry that suits is entered
-  entered-so : (e : Entry) → moment_of e ≡ m → suits (view_in p m) e ≡ true → change_of (with_entry e p) (e ∷ []) [] ≡ entered table settings m e (unchanged p)
+  entered-so : (e : Entry) → IsOther m e → suits (view_in p m) e ≡ true → change_of (with_entry e p) (e ∷ []) [] ≡ entered table settings m e (unchanged p)
   entered-so e now suit = ap (λ (q : Parts). change_of q (e ∷ []) []) (sym (taken p m e now after few suit))
 
   -- and so it is where a test holds
-  entered-if : (e : Entry) (test : Bool) → moment_of e ≡ m → suits (view_in p m) e ≡ true → test ≡ true → change_of (with_entry e p) (e ∷ []) [] ≡ cond test (entered table settings m e (unchanged p)) (unchanged p)
+  entered-if : (e : Entry) (test : Bool) → IsOther m e → suits (view_in p m) e ≡ true → test ≡ true → change_of (with_entry e p) (e ∷ []) [] ≡ cond test (entered table settings m e (unchanged p)) (unchanged p)
   entered-if e test now suit is =
       entered-so e now suit ∙ sym (ap (λ b. cond b (entered table settings m e (unchanged p)) (unchanged p)) is)
 
@@ -52,17 +51,17 @@ module _ (settings : Settings) (m : ℕ) (p : Parts) (after : p.now ≤ m) (few 
   pub told-change : (eid : Eid) (rloc : Addr) (bits width : ℕ) → is_news rloc bits width (exact (view_in p m).mappings eid) ≡ true → ((width == 8) || (width == 32)) ≡ true → change_of (with_entry (Bits m eid bits width) p) (Bits m eid bits width ∷ []) [] ≡ noted table settings m (notice.Bits eid rloc bits width) (unchanged p)
   unfolding noted
   told-change eid rloc bits width news sound =
-      entered-if (Bits m eid bits width) _ refl (two _ _ (news-some rloc bits width _ news) sound) news
+      entered-if (Bits m eid bits width) _ (refl, λ own steps. refl) (two _ _ (news-some rloc bits width _ news) sound) news
 
   -- an echo that is wanted
   pub wanted-change : (rloc : Addr) (nonce : ℕ) → (view_in p m).may_want rloc nonce ≡ true → is_short nonce ≡ true → change_of (with_entry (EchoWanted m rloc nonce) p) (EchoWanted m rloc nonce ∷ []) [] ≡ noted table settings m (notice.EchoWanted rloc nonce) (unchanged p)
   unfolding noted
-  wanted-change rloc nonce may short = entered-if (EchoWanted m rloc nonce) _ refl (two _ _ may short) may
+  wanted-change rloc nonce may short = entered-if (EchoWanted m rloc nonce) _ (refl, λ own steps. refl) (two _ _ may short) may
 
   -- an echo that came
   pub heard-change : (rloc : Addr) (nonce : ℕ) → is_echo nonce ((view_in p m).echo_on rloc) ≡ true → change_of (with_entry (EchoHeard m rloc) p) (EchoHeard m rloc ∷ []) [] ≡ noted table settings m (notice.EchoHeard rloc nonce) (unchanged p)
   unfolding noted
-  heard-change rloc nonce echo = entered-if (EchoHeard m rloc) _ refl (some _ echo) echo
+  heard-change rloc nonce echo = entered-if (EchoHeard m rloc) _ (refl, λ own steps. refl) (some _ echo) echo
     where
       some : (o : Option ℕ) → is_echo nonce o ≡ true → is_some o ≡ true
       some None is = cc
@@ -71,7 +70,7 @@ module _ (settings : Settings) (m : ℕ) (p : Parts) (after : p.now ≤ m) (few 
   -- a packet that came
   pub data-change : (rloc : Addr) → (view_in p m).data_due rloc ≡ true → change_of (with_entry (DataFrom m rloc) p) (DataFrom m rloc ∷ []) [] ≡ noted table settings m (notice.DataFrom rloc) (unchanged p)
   unfolding noted
-  data-change rloc due = entered-if (DataFrom m rloc) _ refl due due
+  data-change rloc due = entered-if (DataFrom m rloc) _ (refl, λ own steps. refl) due due
 
   next-drawn : (n : ℕ) → n ≡ nonce_of settings.seed settings.nonces p.drawn → n ≡ next_nonce table settings m (unchanged p)
   next-drawn n is = is ∙ ap (nonce_of settings.seed settings.nonces) (sym (drawn-seen p m))
@@ -80,7 +79,7 @@ module _ (settings : Settings) (m : ℕ) (p : Parts) (after : p.now ≤ m) (few 
   pub due-change : (rloc : Addr) (n : ℕ) → n ≡ nonce_of settings.seed settings.nonces p.drawn → (settings.echo && (view_in p m).may_start rloc) ≡ true → change_of (with_entry (EchoStarted m rloc (n % 2 ^ 24)) p) (EchoStarted m rloc (n % 2 ^ 24) ∷ []) [] ≡ noted table settings m (notice.EchoDue rloc) (unchanged p)
   unfolding noted
   due-change rloc n is due =
-      entered-if (started n) _ refl (two _ _ (both _ _ due).1 short) due
+      entered-if (started n) _ (refl, λ own steps. refl) (two _ _ (both _ _ due).1 short) due
       ∙ ap (λ (n : ℕ). cond (settings.echo && (view_in p m).may_start rloc) (entered table settings m (started n) (unchanged p)) (unchanged p)) (next-drawn n is)
     where
       started : ℕ → Entry
@@ -93,7 +92,7 @@ module _ (settings : Settings) (m : ℕ) (p : Parts) (after : p.now ≤ m) (few 
   pub solicited-change : (rloc : Addr) (eid : Eid) (n : ℕ) → n ≡ nonce_of settings.seed settings.nonces p.drawn → (is_some (ours settings.locators rloc) && (view_in p m).may_solicit rloc eid) ≡ true → change_of (with_entry (Solicited m rloc eid n) p) (Solicited m rloc eid n ∷ []) (emit.Solicit rloc eid n ∷ []) ≡ noted table settings m (notice.Solicit rloc eid) (unchanged p)
   unfolding noted
   solicited-change rloc eid n is may =
-      ap (λ (q : Parts). change_of q (Solicited m rloc eid n ∷ []) (emit.Solicit rloc eid n ∷ [])) (sym (taken p m (Solicited m rloc eid n) refl after few (both _ _ may).1))
+      ap (λ (q : Parts). change_of q (Solicited m rloc eid n ∷ []) (emit.Solicit rloc eid n ∷ [])) (sym (taken p m (Solicited m rloc eid n) (refl, λ own steps. refl) after few (both _ _ may).1))
       ∙ ap (λ (n : ℕ). solicited table settings m n rloc eid (unchanged p)) (next-drawn n is)
       ∙ sym (ap (λ b. cond b (solicited table settings m (next_nonce table settings m (unchanged p)) rloc eid (unchanged p)) (unchanged p)) may)
 

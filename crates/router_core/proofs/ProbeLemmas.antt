@@ -34,5 +34,5 @@ module _ (settings : Settings) (m : ℕ) (from rloc : Addr) (reply : MapReply) (
   pub taken-by : p.now ≤ m → p.count < 2 ^ 61 → (view_in p m).probe_open reply.nonce ≡ Some rloc → same_address rloc from ≡ true → takes ProbeReply (change_of (with_entry (ProbeAnswered m reply.nonce) p) (ProbeAnswered m reply.nonce ∷ []) []) ≡ probe_replied table settings m from reply ((view_in p m).probe_open reply.nonce) (unchanged p)
   taken-by after few found same =
       ap (λ (q : Parts). takes ProbeReply (change_of q (ProbeAnswered m reply.nonce ∷ []) []))
-      (sym (taken p m (ProbeAnswered m reply.nonce) refl after (omega (arith, few)) (ap is_some found)))
+      (sym (taken p m (ProbeAnswered m reply.nonce) (refl, λ own steps. refl) after (omega (arith, few)) (ap is_some found)))
       ∙ sym (by-both ((view_in p m).probe_open reply.nonce) true found same)

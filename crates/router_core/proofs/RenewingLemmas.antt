@@ -1,5 +1,5 @@
 -- What an SMR makes of a table.
-use Rattle.std.proofs.Common.{◌≡◌, ℕ, ◌<◌, ◌≤◌, ◌^◌, ◌&&◌, not, Bool, true, false, cond, IsTrue, List, [], ◌∷◌, ◌++◌, length, Option, Some, None, is_some, refl, sym, ap, subst, ◌∙◌}
+use Rattle.std.proofs.Common.{◌≡◌, ℕ, ◌<◌, ◌≤◌, ◌^◌, ◌&&◌, not, Bool, true, false, cond, List, [], ◌∷◌, ◌++◌, length, Option, Some, None, refl, sym, ap, subst, ◌∙◌}
 use Rattle.std.proofs.lemmas.Option.{same_Some}
 use Rattle.mapping_records.specs.declared.eid.Eid.{Eid}
 use Rattle.request_queue.specs.Queue.{waiting}
@@ -28,11 +28,7 @@ renewable-may settings v (Some held) eid is = by (not held.fixed && may_ask sett
     by false may is = cc
 
 module _ (settings : Settings) (m : ℕ) (p : Parts) where
-  -- so there is a resolver
-  pub renewable-resolver : (o : Option Held) (eid : Eid) → renewable settings (view_in p m) o ≡ Some eid → IsTrue (is_some settings.resolver)
-  renewable-resolver o eid is = (both (is_some settings.resolver) _ (renewable-may settings (view_in p m) o eid is)).0
-
-  -- and a place
+  -- so there is a place
   pub renewable-place : (o : Option Held) (eid : Eid) → p.now ≤ m → renewable settings (view_in p m) o ≡ Some eid → length (waiting m p.requests) < 1024
   renewable-place o eid after is = may_ask-place p m after (may_ask-room settings m (view_in p m) eid (renewable-may settings (view_in p m) o eid is))
 

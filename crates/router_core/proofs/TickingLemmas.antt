@@ -21,7 +21,8 @@ use Rattle.router_model.specs.Changes.{Change, each, next_nonce, unchanged}
 use Rattle.router_model.specs.Parts.{Parts, absorbed, table, view_in, with_entry}
 use Rattle.router_model.specs.Proper.{may_retry, suits}
 use Rattle.router_model.specs.Requests.{request_step}
-use Rattle.router_model.specs.Tick.{all_probed, all_retried, next_targets, probed, probed_with, retried, ticked}
+use Rattle.router_model.specs.Site.{reaches_resolver}
+use Rattle.router_model.specs.Tick.{after_changes, retried_where, all_probed, all_retried, next_targets, probed, probed_with, retried}
 use Rattle.router_core.specs.Table.{change_of}
 use Rattle.router_core.specs.Ticking.{are_apart, AreOwed, IsOwed}
 use Rattle.router_core.proofs.ChangeLemmas.{both, later, requests-now, taken}
@@ -34,7 +35,7 @@ pub retried-change : (settings : Settings) (m : ℕ) (r : Request) (p : Parts) (
     → change_of (with_entry (Retried m r.nonce) p) (entries ++ Retried m r.nonce ∷ []) (emits ++ emit.Request r.eid r.source r.invoked r.nonce ∷ []) ≡ retried table settings m r (change_of p entries emits)
 retried-change settings m r p entries emits after few owed =
     ap (λ (q : Parts). change_of q (entries ++ Retried m r.nonce ∷ []) (emits ++ emit.Request r.eid r.source r.invoked r.nonce ∷ []))
-    (sym (taken p m (Retried m r.nonce) refl after few suit))
+    (sym (taken p m (Retried m r.nonce) (refl, λ own steps. refl) after few suit))
   where
     suit : suits (view_in p m) (Retried m r.nonce) ≡ true
     suit = ap (λ l. may_retry (with_nonce l r.nonce)) (requests-now p m after) ∙ ap may_retry owed.found ∙ owed.again
@@ -171,7 +172,7 @@ count-now p m after = ap (λ (t : ℕ). nat_lt (probe_count t p.observed.probes)
 pub probed-so : (settings : Settings) (m : ℕ) (target : Target) (p : Parts) (entries : List Entry) (emits : List Emit) → p.now ≤ m → p.count < 2 ^ 62 → nat_lt (view_in p m).probe_count 9600 ≡ true
     → let nonce = nonce_of settings.seed settings.nonces p.drawn in change_of (with_entry (Probed m target.rloc nonce) p) (entries ++ Probed m target.rloc nonce ∷ []) (emits ++ emit.Probe target.rloc target.eid nonce ∷ []) ≡ probed table settings m target (change_of p entries emits)
 probed-so settings m target p entries emits after few place =
-    ap (λ (q : Parts). change_of q (entries ++ Probed m target.rloc nonce ∷ []) (emits ++ emit.Probe target.rloc target.eid nonce ∷ [])) (sym (taken p m (Probed m target.rloc nonce) refl after few place))
+    ap (λ (q : Parts). change_of q (entries ++ Probed m target.rloc nonce ∷ []) (emits ++ emit.Probe target.rloc target.eid nonce ∷ [])) (sym (taken p m (Probed m target.rloc nonce) (refl, λ own steps. refl) after few place))
     ∙ ap (λ (n : ℕ). change_of (absorbed p (Probed m target.rloc n)) (entries ++ Probed m target.rloc n ∷ []) (emits ++ emit.Probe target.rloc target.eid n ∷ [])) (ap (nonce_of settings.seed settings.nonces) (sym (drawn-seen p m)))
     ∙ sym (ap (λ b. cond b (probed_with table settings m (next_nonce table settings m (change_of p entries emits)) target (change_of p entries emits)) (change_of p entries emits)) place)
   where
@@ -224,9 +225,20 @@ unfolding view_in
 now-seen p m after = later m p.now after
 
 -- the requests that are due
-pub retried-all : (settings : Settings) (m : ℕ) (p : Parts) → p.now ≤ m → each (retried table settings m) (all_due m p.requests) (unchanged p) ≡ all_retried table settings m (unchanged p)
-retried-all settings m p after =
-    sym (ap₂ (λ (t : ℕ) (l : List Request). each (retried table settings m) (filter (due t) l) (unchanged p)) (now-seen p m after) (requests-now p m after))
+pub retried-all : (settings : Settings) (m : ℕ) (change : Change Parts) → change.after.now ≤ m → each (retried table settings m) (all_due m change.after.requests) change ≡ all_retried table settings m change
+retried-all settings m change after =
+    sym (ap₂ (λ (t : ℕ) (l : List Request). each (retried table settings m) (filter (due t) l) change) (now-seen change.after m after) (requests-now change.after m after))
+
+-- where the resolver is reached
+pub retried-there : (settings : Settings) (m : ℕ) (change : Change Parts) (requests : List Request) → requests ≡ all_due m change.after.requests → change.after.now ≤ m → reaches_resolver settings ≡ true → each (retried table settings m) requests change ≡ retried_where table settings m (reaches_resolver settings) change
+retried-there settings m change requests due after is =
+    ap (λ (l : List Request). each (retried table settings m) l change) due
+    ∙ retried-all settings m change after
+    ∙ sym (ap (λ b. retried_where table settings m b change) is)
+
+-- where it isn't
+pub retried-nowhere : (settings : Settings) (m : ℕ) (change : Change Parts) → reaches_resolver settings ≡ false → change ≡ retried_where table settings m (reaches_resolver settings) change
+retried-nowhere settings m change isn't = sym (ap (λ b. retried_where table settings m b change) isn't)
 
 -- the probes, where the settings have them
 pub probed-all : (settings : Settings) (m : ℕ) (change : Change Parts) → settings.probe ≡ true → each (probed table settings m) (next_targets settings (view_in change.after m)) change ≡ all_probed table settings m change
@@ -237,13 +249,11 @@ pub probed-none : (settings : Settings) (m : ℕ) (change : Change Parts) → se
 probed-none settings m change isn't =
     sym (ap (λ b. cond b (each (probed table settings m) (next_targets settings (view_in change.after m)) change) change) isn't)
 
--- one after the other
-pub ticked-by : (settings : Settings) (m : ℕ) (p : Parts) (change : Change Parts) → p.now ≤ m → change ≡ each (retried table settings m) (all_due m p.requests) (unchanged p) → all_probed table settings m change ≡ ticked table settings m (unchanged p)
-unfolding ticked
-ticked-by settings m p change after is = ap (all_probed table settings m) (is ∙ retried-all settings m p after)
-
--- from where nothing was entered yet
-pub retried-from : (settings : Settings) (m : ℕ) (due all : List Request) (q p : Parts) (entries : List Entry) (emits : List Emit) → due ≡ all → q ≡ p → entries ≡ [] → emits ≡ [] → each (retried table settings m) due (change_of q entries emits) ≡ each (retried table settings m) all (unchanged p)
-retried-from settings m due all q p entries emits d s e f =
-    ap₂ (λ (l : List Request) (r : Parts). each (retried table settings m) l (change_of r entries emits)) d s
-    ∙ ap₂ (λ (a : List Entry) (b : List Emit). each (retried table settings m) all (change_of p a b)) e f
+-- one after the other, from where nothing was entered yet
+pub sent-from : (settings : Settings) (m : ℕ) (q p : Parts) (entries : List Entry) (emits : List Emit) (change : Change Parts) → change ≡ retried_where table settings m (reaches_resolver settings) (change_of q entries emits) → q ≡ p → entries ≡ [] → emits ≡ [] → all_probed table settings m change ≡ after_changes table settings m false (unchanged p)
+unfolding after_changes
+sent-from settings m q p entries emits change is s e f =
+    ap (all_probed table settings m)
+    (is
+    ∙ ap (λ (r : Parts). retried_where table settings m (reaches_resolver settings) (change_of r entries emits)) s
+    ∙ ap₂ (λ (a : List Entry) (b : List Emit). retried_where table settings m (reaches_resolver settings) (change_of p a b)) e f)

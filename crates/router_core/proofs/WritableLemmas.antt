@@ -18,13 +18,13 @@ use Rattle.map_messages.specs.Range.{InRangeEcm, InRangeRequest}
 use Rattle.map_messages.specs.Request.{canonical_asked_eid, canonical_request, canonical_source}
 use Rattle.map_messages.proofs.WritingLemmas.{length-control_packet}
 use Rattle.map_messages.specs.declared.message.MapRequest.{MapRequest}
-use Rattle.lisp_settings.specs.Lawful.{IsLawful}
 use Rattle.lisp_settings.specs.Resolver.{is_reachable}
 use Rattle.lisp_settings.specs.declared.settings.Database.{Database}
 use Rattle.lisp_settings.specs.declared.settings.OwnLocator.{OwnLocator}
 use Rattle.lisp_settings.specs.declared.settings.Settings.{Settings}
 use Rattle.router_model.specs.Emits.{database_address, ecm_for, inner_source, message_packet, no_address, request_for, source_eid}
 use Rattle.router_model.specs.Site.{ours, up_locators}
+use Rattle.router_core.specs.Site.{IsSite}
 
 -- a family that can be reached has an own address
 pub ours-reachable : (locators : List OwnLocator) (to : Addr) → IsTrue (is_reachable locators to) → IsTrue (is_some (ours locators to))
@@ -149,7 +149,7 @@ length-message_packet from to port payload =
       length-datagram 4342 port (udp_checksum from to 4342 port payload) payload,
     )
 
-module _ (settings : Settings) (lawful : IsLawful settings) (probe smr invoked : Bool) (nonce : ℕ) where
+module _ (settings : Settings) (lawful : IsSite settings) (probe smr invoked : Bool) (nonce : ℕ) where
   -- a Map-Request for one EID is in range
   pub request-range : (source : Option (ℕ × Addr)) (eid : Eid) (to : Addr) → IfSome source (λ held. held.0 < 2 ^ 24) → IsTrue (is_some (ours settings.locators to))
       → InRangeRequest (request_for settings probe smr invoked nonce source eid)

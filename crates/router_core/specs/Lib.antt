@@ -5,6 +5,8 @@ pub mod Renewing
 pub mod Resting
 pub mod Seen
 pub mod Sendable
+pub mod Site
 pub mod Steps
 pub mod Table
+pub mod Telling
 pub mod Ticking

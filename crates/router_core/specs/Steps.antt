@@ -27,14 +27,26 @@ pub record HaveRoom (most : ℕ) (written : Vec Entry Global) (sent : Vec Emit G
 
 -- ### what comes out
 
--- at most so many entries were taken, and the last isn't past the moment
+-- at most so many entries were taken, none of a change of own locators, and the last isn't past the moment
 pub record HasEntered (most m : ℕ) (old new : Parts) : Type 0 where
+  pub now : new.now ≤ m
+  pub count : new.count ≤ old.count + most
+  pub own : new.own ≡ old.own
+  pub steps : new.steps ≡ old.steps
+
+-- the same of a second, at which own locators may change
+pub record HasTicked (most m : ℕ) (old new : Parts) : Type 0 where
   pub now : new.now ≤ m
   pub count : new.count ≤ old.count + most
 
 -- a step took at most so many entries; where it is refused, all is as it was
 pub record IsStep {T E : Type 0} (most m : ℕ) (old new : Parts) (result : Result T E) : Type 0 where
   pub entered : OnOk result (HasEntered most m old new)
+  pub err : OnErr result (new ≡ old)
+
+-- a second took at most so many entries; where it is refused, all is as it was
+pub record IsSecond {T E : Type 0} (most m : ℕ) (old new : Parts) (result : Result T E) : Type 0 where
+  pub entered : OnOk result (HasTicked most m old new)
   pub err : OnErr result (new ≡ old)
 
 -- just this entry was taken; where that is refused, all is as it was

@@ -1,4 +1,5 @@
 // Whether an entry may be taken as it is.
+ghost use Rattle.router_model.specs.Standing.{may_change};
 ghost use Rattle.std.specs.Prelude.{◌≡◌, ◌<◌, ◌==◌, ◌||◌, ◌&&◌, ◌^◌, nat_le, nat_lt, is_some, length};
 ghost use Rattle.std.specs.Option.{option_copied};
 ghost use Rattle.request_queue.specs.Queue.{with_nonce};
@@ -10,7 +11,9 @@ ghost use Rattle.router_model.specs.Parts.{admits, view_in};
 ghost use Rattle.router_model.specs.Proper.{is_in_range, is_short, may_retry, suits};
 
 use crate::Table;
+use crate::site::is_own;
 use ip_headers::Addr;
+use lisp_settings::MOST_CHANGES;
 use map_cache::MOST_LOCATORS;
 use mapping_records::{Eid, Record};
 use request_queue::Request;
@@ -26,7 +29,7 @@ impl Table {
     pub fn admits(&self, entry: &Entry) -> bool
         ensures { result ≡ admits self.now.parts entry.now }
     {
-        self.may_follow(moment_of(entry)) && self.suits(entry)
+        (self.may_follow(moment_of(entry)) && self.suits(entry)) && self.may_change(entry)
     }
 
     // The journal isn't full, and that moment isn't before its last one.
@@ -35,6 +38,18 @@ impl Table {
             && nat_le self.now.parts.now m) }
     {
         self.count < 1 << 62 && self.cache.now() <= m
+    }
+
+    // The entry of a change has the address of an own locator, and fewer were made than may be.
+    fn may_change(&self, entry: &Entry) -> bool
+        ensures { result ≡ may_change self.now.parts.own self.now.parts.steps entry.now }
+    {
+        match entry {
+            Entry::Changed { address, .. } => {
+                is_own(self.own.as_slice(), *address) && (self.steps as usize) < MOST_CHANGES
+            }
+            _ => true,
+        }
     }
 
     // The entry suits what is seen at its moment.
@@ -76,6 +91,7 @@ impl Table {
                 eid,
                 ..
             } => self.may_be_solicited(*moment, rloc, eid),
+            Entry::Changed { .. } => true,
         }
     }
 
@@ -131,9 +147,9 @@ impl Table {
         self.locators.echo_on(self.moment_at(m), rloc).is_some()
     }
 
-    // The locator may be sent an SMR for the EID.
+    /// The locator may be sent an SMR for the EID.
     #[tactic(auto, unfolding(router_model::specs::Parts::view_in))]
-    fn may_be_solicited(&self, m: u64, rloc: &Addr, eid: &Eid) -> bool
+    pub(crate) fn may_be_solicited(&self, m: u64, rloc: &Addr, eid: &Eid) -> bool
         ensures { result ≡ (view_in self.now.parts m).may_solicit rloc.now eid.now }
     {
         self.locators.may_solicit(self.moment_at(m), rloc, eid)
@@ -156,7 +172,8 @@ fn moment_of(entry: &Entry) -> u64
         | Entry::EchoHeard { moment, .. }
         | Entry::DataFrom { moment, .. }
         | Entry::EchoWanted { moment, .. }
-        | Entry::Solicited { moment, .. } => *moment,
+        | Entry::Solicited { moment, .. }
+        | Entry::Changed { moment, .. } => *moment,
     }
 }
 

@@ -1,16 +1,17 @@
 // A Map-Request for mappings of the site, answered (RFC 9301, sections 5.3 to 5.5).
-ghost use Rattle.std.specs.Prelude.{◌≡◌, ◌≤◌, ◌++◌, Some, None, filter, filter_map, length, map, option_map, IfOk, IfSome, OnOk, if◌then◌else◌};
+ghost use Rattle.std.specs.Prelude.{◌≡◌, ◌≤◌, ◌++◌, Some, None, filter, filter_map, length, map, option_map, All, IfOk, IfSome, OnOk, if◌then◌else◌};
 ghost use Rattle.ip_headers.specs.Addr.{width};
 ghost use Rattle.map_messages.specs.Range.{InRangeReply};
 ghost use Rattle.map_messages.specs.Reply.{canonical_reply};
 ghost use Rattle.map_messages.specs.Limits.{most_message_octets};
 ghost use Rattle.mapping_records.specs.Eids.{longer};
-ghost use Rattle.lisp_settings.specs.Lawful.{IsLawful};
 ghost use Rattle.lisp_settings.specs.declared.settings.Settings.{Settings as SettingsValue};
 ghost use Rattle.router_model.specs.Changes.{unchanged};
 ghost use Rattle.router_model.specs.Hear.{answered, answering, first_path, own_record, path_back, replied, reply_of, reply_path};
 ghost use Rattle.router_model.specs.Site.{database_of};
-ghost use Rattle.router_core.specs.Answering.{is_hit};
+ghost use Rattle.router_core.specs.Site.{IsSite};
+ghost use Rattle.lisp_settings.specs.Lawful.{IsLawfulDatabase};
+ghost use Rattle.router_core.specs.Answering.{is_hit, standing_record};
 ghost use Rattle.router_core.specs.Seen.{asker_seen, path_seen};
 ghost use Rattle.router_core.specs.Sendable.{IsSendableReply};
 ghost use Rattle.router_core.specs.Steps.{AreSent};
@@ -18,10 +19,11 @@ ghost use Rattle.router_core.specs.Table.{heard_seen};
 
 use crate::own_records::own_record;
 use crate::site::Site;
+use crate::stepping::stood;
 use crate::{Heard, Table};
 use ip_headers::Addr;
 use lisp_settings::Database;
-use map_messages::{MapReply, MapRequest, Records};
+use map_messages::{MapReply, MapRequest, Record, Records};
 use mapping_records::Eid;
 use octets::{Items, NoMemory};
 use router_log::{Done, Emit, Reason, Verdict};
@@ -42,6 +44,15 @@ pub(crate) struct Path {
     pub to: Addr,
 }
 
+// What each record of a reply is made by: the site, the steps of its versions, and the own address that
+// a probe came to.
+#[derive(Clone, Copy)]
+struct Told<'a> {
+    site: &'a Site<'a>,
+    steps: u32,
+    probed: Option<Addr>,
+}
+
 impl Table {
     /// Answers a Map-Request for mappings of the site, which changes nothing.
     pub(crate) fn answer_request(
@@ -50,7 +61,7 @@ impl Table {
         asker: Asker,
         request: &MapRequest,
     ) -> Result<Heard, NoMemory>
-        requires lawful { IsLawful site.now }
+        requires lawful { IsSite site.now }
         ensures parts { IfOk result (λ heard. heard_seen self.now.parts heard
             ≡ answered site.now (asker_seen asker) request.now
             (unchanged self.now.parts)) }
@@ -98,7 +109,7 @@ fn reply_of(
     asker: Asker,
     request: &MapRequest,
 ) -> Result<MapReply, NoMemory>
-    requires lawful { IsLawful site.now }
+    requires lawful { IsSite site.now }
     ensures reply { IfOk result (λ reply. reply
         ≡ reply_of site.now (asker_seen asker) request.now
         (answering site.now.databases request.now.eids)) }
@@ -106,11 +117,16 @@ fn reply_of(
     ensures short { IfOk result (λ reply.
         length (canonical_reply reply) ≤ most_message_octets) }
 {
-    let databases = site.databases();
+    let (databases, steps) = site.databases();
     let mut hits = Vec::new(alloc);
     add_hits(databases, request.eids.as_slice(), &mut hits)?;
     let mut mappings = Records::new(alloc);
-    add_records(alloc, site, probed(asker), &hits, databases, &mut mappings)?;
+    let told = Told {
+        site,
+        steps,
+        probed: probed(asker),
+    };
+    add_records(alloc, &told, &hits, databases, &mut mappings)?;
     Ok(MapReply {
         probe: asker.probe,
         nonce: request.nonce,
@@ -171,23 +187,33 @@ fn longer<'a>(best: Option<&'a Database>, next: &'a Database) -> Option<&'a Data
 // Adds the records of the databases that lie within a hit.
 fn add_records(
     alloc: Global,
-    site: &Site<'_>,
-    probed: Option<Addr>,
+    told: &Told<'_>,
     hits: &[Eid],
     databases: &[Database],
     records: &mut Records,
 ) -> Result<(), NoMemory>
-    ensures { OnOk result (records.new ≡ records.old
-        ++ map (own_record site.now probed) (filter (is_hit hits.now) databases.now)) }
+    requires { All IsLawfulDatabase databases.now }
+    ensures { OnOk result (records.new ≡ records.old ++ map (standing_record told.now.site.now
+        told.now.steps told.now.probed) (filter (is_hit hits.now) databases.now)) }
 {
     let [database, others @ ..] = databases else {
         return Ok(());
     };
     if !is_hit(hits, database) {
-        return add_records(alloc, site, probed, hits, others, records);
+        return add_records(alloc, told, hits, others, records);
     }
-    records.push(own_record(alloc, site, probed, database)?)?;
-    add_records(alloc, site, probed, hits, others, records)
+    records.push(standing_record(alloc, told, database)?)?;
+    add_records(alloc, told, hits, others, records)
+}
+
+// The record of a database, with its version as it stands.
+#[tactic(auto, unfolding(crate::specs::Answering::standing_record))]
+fn standing_record(alloc: Global, told: &Told<'_>, database: &Database) -> Result<Record, NoMemory>
+    requires { database.now.version ≤ 4095 }
+    ensures { IfOk result (λ mapping. mapping ≡ standing_record told.now.site.now told.now.steps
+        told.now.probed database.now) }
+{
+    own_record(alloc, told.site, told.probed, &stood(database, told.steps))
 }
 
 // The database lies within a hit.

@@ -92,6 +92,14 @@ impl Table {
                 eid,
                 nonce,
             } => self.apply_solicited(*moment, *rloc, *eid, *nonce),
+            Entry::Changed {
+                moment,
+                address,
+                up,
+            } => {
+                self.change(*moment, *address, *up);
+                Ok(())
+            }
         }
     }
 

@@ -1,4 +1,5 @@
 // A packet in a tunnel to the router: out of it, or dropped.
+ghost use Rattle.router_core.specs.Site.{IsSite};
 ghost use Rattle.std.specs.Prelude.{◌≡◌, IfOk, option_map};
 ghost use Rattle.std.specs.Option.{option_copied};
 ghost use Rattle.octets.specs.Rules.{first_failing};
@@ -28,6 +29,7 @@ use router_log::{Decision, Reason, Verdict};
 
 /// The decision on a packet in a tunnel.
 pub(crate) fn tunnelled(view: &View<'_>, datagram: &Datagram) -> Result<Decision, NoMemory>
+    requires { IsSite view.now.site }
     ensures decision { IfOk result (λ decision. decision
         ≡ tunnelled view.now.site (seen view.now) (datagram_seen datagram.now)) }
     ensures size { IfOk result (λ decision. FitsRecord decision.verdict) }
@@ -44,7 +46,8 @@ pub(crate) fn tunnelled(view: &View<'_>, datagram: &Datagram) -> Result<Decision
 
 // The decision on a packet that came out of its tunnel, by the prefix of the site that it is for.
 fn for_home(view: &View<'_>, tunnel: &Tunnelled) -> Result<Decision, NoMemory>
-    requires { InRange tunnel.now.header }
+    requires lawful { IsSite view.now.site }
+    requires range { InRange tunnel.now.header }
     ensures decision { let lisp = tunnel.now.header in let inner = tunnel.now.inner in
         IfOk result (λ decision. decision ≡ for_home tunnel.now.outer lisp inner.octets.now
         (force_for (seen view.now) (iid_of lisp) (source_of inner.header))

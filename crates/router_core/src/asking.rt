@@ -18,12 +18,12 @@ use request_queue::MOST_REQUESTS;
 use router_log::{Emit, Entry};
 
 impl Table {
-    /// There is a resolver, no open request covers the EID, and there is room for one more.
+    /// The resolver is reached, no open request covers the EID, and there is room for one more.
     #[tactic(auto, unfolding(router_model::specs::Parts::view_in))]
     pub(crate) fn may_ask(&self, site: &Site<'_>, m: u64, eid: &Eid) -> bool
         ensures { result ≡ may_ask site.now (view_in self.now.parts m) eid.now }
     {
-        site.resolver().is_some()
+        site.reaches_resolver()
             && !self
                 .queue
                 .open_for(self.moment_at(m), eid, &mut Reads::new())
@@ -49,7 +49,6 @@ impl Table {
     ) -> Result<Changed, NoMemory>
         requires may { MayStep m self.old.parts }
         requires place { length (waiting m self.old.parts.requests) < most_requests }
-        requires resolver { IsTrue (is_some site.now.resolver) }
         ensures parts { IfOk result (λ changed. changed_seen self.new.parts changed
             ≡ asked table site.now m eid source invoked (unchanged self.old.parts)) }
         ensures sent { IfOk result (λ changed. AreSent site.now 1 changed.emits) }

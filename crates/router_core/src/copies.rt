@@ -3,7 +3,7 @@ ghost use Rattle.std.specs.Prelude.{◌≡◌, IfOk};
 ghost use Rattle.router_model.specs.Hear.{shortened};
 ghost use Rattle.router_core.specs.Copies.{all_copies};
 
-use lisp_settings::{OwnLocator, OwnLocators};
+use lisp_settings::OwnLocator;
 use map_cache::{MOST_LOCATORS, copied_record};
 use mapping_records::{Locator, Locators, Record};
 use octets::{Items, NoMemory};
@@ -36,10 +36,10 @@ fn copied_locators(alloc: Global, locators: &[Locator]) -> Result<Locators, NoMe
 }
 
 /// A copy of own locators.
-pub(crate) fn copied_own(alloc: Global, own: &[OwnLocator]) -> Result<OwnLocators, NoMemory>
-    ensures { IfOk result (λ copy. copy ≡ own.now) }
+pub(crate) fn copied_own(alloc: Global, own: &[OwnLocator]) -> Result<Vec<OwnLocator>, NoMemory>
+    ensures { IfOk result (λ copy. copy.items ≡ own.now) }
 {
-    Ok(Items::from_vec(Vec::from_slice(alloc, own)?))
+    Ok(Vec::from_slice(alloc, own)?)
 }
 
 fn with_locators(mapping: &Record, locators: Locators) -> Record

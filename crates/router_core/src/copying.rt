@@ -19,6 +19,7 @@ impl Table {
         Ok(Table {
             alloc: self.alloc,
             own,
+            steps: self.steps,
             count: self.count,
             drawn: self.drawn,
             cache,

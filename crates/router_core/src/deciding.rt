@@ -5,7 +5,7 @@ ghost use Rattle.router_model.specs.Decide.{decide, decide_by, decide_course};
 ghost use Rattle.router_model.specs.Isolation.{frame_instance, of_instance};
 ghost use Rattle.router_model.specs.Journal.{Journal, at};
 ghost use Rattle.router_model.specs.Lifting.{AreSound};
-ghost use Rattle.router_model.specs.Parts.{Stands, view_in};
+ghost use Rattle.router_model.specs.Parts.{Stands, view_in, standing_in};
 ghost use Rattle.router_model.specs.Plain.{FitsRecord, packet_of};
 ghost use Rattle.router_core.specs.Seen.{course_seen, IfLeaving, IfSettled};
 
@@ -13,7 +13,6 @@ use crate::Table;
 use crate::arrival::tunnelled;
 use crate::courses::{Course, course_of};
 use crate::departure::routed;
-use crate::site::Site;
 use crate::view::View;
 use capture_io::Frame;
 use lisp_settings::Settings;
@@ -28,7 +27,7 @@ impl Table {
     pub fn decide(&self, settings: &Settings, m: u64, frame: &Frame) -> Result<Decision, NoMemory>
         requires { IsLawful settings.now }
         ensures parts { IfOk result (λ decision. decision
-            ≡ decide_by settings.now (view_in self.now.parts m) frame.now) }
+            ≡ decide_by (standing_in settings.now self.now.parts) (view_in self.now.parts m) frame.now) }
         ensures journal { IfOk result (λ decision. (journal : Journal)
             → Stands settings.now self.now.parts journal
             → decision ≡ decide settings.now journal m frame.now) }
@@ -53,11 +52,12 @@ impl Table {
         requires instance { IfLeaving course (λ iid. iid < 2 ^ 24) }
         requires quiet { IfSettled course (λ verdict. packet_of verdict ≡ None) }
         ensures parts { IfOk result (λ decision. decision
-            ≡ decide_course settings.now (view_in self.now.parts m) (course_seen course.entry)) }
+            ≡ decide_course (standing_in settings.now self.now.parts) (view_in self.now.parts m)
+            (course_seen course.entry)) }
         ensures size { IfOk result (λ decision. FitsRecord decision.verdict) }
         ensures notices { IfOk result (λ decision. AreSound decision.notices) }
     {
-        let site = Site::of(settings);
+        let site = self.site(settings);
         let view = View::of(self, &site, m);
         match course {
             Course::Settled(verdict) => Ok(self.alone(verdict)),

@@ -6,7 +6,6 @@ ghost use Rattle.ip_headers.specs.Ip.{dest_of, source_of};
 ghost use Rattle.lisp_header.specs.Header.{InRange};
 ghost use Rattle.encap.specs.Rules.{encap_rules, forward_rules};
 ghost use Rattle.lisp_settings.specs.Home.{home_of};
-ghost use Rattle.lisp_settings.specs.Lawful.{IsLawful};
 ghost use Rattle.locator_choice.specs.Hash.{source_port};
 ghost use Rattle.map_cache.specs.Lists.{IsFew};
 ghost use Rattle.router_model.specs.Cache.{held_of};
@@ -16,6 +15,7 @@ ghost use Rattle.router_model.specs.Lifting.{AreSound};
 ghost use Rattle.router_model.specs.Plain.{packet_of, FitsRecord};
 ghost use Rattle.router_model.specs.Site.{ours};
 ghost use Rattle.router_log.specs.declared.verdict.Verdict.TheVariants.{Drop};
+ghost use Rattle.router_core.specs.Site.{IsSite};
 ghost use Rattle.router_core.specs.Seen.{packet_seen};
 ghost use Rattle.router_core.specs.Bounded.{IsVersioned};
 ghost use Rattle.router_core.specs.Table.{seen};
@@ -39,7 +39,7 @@ use std::alloc::Global;
 /// The decision on a packet of an instance.
 #[tactic(auto, unfolding(router_model::specs::Decide::routed))]
 pub(crate) fn routed(view: &View<'_>, iid: u32, packet: &IpPacket) -> Result<Decision, NoMemory>
-    requires lawful { IsLawful view.now.site }
+    requires lawful { IsSite view.now.site }
     requires instance { iid < 2 ^ 24 }
     ensures decision { IfOk result (λ decision. decision
         ≡ routed view.now.site (seen view.now) iid (packet_seen packet.now)) }
@@ -79,7 +79,7 @@ fn asking(alloc: Global, eid: Eid, packet: &IpPacket, reason: Reason) -> Result<
 // The version of the prefix of the site that a packet leaves, or the verdict on one that stays out of a
 // tunnel.
 fn leaving(site: &Site<'_>, iid: u32, packet: &IpPacket) -> Result<u16, Verdict>
-    requires { IsLawful site.now }
+    requires { IsSite site.now }
     ensures leaves { IfOk result (λ version.
         first_failing (site_cases site.now iid packet.now.header) ≡ None) }
     ensures version { IfOk result (λ version. version
@@ -119,7 +119,7 @@ fn mapped(
     packet: &IpPacket,
     mapping: &Mapping,
 ) -> Result<Decision, NoMemory>
-    requires lawful { IsLawful view.now.site }
+    requires lawful { IsSite view.now.site }
     requires instance { iid < 2 ^ 24 }
     requires source { version
         ≡ home_version (home_of view.now.site.databases iid (source_of packet.now.header)) }

@@ -1,4 +1,5 @@
 // The packets that this router makes itself.
+ghost use Rattle.router_model.specs.Standing.{standing_by};
 ghost use Rattle.std.specs.Prelude.{◌≡◌, ◌≤◌, IsTrue, is_some, length, IfOk};
 ghost use Rattle.capture_io.specs.Limits.{most_frame_octets};
 ghost use Rattle.map_messages.specs.Message.{canonical_message};
@@ -9,6 +10,7 @@ ghost use Rattle.lisp_settings.specs.declared.settings.Settings.{Settings as Set
 ghost use Rattle.router_log.specs.declared.emit.Emit.TheVariants as emits;
 ghost use Rattle.router_model.specs.Emits.{emit_packet, packet_to};
 ghost use Rattle.router_model.specs.Site.{ours};
+ghost use Rattle.router_core.specs.Site.{IsSite};
 ghost use Rattle.router_core.specs.Sendable.{IsSendable, IsSendableReply};
 
 use crate::control_writing::{message_packet, reply_packet};
@@ -19,18 +21,26 @@ use lisp_settings::Settings;
 use map_messages::{Eid, LISP_CONTROL_PORT, MapReply, Message};
 use octets::{NoMemory, Octets};
 use router_log::Emit;
+use router_model::Own;
 use std::alloc::Global;
 
 /// The packet that an emit stands for, with its IP and UDP headers (RFC 9301, section 5). A
 /// Map-Request goes to the resolver, encapsulated; one that probes and an SMR go to their locators;
-/// a Map-Reply goes to whom asked. Without a resolver a Map-Request has no octets.
-pub fn emit_octets(alloc: Global, settings: &Settings, emit: &Emit) -> Result<Octets, NoMemory>
+/// a Map-Reply goes to whom asked. Without a resolver that is reached a Map-Request has no octets. Own
+/// locators and versions are those that stand.
+pub fn emit_octets(
+    alloc: Global,
+    settings: &Settings,
+    own: &Own,
+    emit: &Emit,
+) -> Result<Octets, NoMemory>
     requires lawful { IsLawful settings.now }
-    requires sendable { IsSendable settings.now emit.now }
-    ensures octets { IfOk result (λ packet. packet ≡ emit_packet settings.now emit.now) }
+    requires sendable { IsSendable (standing_by settings.now own.now) emit.now }
+    ensures octets { IfOk result (λ packet. packet
+        ≡ emit_packet (standing_by settings.now own.now) emit.now) }
     ensures size { IfOk result (λ packet. length packet ≤ most_frame_octets) }
 {
-    let site = Site::of(settings);
+    let site = Site::of(settings, *own);
     match emit {
         Emit::Request {
             eid,
@@ -49,7 +59,7 @@ pub fn emit_octets(alloc: Global, settings: &Settings, emit: &Emit) -> Result<Oc
     }
 }
 
-// A Map-Request to the resolver; without one there is no packet.
+// A Map-Request to the resolver; without one, or where it isn't reached, there is no packet.
 #[tactic(auto, unfolding(router_model::specs::Emits::emit_packet))]
 fn request_octets(
     alloc: Global,
@@ -59,7 +69,7 @@ fn request_octets(
     invoked: bool,
     nonce: u64,
 ) -> Result<Octets, NoMemory>
-    requires lawful { IsLawful site.now }
+    requires lawful { IsSite site.now }
     ensures octets { IfOk result (λ packet. packet
         ≡ emit_packet site.now (emits.Request eid source invoked nonce)) }
     ensures size { IfOk result (λ packet. length packet ≤ most_frame_octets) }
@@ -67,8 +77,11 @@ fn request_octets(
     let Some(resolver) = site.resolver() else {
         return Ok(Octets::new(alloc));
     };
+    let Some(from) = site.ours(resolver) else {
+        return Ok(Octets::new(alloc));
+    };
     let message = request_message(alloc, site, eid, source, invoked, nonce)?;
-    packet_to(alloc, site, resolver, &message)
+    message_packet(alloc, from, resolver, LISP_CONTROL_PORT, &message)
 }
 
 // A Map-Request that probes a locator.
@@ -80,7 +93,7 @@ fn probe_octets(
     eid: Eid,
     nonce: u64,
 ) -> Result<Octets, NoMemory>
-    requires lawful { IsLawful site.now }
+    requires lawful { IsSite site.now }
     requires sender { IsTrue (is_some (ours site.now.locators to)) }
     ensures octets { IfOk result (λ packet. packet
         ≡ emit_packet site.now (emits.Probe to eid nonce)) }
@@ -99,7 +112,7 @@ fn solicit_octets(
     eid: Eid,
     nonce: u64,
 ) -> Result<Octets, NoMemory>
-    requires lawful { IsLawful site.now }
+    requires lawful { IsSite site.now }
     requires sender { IsTrue (is_some (ours site.now.locators to)) }
     ensures octets { IfOk result (λ packet. packet
         ≡ emit_packet site.now (emits.Solicit to eid nonce)) }

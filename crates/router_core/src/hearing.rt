@@ -10,7 +10,8 @@ ghost use Rattle.router_model.specs.Hear.{carried, course_heard, datagram_heard,
 ghost use Rattle.router_model.specs.Journal.{Journal};
 ghost use Rattle.router_model.specs.Lifting.{AreOctets, Follows, MayGo};
 ghost use Rattle.router_model.specs.Limits.{most_heard};
-ghost use Rattle.router_model.specs.Parts.{Stands, table, view_in};
+ghost use Rattle.router_model.specs.Parts.{Stands, table, view_in, standing_in};
+ghost use Rattle.router_core.specs.Site.{IsSite};
 ghost use Rattle.router_core.specs.Seen.{asker_seen, course_seen, datagram_seen, route_seen};
 ghost use Rattle.router_core.specs.Steps.{AreSent, IsStep, MayStep};
 ghost use Rattle.router_core.specs.Table.{change_of, heard_seen};
@@ -54,7 +55,8 @@ impl Table {
         requires lawful { IsLawful settings.now }
         requires may { MayStep m self.old.parts }
         ensures parts { IfOk result (λ heard. heard_seen self.new.parts heard
-            ≡ hear_by table settings.now m frame.now (unchanged self.old.parts)) }
+            ≡ hear_by table (standing_in settings.now self.old.parts) m frame.now
+            (unchanged self.old.parts)) }
         ensures verdict { IfOk result (λ heard. (journal : Journal)
             → Stands settings.now self.old.parts journal → MayGo journal m
             → heard.verdict ≡ (hear settings.now journal m frame.now).verdict) }
@@ -64,7 +66,8 @@ impl Table {
             (hear settings.now journal m frame.now).change) }
         ensures drop { IfOk result (λ heard. (why : ReasonValue) → heard.verdict ≡ Drop why
             → heard_seen self.new.parts heard ≡ drops why (unchanged self.old.parts)) }
-        ensures sent { IfOk result (λ heard. AreSent settings.now most_heard heard.emits) }
+        ensures sent { IfOk result (λ heard. AreSent (standing_in settings.now self.new.parts)
+            most_heard heard.emits) }
         ensures step { IsStep most_heard m self.old.parts self.new.parts result }
     {
         fit(frame.octets.as_slice());
@@ -81,12 +84,13 @@ impl Table {
         requires lawful { IsLawful settings.now }
         requires may { MayStep m self.old.parts }
         ensures parts { IfOk result (λ heard. heard_seen self.new.parts heard
-            ≡ course_heard table settings.now m (course_seen course.entry)
+            ≡ course_heard table (standing_in settings.now self.old.parts) m (course_seen course.entry)
             (unchanged self.old.parts)) }
-        ensures sent { IfOk result (λ heard. AreSent settings.now most_heard heard.emits) }
+        ensures sent { IfOk result (λ heard. AreSent (standing_in settings.now self.new.parts)
+            most_heard heard.emits) }
         ensures step { IsStep most_heard m self.old.parts self.new.parts result }
     {
-        let site = Site::of(settings);
+        let site = self.site(settings);
         match course {
             Course::Control(datagram) => self.hear_datagram(&site, m, &datagram),
             _ => Ok(self.dropped(Reason::NotTunnel)),
@@ -101,7 +105,7 @@ impl Table {
         m: u64,
         datagram: &Datagram,
     ) -> Result<Heard, NoMemory>
-        requires lawful { IsLawful site.now }
+        requires lawful { IsSite site.now }
         requires may { MayStep m self.old.parts }
         ensures parts { IfOk result (λ heard. heard_seen self.new.parts heard
             ≡ datagram_heard table site.now m (datagram_seen datagram.now)
@@ -130,7 +134,7 @@ impl Table {
         base: u32,
         payload: &[u8],
     ) -> Result<Heard, NoMemory>
-        requires lawful { IsLawful site.now }
+        requires lawful { IsSite site.now }
         requires may { MayStep m self.old.parts }
         requires place { base + length payload.now < 2 ^ 32 }
         ensures parts { IfOk result (λ heard. heard_seen self.new.parts heard
@@ -154,7 +158,7 @@ impl Table {
         route: Route,
         message: &Message,
     ) -> Result<Heard, NoMemory>
-        requires lawful { IsLawful site.now }
+        requires lawful { IsSite site.now }
         requires may { MayStep m self.old.parts }
         requires range { InRange message.now }
         ensures parts { IfOk result (λ heard. heard_seen self.new.parts heard
@@ -182,7 +186,7 @@ impl Table {
         dest: Addr,
         ecm: &Ecm,
     ) -> Result<Heard, NoMemory>
-        requires lawful { IsLawful site.now }
+        requires lawful { IsSite site.now }
         requires may { MayStep m self.old.parts }
         requires range { InRangeEcm ecm.now }
         ensures parts { IfOk result (λ heard. heard_seen self.new.parts heard
@@ -208,7 +212,7 @@ impl Table {
         asker: Asker,
         request: &MapRequest,
     ) -> Result<Heard, NoMemory>
-        requires lawful { IsLawful site.now }
+        requires lawful { IsSite site.now }
         requires may { MayStep m self.old.parts }
         requires range { InRangeRequest request.now }
         ensures parts { IfOk result (λ heard. heard_seen self.new.parts heard
@@ -232,7 +236,7 @@ impl Table {
         from: Addr,
         reply: &MapReply,
     ) -> Result<Heard, NoMemory>
-        requires lawful { IsLawful site.now }
+        requires lawful { IsSite site.now }
         requires may { MayStep m self.old.parts }
         requires range { InRangeReply reply.now }
         ensures parts { IfOk result (λ heard. heard_seen self.new.parts heard

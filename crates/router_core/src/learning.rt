@@ -3,7 +3,6 @@ ghost use Rattle.std.specs.Prelude.{◌≡◌, ◌<◌, ◌≤◌, ◌+◌, ◌*
 ghost use Rattle.map_cache.specs.Cache.{exact, lasting};
 ghost use Rattle.std.specs.List.{All, list_any};
 ghost use Rattle.std.specs.List.Sorted.{IsStrictlySortedBy};
-ghost use Rattle.lisp_settings.specs.Lawful.{IsLawful};
 ghost use Rattle.map_messages.specs.Range.{InRangeReply};
 ghost use Rattle.mapping_records.specs.Record.{InRange};
 ghost use Rattle.request_queue.specs.Queue.{waiting, with_nonce};
@@ -13,6 +12,7 @@ ghost use Rattle.mapping_records.specs.Eids.{same_eid};
 ghost use Rattle.mapping_records.specs.Orders.{eid_order};
 ghost use Rattle.router_model.specs.Limits.{most_heard, most_locators, most_mappings};
 ghost use Rattle.router_model.specs.Parts.{table, view_in};
+ghost use Rattle.router_core.specs.Site.{IsSite};
 ghost use Rattle.router_core.specs.Copies.{all_copies, copies_of};
 ghost use Rattle.router_core.specs.Steps.{AreAdded, HasEntered, IsStep, MayEnter, MayStep};
 ghost use Rattle.router_core.specs.Table.{change_of, heard_seen};
@@ -39,7 +39,7 @@ impl Table {
         request: &Request,
         reply: &MapReply,
     ) -> Result<Heard, NoMemory>
-        requires lawful { IsLawful site.now }
+        requires lawful { IsSite site.now }
         requires may { MayStep m self.old.parts }
         requires range { InRangeReply reply.now }
         requires open { with_nonce (waiting m self.old.parts.requests) reply.now.nonce
@@ -88,7 +88,7 @@ impl Table {
         copies: &mut Vec<Copies>,
         entries: &mut Vec<Entry>,
     )
-        requires lawful { IsLawful grounds.now.site.now }
+        requires lawful { IsSite grounds.now.site.now }
         requires may { MayEnter (length records.now) grounds.now.m self.old.parts }
         requires range { All InRange records.now }
         requires copies { copies.old.items ≡ all_copies records.now }
@@ -118,7 +118,7 @@ impl Table {
         copies: Copies,
         entries: &mut Vec<Entry>,
     )
-        requires lawful { IsLawful grounds.now.site.now }
+        requires lawful { IsSite grounds.now.site.now }
         requires may { MayEnter 1 grounds.now.m self.old.parts }
         requires range { InRange mapping.now }
         requires copies { copies ≡ copies_of mapping.now }
@@ -147,7 +147,7 @@ impl Table {
 
     // The record is to be learned.
     fn is_taken(&self, grounds: &Grounds<'_>, mapping: &Record) -> bool
-        requires { IsLawful grounds.now.site.now }
+        requires { IsSite grounds.now.site.now }
         ensures { result ≡ (is_asked_for grounds.now.asked.now grounds.now.mappings.now mapping.now
             && (not (is_static grounds.now.site.now mapping.now)
             && has_room (view_in self.now.parts grounds.now.m) mapping.now)) }
@@ -199,7 +199,7 @@ fn is_asked_for(asked: &Eid, mappings: &[Record], mapping: &Record) -> bool
 
 // Its EID is that of a static mapping, of which the settings have each EID once and in order.
 fn is_static(site: &Site<'_>, mapping: &Record) -> bool
-    requires { IsLawful site.now }
+    requires { IsSite site.now }
     ensures { result ≡ is_static site.now mapping.now }
 {
     has_eid(site.mappings(), &mapping.eid)

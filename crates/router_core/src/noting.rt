@@ -7,7 +7,7 @@ ghost use Rattle.router_model.specs.Journal.{Journal};
 ghost use Rattle.router_model.specs.Lifting.{Follows, MayGo, is_sound};
 ghost use Rattle.router_model.specs.Note.{is_missing, is_news, is_wanting, note, noted};
 ghost use Rattle.router_model.specs.Mappings.{exact, force};
-ghost use Rattle.router_model.specs.Parts.{Stands, table, view_in};
+ghost use Rattle.router_model.specs.Parts.{Stands, table, view_in, standing_in};
 ghost use Rattle.router_core.specs.Steps.{AreSent, IsStep, MayStep};
 ghost use Rattle.router_core.specs.Table.{changed_seen};
 
@@ -33,15 +33,18 @@ impl Table {
         requires may { MayStep m self.old.parts }
         requires sound { is_sound notice.now ≡ true }
         ensures parts { IfOk result (λ changed. changed_seen self.new.parts changed
-            ≡ noted table settings.now m notice.now (unchanged self.old.parts)) }
+            ≡ noted table (standing_in settings.now self.old.parts) m notice.now
+            (unchanged self.old.parts)) }
         ensures journal { IfOk result (λ changed. (journal : Journal)
             → Stands settings.now self.old.parts journal → MayGo journal m
             → Follows settings.now (changed_seen self.new.parts changed)
             (note settings.now journal m notice.now)) }
-        ensures sent { IfOk result (λ changed. AreSent settings.now 1 changed.emits) }
+        ensures sent { IfOk result (λ changed. AreSent (standing_in settings.now self.new.parts) 1
+            changed.emits) }
         ensures step { IsStep 1 m self.old.parts self.new.parts result }
     {
-        self.note_by(&Site::of(settings), m, notice)
+        let site = self.site(settings);
+        self.note_by(&site, m, notice)
     }
 
     // Notes it, for the site as it stands.

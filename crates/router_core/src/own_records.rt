@@ -1,10 +1,11 @@
 // The records of the site: its prefixes, each with the own locators (RFC 9301, section 5.4).
-ghost use Rattle.std.specs.Prelude.{◌≡◌, Some, None, map, option_to_list, IfOk};
+ghost use Rattle.router_model.specs.Standing.{with_ups};
+ghost use Rattle.std.specs.Prelude.{◌≡◌, ◌++◌, Some, None, map, option_to_list, IfOk, OnOk};
 ghost use Rattle.std.specs.List.{list_any};
 ghost use Rattle.mapping_records.specs.Eids.{same_address};
 ghost use Rattle.router_model.specs.Hear.{own_locator, own_record};
 
-use crate::site::{Site, same_address};
+use crate::site::{Site, is_first_up, same_address};
 use ip_headers::Addr;
 use lisp_settings::{Database, Locator, OwnLocator};
 use map_messages::Record;
@@ -21,7 +22,7 @@ pub(crate) fn own_record(
 ) -> Result<Record, NoMemory>
     ensures { IfOk result (λ mapping. mapping ≡ own_record site.now probed database.now) }
 {
-    let locators = own_locators(alloc, probed, site.locators())?;
+    let locators = own_locators(alloc, probed, site)?;
     Ok(Record {
         ttl: site.ttl(),
         action: 0,
@@ -32,23 +33,40 @@ pub(crate) fn own_record(
     })
 }
 
+// The own locators in a record.
 fn own_locators(
     alloc: Global,
     probed: Option<Addr>,
-    locators: &[OwnLocator],
+    site: &Site<'_>,
 ) -> Result<Vec<Locator>, AllocFailed<Locator>>
-    ensures { IfOk result (λ made. made.items ≡ map (own_locator probed) locators.now) }
+    ensures { IfOk result (λ made. made.items ≡ map (own_locator probed) site.now.locators) }
 {
+    let (locators, ups) = site.locators();
     let mut made = Vec::new(alloc);
-    for own in locators {
-        made.push(own_locator(probed, own))?;
-    }
+    add_locators(probed, locators, ups, &mut made)?;
     Ok(made)
 }
 
+// Adds own locators, the first one up by the lowest bit.
+fn add_locators(
+    probed: Option<Addr>,
+    locators: &[OwnLocator],
+    ups: u32,
+    made: &mut Vec<Locator>,
+) -> Result<(), AllocFailed<Locator>>
+    ensures { OnOk result (made.new.items ≡ made.old.items
+        ++ map (own_locator probed) (with_ups ups locators.now)) }
+{
+    let [own, others @ ..] = locators else {
+        return Ok(());
+    };
+    made.push(own_locator(probed, own, is_first_up(ups)))?;
+    add_locators(probed, others, ups / 2, made)
+}
+
 // An own locator in a record; p marks the one that a probe came to.
-fn own_locator(probed: Option<Addr>, own: &OwnLocator) -> Locator
-    ensures { result ≡ own_locator probed own.now }
+fn own_locator(probed: Option<Addr>, own: &OwnLocator, up: bool) -> Locator
+    ensures { result ≡ own_locator probed (record own.now { up = up }) }
 {
     Locator {
         addr: own.addr,
@@ -58,7 +76,7 @@ fn own_locator(probed: Option<Addr>, own: &OwnLocator) -> Locator
         m_weight: 0,
         local: true,
         probed: is_probed(probed, own.addr),
-        reachable: own.up,
+        reachable: up,
     }
 }
 

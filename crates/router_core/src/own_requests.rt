@@ -1,15 +1,16 @@
 // The Map-Requests that this router makes.
-ghost use Rattle.std.specs.Prelude.{◌≡◌, map, true, false, Some, None, IfOk};
+ghost use Rattle.router_model.specs.Standing.{with_ups};
+ghost use Rattle.std.specs.Prelude.{◌≡◌, ◌++◌, map, true, false, Some, None, IfOk, OnOk};
 ghost use Rattle.map_messages.specs.declared.message.Message.TheVariants.{Control, Request};
 ghost use Rattle.router_model.specs.Emits.{database_address, ecm_for, inner_source, no_address, request_for, source_eid};
 ghost use Rattle.router_model.specs.Site.{up_locators};
 
-use crate::site::Site;
+use crate::site::{Site, is_first_up};
 use ip_headers::Addr;
 use lisp_settings::{Database, OwnLocator};
 use map_messages::{Addrs, Ecm, Eid, Eids, LISP_CONTROL_PORT, MapRequest, Message};
 use octets::NoMemory;
-use std::alloc::{AllocError, Global};
+use std::alloc::{AllocFailed, Global};
 
 /// A Map-Request for an EID, in the packet that would have gone to it.
 pub(crate) fn request_message(
@@ -72,7 +73,7 @@ fn request_for(
     ensures { IfOk result (λ request. request
         ≡ request_for site.now false false false nonce source eid) }
 {
-    let replies_to = Addrs::from_vec(up_addrs(alloc, site.locators())?);
+    let replies_to = Addrs::from_vec(own_addrs(alloc, site)?);
     let mut eids = Eids::new(alloc);
     eids.push(eid)?;
     Ok(MapRequest {
@@ -88,15 +89,29 @@ fn request_for(
 }
 
 // The addresses of the own locators that are up.
-fn up_addrs(alloc: Global, locators: &[OwnLocator]) -> Result<Vec<Addr>, AllocError>
-    ensures { let addrs = map (λ own. own.addr) (up_locators locators.now) in
+fn own_addrs(alloc: Global, site: &Site<'_>) -> Result<Vec<Addr>, AllocFailed<Addr>>
+    ensures { let addrs = map (λ own. own.addr) (up_locators site.now.locators) in
         IfOk result (λ up. up.items ≡ addrs) }
 {
-    locators
-        .iter()
-        .filter(|own| own.up)
-        .map(|own| own.addr)
-        .collect(alloc)
+    let (locators, ups) = site.locators();
+    let mut addrs = Vec::new(alloc);
+    add_up(locators, ups, &mut addrs)?;
+    Ok(addrs)
+}
+
+// Adds the addresses of those that are up, the first one by the lowest bit.
+fn add_up(locators: &[OwnLocator], ups: u32, addrs: &mut Vec<Addr>) -> Result<(), AllocFailed<Addr>>
+    ensures { OnOk result (addrs.new.items ≡ addrs.old.items
+        ++ map (λ own. own.addr) (up_locators (with_ups ups locators.now))) }
+{
+    let [own, others @ ..] = locators else {
+        return Ok(());
+    };
+    if !is_first_up(ups) {
+        return add_up(others, ups / 2, addrs);
+    }
+    addrs.push(own.addr)?;
+    add_up(others, ups / 2, addrs)
 }
 
 // The Source EID of a request: an address in the instance of the EID.
@@ -130,10 +145,19 @@ fn inner_source(site: &Site<'_>, eid: Eid) -> Addr
     if let Some(own) = site.ours(addr) {
         return own;
     }
-    database_address(site.databases(), eid).unwrap_or(no_address(addr))
+    site_address(site, eid).unwrap_or(no_address(addr))
 }
 
-// The address of the first of the site's prefixes in the instance and the family of an EID.
+// The address of the first of the site's prefixes, of which versions don't matter, in the instance and
+// the family of an EID.
+fn site_address(site: &Site<'_>, eid: Eid) -> Option<Addr>
+    ensures { result ≡ database_address site.now.databases eid }
+{
+    let (databases, _) = site.databases();
+    database_address(databases, eid)
+}
+
+// The same of any prefixes.
 fn database_address(databases: &[Database], eid: Eid) -> Option<Addr>
     ensures { result ≡ database_address databases.now eid }
 {

@@ -6,13 +6,15 @@ ghost use Rattle.router_log.specs.declared.entry.Entry.TheVariants.{Retried};
 ghost use Rattle.router_model.specs.Changes.{each};
 ghost use Rattle.router_model.specs.Limits.{most_requests};
 ghost use Rattle.router_model.specs.Parts.{table, with_entry};
-ghost use Rattle.router_model.specs.Tick.{retried};
+ghost use Rattle.router_model.specs.Tick.{retried, retried_where};
+ghost use Rattle.router_model.specs.Site.{reaches_resolver};
 ghost use Rattle.router_core.specs.Sendable.{IsSendable};
 ghost use Rattle.router_core.specs.Steps.{AreAdded, HasEntered, HaveRoom, MayEnter};
 ghost use Rattle.router_core.specs.Table.{change_of};
 ghost use Rattle.router_core.specs.Ticking.{AreOwed, IsOwed};
 
 use crate::Table;
+use crate::site::Site;
 use octets::NoMemory;
 use request_queue::Request;
 use router_log::{Emit, Entry};
@@ -35,8 +37,37 @@ impl Table {
         Ok(due)
     }
 
-    /// Sends each of these requests again.
-    pub(crate) fn retry_each(
+    /// Sends each of these requests again, where the resolver is reached.
+    pub(crate) fn retry_due(
+        &mut self,
+        site: &Site<'_>,
+        m: u64,
+        requests: &[Request],
+        entries: &mut Vec<Entry>,
+        emits: &mut Vec<Emit>,
+    )
+        requires may { MayEnter (length requests.now) m self.old.parts }
+        requires due { requests.now ≡ all_due m self.old.parts.requests }
+        requires owed { AreOwed (waiting m self.old.parts.requests) requests.now }
+        requires places { HaveRoom (length requests.now) entries.old emits.old }
+        requires sendable { All (IsSendable site.now) emits.old.items }
+        ensures change { change_of self.new.parts entries.new.items emits.new.items
+            ≡ retried_where table site.now m (reaches_resolver site.now)
+            (change_of self.old.parts entries.old.items emits.old.items) }
+        ensures sendable { All (IsSendable site.now) emits.new.items }
+        ensures entered { HasEntered (length requests.now) m self.old.parts self.new.parts }
+        ensures probe_room { self.old.probe_room ≤ self.new.probe_room }
+        ensures entries { AreAdded (length requests.now) entries.old entries.new }
+        ensures emits { AreAdded (length requests.now) emits.old emits.new }
+    {
+        if !site.reaches_resolver() {
+            return;
+        }
+        self.retry_each(m, requests, entries, emits);
+    }
+
+    // Sends each of these requests again.
+    fn retry_each(
         &mut self,
         m: u64,
         requests: &[Request],

@@ -50,4 +50,14 @@ impl Table {
     {
         self.locators.reserve(0, 1)
     }
+
+    /// Makes room for so many further SMRs.
+    pub(crate) fn reserve_solicits(&mut self, n: u32) -> Result<(), NoMemory>
+        requires { n ≤ most_reserved_probes }
+        ensures parts { self.new.parts ≡ self.old.parts }
+        ensures probe_room { self.old.probe_room ≤ self.new.probe_room }
+        ensures room { OnOk result (n ≤ self.new.solicit_room) }
+    {
+        self.locators.reserve(0, n)
+    }
 }

@@ -1,47 +1,55 @@
 // The own site, as it stands: its locators, its prefixes, and what its settings say.
-ghost use Rattle.std.specs.Prelude.{◌≡◌, ◌<◌, ◌≤◌, ◌-◌, ◌^◌, length, IfSome, map};
+ghost use Rattle.std.specs.Prelude.{◌≡◌, ◌<◌, ◌≤◌, ◌-◌, ◌^◌, length, IfSome, All, map};
 ghost use Rattle.std.specs.List.Sorted.{IsStrictlySortedBy};
 ghost use Rattle.std.specs.Ordering.{nat_cmp};
 ghost use Rattle.ip_headers.specs.Addr.{width};
 ghost use Rattle.lisp_settings.specs.Home.{home_of};
-ghost use Rattle.lisp_settings.specs.Lawful.{IsLawful};
+ghost use Rattle.lisp_settings.specs.Lawful.{IsLawfulDatabase};
 ghost use Rattle.lisp_settings.specs.Nonces.{nonce_of};
 ghost use Rattle.mapping_records.specs.Eids.{same_address};
 ghost use Rattle.router_model.specs.Limits.{most_locators};
-ghost use Rattle.router_model.specs.Site.{instance_of, is_own, ours, own_bits};
+ghost use Rattle.router_model.specs.Mappings.{bit};
+ghost use Rattle.router_model.specs.Site.{instance_of, is_own, ours, own_bits, reaches_resolver};
+ghost use Rattle.router_model.specs.Standing.{standing_by, stood, with_ups};
+ghost use Rattle.router_model.specs.Tick.{is_told};
+ghost use Rattle.router_core.specs.Site.{IsSite};
 
+use crate::stepping::stood;
 use ip_headers::Addr;
 use lisp_settings::{Attachment, Database, OwnLocator, Settings, home, nonce_at};
 use mapping_records::Record;
+use router_model::Own;
 use std::marker::Model;
 
 /// The own site as it stands, in the form of its settings.
 #[derive(Drop)]
 pub(crate) struct Site<'s> {
     settings: &'s Settings,
+    own: Own,
 }
 
 impl<'s> Model for Site<'s> {
     ghost use Rattle.lisp_settings.specs.declared.settings.Settings.{Settings as SettingsValue};
+    ghost use Rattle.router_model.specs.Standing.{standing_by};
 
     ghost Value = { SettingsValue };
 
-    ghost view = { λ site. site.settings.now };
+    ghost view = { λ site. standing_by site.settings.now site.own };
 }
 
 impl<'s> Site<'s> {
-    /// The site of these settings.
-    pub(crate) fn of(settings: &'s Settings) -> Site<'s>
-        ensures { result ≡ settings.now }
+    /// The site of these settings, with the own locators that are up, and so many changes behind it.
+    pub(crate) fn of(settings: &'s Settings, own: Own) -> Site<'s>
+        ensures { result ≡ standing_by settings.now own }
     {
-        Site { settings }
+        Site { settings, own }
     }
 
     /// An own locator, up or not, has this address.
     pub(crate) fn is_own(&self, address: Addr) -> bool
         ensures { result ≡ is_own self.now.locators address }
     {
-        is_own(self.locators(), address)
+        is_own(self.settings.locators.as_slice(), address)
     }
 
     /// The first own locator that is up, of the family of an address.
@@ -49,36 +57,53 @@ impl<'s> Site<'s> {
         ensures first { result ≡ ours self.now.locators to }
         ensures family { IfSome result (λ own. width own ≡ width to) }
     {
-        ours(self.locators(), to)
+        first_up(self.settings.locators.as_slice(), self.own.ups, to)
+    }
+
+    /// A locator that may be told of changes, and probed: it isn't an own one, and there is ours of its
+    /// family.
+    pub(crate) fn is_told(&self, address: Addr) -> bool
+        ensures { result ≡ is_told self.now address }
+    {
+        !self.is_own(address) && self.ours(address).is_some()
     }
 
     /// The status bits of the own locators, the first one's lowest.
     pub(crate) fn own_bits(&self) -> u32
-        requires { IsLawful self.now }
+        requires { IsSite self.now }
         ensures { result ≡ own_bits self.now.locators }
     {
-        own_bits(self.locators()) as u32
+        let (locators, ups) = self.locators();
+        few_bits(locators, ups)
     }
 
-    /// The own locators, in order of address.
-    pub(crate) fn locators(&self) -> &'s [OwnLocator]
-        ensures { result.now ≡ self.now.locators }
+    /// The own locators, in order of address, as the settings have them, and which of them are up, the
+    /// first one by the lowest bit.
+    pub(crate) fn locators(&self) -> (&'s [OwnLocator], u32)
+        ensures stand { with_ups result.1 result.0.now ≡ self.now.locators }
+        ensures few { IsSite self.now → length result.0.now ≤ most_locators }
     {
-        self.settings.locators.as_slice()
+        (self.settings.locators.as_slice(), self.own.ups)
     }
 
-    /// The site's prefixes, in order of EID.
-    pub(crate) fn databases(&self) -> &'s [Database]
-        ensures { result.now ≡ self.now.databases }
+    /// The site's prefixes, in order of EID, as the settings have them, and by how many steps their
+    /// versions are behind.
+    pub(crate) fn databases(&self) -> (&'s [Database], u32)
+        ensures stand { map (stood result.1) result.0.now ≡ self.now.databases }
+        ensures lawful { IsSite self.now → All IsLawfulDatabase result.0.now }
     {
-        self.settings.databases.as_slice()
+        (self.settings.databases.as_slice(), self.own.steps)
     }
 
     /// The longest prefix of the site in an instance that covers an address.
     pub(crate) fn home(&self, iid: u32, address: &Addr) -> Option<Database>
+        requires { IsSite self.now }
         ensures { result ≡ home_of self.now.databases iid address.now }
     {
-        home(self.settings, iid, address).copied()
+        match home(self.settings, iid, address) {
+            None => None,
+            Some(database) => Some(stood(database, self.own.steps)),
+        }
     }
 
     /// The static mappings, in order of EID.
@@ -93,6 +118,16 @@ impl<'s> Site<'s> {
         ensures { result ≡ self.now.resolver }
     {
         self.settings.resolver
+    }
+
+    /// There is a Map-Resolver, and ours of its family.
+    pub(crate) fn reaches_resolver(&self) -> bool
+        ensures { result ≡ reaches_resolver self.now }
+    {
+        match self.resolver() {
+            None => false,
+            Some(resolver) => self.ours(resolver).is_some(),
+        }
     }
 
     /// The TTL of own mappings, in minutes.
@@ -158,6 +193,48 @@ pub(crate) fn ours(locators: &[OwnLocator], to: Addr) -> Option<Addr>
         return Some(own.addr);
     }
     ours(others, to)
+}
+
+// The first of own locators that is up, of the family of an address, where the lowest bit says that the
+// first one is up, and so on.
+fn first_up(locators: &[OwnLocator], ups: u32, to: Addr) -> Option<Addr>
+    ensures first { result ≡ ours (with_ups ups locators.now) to }
+    ensures family { IfSome result (λ own. width own ≡ width to) }
+{
+    let [own, others @ ..] = locators else {
+        return None;
+    };
+    if is_first_up(ups) && own.addr.width() == to.width() {
+        return Some(own.addr);
+    }
+    first_up(others, ups / 2, to)
+}
+
+// The first of own locators is up.
+pub(crate) fn is_first_up(ups: u32) -> bool
+    ensures { result ≡ bit 0 ups }
+{
+    ups % 2 == 1
+}
+
+// The status bits of own locators, the first one's lowest.
+fn few_bits(locators: &[OwnLocator], ups: u32) -> u32
+    requires { length locators.now ≤ most_locators }
+    ensures { result ≡ own_bits (with_ups ups locators.now) }
+{
+    up_bits(locators, ups) as u32
+}
+
+// The same as a number with more bits, of which it has at most one for each locator.
+fn up_bits(locators: &[OwnLocator], ups: u32) -> u64
+    requires { length locators.now ≤ most_locators }
+    ensures bits { result ≡ own_bits (with_ups ups locators.now) }
+    ensures few { result < 2 ^ length locators.now }
+{
+    let [_, others @ ..] = locators else {
+        return 0;
+    };
+    u64::from(is_first_up(ups)) + 2 * up_bits(others, ups / 2)
 }
 
 /// The status bits of own locators, at most one for each bit, the first one's lowest.

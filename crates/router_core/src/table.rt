@@ -5,16 +5,18 @@ ghost use Rattle.lisp_settings.specs.declared.settings.Settings.{Settings as Set
 ghost use Rattle.router_log.specs.declared.entry.Entry.TheVariants.{Learned};
 ghost use Rattle.router_model.specs.Journal.{extended, statics};
 ghost use Rattle.router_model.specs.Limits.{all_locators, most_locators, most_mappings};
-ghost use Rattle.router_model.specs.Parts.{Stands, parts_in};
+ghost use Rattle.router_model.specs.Parts.{Stands, parts_in, own_of, standing_in};
 ghost use Rattle.router_core.specs.Bounded.{most_kept};
 
 use crate::copies::{copied, copied_own};
-use lisp_settings::{OwnLocators, Settings};
+use crate::site::{Site, own_bits};
+use lisp_settings::{OwnLocator, Settings};
 use locator_state::LocatorState;
 use map_cache::MapCache;
 use mapping_records::Record;
 use octets::NoMemory;
 use request_queue::RequestQueue;
+use router_model::Own;
 use std::alloc::Global;
 use std::marker::Model;
 
@@ -23,8 +25,9 @@ use std::marker::Model;
 #[derive(Drop)]
 pub struct Table {
     pub(crate) alloc: Global,
-    // Those of the settings that it is for.
-    pub(crate) own: OwnLocators,
+    // Those of the settings that it is for, as they stand, and how often that changed.
+    pub(crate) own: Vec<OwnLocator>,
+    pub(crate) steps: u32,
     // The entries of the journal, and those of them that used a nonce.
     pub(crate) count: u64,
     pub(crate) drawn: u64,
@@ -48,7 +51,8 @@ impl Model for Table {
         count = table.count;
         drawn = table.drawn;
         now = table.cache.now;
-        own = table.own;
+        own = table.own.items;
+        steps = table.steps;
         mappings = table.cache.mappings;
         requests = table.queue.requests;
         observed = table.locators.observed;
@@ -61,15 +65,15 @@ impl Model for Table {
       wish_room = table.locators.wish_room;
       solicit_room = table.locators.solicit_room;
       kept = table.cache.kept
-          + (table.queue.kept + (table.locators.kept + length table.own));
+          + (table.queue.kept + (table.locators.kept + length table.own.items));
     } };
 
     ghost invariant = { λ table. (table.drawn ≤ table.count)
-        × IsAtRest table.own table.rest table.locators.observed.probes
+        × IsAtRest table.own.items table.rest table.locators.observed.probes
         table.cache.mappings
         × AreVersioned table.cache.mappings
         × AreShort table.locators.observed
-        × AreBounded table.cache table.queue table.locators (length table.own) };
+        × AreBounded table.cache table.queue table.locators (length table.own.items) };
 }
 
 impl Table {
@@ -97,14 +101,15 @@ impl Table {
     }
 
     // For a journal without entries.
-    fn empty(alloc: Global, own: OwnLocators) -> Table
-        requires { length own ≤ most_locators }
-        ensures { (settings : SettingsValue) → own ≡ settings.locators
+    fn empty(alloc: Global, own: Vec<OwnLocator>) -> Table
+        requires { length own.items ≤ most_locators }
+        ensures { (settings : SettingsValue) → own.items ≡ settings.locators
             → result.parts ≡ parts_in settings [] }
     {
         Table {
             alloc,
             own,
+            steps: 0,
             count: 0,
             drawn: 0,
             cache: MapCache::new(alloc),
@@ -163,6 +168,23 @@ impl Table {
         ensures { result ≡ self.now.parts.count }
     {
         self.count
+    }
+
+    /// Which own locators are up, and how many changes were made.
+    pub fn own(&self) -> Own
+        ensures { result ≡ own_of self.now.parts }
+    {
+        Own {
+            ups: own_bits(self.own.as_slice()) as u32,
+            steps: self.steps,
+        }
+    }
+
+    /// The own site as it stands for the table.
+    pub(crate) fn site<'s>(&self, settings: &'s Settings) -> Site<'s>
+        ensures { result ≡ standing_in settings.now self.now.parts }
+    {
+        Site::of(settings, self.own())
     }
 
     /// Law: however long the capture is, all lists of a table have at most

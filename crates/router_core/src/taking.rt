@@ -1,14 +1,18 @@
 // Entries of each kind, taken into a table that has room for them.
-ghost use Rattle.std.specs.Prelude.{◌≡◌, ◌<◌, ◌≤◌, ◌+◌, ◌^◌, ◌≢◌, IsTrue, length};
+ghost use Rattle.mapping_records.specs.Eids.{same_address};
+ghost use Rattle.router_model.specs.Standing.{changing};
+ghost use Rattle.std.specs.Prelude.{◌≡◌, ◌<◌, ◌≤◌, ◌+◌, ◌^◌, ◌≢◌, IsTrue, length, if◌then◌else◌};
 ghost use Rattle.map_cache.specs.Cache.{has_room, lasting};
 ghost use Rattle.request_queue.specs.Queue.{may_send_again, waiting};
-ghost use Rattle.router_log.specs.declared.entry.Entry.TheVariants.{Answered, Asked, Bits, DataFrom, EchoHeard, EchoStarted, EchoWanted, Learned, ProbeAnswered, Probed, Retried, Solicited};
-ghost use Rattle.router_model.specs.Limits.{most_locators, most_probes, most_requests};
+ghost use Rattle.router_log.specs.declared.entry.Entry.TheVariants.{Answered, Asked, Bits, Changed, DataFrom, EchoHeard, EchoStarted, EchoWanted, Learned, ProbeAnswered, Probed, Retried, Solicited};
+ghost use Rattle.router_model.specs.Limits.{most_changes, most_locators, most_probes, most_requests};
 ghost use Rattle.router_model.specs.Parts.{view_in, with_entry};
 ghost use Rattle.router_core.specs.Steps.{MayEnter};
 
 use crate::Table;
+use crate::site::same_address;
 use ip_headers::Addr;
+use lisp_settings::OwnLocator;
 use mapping_records::{Eid, Record};
 
 impl Table {
@@ -175,6 +179,8 @@ impl Table {
         requires room { 0 < self.old.solicit_room }
         requires place { IsTrue ((view_in self.old.parts m).may_solicit rloc eid) }
         ensures parts { self.new.parts ≡ with_entry (Solicited m rloc eid nonce) self.old.parts }
+        ensures probe_room { self.old.probe_room ≤ self.new.probe_room }
+        ensures solicit_room { self.old.solicit_room ≤ self.new.solicit_room + 1 }
     {
         self.rest = 0;
         self.cache.purge(m);
@@ -196,5 +202,43 @@ impl Table {
         self.locators.purge(m);
         self.cache.set_bits(eid, bits, width);
         self.count += 1;
+    }
+
+    /// Takes the entry of an own locator that goes up or down.
+    pub(crate) fn change(&mut self, m: u64, address: Addr, up: bool)
+        requires may { MayEnter 1 m self.old.parts }
+        requires few { self.old.parts.steps < most_changes }
+        ensures parts { self.new.parts ≡ with_entry (Changed m address up) self.old.parts }
+        ensures request_room { self.old.request_room ≤ self.new.request_room }
+        ensures probe_room { self.old.probe_room ≤ self.new.probe_room }
+        ensures solicit_room { self.old.solicit_room ≤ self.new.solicit_room }
+    {
+        self.rest = 0;
+        self.cache.purge(m);
+        self.queue.purge(m);
+        self.locators.purge(m);
+        set_up(self.own.as_mut_slice(), address, up);
+        self.steps += 1;
+        self.count += 1;
+    }
+}
+
+// Each own locator of that address goes up or down.
+fn set_up(locators: &mut [OwnLocator], address: Addr, up: bool)
+    ensures { locators.new ≡ changing address up locators.old }
+{
+    for own in locators.iter_mut() {
+        set_one(own, address, up);
+    }
+}
+
+fn set_one(own: &mut OwnLocator, address: Addr, up: bool)
+    ensures { own.new ≡ record own.old {
+      up = if same_address own.old.addr address then up
+          else own.old.up;
+    } }
+{
+    if same_address(own.addr, address) {
+        own.up = up;
     }
 }

@@ -1,30 +1,44 @@
 // A second that begins.
-ghost use Rattle.std.specs.Prelude.{◌≡◌, ◌<◌, ◌≤◌, ◌+◌, [], IsTrue, IfOk};
+ghost use Rattle.std.specs.Prelude.{◌≡◌, ◌<◌, ◌≤◌, ◌+◌, ◌*◌, [], true, false, length, vec_capacity, All, IsTrue, IfOk, OnOk};
+ghost use Rattle.lisp_settings.specs.Lawful.{IsLawful};
 ghost use Rattle.lisp_settings.specs.declared.settings.Settings.{Settings as SettingsValue};
+ghost use Rattle.request_queue.specs.Queue.{all_due, waiting};
 ghost use Rattle.router_log.specs.Moments.{seconds};
 ghost use Rattle.router_model.specs.Changes.{unchanged};
 ghost use Rattle.router_model.specs.Journal.{Journal};
 ghost use Rattle.router_model.specs.Lifting.{Follows, MayGo};
-ghost use Rattle.router_model.specs.Limits.{most_ticked};
-ghost use Rattle.router_model.specs.Parts.{Stands, table, view_in};
-ghost use Rattle.router_model.specs.Tick.{next_targets, probed, tick, ticked};
-ghost use Rattle.router_core.specs.Steps.{AreSent, IsStep, MayStep};
-ghost use Rattle.router_core.specs.Table.{changed_seen};
+ghost use Rattle.router_model.specs.Limits.{most_changes, most_databases, most_targets, most_ticked, most_told};
+ghost use Rattle.router_model.specs.Parts.{Stands, standing_in, table, view_in};
+ghost use Rattle.router_model.specs.Standing.{due_changes};
+ghost use Rattle.router_model.specs.Tick.{after_changes, all_told, next_targets, tick, ticked, ticked_by};
+ghost use Rattle.router_core.specs.Sendable.{IsSendable};
+ghost use Rattle.router_core.specs.Site.{IsSite};
+ghost use Rattle.router_core.specs.Steps.{AreAdded, AreSent, HasEntered, HasTicked, HaveRoom, IsSecond, IsStep, MayEnter, MayStep};
+ghost use Rattle.router_core.specs.Table.{change_of, changed_seen};
+ghost use Rattle.router_core.specs.Telling.{HaveNone, IsEmptyFor, is_some_due, most_sent};
+ghost use Rattle.router_core.specs.Ticking.{AreOwed};
 
+use crate::changing::moment_of;
+use crate::peers::MOST_TOLD;
 use crate::resting::rest_until;
 use crate::site::Site;
 use crate::{Changed, Table};
-use lisp_settings::Settings;
-use locator_state::MOST_TARGETS;
+use ip_headers::Addr;
+use lisp_settings::{Change, MOST_DATABASES, Settings};
+use locator_state::{MOST_TARGETS, Target};
 use octets::{Items, NoMemory};
+use request_queue::Request;
+use router_log::{Emit, Entry};
 
 impl Table {
-    /// Lets a second begin: the requests that are due are sent again, and locators are probed, where
-    /// the settings say so (RFC 9301, section 7.1). It takes the entries that come of it. Where memory
-    /// is refused, the table is as it was. A second in which nothing is to be done takes none. The
+    /// Lets a second begin: own locators go up and down that the settings say, and then locators that
+    /// mappings name are told; the requests that are due are sent again, and locators are probed, where
+    /// the settings say so (RFC 9301, sections 6.1 and 7.1). It takes the entries that come of it. Where
+    /// memory is refused, the table is as it was. A second in which nothing is to be done takes none. The
     /// settings have the own locators that the table is for.
     pub fn tick(&mut self, settings: &Settings, second: u32) -> Result<Changed, NoMemory>
-        requires own { settings.now.locators ≡ self.old.parts.own }
+        requires lawful { IsLawful settings.now }
+        requires own { (standing_in settings.now self.old.parts).locators ≡ self.old.parts.own }
         requires may { MayStep (seconds second) self.old.parts }
         ensures parts { IfOk result (λ changed. changed_seen self.new.parts changed
             ≡ ticked table settings.now (seconds second) (unchanged self.old.parts)) }
@@ -32,16 +46,46 @@ impl Table {
             → Stands settings.now self.old.parts journal → MayGo journal (seconds second)
             → Follows settings.now (changed_seen self.new.parts changed)
             (tick settings.now journal second)) }
-        ensures sent { IfOk result (λ changed. AreSent settings.now most_ticked changed.emits) }
-        ensures step { IsStep most_ticked (seconds second) self.old.parts self.new.parts result }
+        ensures sent { IfOk result (λ changed. AreSent (standing_in settings.now self.new.parts)
+            most_ticked changed.emits) }
+        ensures step { IsSecond most_ticked (seconds second) self.old.parts self.new.parts result }
     {
-        let site = Site::of(settings);
-        let m = u64::from(second) * 1_000_000_000;
-        if self.is_idle(&site, m) {
+        self.tick_at(settings, u64::from(second) * 1_000_000_000)
+    }
+
+    // Lets a second begin that has that moment.
+    fn tick_at(&mut self, settings: &Settings, m: u64) -> Result<Changed, NoMemory>
+        requires lawful { IsLawful settings.now }
+        requires own { (standing_in settings.now self.old.parts).locators ≡ self.old.parts.own }
+        requires may { MayStep m self.old.parts }
+        ensures parts { IfOk result (λ changed. changed_seen self.new.parts changed
+            ≡ ticked table settings.now m (unchanged self.old.parts)) }
+        ensures sent { IfOk result (λ changed. AreSent (standing_in settings.now self.new.parts)
+            most_ticked changed.emits) }
+        ensures step { IsSecond most_ticked m self.old.parts self.new.parts result }
+    {
+        let left = self.changes_left(settings);
+        if is_due(m, left) {
+            return self.change_and_send(settings, m, left);
+        }
+        let site = self.site(settings);
+        self.send_at(&site, m)
+    }
+
+    // Sends what is due at a moment at which no own locator changes.
+    fn send_at(&mut self, site: &Site<'_>, m: u64) -> Result<Changed, NoMemory>
+        requires own { site.now.locators ≡ self.old.parts.own }
+        requires may { MayStep m self.old.parts }
+        ensures parts { IfOk result (λ changed. changed_seen self.new.parts changed
+            ≡ after_changes table site.now m false (unchanged self.old.parts)) }
+        ensures sent { IfOk result (λ changed. AreSent site.now most_ticked changed.emits) }
+        ensures step { IsStep most_ticked m self.old.parts self.new.parts result }
+    {
+        if self.is_idle(site, m) {
             return Ok(self.nothing());
         }
-        let changed = self.tick_at(&site, m)?;
-        self.look_ahead(&site, m, &changed);
+        let changed = self.send_due(site, m)?;
+        self.look_ahead(site, m, &changed);
         Ok(changed)
     }
 
@@ -49,7 +93,7 @@ impl Table {
     fn is_idle(&self, site: &Site<'_>, m: u64) -> bool
         requires now { self.now.parts.now ≤ m }
         requires own { site.now.locators ≡ self.now.parts.own }
-        ensures { IsTrue result → ticked table site.now m (unchanged self.now.parts)
+        ensures { IsTrue result → after_changes table site.now m false (unchanged self.now.parts)
             ≡ unchanged self.now.parts }
     {
         self.queue.next_due(m, None).is_none() && (!site.probes() || self.is_at_rest(m))
@@ -78,12 +122,12 @@ impl Table {
         }
     }
 
-    // What a second makes of the table, at its moment.
-    #[tactic(auto, unfolding(router_model::specs::Tick::ticked))]
-    fn tick_at(&mut self, site: &Site<'_>, m: u64) -> Result<Changed, NoMemory>
+    // Sends the requests that are due, and probes.
+    #[tactic(auto, unfolding(router_model::specs::Tick::after_changes))]
+    fn send_due(&mut self, site: &Site<'_>, m: u64) -> Result<Changed, NoMemory>
         requires may { MayStep m self.old.parts }
         ensures parts { IfOk result (λ changed. changed_seen self.new.parts changed
-            ≡ ticked table site.now m (unchanged self.old.parts)) }
+            ≡ after_changes table site.now m false (unchanged self.old.parts)) }
         ensures sent { IfOk result (λ changed. AreSent site.now most_ticked changed.emits) }
         ensures step { IsStep most_ticked m self.old.parts self.new.parts result }
     {
@@ -96,11 +140,186 @@ impl Table {
         let mut targets = Vec::new(self.alloc);
         targets.reserve(MOST_TARGETS + 1)?;
         self.reserve_probes(MOST_TARGETS as u32)?;
-        self.retry_each(m, due.as_slice(), &mut entries, &mut emits);
+        self.retry_due(site, m, due.as_slice(), &mut entries, &mut emits);
         self.probe_next(site, m, &mut targets, &mut entries, &mut emits);
         Ok(Changed {
             entries: Items::from_vec(entries),
             emits: Items::from_vec(emits),
         })
     }
+
+    // Makes the changes that are due, tells of them, sends the requests that are due, and probes. All room
+    // is made before the first change.
+    fn change_and_send(
+        &mut self,
+        settings: &Settings,
+        m: u64,
+        left: &[Change],
+    ) -> Result<Changed, NoMemory>
+        requires lawful { IsLawful settings.now }
+        requires few { length left.now ≤ most_changes }
+        requires some { IsTrue (is_some_due m left.now) }
+        requires may { MayStep m self.old.parts }
+        ensures parts { IfOk result (λ changed. changed_seen self.new.parts changed
+            ≡ ticked_by table settings.now m (due_changes m left.now) (unchanged self.old.parts)) }
+        ensures sent { IfOk result (λ changed. AreSent (standing_in settings.now self.new.parts)
+            most_ticked changed.emits) }
+        ensures step { IsSecond most_ticked m self.old.parts self.new.parts result }
+    {
+        let due = self.due_requests(m)?;
+        let most = MOST_TOLD * MOST_DATABASES + (due.len() + MOST_TARGETS);
+        let mut entries = Vec::new(self.alloc);
+        entries.reserve(left.len() + most)?;
+        let mut emits = Vec::new(self.alloc);
+        emits.reserve(most)?;
+        let mut found = self.found()?;
+        self.reserve_second()?;
+        self.change_and_tell(
+            settings,
+            m,
+            left,
+            due.as_slice(),
+            &mut found,
+            &mut entries,
+            &mut emits,
+        );
+        Ok(Changed {
+            entries: Items::from_vec(entries),
+            emits: Items::from_vec(emits),
+        })
+    }
+
+    // Room for what is found at a second.
+    fn found(&self) -> Result<Found, NoMemory>
+        ensures { IfOk result (λ found. IsEmptyFor found) }
+    {
+        let mut told = Vec::new(self.alloc);
+        told.reserve(MOST_TOLD + 1)?;
+        let mut targets = Vec::new(self.alloc);
+        targets.reserve(MOST_TARGETS + 1)?;
+        Ok(Found { told, targets })
+    }
+
+    // Makes room for what is sent at a second.
+    fn reserve_second(&mut self) -> Result<(), NoMemory>
+        ensures parts { self.new.parts ≡ self.old.parts }
+        ensures solicits { OnOk result (most_told * most_databases ≤ self.new.solicit_room) }
+        ensures probes { OnOk result (most_targets ≤ self.new.probe_room) }
+    {
+        self.reserve_probes(MOST_TARGETS as u32)?;
+        self.reserve_solicits((MOST_TOLD * MOST_DATABASES) as u32)
+    }
+
+    // Makes the changes that are due, tells of them, sends the requests that are due, and probes, where
+    // there is room for all of it, and nothing was entered yet.
+    fn change_and_tell(
+        &mut self,
+        settings: &Settings,
+        m: u64,
+        left: &[Change],
+        due: &[Request],
+        found: &mut Found,
+        entries: &mut Vec<Entry>,
+        emits: &mut Vec<Emit>,
+    )
+        requires lawful { IsLawful settings.now }
+        requires some { IsTrue (is_some_due m left.now) }
+        requires may { MayEnter (length left.now + most_sent (length due.now)) m self.old.parts }
+        requires due { due.now ≡ all_due m self.old.parts.requests }
+        requires owed { AreOwed (waiting m self.old.parts.requests) due.now }
+        requires empty { IsEmptyFor found.old }
+        requires solicits { most_told * most_databases ≤ self.old.solicit_room }
+        requires probes { most_targets ≤ self.old.probe_room }
+        requires begins { HaveNone entries.old emits.old }
+        requires places { length left.now + most_sent (length due.now) ≤ vec_capacity entries.old }
+        requires sends { most_sent (length due.now) ≤ vec_capacity emits.old }
+        ensures change { change_of self.new.parts entries.new.items emits.new.items
+            ≡ ticked_by table settings.now m (due_changes m left.now) (unchanged self.old.parts) }
+        ensures sendable { All (IsSendable (standing_in settings.now self.new.parts)) emits.new.items }
+        ensures entered { HasTicked (length left.now + most_sent (length due.now)) m self.old.parts
+            self.new.parts }
+        ensures few { length emits.new.items ≤ most_sent (length due.now) }
+    {
+        self.make_changes(m, left, entries);
+        let site = self.site(settings);
+        self.tell_and_send(&site, m, due, found, entries, emits);
+    }
+
+    // Tells of changes, sends the requests that are due, and probes, where there is room for all of it.
+    fn tell_and_send(
+        &mut self,
+        site: &Site<'_>,
+        m: u64,
+        due: &[Request],
+        found: &mut Found,
+        entries: &mut Vec<Entry>,
+        emits: &mut Vec<Emit>,
+    )
+        requires site { IsSite site.now }
+        requires may { MayEnter (most_sent (length due.now)) m self.old.parts }
+        requires due { due.now ≡ all_due m self.old.parts.requests }
+        requires owed { AreOwed (waiting m self.old.parts.requests) due.now }
+        requires empty { IsEmptyFor found.old }
+        requires solicits { most_told * most_databases ≤ self.old.solicit_room }
+        requires probes { most_targets ≤ self.old.probe_room }
+        requires places { HaveRoom (most_sent (length due.now)) entries.old emits.old }
+        requires sendable { All (IsSendable site.now) emits.old.items }
+        ensures change { change_of self.new.parts entries.new.items emits.new.items
+            ≡ after_changes table site.now m true
+            (change_of self.old.parts entries.old.items emits.old.items) }
+        ensures sendable { All (IsSendable site.now) emits.new.items }
+        ensures entered { HasEntered (most_sent (length due.now)) m self.old.parts self.new.parts }
+        ensures emits { AreAdded (most_sent (length due.now)) emits.old emits.new }
+    {
+        self.tell_found(site, m, &mut found.told, entries, emits);
+        self.retry_due(site, m, due, entries, emits);
+        self.probe_next(site, m, &mut found.targets, entries, emits);
+    }
+
+    // Tells the locators that are to be told.
+    fn tell_found(
+        &mut self,
+        site: &Site<'_>,
+        m: u64,
+        told: &mut Vec<Addr>,
+        entries: &mut Vec<Entry>,
+        emits: &mut Vec<Emit>,
+    )
+        requires site { IsSite site.now }
+        requires may { MayEnter (most_told * most_databases) m self.old.parts }
+        requires none { told.old.items ≡ [] }
+        requires told_room { most_told < vec_capacity told.old }
+        requires solicits { most_told * most_databases ≤ self.old.solicit_room }
+        requires places { HaveRoom (most_told * most_databases) entries.old emits.old }
+        requires sendable { All (IsSendable site.now) emits.old.items }
+        ensures change { change_of self.new.parts entries.new.items emits.new.items
+            ≡ all_told table site.now m true
+            (change_of self.old.parts entries.old.items emits.old.items) }
+        ensures sendable { All (IsSendable site.now) emits.new.items }
+        ensures entered { HasEntered (most_told * most_databases) m self.old.parts self.new.parts }
+        ensures probe_room { self.old.probe_room ≤ self.new.probe_room }
+        ensures entries { AreAdded (most_told * most_databases) entries.old entries.new }
+        ensures emits { AreAdded (most_told * most_databases) emits.old emits.new }
+        ensures waits { waiting m self.new.parts.requests ≡ waiting m self.old.parts.requests }
+    {
+        self.find_told(site, m, told);
+        self.tell_each(site, m, told.as_slice(), entries, emits);
+    }
+}
+
+// What is found at a second: the locators that are told, and those that are probed.
+#[derive(Drop)]
+struct Found {
+    told: Vec<Addr>,
+    targets: Vec<Target>,
+}
+
+// One of these changes is due at a moment.
+fn is_due(m: u64, changes: &[Change]) -> bool
+    ensures { result ≡ is_some_due m changes.now }
+{
+    let [change, others @ ..] = changes else {
+        return false;
+    };
+    moment_of(change) <= m || is_due(m, others)
 }

@@ -1,9 +1,9 @@
 // The LISP headers of the packets that this router sends (RFC 9300, section 5.3).
 ghost use Rattle.std.specs.Prelude.{◌≡◌, ◌≢◌, ◌<◌, ◌≤◌, ◌%◌, ◌^◌, ◌==◌, None, Some, if◌then◌else◌};
 ghost use Rattle.lisp_header.specs.Header.{InRange};
-ghost use Rattle.lisp_settings.specs.Lawful.{IsLawful};
 ghost use Rattle.router_model.specs.Decide.{asks_echo, echo_nonce, lisp_header, versions_of};
 ghost use Rattle.router_model.specs.Site.{own_bits};
+ghost use Rattle.router_core.specs.Site.{IsSite};
 ghost use Rattle.router_core.specs.Bounded.{IsShortOut};
 ghost use Rattle.router_core.specs.Table.{seen};
 
@@ -17,7 +17,7 @@ use router_log::EchoOut;
 /// The header of a packet of an instance to a locator, with the versions of its source and its
 /// destination.
 pub(crate) fn header_to(view: &View<'_>, iid: u32, to: Addr, versions: (u16, u16)) -> LispHeader
-    requires lawful { IsLawful view.now.site }
+    requires lawful { IsSite view.now.site }
     requires instance { iid < 2 ^ 24 }
     requires source { versions.0 ≤ 4095 }
     requires dest { versions.1 ≤ 4095 }
@@ -30,7 +30,7 @@ pub(crate) fn header_to(view: &View<'_>, iid: u32, to: Addr, versions: (u16, u16
 
 // The header that does that about echoes: an echo, or else versions, and the own status bits.
 fn lisp_header(site: &Site<'_>, iid: u32, out: EchoOut, versions: (u16, u16)) -> LispHeader
-    requires lawful { IsLawful site.now }
+    requires lawful { IsSite site.now }
     requires instance { iid < 2 ^ 24 }
     requires short { IsShortOut out }
     requires source { versions.0 ≤ 4095 }
@@ -83,7 +83,7 @@ fn versions_of(out: EchoOut, source: u16, dest: u16) -> Option<(u16, u16)>
 
 // The status bits of the own locators, beside an instance the lowest 8.
 fn own_status(site: &Site<'_>, iid: u32) -> u32
-    requires { IsLawful site.now }
+    requires { IsSite site.now }
     ensures bits { result ≡ if iid == 0 then own_bits site.now.locators
         else own_bits site.now.locators % 256 }
     ensures short { iid ≢ 0 → result < 2 ^ 8 }

@@ -1,4 +1,5 @@
 // A table, as it is asked at a moment.
+ghost use Rattle.router_core.specs.Site.{IsSite};
 ghost use Rattle.std.specs.Prelude.{◌≡◌, ◌&&◌, IfSome, option_map};
 ghost use Rattle.std.specs.Option.{option_copied};
 ghost use Rattle.lisp_settings.specs.Home.{home_of};
@@ -76,6 +77,7 @@ impl<'t> View<'t> {
 
     /// The longest prefix of the site in an instance that covers an address.
     pub(crate) fn home(&self, iid: u32, address: &Addr) -> Option<Database>
+        requires { IsSite self.now.site }
         ensures { result ≡ home_of self.now.site.databases iid address.now }
     {
         self.site.home(iid, address)

@@ -17,10 +17,10 @@ use Rattle.router_model.specs.Hear.{datagram_heard, payload_heard, reply_heard, 
 use Rattle.router_model.specs.Note.{noted}
 use Rattle.router_model.specs.Proper.{fits}
 use Rattle.router_model.specs.Received.{message_in}
-use Rattle.router_model.specs.Tick.{ticked}
+use Rattle.router_model.specs.Tick.{after_changes, first_told, ticked}
 use Rattle.router_model.specs.View.{view}
 
 -- what an answer unfolds to compute the router on literals
 unfoldable pub router_on_literals : ⊤
-unfolding digits renewed outer_header opened_rules v4_marked v6_marked ecn_of addrs_place eids_place record_place request_size request_rules datagram_rules carried_rules ecm_rules ecm_size control_header control_packet prefix_with_length four_groups named arriving packet_course decide_by routed emit_packet datagram_heard payload_heard reply_heard requested noted fits message_in ticked view
+unfolding digits renewed outer_header opened_rules v4_marked v6_marked ecn_of addrs_place eids_place record_place request_size request_rules datagram_rules carried_rules ecm_rules ecm_size control_header control_packet prefix_with_length four_groups named arriving packet_course decide_by routed emit_packet datagram_heard payload_heard reply_heard requested noted fits message_in after_changes first_told ticked view
 router_on_literals = tt

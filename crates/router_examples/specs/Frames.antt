@@ -87,6 +87,11 @@ abbrev pub outward : List ℕ → List ℕ
 outward header =
     hex (codes "45000040000040003f114f71c0000201c6336407fc0710f5002c0000") ++ (hex header ++ forwarded)
 
+-- the same from 192.0.2.2
+abbrev pub outward_from_the_next : List ℕ → List ℕ
+outward_from_the_next header =
+    hex (codes "45000040000040003f114f70c0000202c6336407fc0710f5002c0000") ++ (hex header ++ forwarded)
+
 -- ### in a tunnel to the site
 
 -- 10.2.0.9 to 10.1.0.5, outer TTL 10 and DSCP 46 with ECT(1), inner TTL 64 and ECT(0); and how it leaves the tunnel

@@ -4,6 +4,7 @@ use Rattle.ip_headers.specs.declared.addr.Addr.{Addr}
 use Rattle.ip_headers.specs.declared.addr.Addr.TheVariants.{V4}
 use Rattle.capture_io.specs.Frame.{Frame}
 use Rattle.mapping_records.specs.declared.record.Locator.{Locator}
+use Rattle.mapping_records.specs.declared.record.Record.{Record}
 use Rattle.lisp_settings.specs.declared.settings.OwnLocator.{OwnLocator}
 use Rattle.lisp_settings.specs.declared.settings.Settings.{Settings}
 use Rattle.locator_choice.specs.Choice.{chosen}
@@ -19,11 +20,12 @@ use Rattle.router_log.specs.declared.kept.Solicitation.{Solicitation}
 use Rattle.router_log.specs.declared.notice.Notice.{Notice}
 use Rattle.router_model.specs.Changes.{Change}
 use Rattle.router_model.specs.Decide.{decide}
-use Rattle.router_model.specs.Hear.{hear}
+use Rattle.router_model.specs.Hear.{hear, own_record}
 use Rattle.router_model.specs.Journal.{Journal, statics}
 use Rattle.router_model.specs.Observed.{observed}
 use Rattle.router_model.specs.Plain.{Router, plain, started}
 use Rattle.router_model.specs.Rounds.{ends, rounds}
+use Rattle.router_model.specs.Standing.{standing}
 use Rattle.router_model.specs.Tick.{tick}
 use Rattle.router_model.specs.View.{view}
 use Rattle.router_examples.specs.Frames.{arp, encapsulated_in_100, framed, inbound, inbound_delivered, inward, just_before, packet, raw, seconds, tenths, wired, with_versions}
@@ -316,3 +318,26 @@ abbrev pub at_the_end_of : List ℕ → List Frame
 at_the_end_of reply =
     raw 1 (tenths 0) packet ∷ raw 2 (tenths 1) reply
     ∷ raw 3 1700000060099999999 packet ∷ raw 4 1700000060100000000 packet ∷ []
+
+-- packets two seconds after each other
+abbrev pub twice : List Frame
+twice = raw 1 (seconds 0) packet ∷ raw 2 (seconds 2) packet ∷ []
+
+-- the locators that are told in that second, in order
+abbrev pub told_in : Entry → Option Addr
+told_in (Solicited moment rloc eid nonce) = Some rloc
+told_in _ = None
+
+abbrev pub told_at : Settings → Journal → ℕ → List Addr
+told_at settings before n = filter_map told_in (second settings before n).entries
+
+-- the records of the site's prefixes behind a journal, as a Map-Reply has them: their versions, and which locators are reachable
+abbrev pub records_after : Settings → Journal → List Record
+records_after settings before = map (own_record (standing settings before) None) (standing settings before).databases
+
+abbrev pub versions_after : Settings → Journal → List ℕ
+versions_after settings before = map (λ (mapping : Record). mapping.version) (records_after settings before)
+
+abbrev pub reachable_after : Settings → Journal → List Bool
+reachable_after settings before =
+    flat_map (λ (mapping : Record). map (λ (l : Locator). l.reachable) mapping.locators) (records_after settings before)

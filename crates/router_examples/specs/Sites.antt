@@ -1,5 +1,5 @@
 -- The sites of the examples: EIDs, mappings, settings.
-use Rattle.std.specs.Prelude.{ℕ, ◌+◌, ◌^◌, nat_lt, true, false, IsTrue, List, [], ◌∷◌, map, replicate, reverse, Some, None, refl}
+use Rattle.std.specs.Prelude.{ℕ, ◌+◌, ◌^◌, nat_lt, Bool, true, false, IsTrue, List, [], ◌∷◌, map, replicate, reverse, Some, None, refl}
 use Rattle.std.specs.List.{range_with_len}
 use Rattle.std.proofs.lemmas.Bool.{ltb-true}
 use Rattle.ip_headers.specs.Addr.{is_prefix}
@@ -8,6 +8,7 @@ use Rattle.ip_headers.specs.declared.addr.Addr.TheVariants.{V4, V6}
 use Rattle.mapping_records.specs.declared.eid.Eid.{Eid}
 use Rattle.mapping_records.specs.declared.record.Locator.{Locator}
 use Rattle.mapping_records.specs.declared.record.Record.{Record}
+use Rattle.lisp_settings.specs.declared.settings.Change.{Change}
 use Rattle.lisp_settings.specs.declared.settings.Database.{Database}
 use Rattle.lisp_settings.specs.declared.settings.OwnLocator.{OwnLocator}
 use Rattle.lisp_settings.specs.declared.settings.Settings.{Settings}
@@ -92,6 +93,7 @@ static_site = record {
   attachments = record { vlan = 0; iid = 0 } ∷ [];
   databases = database (eid 0 (V4 0x0a010000) 16 refl refl) ∷ [];
   mappings = mapping 1440 wide_of_0 (locator far ∷ []) ∷ [];
+  changes = [];
 }
 
 -- that site, its EIDs and its mapping with versions
@@ -192,3 +194,44 @@ seventeen_locators =
 -- a site with the first one's mapping that asks for others and probes locators
 abbrev pub asking_and_probing_site : Settings
 asking_and_probing_site = record probing_site { resolver = Some (V4 0xcb007109) }
+
+-- ### own locators that go up and down
+
+-- the site's second own locator 192.0.2.2
+abbrev pub near_too : Addr
+near_too = V4 0xc0000202
+
+-- an own locator goes up or down, so many seconds after the begin
+abbrev pub change : ℕ → Addr → Bool → Change
+change n address up = record { at = 1700000000 + n; address = address; up = up }
+
+-- a site of version 5 with two own locators, and changes of these
+abbrev pub site_with_changes : List Change → Settings
+site_with_changes changes =
+    record (site_of_versions 5 0) { locators = own near ∷ own near_too ∷ []; changes = changes }
+
+-- its first own locator goes down after a second
+abbrev pub site_going_down : Settings
+site_going_down = site_with_changes (change 1 near false ∷ [])
+
+-- the asking site, whose own locator goes down after a second
+abbrev pub asking_site_going_down : Settings
+asking_site_going_down = record asking_site { changes = change 1 near false ∷ [] }
+
+-- that site, with mappings to the locators 198.51.100.96 to 198.51.100.1, 32 each
+abbrev pub site_of_96_locators : Settings
+site_of_96_locators = record site_going_down {
+  nonces = range_with_len 1 64;
+  mappings =
+      mapping 1440 wide_of_0 (map (λ n. locator (far_off n)) (reverse (range_with_len 65 32)))
+      ∷ mapping 1440 narrow_of_0 (map (λ n. locator (far_off n)) (reverse (range_with_len 33 32)))
+      ∷ mapping 1440 next_of_0 (map (λ n. locator (far_off n)) (reverse (range_with_len 1 32))) ∷ [];
+}
+
+-- that site, with mappings to an own locator, to one of priority 255, to one in IPv6, and twice to 198.51.100.8
+abbrev pub site_with_few_to_tell : Settings
+site_with_few_to_tell = record site_going_down {
+  mappings =
+      mapping 1440 wide_of_0 (locator near_too ∷ record (locator far) { priority = 255 } ∷ locator (far_off 8) ∷ [])
+      ∷ mapping 1440 narrow_of_0 (locator far_in_ipv6 ∷ locator (far_off 8) ∷ []) ∷ [];
+}

@@ -3,6 +3,7 @@
 
 mod answers;
 mod cases;
+mod changes;
 mod echoes;
 mod locators;
 mod probes;
@@ -17,6 +18,10 @@ pub use answers::{
     a_request_is_answered_with_all_within, an_smr_asks_again, what_is_encapsulated_is_no_probe,
 };
 pub use cases::{an_action_settles_a_packet, own_packets_are_passed_over};
+pub use changes::{
+    a_change_steps_versions_on, an_own_locator_goes_down, changes_come_as_a_second_begins,
+    nothing_is_asked_without_an_own_locator, the_first_64_locators_are_told,
+};
 pub use echoes::{
     a_header_tells_of_echoes, a_locator_owes_its_echo, a_locator_without_its_echo_is_down,
     a_wanted_echo_is_given, an_echo_has_24_bits, an_echo_is_asked_for_once_a_minute,

@@ -1,9 +1,11 @@
 -- What a journal says of an instance, its part says that is of the instance.
-use Rattle.std.proofs.Common.{◌≡◌, ℕ, ◌≤◌, ◌==◌, ◌||◌, not, max, Bool, true, false, cond, List, [], ◌∷◌, Option, Some, None, filter, filter_map, fold, map, refl, sym, ap, ◌∙◌, arith}
+use Rattle.std.proofs.Common.{◌≡◌, ℕ, ◌+◌, ◌≤◌, ◌==◌, ◌||◌, not, max, Bool, true, false, cond, List, [], ◌∷◌, Option, Some, None, filter, filter_map, fold, map, refl, sym, ap, ◌∙◌, arith}
 use Rattle.std.proofs.lemmas.Bool.Decides.{nat_tests}
 use Rattle.std.proofs.lemmas.Option.{same_Some}
 use Rattle.ip_headers.specs.declared.addr.Addr.{Addr}
 use Rattle.mapping_records.specs.declared.eid.Eid.{Eid}
+use Rattle.lisp_settings.specs.declared.settings.OwnLocator.{OwnLocator}
+use Rattle.lisp_settings.specs.declared.settings.Settings.{Settings}
 use Rattle.mapping_records.specs.Eids.{covers_prefix, longer}
 use Rattle.mapping_records.specs.Orders.{eid_order, put_in_order}
 use Rattle.mapping_records.proofs.OrderLemmas.{eid_order-total}
@@ -14,25 +16,29 @@ use Rattle.locator_state.specs.Observed.{Observed, is_up}
 use Rattle.router_log.specs.declared.entry.Entry.{Entry}
 use Rattle.router_log.specs.declared.kept.EchoStart.{EchoStart}
 use Rattle.router_log.specs.declared.kept.Probe.{Probe}
-use Rattle.router_log.specs.declared.entry.Entry.TheVariants.{Learned, Probed, ProbeAnswered, Bits, EchoStarted, EchoHeard, DataFrom, EchoWanted, Solicited}
+use Rattle.router_log.specs.declared.entry.Entry.TheVariants.{Learned, Probed, ProbeAnswered, Bits, EchoStarted, EchoHeard, DataFrom, EchoWanted, Solicited, Changed}
 use Rattle.router_model.specs.Cache.{begun_mapping, held_of, mapping_kind, mapping_step}
 use Rattle.router_model.specs.Decide.{decide_by}
 use Rattle.router_model.specs.Isolation.{AgreesIn, DecisionIsolated, MomentIsolated, RisingIsolated, TableIsolated, TablesAlike, counts_in, of_instance, told_of}
-use Rattle.router_model.specs.Journal.{Journal, IsRising, at, last_moment, moment_of}
+use Rattle.router_model.specs.Journal.{Journal, IsRising, at, changed, is_changed, last_moment, moment_of}
 use Rattle.router_model.specs.Kept.{Kind, any, counting, placed}
 use Rattle.router_model.specs.Mappings.{Held, force, live_mappings}
 use Rattle.router_model.specs.Observed.{begun_probe, begun_solicit, begun_start, begun_wish, observed, probe_kind, probe_step, start_step, solicit_kind, start_kind, wish_kind}
-use Rattle.router_model.specs.Parts.{parts_in, view_in}
+use Rattle.router_model.specs.Parts.{parts_in, standing_in, view_in}
+use Rattle.router_model.specs.Standing.{changed_by, own_after, standing, standing_with}
 use Rattle.router_model.specs.View.{seen_at, view}
 use Rattle.router_model.proofs.EchoLemmas.{solicits-scanned, starts-scanned, wishes-scanned}
 use Rattle.router_model.proofs.EidLemmas.{same_eid-tied}
+use Rattle.router_model.proofs.FollowLemmas.{table-decides}
 use Rattle.router_model.proofs.InstanceLemmas.{agrees-decides}
 use Rattle.router_model.proofs.KeptLemmas.{filter-filter, filter-step, scanned-counting}
 use Rattle.router_model.proofs.MappingLemmas.{eid_of, mappings-held, mappings-live, step-drops, step-keeps}
-use Rattle.router_model.proofs.PartsLemmas.{and_both, answers}
+use Rattle.router_model.proofs.PartsLemmas.{and_both, answers, count-more}
 use Rattle.router_model.proofs.ProbeLemmas.{probes-scanned}
 use Rattle.router_model.proofs.SortedLemmas.{puts_in_order}
-use Rattle.router_model.proofs.StandsLemmas.{proper-rises, standing-sees}
+use Rattle.router_model.proofs.StandingLemmas.{instance-stands}
+use Rattle.router_model.proofs.StandsLemmas.{proper-rises}
+use Rattle.router_model.proofs.UpsLemmas.{stands-in}
 
 -- ### what tells of locators
 
@@ -117,6 +123,38 @@ all-observed journal i = λ j. record {
   where
     mine : Journal
     mine = of_instance journal i
+
+-- own locators and versions stand as in the whole journal
+module _ (settings : Settings) (i : ℕ) where
+  still-own : (entry : Entry) (before : Journal) (locators : List OwnLocator) → counts_in i (told_of entry before) ≡ false → changed_by entry locators ≡ locators
+  still-own (Changed moment address up) before locators is = cc
+  still-own _ before locators is = refl
+
+  still-steps : (entry : Entry) (before : Journal) → counts_in i (told_of entry before) ≡ false → is_changed entry ≡ false
+  still-steps (Changed moment address up) before is = cc
+  still-steps _ before is = refl
+
+  all-own : (journal : Journal) → own_after settings (of_instance journal i) ≡ own_after settings journal
+  all-own [] = refl
+  all-own (entry ∷ older) = by (counts_in i (told_of entry older)) refl (all-own older)
+    where
+      by : (b : Bool) → counts_in i (told_of entry older) ≡ b → own_after settings (of_instance older i) ≡ own_after settings older → own_after settings (cond b (entry ∷ of_instance older i) (of_instance older i)) ≡ own_after settings (entry ∷ older)
+      by true is h = ap (changed_by entry) h
+      by false is h = h ∙ sym (still-own entry older (own_after settings older) is)
+
+  all-steps : (journal : Journal) → changed (of_instance journal i) ≡ changed journal
+  all-steps [] = refl
+  all-steps (entry ∷ older) = by (counts_in i (told_of entry older)) refl (all-steps older)
+    where
+      more : (journal : Journal) → changed (entry ∷ journal) ≡ cond (is_changed entry) 1 0 + changed journal
+      more journal = sym (count-more is_changed entry journal)
+
+      by : (b : Bool) → counts_in i (told_of entry older) ≡ b → changed (of_instance older i) ≡ changed older → changed (cond b (entry ∷ of_instance older i) (of_instance older i)) ≡ changed (entry ∷ older)
+      by true is h = more (of_instance older i) ∙ ap (λ n. cond (is_changed entry) 1 0 + n) h ∙ sym (more older)
+      by false is h = h ∙ sym (more older ∙ ap (λ b. cond b 1 0 + changed older) (still-steps entry older is) ∙ omega arith)
+
+  pub all-standing : (journal : Journal) → standing settings (of_instance journal i) ≡ standing settings journal
+  all-standing journal = λ j. standing_with settings (all-own journal j) (all-steps journal j)
 
 -- ### mappings
 
@@ -235,12 +273,15 @@ agrees-mine journal i now = record {
 }
 
 pub moment-isolated : MomentIsolated
-moment-isolated settings journal i now frame is = agrees-decides settings i (seen_at journal now) (seen_at (of_instance journal i) now) frame (agrees-mine journal i now) is
+moment-isolated settings journal i now frame is =
+    agrees-decides (standing settings journal) i (seen_at journal now) (seen_at (of_instance journal i) now) frame (agrees-mine journal i now)
+    (instance-stands settings journal frame ∙ is)
+    ∙ ap (λ stands. decide_by stands (seen_at (of_instance journal i) now) frame) (sym (all-standing settings i journal))
 
 pub decision-isolated : DecisionIsolated
 unfolding view
 decision-isolated settings journal i m n frame is same =
-    moment-isolated settings journal i (at journal m) frame is ∙ ap (λ now. decide_by settings (seen_at (of_instance journal i) now) frame) same
+    moment-isolated settings journal i (at journal m) frame is ∙ ap (λ now. decide_by (standing settings (of_instance journal i)) (seen_at (of_instance journal i) now) frame) same
 
 -- the journal of an instance ends no later
 mine-before : (i : ℕ) (journal : Journal) → IsRising journal → last_moment (of_instance journal i) ≤ last_moment journal
@@ -270,14 +311,15 @@ rising-isolated settings journal i m frame rising is =
 pub table-isolated : TableIsolated
 table-isolated settings parts journal i m frame stands is =
     let rising = proper-rises settings journal stands.proper in
-    ap (λ v. decide_by settings v frame) (standing-sees settings parts journal m stands)
+    table-decides settings parts journal m frame stands
     ∙ rising-isolated settings journal i m frame rising is
-    ∙ ap (λ v. decide_by settings v frame) (sym (answers settings (of_instance journal i) (at journal m) (mine-rises i journal rising)))
-    ∙ ap (λ p. decide_by settings (view_in (parts_in settings (of_instance journal i)) (max m p.now)) frame) (sym stands.whole)
+    ∙ ap (λ v. decide_by (standing settings (of_instance journal i)) v frame) (sym (answers settings (of_instance journal i) (at journal m) (mine-rises i journal rising)))
+    ∙ ap (λ p. decide_by (standing settings (of_instance journal i)) (view_in (parts_in settings (of_instance journal i)) (max m p.now)) frame) (sym stands.whole)
+    ∙ ap (λ s. decide_by s (view_in (parts_in settings (of_instance journal i)) (max m parts.now)) frame) (sym (stands-in settings (of_instance journal i)))
 
 pub tables-alike : TablesAlike
 tables-alike settings one other mine theirs i m n frame stands stands' same moment is =
     table-isolated settings one mine i m frame stands is
-    ∙ ap (λ now. decide_by settings (view_in (parts_in settings (of_instance mine i)) now) frame) moment
-    ∙ ap (λ j. decide_by settings (view_in (parts_in settings j) (max n other.now)) frame) same
+    ∙ ap (λ now. decide_by (standing_in settings (parts_in settings (of_instance mine i))) (view_in (parts_in settings (of_instance mine i)) now) frame) moment
+    ∙ ap (λ j. decide_by (standing_in settings (parts_in settings j)) (view_in (parts_in settings j) (max n other.now)) frame) same
     ∙ sym (table-isolated settings other theirs i n frame stands' is)

@@ -2,8 +2,10 @@ pub mod AgedLemmas
 pub mod BitLemmas
 pub mod CutLemmas
 pub mod DropLemmas
+pub mod DueLemmas
 pub mod EchoLemmas
 pub mod EidLemmas
+pub mod FewLemmas
 pub mod FindLemmas
 pub mod FollowLemmas
 pub mod ForceLemmas
@@ -17,6 +19,7 @@ pub mod LiftLemmas
 pub mod MappingLemmas
 pub mod NoteLemmas
 pub mod NoticeLemmas
+pub mod OnceLemmas
 pub mod OwnLemmas
 pub mod PartsLemmas
 pub mod ProbeLemmas
@@ -29,7 +32,13 @@ pub mod SideLemmas
 pub mod SingleLemmas
 pub mod SortedLemmas
 pub mod SoundLemmas
+pub mod StandingLemmas
 pub mod StandsLemmas
 pub mod StaticsLemmas
+pub mod StayLemmas
+pub mod StillLemmas
+pub mod StoodLemmas
+pub mod TellLemmas
 pub mod TickLemmas
+pub mod UpsLemmas
 pub mod ViewLemmas

@@ -1,10 +1,11 @@
 -- The parts of a journal answer as its scans, and an entry makes of them the parts of the journal with it.
-use Rattle.std.proofs.Common.{◌≡◌, ℕ, suc, ◌+◌, ◌^◌, ◌≤◌, ◌==◌, ◌||◌, ◌&&◌, not, nat_lt, nat_le, Bool, true, false, cond, List, [], ◌∷◌, length, option_map, is_none, is_some, filter, map, refl, sym, ap, ap₂, ◌∙◌, arith}
+use Rattle.std.proofs.Common.{◌≡◌, ℕ, suc, ◌+◌, ◌^◌, ◌≤◌, ◌==◌, ◌||◌, ◌&&◌, not, nat_lt, nat_le, Bool, true, false, cond, List, [], ◌∷◌, length, slice_get, option_map, is_none, is_some, filter, map, refl, sym, ap, ap₂, ◌∙◌, arith}
 use Rattle.std.specs.List.{count_by, list_any}
 use Rattle.std.proofs.lemmas.Bool.Decides.{nat_tests}
 use Rattle.std.proofs.lemmas.List.Sums.{length-filter}
 use Rattle.ip_headers.specs.declared.addr.Addr.{Addr}
 use Rattle.mapping_records.specs.declared.eid.Eid.{Eid}
+use Rattle.lisp_settings.specs.Nonces.{nonce_of}
 use Rattle.lisp_settings.specs.declared.settings.Settings.{Settings}
 use Rattle.router_log.specs.declared.entry.Entry.{Entry}
 use Rattle.router_log.specs.declared.kept.EchoStart.{EchoStart}
@@ -13,7 +14,7 @@ use Rattle.router_log.specs.declared.kept.Probe.{Probe}
 use Rattle.router_model.specs.Cache.{held_of, kept_mappings, mapping_kind}
 use Rattle.map_cache.specs.Cache.{lasts}
 use Rattle.mapping_records.specs.Eids.{same_address}
-use Rattle.router_model.specs.Journal.{Journal, IsRising, at, drawn, last_moment, moment_of, uses_nonce}
+use Rattle.router_model.specs.Journal.{Journal, IsRising, at, changed, drawn, is_changed, last_moment, moment_of, uses_nonce}
 use Rattle.router_log.specs.Moments.{younger}
 use Rattle.router_model.specs.Kept.{absorb}
 use Rattle.locator_state.specs.Echoes.{answer_or, ask_or_plain, echo_on, echo_up, echo_wanted, is_deaf, is_on, is_other, may_start, may_want, start_counts, wish_counts}
@@ -24,9 +25,10 @@ use Rattle.router_model.specs.Mappings.{live_mappings}
 use Rattle.locator_state.specs.Probes.{is_judged, probe_counts, probe_up, up_by}
 use Rattle.router_model.specs.Observed.{observed, observing, probe_kind, solicit_kind, start_kind, wish_kind}
 use Rattle.router_model.specs.Parts.{absorbed, admits, parts_in, view_at, view_in, with_entry}
-use Rattle.router_model.specs.Proper.{fits, is_admitted, suits}
+use Rattle.router_model.specs.Proper.{MayChange, fits, has_nonce, is_admitted, suits}
 use Rattle.router_model.specs.Requests.{open_requests, request_kind}
 use Rattle.request_queue.specs.Queue.{is_waiting}
+use Rattle.router_model.specs.Standing.{has_change, own_after}
 use Rattle.router_model.specs.View.{Agrees, view, view_of}
 use Rattle.router_model.proofs.AgedLemmas.{last-kept, last-within, younger-wide}
 use Rattle.router_model.proofs.EchoLemmas.{solicits-counting, solicits-keep, started_at, starts-counting, starts-keep, starts-rise, wished_at, wishes-counting, wishes-keep, wishes-rise}
@@ -34,6 +36,7 @@ use Rattle.router_model.proofs.KeptLemmas.{absorb-counting, filter-filter, purge
 use Rattle.router_model.proofs.MappingLemmas.{mappings-held, mappings-keep, mappings-live}
 use Rattle.router_model.proofs.ProbeLemmas.{begun_at, probes-counting, probes-keep, probes-rise, unjudged-counts, up-counting}
 use Rattle.router_model.proofs.RequestLemmas.{requests-keep, requests-open}
+use Rattle.router_model.proofs.StandingLemmas.{next-may}
 use Rattle.router_model.proofs.ViewLemmas.{agrees-equal}
 
 -- ### a list without what a test refuses, asked by a narrower one
@@ -53,7 +56,7 @@ module _ {A : Type 0} (wide narrow : A → Bool) (within : (a : A) → narrow a 
       sym (length-filter narrow (filter wide items)) ∙ ap length (filter-filter wide narrow within items) ∙ length-filter narrow items
 
 -- one item more
-count-more : {A : Type 0} (test : A → Bool) (a : A) (items : List A) → cond (test a) 1 0 + count_by test items ≡ count_by test (a ∷ items)
+pub count-more : {A : Type 0} (test : A → Bool) (a : A) (items : List A) → cond (test a) 1 0 + count_by test items ≡ count_by test (a ∷ items)
 count-more {A} test a items = ap (λ n. cond (test a) 1 0 + n) (sym (length-filter test items)) ∙ by (test a) ∙ length-filter test (a ∷ items)
   where
     by : (b : Bool) → cond b 1 0 + length (filter test items) ≡ length (cond b (a ∷ filter test items) (filter test items))
@@ -184,7 +187,8 @@ module _ (settings : Settings) (journal : Journal) (entry : Entry) (later : last
     count = suc (length journal);
     drawn = count-more uses_nonce entry journal i;
     now = m;
-    own = settings.locators;
+    own = own_after settings (entry ∷ journal);
+    steps = count-more is_changed entry journal i;
     mappings = (ap (absorb mapping_kind (lasts m) entry) (sym (mappings-live before journal)) ∙ absorb-counting mapping_kind (lasts before) (lasts m) (purges mappings-keep before m later) entry journal ∙ mappings-live m (entry ∷ journal)) i;
     requests = (ap (absorb request_kind (is_waiting m) entry) (sym (requests-open before journal)) ∙ absorb-counting request_kind (is_waiting before) (is_waiting m) (purges requests-keep before m later) entry journal ∙ requests-open m (entry ∷ journal)) i;
     observed = observed-with i;
@@ -208,12 +212,20 @@ module _ (settings : Settings) (journal : Journal) (entry : Entry) (fit : fits s
   pub fits-suits : suits (view journal (moment_of entry)) entry ≡ true
   fits-suits = (and_both (nat_lt (length journal) (2 ^ 62) && nat_le (last_moment journal) (moment_of entry)) _ admitted).1
 
+  -- of a change it has the next one
+  pub fits-change : has_change (slice_get settings.changes (changed journal)) entry ≡ true
+  unfolding fits
+  fits-change = (and_both (has_nonce (nonce_of settings.seed settings.nonces (drawn journal)) entry) _ (and_both (is_admitted (length journal) (last_moment journal) (view journal (moment_of entry)) entry) _ fit).1).1
+
   -- the parts admit it
-  pub is-admitted : IsRising journal → admits (parts_in settings journal) entry ≡ true
+  pub is-admitted : MayChange settings → IsRising journal → admits (parts_in settings journal) entry ≡ true
   unfolding admits
-  is-admitted rising = ap (λ v. is_admitted (length journal) (last_moment journal) v entry) (answers settings journal (moment_of entry) rising) ∙ admitted
+  is-admitted may rising =
+      ap₂ (λ a b. a && b)
+      (ap (λ v. is_admitted (length journal) (last_moment journal) v entry) (answers settings journal (moment_of entry) rising) ∙ admitted)
+      (next-may settings journal entry may fits-change)
 
   -- and so makes of the parts those of the journal with it
-  pub is-absorbed : IsRising journal → absorbed (parts_in settings journal) entry ≡ parts_in settings (entry ∷ journal)
+  pub is-absorbed : MayChange settings → IsRising journal → absorbed (parts_in settings journal) entry ≡ parts_in settings (entry ∷ journal)
   unfolding absorbed
-  is-absorbed rising = ap (λ b. cond b (with_entry entry (parts_in settings journal)) (parts_in settings journal)) (is-admitted rising) ∙ with-entry settings journal entry not-before
+  is-absorbed may rising = ap (λ b. cond b (with_entry entry (parts_in settings journal)) (parts_in settings journal)) (is-admitted may rising) ∙ with-entry settings journal entry not-before

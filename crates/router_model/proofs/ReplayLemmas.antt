@@ -4,22 +4,24 @@ use Rattle.std.specs.List.{range_with_len}
 use Rattle.mapping_records.specs.declared.record.Record.{Record}
 use Rattle.capture_io.specs.Frame.{Frame}
 use Rattle.lisp_settings.specs.declared.settings.Settings.{Settings}
-use Rattle.capture_events.specs.Events.{Event, Outcome, Tick, Arrival, events, events_after, followed, played, ticks}
+use Rattle.capture_events.specs.Events.{Event, Outcome, Packet, Tick, Arrival, events, events_after, followed, played, ticks}
+use Rattle.router_log.specs.Lines.{frame_line}
 use Rattle.router_log.specs.Moments.{seconds}
 use Rattle.router_log.specs.declared.decision.Decision.{Decision}
 use Rattle.router_log.specs.declared.entry.Entry.TheVariants.{Learned}
-use Rattle.router_model.specs.Changes.{journal as of_journal, unchanged}
+use Rattle.router_model.specs.Changes.{Change, each, journal as of_journal, unchanged}
 use Rattle.router_model.specs.Course.{control}
 use Rattle.router_model.specs.Decide.{decide_by}
-use Rattle.router_model.specs.Hear.{hear_by}
-use Rattle.router_model.specs.Journal.{Journal, extended, last_moment, statics}
+use Rattle.router_model.specs.Hear.{Heard, hear_by}
+use Rattle.router_model.specs.Journal.{Journal, changed, extended, last_moment, statics}
 use Rattle.router_model.specs.Lifting.{AreInOrder, AreOctets, EventsInOrder, FramesInOrder, HasOctets, Ready, TableReplays, event_moment, is_sound, outcome_tabled, router_tabled}
 use Rattle.router_model.specs.Note.{noted}
 use Rattle.router_model.specs.Parts.{Parts, parts_in, table}
-use Rattle.router_model.specs.Plain.{Router, after_data, after_decision, after_event, after_message, after_tick, plain, started}
+use Rattle.router_model.specs.Plain.{Router, after_data, after_decision, after_event, after_message, after_tick, emit_packets, packet_of, packets_of, plain, started}
 use Rattle.router_model.specs.Proper.{IsProper}
+use Rattle.router_model.specs.Standing.{own_after, standing}
+use Rattle.router_model.specs.Tick.{ticked}
 use Rattle.router_model.specs.View.{view}
-use Rattle.router_model.proofs.FollowLemmas.{requests-few}
 use Rattle.router_model.proofs.HearLemmas.{fewer-ready, frames-lift, goes-each}
 use Rattle.router_model.proofs.NoteLemmas.{notes-lift}
 use Rattle.router_model.proofs.NoticeLemmas.{notices-sound}
@@ -27,6 +29,7 @@ use Rattle.router_model.proofs.PartsLemmas.{answers}
 use Rattle.router_model.proofs.SoundLemmas.{frame-sound}
 use Rattle.router_model.proofs.StandsLemmas.{proper-rises, statics-proper}
 use Rattle.router_model.proofs.TickLemmas.{ticks-lift}
+use Rattle.router_model.proofs.UpsLemmas.{stands-in}
 
 -- a table replayed as the journal
 record Replays (settings : Settings) (m more : ℕ) (t : Outcome (Router Parts)) (j : Outcome (Router Journal)) : Type 0 where
@@ -38,38 +41,71 @@ record Replays (settings : Settings) (m more : ℕ) (t : Outcome (Router Parts))
 abbrev router_of : Settings → Journal → Router Journal
 router_of settings journal = record { settings = settings; memory = journal }
 
+-- lines and packets, and a table that stands for a journal
+abbrev told : Settings → Journal → List ℕ → List Packet → Outcome (Router Parts)
+told settings journal lines packets = record {
+  lines = lines;
+  packets = packets;
+  after = record { settings = settings; memory = parts_in settings journal };
+}
+
 module _ (settings : Settings) (more : ℕ) (journal : Journal) where
-  tick-replays : (s : ℕ) → Ready settings (seconds s) (more + 2048) journal → Replays settings (seconds s) more (after_event table (router_tabled (router_of settings journal)) (Tick s)) (plain (router_of settings journal) (Tick s))
+  tick-replays : (s : ℕ) → Ready settings (seconds s) (more + 8192) journal → Replays settings (seconds s) more (after_event table (router_tabled (router_of settings journal)) (Tick s)) (plain (router_of settings journal) (Tick s))
   tick-replays s ready =
-      let few = requests-few settings journal (seconds s) ready.proper ready.last in
-      let goes = ticks-lift settings (seconds s) more (unchanged journal) (fewer-ready settings (seconds s) (more + 2048) _ journal (omega (arith, few)) ready) in
-      record { same = ap (after_tick table (router_tabled (router_of settings journal)) (seconds s)) goes.same; settings_stay = refl; ready = goes.ready }
+      let changes = ready.proper.may.few_changes in
+      let databases = ready.proper.may.few_databases in
+      let goes = ticks-lift settings (seconds s) more (unchanged journal) (fewer-ready settings (seconds s) (more + 8192) _ journal (omega (arith, changes, databases)) ready) in
+      let j : Change Journal = ticked of_journal settings (seconds s) (unchanged journal) in
+      record {
+        same =
+            ap (after_tick table (router_tabled (router_of settings journal)) (seconds s)) goes.same
+            ∙ ap (λ (stand : Settings). told settings j.after [] (emit_packets stand (seconds s) j.emits)) (stands-in settings j.after);
+        settings_stay = refl;
+        ready = goes.ready;
+      }
 
-  message-replays : (frame : Frame) → AreOctets frame.octets → Ready settings frame.moment (more + 2048) journal → Replays settings frame.moment more (after_message table (router_tabled (router_of settings journal)) frame (hear_by table settings frame.moment frame (unchanged (parts_in settings journal)))) (after_message of_journal (router_of settings journal) frame (hear_by of_journal settings frame.moment frame (unchanged journal)))
+  message-replays : (frame : Frame) → AreOctets frame.octets → Ready settings frame.moment (more + 8192) journal → Replays settings frame.moment more (after_message table (router_tabled (router_of settings journal)) frame (hear_by table (standing settings journal) frame.moment frame (unchanged (parts_in settings journal)))) (after_message of_journal (router_of settings journal) frame (hear_by of_journal (standing settings journal) frame.moment frame (unchanged journal)))
   message-replays frame are ready =
-      let hears = frames-lift settings frame.moment more 256 frame (unchanged journal) (frame-sound settings frame are) (fewer-ready settings frame.moment (more + 2048) (more + 256) journal (omega arith) ready) in
-      record { same = ap (after_message table (router_tabled (router_of settings journal)) frame) hears.same; settings_stay = refl; ready = hears.ready }
+      let hears = frames-lift settings (own_after settings journal) (changed journal) frame.moment more 256 frame (unchanged journal) (frame-sound (standing settings journal) frame are) (fewer-ready settings frame.moment (more + 8192) (more + 256) journal (omega arith) ready) in
+      let j : Heard Journal = hear_by of_journal (standing settings journal) frame.moment frame (unchanged journal) in
+      record {
+        same =
+            ap (after_message table (router_tabled (router_of settings journal)) frame) hears.same
+            ∙ ap (λ (stand : Settings). told settings j.change.after (frame_line frame.number frame.moment (length journal) j.verdict) (emit_packets stand frame.moment j.change.emits)) (stands-in settings j.change.after);
+        settings_stay = refl;
+        ready = hears.ready;
+      }
 
-  decision-replays : (frame : Frame) → AreOctets frame.octets → Ready settings frame.moment (more + 2048) journal → Replays settings frame.moment more (after_decision table (router_tabled (router_of settings journal)) frame (decide_by settings (table.see (parts_in settings journal) frame.moment) frame)) (after_decision of_journal (router_of settings journal) frame (decide_by settings (view journal frame.moment) frame))
+  decision-replays : (frame : Frame) → AreOctets frame.octets → Ready settings frame.moment (more + 8192) journal → Replays settings frame.moment more (after_decision table (router_tabled (router_of settings journal)) frame (decide_by (standing settings journal) (table.see (parts_in settings journal) frame.moment) frame)) (after_decision of_journal (router_of settings journal) frame (decide_by (standing settings journal) (view journal frame.moment) frame))
   decision-replays frame are ready =
-      let decision : Decision = decide_by settings (view journal frame.moment) frame in
-      let sound = notices-sound settings (view journal frame.moment) frame are in
+      let decision : Decision = decide_by (standing settings journal) (view journal frame.moment) frame in
+      let sound = notices-sound (standing settings journal) (view journal frame.moment) frame are in
       let few = sound.1 in
       let goes =
-      goes-each settings frame.moment (noted table settings frame.moment) (noted of_journal settings frame.moment) is_sound (λ more n change pass ready. notes-lift settings frame.moment more n change pass ready) decision.notices sound.0 more (unchanged (parts_in settings journal)) (unchanged journal)
-      (record { same = refl; ready = fewer-ready settings frame.moment (more + 2048) (more + length decision.notices) journal (omega (arith, few)) ready }) in
-      subst (λ v. Replays settings frame.moment more (after_decision table (router_tabled (router_of settings journal)) frame (decide_by settings v frame)) (after_decision of_journal (router_of settings journal) frame decision))
+      goes-each settings frame.moment (noted table (standing settings journal) frame.moment) (noted of_journal (standing settings journal) frame.moment) is_sound (λ more n change pass ready. notes-lift settings (own_after settings journal) (changed journal) frame.moment more n change pass ready) decision.notices sound.0 more (unchanged (parts_in settings journal)) (unchanged journal)
+      (record { same = refl; ready = fewer-ready settings frame.moment (more + 8192) (more + length decision.notices) journal (omega (arith, few)) ready }) in
+      let j : Change Journal = each (noted of_journal (standing settings journal) frame.moment) decision.notices (unchanged journal) in
+      subst (λ v. Replays settings frame.moment more (after_decision table (router_tabled (router_of settings journal)) frame (decide_by (standing settings journal) v frame)) (after_decision of_journal (router_of settings journal) frame decision))
       (sym (answers settings journal frame.moment (proper-rises settings journal ready.proper)))
-      (record { same = ap (after_data table (router_tabled (router_of settings journal)) frame decision.verdict) goes.same; settings_stay = refl; ready = goes.ready })
+      (record {
+        same =
+            ap (λ (stand : Settings). after_data table (router_tabled (router_of settings journal)) frame decision.verdict (each (noted table stand frame.moment) decision.notices (unchanged (parts_in settings journal)))) (stands-in settings journal)
+            ∙ ap (after_data table (router_tabled (router_of settings journal)) frame decision.verdict) goes.same
+            ∙ ap (λ (stand : Settings). told settings j.after (frame_line frame.number frame.moment (length journal) decision.verdict) (packets_of frame.moment (packet_of decision.verdict) ++ emit_packets stand frame.moment j.emits)) (stands-in settings j.after);
+        settings_stay = refl;
+        ready = goes.ready;
+      })
 
-  frame-replays : (frame : Frame) → AreOctets frame.octets → Ready settings frame.moment (more + 2048) journal → Replays settings frame.moment more (after_event table (router_tabled (router_of settings journal)) (Arrival frame)) (plain (router_of settings journal) (Arrival frame))
-  frame-replays frame are ready = by (control settings frame)
+  frame-replays : (frame : Frame) → AreOctets frame.octets → Ready settings frame.moment (more + 8192) journal → Replays settings frame.moment more (after_event table (router_tabled (router_of settings journal)) (Arrival frame)) (plain (router_of settings journal) (Arrival frame))
+  frame-replays frame are ready =
+      subst (λ (stand : Settings). Replays settings frame.moment more (cond (control settings frame) (after_message table (router_tabled (router_of settings journal)) frame (hear_by table stand frame.moment frame (unchanged (parts_in settings journal)))) (after_decision table (router_tabled (router_of settings journal)) frame (decide_by stand (table.see (parts_in settings journal) frame.moment) frame))) (plain (router_of settings journal) (Arrival frame)))
+      (sym (stands-in settings journal)) (by (control settings frame))
     where
-      by : (b : Bool) → Replays settings frame.moment more (cond b (after_message table (router_tabled (router_of settings journal)) frame (hear_by table settings frame.moment frame (unchanged (parts_in settings journal)))) (after_decision table (router_tabled (router_of settings journal)) frame (decide_by settings (table.see (parts_in settings journal) frame.moment) frame))) (cond b (after_message of_journal (router_of settings journal) frame (hear_by of_journal settings frame.moment frame (unchanged journal))) (after_decision of_journal (router_of settings journal) frame (decide_by settings (view journal frame.moment) frame)))
+      by : (b : Bool) → Replays settings frame.moment more (cond b (after_message table (router_tabled (router_of settings journal)) frame (hear_by table (standing settings journal) frame.moment frame (unchanged (parts_in settings journal)))) (after_decision table (router_tabled (router_of settings journal)) frame (decide_by (standing settings journal) (table.see (parts_in settings journal) frame.moment) frame))) (cond b (after_message of_journal (router_of settings journal) frame (hear_by of_journal (standing settings journal) frame.moment frame (unchanged journal))) (after_decision of_journal (router_of settings journal) frame (decide_by (standing settings journal) (view journal frame.moment) frame)))
       by true = message-replays frame are ready
       by false = decision-replays frame are ready
 
-  event-replays : (event : Event) → HasOctets event → Ready settings (event_moment event) (more + 2048) journal → Replays settings (event_moment event) more (after_event table (router_tabled (router_of settings journal)) event) (plain (router_of settings journal) event)
+  event-replays : (event : Event) → HasOctets event → Ready settings (event_moment event) (more + 8192) journal → Replays settings (event_moment event) more (after_event table (router_tabled (router_of settings journal)) event) (plain (router_of settings journal) event)
   event-replays (Tick s) are ready = tick-replays s ready
   event-replays (Arrival frame) are ready = frame-replays frame are ready
 
@@ -77,11 +113,11 @@ module _ (settings : Settings) (more : ℕ) (journal : Journal) where
 abbrev AllReplay : Settings → Router Journal → List Event → Type 0
 AllReplay settings router events = (played (after_event table) (router_tabled router) events ≡ outcome_tabled (played plain router events)) × IsProper settings (played plain router events).after.memory
 
-all-replay : (settings : Settings) (m : ℕ) (events : List Event) (router : Router Journal) → settings ≡ router.settings → AreInOrder m events → Ready settings m (2048 * length events) router.memory → AllReplay settings router events
+all-replay : (settings : Settings) (m : ℕ) (events : List Event) (router : Router Journal) → settings ≡ router.settings → AreInOrder m events → Ready settings m (8192 * length events) router.memory → AllReplay settings router events
 all-replay settings m [] router same order ready = (refl, ready.proper)
 all-replay settings m (event ∷ events) router same order ready =
-    let start : Replays settings (event_moment event) (2048 * length events) (after_event table (router_tabled router) event) (plain router event) = subst (λ s. Replays settings (event_moment event) (2048 * length events) (after_event table (router_tabled (router_of s router.memory)) event) (plain (router_of s router.memory) event)) same
-    (event-replays settings (2048 * length events) router.memory event order.1.0 (record { proper = ready.proper; last = (let last = ready.last in let later = order.0 in omega (arith, last, later)); room = (let room = ready.room in omega (arith, room)) })) in
+    let start : Replays settings (event_moment event) (8192 * length events) (after_event table (router_tabled router) event) (plain router event) = subst (λ s. Replays settings (event_moment event) (8192 * length events) (after_event table (router_tabled (router_of s router.memory)) event) (plain (router_of s router.memory) event)) same
+    (event-replays settings (8192 * length events) router.memory event order.1.0 (record { proper = ready.proper; last = (let last = ready.last in let later = order.0 in omega (arith, last, later)); room = (let room = ready.room in omega (arith, room)) })) in
     let rest = all-replay settings (event_moment event) events (plain router event).after (sym start.settings_stay) order.1.1 start.ready in (
       ap (λ (t : Outcome (Router Parts)). followed t (played (after_event table) t.after events)) start.same
           ∙ ap (followed (outcome_tabled (plain router event))) rest.0,
@@ -97,9 +133,9 @@ pub statics-first : (settings : Settings) → last_moment (statics settings) ≤
 statics-first settings = statics-now [] settings.mappings (omega arith)
 
 pub table-replays : TableReplays
-table-replays settings events order room =
+table-replays settings events may order room =
     all-replay settings 0 events (started settings) refl order
-    (record { proper = statics-proper settings; last = statics-first settings; room = room })
+    (record { proper = statics-proper settings may; last = statics-first settings; room = room })
 
 -- ### the events of a capture are in order
 

@@ -6,10 +6,11 @@ use Rattle.std.proofs.lemmas.List.Elements.{All-head, All-tail}
 use Rattle.std.proofs.lemmas.List.FromFn.{length-range_with_len}
 use Rattle.capture_io.specs.Frame.{Frame}
 use Rattle.capture_io.specs.Run.{AreLater}
-use Rattle.capture_events.specs.Came.{Came, IsRead}
+use Rattle.capture_events.specs.Came.{IsRead}
 use Rattle.capture_events.specs.Events.{Event, Arrival, Tick, events, events_after, events_of, second_of, ticks}
 use Rattle.router_model.specs.Lifting.{CameFits, CameInOrder, CaptureReplays, FramesInOrder}
 use Rattle.router_model.proofs.ReplayLemmas.{events-order, table-replays}
+use Rattle.router_model.proofs.StandingLemmas.{lawful-may}
 use Rattle.router_model.proofs.StaticsLemmas.{length-statics}
 
 -- frames that were read, and whose moments don't fall
@@ -69,4 +70,4 @@ came-fits settings frames lawful came =
 
 pub capture-replays : CaptureReplays
 capture-replays settings frames lawful came =
-    table-replays settings (events frames) (events-order frames (came-in-order frames came)) (came-fits settings frames lawful came)
+    table-replays settings (events frames) (lawful-may settings lawful) (events-order frames (came-in-order frames came)) (came-fits settings frames lawful came)

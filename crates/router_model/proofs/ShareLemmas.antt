@@ -5,25 +5,27 @@ use Rattle.std.proofs.lemmas.List.{drop-append-le, length-append, length-drop, l
 use Rattle.std.proofs.lemmas.List.Elements.{All-map, All-weaker, All-cons, All-nil}
 use Rattle.capture_io.specs.Frame.{Frame}
 use Rattle.lisp_settings.specs.declared.settings.Settings.{Settings}
-use Rattle.capture_events.specs.Events.{Event, Tick, Arrival, events_after, events_of, ticks}
+use Rattle.capture_events.specs.Events.{Event, Packet, Tick, Arrival, events_after, events_of, ticks}
 use Rattle.router_log.specs.Moments.{seconds}
 use Rattle.router_log.specs.declared.entry.Entry.{Entry}
 use Rattle.router_log.specs.declared.notice.Notice.{Notice}
-use Rattle.router_model.specs.Changes.{Change, journal as of_journal, unchanged}
+use Rattle.router_model.specs.Changes.{Change, each, journal as of_journal, unchanged}
 use Rattle.router_model.specs.Course.{control}
 use Rattle.router_model.specs.Decide.{decide_by}
 use Rattle.router_model.specs.Hear.{Heard, hear_by}
-use Rattle.router_model.specs.Journal.{Journal, extended, first, statics, last_moment}
+use Rattle.router_model.specs.Journal.{Journal, changed, extended, first, last_moment, statics}
 use Rattle.router_model.specs.Lifting.{AreInOrder, AreOctets, HasOctets, Ready, event_moment, is_sound, tabled}
 use Rattle.router_model.specs.Note.{noted}
-use Rattle.router_model.specs.Parts.{Parts, Stands, parts_in, table, view_in}
+use Rattle.router_model.specs.Parts.{Parts, Stands, parts_in, standing_in, table, view_in}
+use Rattle.router_model.specs.Plain.{emit_packets}
 use Rattle.router_model.specs.Proper.{EachFits, IsProper}
-use Rattle.router_model.specs.Rounds.{Round, all_advanced, closing_moment, data_frames, decided, ends, round}
+use Rattle.router_model.specs.Rounds.{Line, Round, all_advanced, closing_moment, data_frames, decided, ends, line_of, round}
 use Rattle.router_model.specs.Sharing.{BatchesRule, BatchesStand, FirstIsProper, FirstRules, MayBegin, TableRounds, TableWrites, TablesShare, after_batches, opening, parts_after, worked_tabled, writing_tabled, RoundStays, IsRuled, AllBatches, RoundInOrder}
-use Rattle.router_model.specs.Sides.{Ruling, Worked, Writing, data_in, event_written, joined, left_for_later, message_written, noting, notices_of, put_together, rulings, second_written, then_written, with_entries, worked, writing, ruling, ruling_by}
+use Rattle.router_model.specs.Sides.{Item, Message, Ruling, Second, Worked, Writing, data_in, lines_by, packets_by, event_written, joined, left_for_later, message_written, noting, notices_of, put_together, rulings, second_written, then_written, with_entries, worked, writing, ruling, ruling_by}
+use Rattle.router_model.specs.Standing.{own_after, standing}
 use Rattle.router_model.specs.Tick.{ticked}
 use Rattle.router_model.specs.View.{view}
-use Rattle.router_model.proofs.FollowLemmas.{requests-few, table-decides}
+use Rattle.router_model.proofs.FollowLemmas.{table-decides}
 use Rattle.router_model.proofs.GrowLemmas.{grown-heard, grown-ticked, with-more}
 use Rattle.router_model.proofs.HearLemmas.{fewer-ready, frames-lift, goes-each}
 use Rattle.router_model.proofs.NoteLemmas.{notes-lift}
@@ -34,6 +36,7 @@ use Rattle.router_model.proofs.SideLemmas.{batches-are-ends, data-append, data-l
 use Rattle.router_model.proofs.SoundLemmas.{frame-sound}
 use Rattle.router_model.proofs.StaticsLemmas.{length-extended}
 use Rattle.router_model.proofs.TickLemmas.{ticks-lift}
+use Rattle.router_model.proofs.UpsLemmas.{stands-in}
 
 -- ### the first entries
 
@@ -48,6 +51,7 @@ first-is-proper settings journal n proper all =
     let long = ap (λ (j : Journal). length j) proper.whole in
     let both = length-append proper.entries (statics settings) in
     record {
+      may = proper.may;
       entries = drop k proper.entries;
       whole = ap (λ (j : Journal). drop k j) proper.whole ∙ drop-append-le k proper.entries (statics settings) (omega (arith, long, both, all));
       fit = fits-drop settings (statics settings) k proper.entries proper.fit;
@@ -55,7 +59,7 @@ first-is-proper settings journal n proper all =
 
 pub first-rules : FirstRules
 first-rules settings parts last n frame stands few =
-    ap (λ k. record { n = k; decision = decide_by settings (view_in parts frame.moment) frame })
+    ap (λ k. record { n = k; decision = decide_by (standing_in settings parts) (view_in parts frame.moment) frame })
     (ap (λ (p : Parts). p.count) stands.whole ∙ length-drop (length last - n) last ∙ (let same : length last - (length last - n) ≡ n = omega (arith, few) in same))
     ∙ ap (λ d. record { n = n; decision = d }) (table-decides settings parts (first n last) frame.moment frame stands)
 
@@ -76,23 +80,48 @@ record Writes (settings : Settings) (m more : ℕ) (t : Writing Parts) (j : Writ
   ready : Ready settings m (more + 5 * length (data_in j.items)) j.after
   octets : AllOctets (data_in j.items)
 
+-- one item with its entries, and a table that stands for a journal
+abbrev one_written : Settings → Journal → Item → List Entry → Writing Parts
+one_written settings journal item entries = record {
+  items = item ∷ [];
+  batches = entries ∷ [];
+  after = parts_in settings journal;
+}
+
 module _ (settings : Settings) (more : ℕ) (journal : Journal) where
-  second-writes : (s : ℕ) → Ready settings (seconds s) (more + 2048) journal → Writes settings (seconds s) more (event_written table settings (parts_in settings journal) (Tick s)) (event_written of_journal settings journal (Tick s))
+  second-writes : (s : ℕ) → Ready settings (seconds s) (more + 8192) journal → Writes settings (seconds s) more (event_written table settings (parts_in settings journal) (Tick s)) (event_written of_journal settings journal (Tick s))
   second-writes s ready =
-      let few = requests-few settings journal (seconds s) ready.proper ready.last in
-      let goes = ticks-lift settings (seconds s) more (unchanged journal) (fewer-ready settings (seconds s) (more + 2048) _ journal (omega (arith, few)) ready) in
-      record { same = ap (second_written table settings s) goes.same; ready = fewer-ready settings (seconds s) more (more + 5 * 0) _ (omega arith) goes.ready; octets = tt }
+      let changes = ready.proper.may.few_changes in
+      let databases = ready.proper.may.few_databases in
+      let goes = ticks-lift settings (seconds s) more (unchanged journal) (fewer-ready settings (seconds s) (more + 8192) _ journal (omega (arith, changes, databases)) ready) in
+      let j : Change Journal = ticked of_journal settings (seconds s) (unchanged journal) in
+      record {
+        same =
+            ap (second_written table settings s) goes.same
+            ∙ ap (λ (stand : Settings). one_written settings j.after (Second (emit_packets stand (seconds s) j.emits)) j.entries) (stands-in settings j.after);
+        ready = fewer-ready settings (seconds s) more (more + 5 * 0) _ (omega arith) goes.ready;
+        octets = tt;
+      }
 
-  frame-writes : (frame : Frame) → AreOctets frame.octets → Ready settings frame.moment (more + 2048) journal → Writes settings frame.moment more (event_written table settings (parts_in settings journal) (Arrival frame)) (event_written of_journal settings journal (Arrival frame))
-  frame-writes frame are ready = by (control settings frame)
+  frame-writes : (frame : Frame) → AreOctets frame.octets → Ready settings frame.moment (more + 8192) journal → Writes settings frame.moment more (event_written table settings (parts_in settings journal) (Arrival frame)) (event_written of_journal settings journal (Arrival frame))
+  frame-writes frame are ready =
+      subst (λ (stand : Settings). Writes settings frame.moment more (cond (control settings frame) (message_written table settings (length journal) frame (hear_by table stand frame.moment frame (unchanged (parts_in settings journal)))) (left_for_later (parts_in settings journal) frame)) (event_written of_journal settings journal (Arrival frame)))
+      (sym (stands-in settings journal)) (by (control settings frame))
     where
-      by : (b : Bool) → Writes settings frame.moment more (cond b (message_written table settings (length journal) frame (hear_by table settings frame.moment frame (unchanged (parts_in settings journal)))) (left_for_later (parts_in settings journal) frame)) (cond b (message_written of_journal settings (length journal) frame (hear_by of_journal settings frame.moment frame (unchanged journal))) (left_for_later journal frame))
+      by : (b : Bool) → Writes settings frame.moment more (cond b (message_written table settings (length journal) frame (hear_by table (standing settings journal) frame.moment frame (unchanged (parts_in settings journal)))) (left_for_later (parts_in settings journal) frame)) (cond b (message_written of_journal settings (length journal) frame (hear_by of_journal (standing settings journal) frame.moment frame (unchanged journal))) (left_for_later journal frame))
       by true =
-          let hears = frames-lift settings frame.moment more 256 frame (unchanged journal) (frame-sound settings frame are) (fewer-ready settings frame.moment (more + 2048) (more + 256) journal (omega arith) ready) in
-          record { same = ap (message_written table settings (length journal) frame) hears.same; ready = fewer-ready settings frame.moment more (more + 5 * 0) _ (omega arith) hears.ready; octets = tt }
-      by false = record { same = refl; ready = fewer-ready settings frame.moment (more + 2048) (more + 5 * 1) journal (omega arith) ready; octets = (are, tt) }
+          let hears = frames-lift settings (own_after settings journal) (changed journal) frame.moment more 256 frame (unchanged journal) (frame-sound (standing settings journal) frame are) (fewer-ready settings frame.moment (more + 8192) (more + 256) journal (omega arith) ready) in
+          let j : Heard Journal = hear_by of_journal (standing settings journal) frame.moment frame (unchanged journal) in
+          record {
+            same =
+                ap (message_written table settings (length journal) frame) hears.same
+                ∙ ap (λ (stand : Settings). one_written settings j.change.after (Message (line_of frame (length journal) j.verdict) (emit_packets stand frame.moment j.change.emits)) j.change.entries) (stands-in settings j.change.after);
+            ready = fewer-ready settings frame.moment more (more + 5 * 0) _ (omega arith) hears.ready;
+            octets = tt;
+          }
+      by false = record { same = refl; ready = fewer-ready settings frame.moment (more + 8192) (more + 5 * 1) journal (omega arith) ready; octets = (are, tt) }
 
-  event-writes : (event : Event) → HasOctets event → Ready settings (event_moment event) (more + 2048) journal → Writes settings (event_moment event) more (event_written table settings (parts_in settings journal) event) (event_written of_journal settings journal event)
+  event-writes : (event : Event) → HasOctets event → Ready settings (event_moment event) (more + 8192) journal → Writes settings (event_moment event) more (event_written table settings (parts_in settings journal) event) (event_written of_journal settings journal event)
   event-writes (Tick s) are ready = second-writes s ready
   event-writes (Arrival frame) are ready = frame-writes frame are ready
 
@@ -109,14 +138,14 @@ later-ready settings m later more fewer journal less few ready = record {
   room = (let room = ready.room in omega (arith, room, few));
 }
 
-all-writes : (settings : Settings) (more m : ℕ) (events : List Event) (journal : Journal) → AreInOrder m events → Ready settings m (more + 2048 * length events) journal → Writes settings (latest m events) more (writing table settings (parts_in settings journal) events) (writing of_journal settings journal events)
+all-writes : (settings : Settings) (more m : ℕ) (events : List Event) (journal : Journal) → AreInOrder m events → Ready settings m (more + 8192 * length events) journal → Writes settings (latest m events) more (writing table settings (parts_in settings journal) events) (writing of_journal settings journal events)
 all-writes settings more m [] journal order ready = record { same = refl; ready = ready; octets = tt }
 all-writes settings more m (event ∷ events) journal order ready =
-    let one = event-writes settings (more + 2048 * length events) journal event order.1.0 (later-ready settings m (event_moment event) (more + 2048 * suc (length events)) ((more + 2048 * length events) + 2048) journal order.0 (omega arith) ready) in
+    let one = event-writes settings (more + 8192 * length events) journal event order.1.0 (later-ready settings m (event_moment event) (more + 8192 * suc (length events)) ((more + 8192 * length events) + 8192) journal order.0 (omega arith) ready) in
     let j : Writing Journal = event_written of_journal settings journal event in
     let next : Writing Journal = writing of_journal settings j.after events in
     let left : ℕ = length (data_in j.items) in
-    let rest = all-writes settings (more + 5 * left) (event_moment event) events j.after order.1.1 (fewer-ready settings (event_moment event) ((more + 2048 * length events) + 5 * left) ((more + 5 * left) + 2048 * length events) j.after (omega arith) one.ready) in
+    let rest = all-writes settings (more + 5 * left) (event_moment event) events j.after order.1.1 (fewer-ready settings (event_moment event) ((more + 8192 * length events) + 5 * left) ((more + 5 * left) + 8192 * length events) j.after (omega arith) one.ready) in
     let long = ap (λ (l : List Frame). length l) (data-append j.items next.items) ∙ length-append (data_in j.items) (data_in next.items) in
     record {
       same =
@@ -126,7 +155,7 @@ all-writes settings more m (event ∷ events) journal order ready =
       octets = subst AllOctets (sym (data-append j.items next.items)) (octets-append (data_in j.items) (data_in next.items) one.octets rest.octets);
     }
 
-may-write : (settings : Settings) (m : ℕ) (journal : Journal) (events : List Event) → MayBegin settings m journal events → Ready settings m (0 + 2048 * length events) journal
+may-write : (settings : Settings) (m : ℕ) (journal : Journal) (events : List Event) → MayBegin settings m journal events → Ready settings m (0 + 8192 * length events) journal
 may-write settings m journal events may = record { proper = may.proper; last = may.last; room = (let room = may.room in omega (arith, room)) }
 
 pub table-writes : TableWrites
@@ -160,30 +189,31 @@ module _ (settings : Settings) where
   absorbed-by journal t j same grown =
       ap (λ (c : Change Parts). with_entries table (parts_in settings journal) c.entries) (sym same) ∙ sym grown ∙ ap (λ (c : Change Parts). c.after) same
 
-  batches-stood : (m k : ℕ) (events : List Event) (journal : Journal) → AreInOrder m events → Ready settings m (0 + 2048 * length events) journal → Stood settings journal (take k (writing of_journal settings journal events).batches)
+  batches-stood : (m k : ℕ) (events : List Event) (journal : Journal) → AreInOrder m events → Ready settings m (0 + 8192 * length events) journal → Stood settings journal (take k (writing of_journal settings journal events).batches)
   batches-stood m zero events journal order ready = record { same = refl; proper = ready.proper }
   batches-stood m (suc k) [] journal order ready = record { same = refl; proper = ready.proper }
   batches-stood m (suc k) (Tick s ∷ events) journal order ready =
-      let now = later-ready settings m (seconds s) (0 + 2048 * suc (length events)) ((0 + 2048 * length events) + 2048) journal order.0 (omega arith) ready in
-      let few = requests-few settings journal (seconds s) now.proper now.last in
-      let goes = ticks-lift settings (seconds s) (0 + 2048 * length events) (unchanged journal) (fewer-ready settings (seconds s) ((0 + 2048 * length events) + 2048) _ journal (omega (arith, few)) now) in
+      let now = later-ready settings m (seconds s) (0 + 8192 * suc (length events)) ((0 + 8192 * length events) + 8192) journal order.0 (omega arith) ready in
+      let changes = now.proper.may.few_changes in
+      let databases = now.proper.may.few_databases in
+      let goes = ticks-lift settings (seconds s) (0 + 8192 * length events) (unchanged journal) (fewer-ready settings (seconds s) ((0 + 8192 * length events) + 8192) _ journal (omega (arith, changes, databases)) now) in
       let change : Change Journal = ticked of_journal settings (seconds s) (unchanged journal) in
       stood-on settings journal change.after change.entries (take k (writing of_journal settings change.after events).batches)
       (absorbed-by journal (ticked table settings (seconds s) (unchanged (parts_in settings journal))) change goes.same (grown-ticked table settings (seconds s) (parts_in settings journal) (unchanged (parts_in settings journal)) refl))
       (tick-grows settings journal s)
       (batches-stood (seconds s) k events change.after order.1.1 goes.ready)
   batches-stood m (suc k) (Arrival frame ∷ events) journal order ready =
-      let now = later-ready settings m frame.moment (0 + 2048 * suc (length events)) ((0 + 2048 * length events) + 256) journal order.0 (omega arith) ready in
-      let change : Change Journal = (hear_by of_journal settings frame.moment frame (unchanged journal)).change in
-      let hears = frames-lift settings frame.moment (0 + 2048 * length events) 256 frame (unchanged journal) (frame-sound settings frame order.1.0) now in
+      let now = later-ready settings m frame.moment (0 + 8192 * suc (length events)) ((0 + 8192 * length events) + 256) journal order.0 (omega arith) ready in
+      let change : Change Journal = (hear_by of_journal (standing settings journal) frame.moment frame (unchanged journal)).change in
+      let hears = frames-lift settings (own_after settings journal) (changed journal) frame.moment (0 + 8192 * length events) 256 frame (unchanged journal) (frame-sound (standing settings journal) frame order.1.0) now in
       by (control settings frame)
       (stood-on settings journal change.after change.entries (take k (writing of_journal settings change.after events).batches)
-      (absorbed-by journal (hear_by table settings frame.moment frame (unchanged (parts_in settings journal))).change change (ap (λ (h : Heard Parts). h.change) hears.same) (grown-heard table settings frame.moment (parts_in settings journal) frame (unchanged (parts_in settings journal)) refl))
+      (absorbed-by journal (hear_by table (standing settings journal) frame.moment frame (unchanged (parts_in settings journal))).change change (ap (λ (h : Heard Parts). h.change) hears.same) (grown-heard table (standing settings journal) frame.moment (parts_in settings journal) frame (unchanged (parts_in settings journal)) refl))
       (message-grows settings journal frame)
       (batches-stood frame.moment k events change.after order.1.1 hears.ready))
-      (batches-stood frame.moment (suc k) events journal order.1.1 (fewer-ready settings frame.moment ((0 + 2048 * length events) + 256) (0 + 2048 * length events) journal (omega arith) now))
+      (batches-stood frame.moment (suc k) events journal order.1.1 (fewer-ready settings frame.moment ((0 + 8192 * length events) + 256) (0 + 8192 * length events) journal (omega arith) now))
     where
-      by : (b : Bool) → Stood settings journal ((hear_by of_journal settings frame.moment frame (unchanged journal)).change.entries ∷ take k (writing of_journal settings (hear_by of_journal settings frame.moment frame (unchanged journal)).change.after events).batches) → Stood settings journal (take (suc k) (writing of_journal settings journal events).batches) → let written = cond b (message_written of_journal settings (length journal) frame (hear_by of_journal settings frame.moment frame (unchanged journal))) (left_for_later journal frame) in Stood settings journal (take (suc k) (written.batches ++ (writing of_journal settings written.after events).batches))
+      by : (b : Bool) → Stood settings journal ((hear_by of_journal (standing settings journal) frame.moment frame (unchanged journal)).change.entries ∷ take k (writing of_journal settings (hear_by of_journal (standing settings journal) frame.moment frame (unchanged journal)).change.after events).batches) → Stood settings journal (take (suc k) (writing of_journal settings journal events).batches) → let written = cond b (message_written of_journal settings (length journal) frame (hear_by of_journal (standing settings journal) frame.moment frame (unchanged journal))) (left_for_later journal frame) in Stood settings journal (take (suc k) (written.batches ++ (writing of_journal settings written.after events).batches))
       by true heard left = heard
       by false heard left = left
 
@@ -222,7 +252,7 @@ FewSound frames notices = (list_all is_sound notices ≡ true) × (length notice
 rulings-sound : (settings : Settings) (last : Journal) (ns : List ℕ) (frames : List Frame) → AllOctets frames → FewSound (length frames) (notices_of (rulings settings last ns frames))
 rulings-sound settings last ns [] are = (refl, omega arith)
 rulings-sound settings last ns (frame ∷ frames) are =
-    let one = notices-sound settings (view (first (get_or ns 0 0) last) frame.moment) frame are.0 in
+    let one = notices-sound (standing settings (first (get_or ns 0 0) last)) (view (first (get_or ns 0 0) last) frame.moment) frame are.0 in
     let rest = rulings-sound settings last (drop 1 ns) frames are.1 in
     let decision = decided settings last (get_or ns 0 0) frame in
     let others = notices_of (rulings settings last (drop 1 ns) frames) in
@@ -242,6 +272,15 @@ latest-closing m previous frame (next ∷ frames) =
     latest-append m (events_of previous frame) (events_after (Some frame.moment) (next ∷ frames))
     ∙ latest-closing (latest m (events_of previous frame)) (Some frame.moment) next frames
 
+-- what a round gives, and a table that stands for a journal
+abbrev all_worked : Settings → Journal → List Line → List Packet → List (List Entry) → Worked Parts
+all_worked settings journal lines packets batches = record {
+  lines = lines;
+  packets = packets;
+  batches = batches;
+  after = parts_in settings journal;
+}
+
 -- a round by tables that decide as the journal
 module _ (settings : Settings) (journal : Journal) (events : List Event) (ns : List ℕ) where
   abbrev by_journal : ℕ → Worked Journal
@@ -255,13 +294,13 @@ module _ (settings : Settings) (journal : Journal) (events : List Event) (ns : L
     same : by_table (latest m events) ≡ worked_tabled settings (by_journal (latest m events))
     proper : IsProper settings (by_journal (latest m events)).after
     last : last_moment (by_journal (latest m events)).after ≤ latest m events
-    few : length (by_journal (latest m events)).after ≤ length journal + 2048 * length events
+    few : length (by_journal (latest m events)).after ≤ length journal + 8192 * length events
 
   events-share : (m : ℕ) → MayBegin settings m journal events → EventsShare m
   events-share m may =
       let room = may.room in
-      let more : ℕ = 2 ^ 62 - (length journal + 2048 * length events) in
-      let begins : Ready settings m (more + 2048 * length events) journal = record { proper = may.proper; last = may.last; room = omega (arith, room) } in
+      let more : ℕ = 2 ^ 62 - (length journal + 8192 * length events) in
+      let begins : Ready settings m (more + 8192 * length events) journal = record { proper = may.proper; last = may.last; room = omega (arith, room) } in
       let writes = all-writes settings more m events journal may.order begins in
       let written : Writing Journal = writing of_journal settings journal events in
       let ruled : List Ruling = rulings settings written.after ns (data_in written.items) in
@@ -269,12 +308,15 @@ module _ (settings : Settings) (journal : Journal) (events : List Event) (ns : L
       let moment : ℕ = latest m events in
       let few = sound.1 in
       let goes =
-      goes-each settings moment (noted table settings moment) (noted of_journal settings moment) is_sound (λ more n change pass ready. notes-lift settings moment more n change pass ready) (notices_of ruled) sound.0 more (unchanged (parts_in settings written.after)) (unchanged written.after)
+      goes-each settings moment (noted table (standing settings written.after) moment) (noted of_journal (standing settings written.after) moment) is_sound (λ more n change pass ready. notes-lift settings (own_after settings written.after) (changed written.after) moment more n change pass ready) (notices_of ruled) sound.0 more (unchanged (parts_in settings written.after)) (unchanged written.after)
       (record { same = refl; ready = fewer-ready settings moment (more + 5 * length (data_in written.items)) (more + length (notices_of ruled)) written.after (omega (arith, few)) writes.ready }) in
+      let j : Change Journal = each (noted of_journal (standing settings written.after) moment) (notices_of ruled) (unchanged written.after) in
       record {
         same =
             ap (λ (t : Writing Parts). put_together table settings moment t ruled (noting table settings moment t.after ruled)) writes.same
-            ∙ ap (put_together table settings moment (writing_tabled settings written) ruled) goes.same;
+            ∙ ap (λ (stand : Settings). put_together table settings moment (writing_tabled settings written) ruled (each (noted table stand moment) (notices_of ruled) (unchanged (parts_in settings written.after)))) (stands-in settings written.after)
+            ∙ ap (put_together table settings moment (writing_tabled settings written) ruled) goes.same
+            ∙ ap (λ (stand : Settings). all_worked settings j.after (lines_by written.items ruled) (packets_by written.items ruled ++ emit_packets stand moment j.emits) (written.batches ++ j.entries ∷ [])) (stands-in settings j.after);
         proper = goes.ready.proper;
         last = goes.ready.last;
         few = (let left = goes.ready.room in omega (arith, left, room));
@@ -328,7 +370,7 @@ round-stays settings previous (frame ∷ frames) journal ns m may =
       subst (IsProper settings) after share.proper,
       (
         subst (λ (j : Journal). last_moment j ≤ max m closing) after (omega (arith, last, same)),
-        subst (λ (j : Journal). length j ≤ length journal + 2048 * length events) after share.few,
+        subst (λ (j : Journal). length j ≤ length journal + 8192 * length events) after share.few,
       ),
     )
 

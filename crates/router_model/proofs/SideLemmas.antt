@@ -18,6 +18,7 @@ use Rattle.router_model.specs.Plain.{packet_of, packets_of}
 use Rattle.router_model.specs.Rounds.{advanced, all_advanced, and_then, data_frames, decided, ends, lengths, of_data, of_events, of_message, of_second, with_if, with_notices, Line, Told, line_of}
 use Rattle.router_model.specs.Sharing.{BatchesAreEnds, DataAreLeft, EndsAreBatches, EndsWithin, FilledAreBatches, FilledBehind, FirstOfMore, JournalAdds, SidesMeet, WritingAdvances, after_batches, filled, opening, LinesShow, shown, WritingFollows, ToldFollows, OpeningWithin, EventsFollow, LastCloses, moment_after}
 use Rattle.router_model.specs.Sides.{Item, Second, Message, Data, Ruling, Writing, data_in, event_written, joined, left_for_later, message_written, notices_of, rulings, told_by, with_entries, writing, then_written}
+use Rattle.router_model.specs.Standing.{standing}
 use Rattle.router_model.specs.Tick.{ticked}
 use Rattle.router_model.proofs.GrowLemmas.{grown-each, grown-heard, grown-noted, grown-ticked, with-more}
 use Rattle.router_model.proofs.StaticsLemmas.{length-extended}
@@ -42,10 +43,10 @@ module _ {S : Type 0} (ledger : Ledger S) (settings : Settings) where
       single state change.after change.entries (grown-ticked ledger settings (seconds s) state (unchanged state) refl)
   event-adds state (Arrival frame) = by (control settings frame)
     where
-      by : (b : Bool) → let written = cond b (message_written ledger settings (ledger.count state) frame (hear_by ledger settings frame.moment frame (unchanged state))) (left_for_later state frame) in written.after ≡ with_entries ledger state (joined written.batches)
+      by : (b : Bool) → let written = cond b (message_written ledger settings (ledger.count state) frame (hear_by ledger (ledger.stands settings state) frame.moment frame (unchanged state))) (left_for_later state frame) in written.after ≡ with_entries ledger state (joined written.batches)
       by true =
-          let change = (hear_by ledger settings frame.moment frame (unchanged state)).change in
-          single state change.after change.entries (grown-heard ledger settings frame.moment state frame (unchanged state) refl)
+          let change = (hear_by ledger (ledger.stands settings state) frame.moment frame (unchanged state)).change in
+          single state change.after change.entries (grown-heard ledger (ledger.stands settings state) frame.moment state frame (unchanged state) refl)
       by false = refl
 
   more-adds : (state middle after : S) (one next : List (List Entry)) → middle ≡ with_entries ledger state (joined one) → after ≡ with_entries ledger middle (joined next) → after ≡ with_entries ledger state (joined (one ++ next))
@@ -61,12 +62,12 @@ module _ {S : Type 0} (ledger : Ledger S) (settings : Settings) where
       let next = writing ledger settings one.after events in
       more-adds state one.after next.after one.batches next.batches (event-adds state event) (writing-adds one.after events)
 
-  pub worked-adds : (moment : ℕ) (state : S) (events : List Event) (ruled : List Ruling) → let written = writing ledger settings state events in let change = each (noted ledger settings moment) (notices_of ruled) (unchanged written.after) in change.after ≡ with_entries ledger state (joined (written.batches ++ change.entries ∷ []))
+  pub worked-adds : (moment : ℕ) (state : S) (events : List Event) (ruled : List Ruling) → let written = writing ledger settings state events in let change = each (noted ledger (ledger.stands settings written.after) moment) (notices_of ruled) (unchanged written.after) in change.after ≡ with_entries ledger state (joined (written.batches ++ change.entries ∷ []))
   worked-adds moment state events ruled =
       let written : Writing S = writing ledger settings state events in
-      let change : Change S = each (noted ledger settings moment) (notices_of ruled) (unchanged written.after) in
+      let change : Change S = each (noted ledger (ledger.stands settings written.after) moment) (notices_of ruled) (unchanged written.after) in
       more-adds state written.after change.after written.batches (change.entries ∷ []) (writing-adds state events)
-      (single written.after change.after change.entries (grown-each ledger settings moment written.after (noted ledger settings moment) (grown-noted ledger settings moment written.after) (notices_of ruled) (unchanged written.after) refl))
+      (single written.after change.after change.entries (grown-each ledger (ledger.stands settings written.after) moment written.after (noted ledger (ledger.stands settings written.after) moment) (grown-noted ledger (ledger.stands settings written.after) moment written.after) (notices_of ruled) (unchanged written.after) refl))
 
 pub journal-adds : JournalAdds
 journal-adds journal [] = refl
@@ -103,7 +104,7 @@ module _ (settings : Settings) where
   event-advances journal (Tick s) = refl
   event-advances journal (Arrival frame) = by (control settings frame)
     where
-      by : (b : Bool) → (cond b (message_written of_journal settings (length journal) frame (hear_by of_journal settings frame.moment frame (unchanged journal))) (left_for_later journal frame)).after ≡ cond b (hear_by of_journal settings frame.moment frame (unchanged journal)).change.after journal
+      by : (b : Bool) → (cond b (message_written of_journal settings (length journal) frame (hear_by of_journal (standing settings journal) frame.moment frame (unchanged journal))) (left_for_later journal frame)).after ≡ cond b (hear_by of_journal (standing settings journal) frame.moment frame (unchanged journal)).change.after journal
       by true = refl
       by false = refl
 
@@ -129,12 +130,12 @@ module _ (settings : Settings) (last : Journal) where
       ap (and_then (of_second settings s (ticked of_journal settings (seconds s) (unchanged journal))))
       (events-told (advanced settings journal (Tick s)) ns events)
   events-told journal ns (Arrival frame ∷ events) =
-      by (control settings frame) (events-told (hear_by of_journal settings frame.moment frame (unchanged journal)).change.after ns events)
+      by (control settings frame) (events-told (hear_by of_journal (standing settings journal) frame.moment frame (unchanged journal)).change.after ns events)
       (events-told journal (drop 1 ns) events)
     where
-      by : (b : Bool) → AreTold (hear_by of_journal settings frame.moment frame (unchanged journal)).change.after ns events → AreTold journal (drop 1 ns) events → let written = cond b (message_written of_journal settings (length journal) frame (hear_by of_journal settings frame.moment frame (unchanged journal))) (left_for_later journal frame) in let items = written.items ++ (writing of_journal settings written.after events).items in and_then (cond b (of_message settings journal frame (hear_by of_journal settings frame.moment frame (unchanged journal))) (of_data settings frame (get_or ns 0 0) (decided settings last (get_or ns 0 0) frame))) (of_events settings last (cond b (hear_by of_journal settings frame.moment frame (unchanged journal)).change.after journal) (cond b ns (drop 1 ns)) events) ≡ told_by items (rulings settings last ns (data_in items))
+      by : (b : Bool) → AreTold (hear_by of_journal (standing settings journal) frame.moment frame (unchanged journal)).change.after ns events → AreTold journal (drop 1 ns) events → let written = cond b (message_written of_journal settings (length journal) frame (hear_by of_journal (standing settings journal) frame.moment frame (unchanged journal))) (left_for_later journal frame) in let items = written.items ++ (writing of_journal settings written.after events).items in and_then (cond b (of_message settings journal frame (hear_by of_journal (standing settings journal) frame.moment frame (unchanged journal))) (of_data settings frame (get_or ns 0 0) (decided settings last (get_or ns 0 0) frame))) (of_events settings last (cond b (hear_by of_journal (standing settings journal) frame.moment frame (unchanged journal)).change.after journal) (cond b ns (drop 1 ns)) events) ≡ told_by items (rulings settings last ns (data_in items))
       by true heard left =
-          ap (and_then (of_message settings journal frame (hear_by of_journal settings frame.moment frame (unchanged journal)))) heard
+          ap (and_then (of_message settings journal frame (hear_by of_journal (standing settings journal) frame.moment frame (unchanged journal)))) heard
       by false heard left =
           ap (and_then (of_data settings frame (get_or ns 0 0) (decided settings last (get_or ns 0 0) frame))) left
 
@@ -157,7 +158,7 @@ module _ {S : Type 0} (ledger : Ledger S) (settings : Settings) where
   data-first : (state : S) (frame : Frame) → data_in (event_written ledger settings state (Arrival frame)).items ≡ filter (λ f. not (control settings f)) (frame ∷ [])
   data-first state frame = by (control settings frame)
     where
-      by : (b : Bool) → data_in (cond b (message_written ledger settings (ledger.count state) frame (hear_by ledger settings frame.moment frame (unchanged state))) (left_for_later state frame)).items ≡ cond (not b) (frame ∷ []) []
+      by : (b : Bool) → data_in (cond b (message_written ledger settings (ledger.count state) frame (hear_by ledger (ledger.stands settings state) frame.moment frame (unchanged state))) (left_for_later state frame)).items ≡ cond (not b) (frame ∷ []) []
       by true = refl
       by false = refl
 
@@ -236,8 +237,8 @@ module _ (settings : Settings) where
   pub tick-grows : (journal : Journal) (s : ℕ) → let change = ticked of_journal settings (seconds s) (unchanged journal) in change.after ≡ extended journal change.entries
   tick-grows journal s = grown-ticked of_journal settings (seconds s) journal (unchanged journal) refl ∙ journal-adds journal (ticked of_journal settings (seconds s) (unchanged journal)).entries
 
-  pub message-grows : (journal : Journal) (frame : Frame) → let change = (hear_by of_journal settings frame.moment frame (unchanged journal)).change in change.after ≡ extended journal change.entries
-  message-grows journal frame = grown-heard of_journal settings frame.moment journal frame (unchanged journal) refl ∙ journal-adds journal (hear_by of_journal settings frame.moment frame (unchanged journal)).change.entries
+  pub message-grows : (journal : Journal) (frame : Frame) → let change = (hear_by of_journal (standing settings journal) frame.moment frame (unchanged journal)).change in change.after ≡ extended journal change.entries
+  message-grows journal frame = grown-heard of_journal (standing settings journal) frame.moment journal frame (unchanged journal) refl ∙ journal-adds journal (hear_by of_journal (standing settings journal) frame.moment frame (unchanged journal)).change.entries
 
   lengths-lie : (journal : Journal) (events : List Event) (n : ℕ) → Contains (lengths settings journal events) n → Lies journal (writing of_journal settings journal events).batches n
   lengths-lie journal [] n has = absurd (none-of n has)
@@ -249,11 +250,11 @@ module _ (settings : Settings) where
         | inr more ↦ lies-on journal change.after change.entries batches n (tick-grows journal s) (lengths-lie change.after events n more)
       ]
   lengths-lie journal (Arrival frame ∷ events) n has =
-      by (control settings frame) has (lengths-lie (hear_by of_journal settings frame.moment frame (unchanged journal)).change.after events n) (lengths-lie journal events n)
+      by (control settings frame) has (lengths-lie (hear_by of_journal (standing settings journal) frame.moment frame (unchanged journal)).change.after events n) (lengths-lie journal events n)
     where
-      by : (b : Bool) → let after = cond b (hear_by of_journal settings frame.moment frame (unchanged journal)).change.after journal in Contains (with_if b (length after) (lengths settings after events)) n → (Contains (lengths settings (hear_by of_journal settings frame.moment frame (unchanged journal)).change.after events) n → Lies (hear_by of_journal settings frame.moment frame (unchanged journal)).change.after (writing of_journal settings (hear_by of_journal settings frame.moment frame (unchanged journal)).change.after events).batches n) → (Contains (lengths settings journal events) n → Lies journal (writing of_journal settings journal events).batches n) → let written = cond b (message_written of_journal settings (length journal) frame (hear_by of_journal settings frame.moment frame (unchanged journal))) (left_for_later journal frame) in Lies journal (written.batches ++ (writing of_journal settings written.after events).batches) n
+      by : (b : Bool) → let after = cond b (hear_by of_journal (standing settings journal) frame.moment frame (unchanged journal)).change.after journal in Contains (with_if b (length after) (lengths settings after events)) n → (Contains (lengths settings (hear_by of_journal (standing settings journal) frame.moment frame (unchanged journal)).change.after events) n → Lies (hear_by of_journal (standing settings journal) frame.moment frame (unchanged journal)).change.after (writing of_journal settings (hear_by of_journal (standing settings journal) frame.moment frame (unchanged journal)).change.after events).batches n) → (Contains (lengths settings journal events) n → Lies journal (writing of_journal settings journal events).batches n) → let written = cond b (message_written of_journal settings (length journal) frame (hear_by of_journal (standing settings journal) frame.moment frame (unchanged journal))) (left_for_later journal frame) in Lies journal (written.batches ++ (writing of_journal settings written.after events).batches) n
       by true has heard left =
-          let change : Change Journal = (hear_by of_journal settings frame.moment frame (unchanged journal)).change in
+          let change : Change Journal = (hear_by of_journal (standing settings journal) frame.moment frame (unchanged journal)).change in
           let batches : List (List Entry) = (writing of_journal settings change.after events).batches in
           elim (one-of (length change.after) (lengths settings change.after events) n has) as (λ _. Lies journal (change.entries ∷ batches) n) [
             | inl is ↦ lies-first journal change.after change.entries batches n (message-grows journal frame) is
@@ -338,13 +339,13 @@ module _ (settings : Settings) where
       (later-one (length journal) rest (long change.after events k) (lengths-have k events change.after))
   lengths-have (suc k) (Arrival frame ∷ events) journal =
       by (control settings frame)
-      (let change : Change Journal = (hear_by of_journal settings frame.moment frame (unchanged journal)).change in
+      (let change : Change Journal = (hear_by of_journal (standing settings journal) frame.moment frame (unchanged journal)).change in
       let rest : List ℕ = length change.after ∷ lengths settings change.after events in
       subst (Contains (length journal ∷ rest)) (sym (length-on journal change.after change.entries (joined (take k (writing of_journal settings change.after events).batches)) (message-grows settings journal frame)))
       (later-one (length journal) rest (long change.after events k) (lengths-have k events change.after)))
       (lengths-have (suc k) events journal)
     where
-      by : (b : Bool) → let after = (hear_by of_journal settings frame.moment frame (unchanged journal)).change.after in Contains (length journal ∷ length after ∷ lengths settings after events) (length (extended journal ((hear_by of_journal settings frame.moment frame (unchanged journal)).change.entries ++ joined (take k (writing of_journal settings after events).batches)))) → Contains (length journal ∷ lengths settings journal events) (length (extended journal (joined (take (suc k) (writing of_journal settings journal events).batches)))) → let written = cond b (message_written of_journal settings (length journal) frame (hear_by of_journal settings frame.moment frame (unchanged journal))) (left_for_later journal frame) in let next = cond b (hear_by of_journal settings frame.moment frame (unchanged journal)).change.after journal in Contains (length journal ∷ with_if b (length next) (lengths settings next events)) (length (extended journal (joined (take (suc k) (written.batches ++ (writing of_journal settings written.after events).batches)))))
+      by : (b : Bool) → let after = (hear_by of_journal (standing settings journal) frame.moment frame (unchanged journal)).change.after in Contains (length journal ∷ length after ∷ lengths settings after events) (length (extended journal ((hear_by of_journal (standing settings journal) frame.moment frame (unchanged journal)).change.entries ++ joined (take k (writing of_journal settings after events).batches)))) → Contains (length journal ∷ lengths settings journal events) (length (extended journal (joined (take (suc k) (writing of_journal settings journal events).batches)))) → let written = cond b (message_written of_journal settings (length journal) frame (hear_by of_journal (standing settings journal) frame.moment frame (unchanged journal))) (left_for_later journal frame) in let next = cond b (hear_by of_journal (standing settings journal) frame.moment frame (unchanged journal)).change.after journal in Contains (length journal ∷ with_if b (length next) (lengths settings next events)) (length (extended journal (joined (take (suc k) (written.batches ++ (writing of_journal settings written.after events).batches)))))
       by true heard left = heard
       by false heard left = left
 
@@ -411,11 +412,11 @@ module _ (settings : Settings) (last : Journal) where
   events-show (Arrival frame ∷ events) journal ns each =
       let shows =
       by (control settings frame) ns each
-      (events-show events (hear_by of_journal settings frame.moment frame (unchanged journal)).change.after ns)
+      (events-show events (hear_by of_journal (standing settings journal) frame.moment frame (unchanged journal)).change.after ns)
       (λ ms few. events-show events journal ms few) in
       (shows.0, shown-by frame (arrivals events) (of_events settings last journal ns (Arrival frame ∷ events)).lines ∙ shows.1)
     where
-      by : (b : Bool) (ns : List ℕ) → length ns ≡ length (cond (not b) (frame ∷ data_frames settings (arrivals events)) (data_frames settings (arrivals events))) → (length ns ≡ length (data_frames settings (arrivals events)) → Shows (arrivals events) (of_events settings last (hear_by of_journal settings frame.moment frame (unchanged journal)).change.after ns events).lines ns) → ((ms : List ℕ) → length ms ≡ length (data_frames settings (arrivals events)) → Shows (arrivals events) (of_events settings last journal ms events).lines ms) → let lines = (and_then (cond b (of_message settings journal frame (hear_by of_journal settings frame.moment frame (unchanged journal))) (of_data settings frame (get_or ns 0 0) (decided settings last (get_or ns 0 0) frame))) (of_events settings last (cond b (hear_by of_journal settings frame.moment frame (unchanged journal)).change.after journal) (cond b ns (drop 1 ns)) events)).lines in (length lines ≡ suc (length (arrivals events))) × (shown_with b (arrivals events) lines ≡ ns)
+      by : (b : Bool) (ns : List ℕ) → length ns ≡ length (cond (not b) (frame ∷ data_frames settings (arrivals events)) (data_frames settings (arrivals events))) → (length ns ≡ length (data_frames settings (arrivals events)) → Shows (arrivals events) (of_events settings last (hear_by of_journal (standing settings journal) frame.moment frame (unchanged journal)).change.after ns events).lines ns) → ((ms : List ℕ) → length ms ≡ length (data_frames settings (arrivals events)) → Shows (arrivals events) (of_events settings last journal ms events).lines ms) → let lines = (and_then (cond b (of_message settings journal frame (hear_by of_journal (standing settings journal) frame.moment frame (unchanged journal))) (of_data settings frame (get_or ns 0 0) (decided settings last (get_or ns 0 0) frame))) (of_events settings last (cond b (hear_by of_journal (standing settings journal) frame.moment frame (unchanged journal)).change.after journal) (cond b ns (drop 1 ns)) events)).lines in (length lines ≡ suc (length (arrivals events))) × (shown_with b (arrivals events) lines ≡ ns)
       by true ns each heard left = let rest = heard each in (ap (λ n. suc n) rest.0, rest.1)
       by false [] each heard left = absurd (let bad : ⊥ = omega (arith, each) in bad)
       by false (n ∷ ns) each heard left = let rest = left ns (omega (arith, each)) in (ap (λ n. suc n) rest.0, ap (λ l. n ∷ l) rest.1)

@@ -19,6 +19,7 @@ use Rattle.router_model.specs.Note.{noted}
 use Rattle.router_model.specs.Plain.{Router, after_decision, after_message, emit_packets, packet_of, packets_of, plain, started}
 use Rattle.router_model.specs.Rounds.{AllLawful, AreLawful, Told, advanced, after_round, all_advanced, and_then, closing_moment, data_frames, decided, ends, lengths, nothing, of_data, of_events, of_message, round, round_of_events, rounds_from, with_if, with_notices}
 use Rattle.router_model.specs.Sharing.{NumbersExist, SinglesAreForced, SinglesArePlain, RoundsFollow, LawfulFollow, previous_after}
+use Rattle.router_model.specs.Standing.{standing}
 use Rattle.router_model.specs.Tick.{tick}
 use Rattle.router_model.proofs.CutLemmas.{cut-singly}
 use Rattle.router_model.proofs.SideLemmas.{none-of, one-of}
@@ -41,15 +42,15 @@ module _ (settings : Settings) (frame : Frame) where
 
   message-plain : (journal : Journal) (heard : Heard Journal) → after_round (router_of journal) (with_notices settings frame.moment heard.change.after (and_then (of_message settings journal frame heard) nothing)) ≡ followed (after_message of_journal (router_of journal) frame heard) (idle (after_message of_journal (router_of journal) frame heard).after)
   message-plain journal heard =
-      let packets : List Packet = emit_packets settings frame.moment heard.change.emits in
+      let packets : List Packet = emit_packets (standing settings heard.change.after) frame.moment heard.change.emits in
       ap (λ p. record (after_round (router_of journal) (with_notices settings frame.moment heard.change.after (and_then (of_message settings journal frame heard) nothing))) { packets = p })
       (append-nil (packets ++ []))
 
   abbrev change_of : Journal → List Notice → Change Journal
-  change_of journal notices = each (noted of_journal settings frame.moment) notices (unchanged journal)
+  change_of journal notices = each (noted of_journal (standing settings journal) frame.moment) notices (unchanged journal)
 
   abbrev sent : Journal → List Notice → List Packet
-  sent journal notices = emit_packets settings frame.moment (change_of journal notices).emits
+  sent journal notices = emit_packets (standing settings (change_of journal notices).after) frame.moment (change_of journal notices).emits
 
   -- the outcome of a decision, with these packets
   abbrev out : Journal → Decision → List Notice → List Packet → Outcome (Router Journal)
@@ -73,7 +74,7 @@ module _ (settings : Settings) (frame : Frame) where
   frame-plain : (journal : Journal) (ns : List ℕ) → IsWhole journal ns → IsPlain (Arrival frame ∷ []) journal ns
   frame-plain journal ns whole = by (control settings frame) refl
     where
-      by : (b : Bool) → control settings frame ≡ b → let last = cond b (hear settings journal frame.moment frame).change.after journal in after_round (router_of journal) (with_notices settings frame.moment last (and_then (cond b (of_message settings journal frame (hear settings journal frame.moment frame)) (of_data settings frame (get_or ns 0 0) (decided settings last (get_or ns 0 0) frame))) nothing)) ≡ let out = cond b (after_message of_journal (router_of journal) frame (hear_by of_journal settings frame.moment frame (unchanged journal))) (after_decision of_journal (router_of journal) frame (decide settings journal frame.moment frame)) in followed out (idle out.after)
+      by : (b : Bool) → control settings frame ≡ b → let last = cond b (hear settings journal frame.moment frame).change.after journal in after_round (router_of journal) (with_notices settings frame.moment last (and_then (cond b (of_message settings journal frame (hear settings journal frame.moment frame)) (of_data settings frame (get_or ns 0 0) (decided settings last (get_or ns 0 0) frame))) nothing)) ≡ let out = cond b (after_message of_journal (router_of journal) frame (hear_by of_journal (standing settings journal) frame.moment frame (unchanged journal))) (after_decision of_journal (router_of journal) frame (decide settings journal frame.moment frame)) in followed out (idle out.after)
       by true is = message-plain journal (hear settings journal frame.moment frame)
       by false is =
           ap (λ n. after_round (router_of journal) (with_notices settings frame.moment journal (and_then (of_data settings frame n (decide settings (first n journal) frame.moment frame)) nothing))) (whole is)
@@ -98,7 +99,7 @@ module _ (settings : Settings) (frame : Frame) where
       let events : List Event = behind_seconds ss frame in
       let last : Journal = all_advanced settings change.after events in
       let told : Told = of_events settings last change.after ns events in
-      let packets : List Packet = emit_packets settings (seconds s) change.emits in
+      let packets : List Packet = emit_packets (standing settings change.after) (seconds s) change.emits in
       ap (λ p. record (after_round (router_of journal) (with_notices settings frame.moment last told)) { packets = p })
       (append_assoc packets told.packets (sent last told.notices))
       ∙ ap (followed (plain (router_of journal) (Tick s))) (seconds-plain ss change.after ns all each)

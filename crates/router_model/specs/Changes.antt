@@ -9,21 +9,32 @@ use Rattle.router_log.specs.declared.emit.Emit.{Emit}
 use Rattle.router_log.specs.declared.emit.Emit.TheVariants as emit
 use Rattle.router_log.specs.declared.entry.Entry.{Entry}
 use Rattle.router_log.specs.declared.entry.Entry.TheVariants as entry
-use Rattle.router_model.specs.Journal.{Journal}
+use Rattle.router_model.specs.Journal.{Journal, changed}
 use Rattle.router_model.specs.Limits.{most_mappings, most_requests}
 use Rattle.router_model.specs.Mappings.{exact}
 use Rattle.request_queue.specs.Queue.{covered}
+use Rattle.router_model.specs.Site.{reaches_resolver}
+use Rattle.router_model.specs.Standing.{standing}
 use Rattle.router_model.specs.View.{View, view}
 
--- what keeps entries: it is seen at a moment, takes one entry more, and counts them
+-- what keeps entries: it is seen at a moment, takes one entry more, counts them, and those of changes of own locators, after
+-- which settings stand
 pub record Ledger (S : Type 0) : Type 0 where
   pub see : S → ℕ → View
   pub add : S → Entry → S
   pub count : S → ℕ
+  pub steps : S → ℕ
+  pub stands : Settings → S → Settings
 
 -- the journal itself
 abbrev pub journal : Ledger Journal
-journal = record { see = view; add = λ before entry. entry ∷ before; count = length }
+journal = record {
+  see = view;
+  add = λ before entry. entry ∷ before;
+  count = length;
+  steps = changed;
+  stands = standing;
+}
 
 -- what stands now, and the entries and packets that came so far, in order
 pub record Change (S : Type 0) : Type 0 where
@@ -43,9 +54,9 @@ each step items change = fold (λ so_far item. step item so_far) change items
 abbrev pub emitted : {S : Type 0} → Emit → Change S → Change S
 emitted packet change = record change { emits = change.emits ++ packet ∷ [] }
 
--- an EID may be asked for: there is a resolver, no open request covers it, and there is room
+-- an EID may be asked for: there is a resolver, and ours of its family, no open request covers it, and there is room
 abbrev pub may_ask : Settings → View → Eid → Bool
-may_ask settings v eid = is_some settings.resolver && (not (covered v.requests eid) && nat_lt (length v.requests) most_requests)
+may_ask settings v eid = reaches_resolver settings && (not (covered v.requests eid) && nat_lt (length v.requests) most_requests)
 
 -- a mapping may be learned: it takes one away, or replaces one, or there is room
 abbrev pub has_room : View → Record → Bool

@@ -44,6 +44,7 @@ use Rattle.router_model.specs.Hosts.{host_eid}
 use Rattle.router_model.specs.Journal.{Journal}
 use Rattle.router_model.specs.Mappings.{Held, force}
 use Rattle.router_model.specs.Site.{ours, own_bits}
+use Rattle.router_model.specs.Standing.{standing}
 use Rattle.router_model.specs.View.{View, view}
 
 -- a verdict without notices
@@ -311,6 +312,6 @@ decide_course settings v (Leaving iid packet) = routed settings v iid packet
 unfoldable pub decide_by : Settings → View → Frame → Decision
 decide_by settings v frame = decide_course settings v (course_of settings frame)
 
--- the decision on a frame at m, by the journal
+-- the decision on a frame at m, by the journal, over the settings that stand
 abbrev pub decide : Settings → Journal → ℕ → Frame → Decision
-decide settings journal m frame = decide_by settings (view journal m) frame
+decide settings journal m frame = decide_by (standing settings journal) (view journal m) frame

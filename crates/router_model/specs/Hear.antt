@@ -39,6 +39,7 @@ use Rattle.router_model.specs.Limits.{most_locators}
 use Rattle.router_model.specs.Mappings.{Held, force}
 use Rattle.router_model.specs.Received.{message_in}
 use Rattle.router_model.specs.Site.{database_of, ours}
+use Rattle.router_model.specs.Standing.{standing}
 use Rattle.router_model.specs.View.{View}
 
 -- how a message came: from an address and a port, to one of our addresses
@@ -290,6 +291,6 @@ module _ {S : Type 0} (ledger : Ledger S) (settings : Settings) (m : ℕ) where
   abbrev pub hear_by : Frame → Change S → Heard S
   hear_by frame change = course_heard (course_of settings frame) change
 
--- a control message at m, heard with the journal
+-- a control message at m, heard with the journal, over the settings that stand
 abbrev pub hear : Settings → Journal → ℕ → Frame → Heard Journal
-hear settings before m frame = hear_by journal settings m frame (unchanged before)
+hear settings before m frame = hear_by journal (standing settings before) m frame (unchanged before)

@@ -13,8 +13,9 @@ use Rattle.router_model.specs.Course.{FramePacket, frame_packet}
 use Rattle.router_model.specs.Decide.{decide, decide_by, iid_of}
 use Rattle.router_model.specs.Journal.{Journal, IsRising, at}
 use Rattle.router_model.specs.Mappings.{force}
-use Rattle.router_model.specs.Parts.{Parts, Stands, parts_in, view_in}
+use Rattle.router_model.specs.Parts.{Parts, Stands, parts_in, standing_in, view_in}
 use Rattle.router_model.specs.Site.{instance_of, is_own}
+use Rattle.router_model.specs.Standing.{standing}
 use Rattle.router_model.specs.View.{View, seen_at}
 
 -- ### the journal of an instance
@@ -26,7 +27,8 @@ asked_in nonce (Asked moment eid source invoked asked ∷ before) = if asked == 
 asked_in nonce (_ ∷ before) = asked_in nonce before
 
 -- the instance that an entry is of, behind those before it. What is sent again or answered is the last request with its
--- nonce. What tells of a locator is of no instance.
+-- nonce. What tells of a locator, an own one or not, is of no
+-- instance.
 abbrev pub told_of : Entry → Journal → Option ℕ
 told_of (Learned moment mapping fixed) before = Some mapping.eid.iid
 told_of (Asked moment eid source invoked nonce) before = Some eid.iid
@@ -83,7 +85,7 @@ NoneAsks = (settings : Settings) (v w : View) (frame : Frame) → frame_instance
 
 -- what is of other instances counts in no decision on a frame of an instance: as of each moment
 abbrev pub MomentIsolated : Type 0
-MomentIsolated = (settings : Settings) (journal : Journal) (i now : ℕ) (frame : Frame) → frame_instance settings frame ≡ Some i → decide_by settings (seen_at journal now) frame ≡ decide_by settings (seen_at (of_instance journal i) now) frame
+MomentIsolated = (settings : Settings) (journal : Journal) (i now : ℕ) (frame : Frame) → frame_instance settings frame ≡ Some i → decide_by (standing settings journal) (seen_at journal now) frame ≡ decide_by (standing settings (of_instance journal i)) (seen_at (of_instance journal i) now) frame
 
 -- wherever both journals are asked as of one moment
 abbrev pub DecisionIsolated : Type 0
@@ -95,8 +97,8 @@ RisingIsolated = (settings : Settings) (journal : Journal) (i m : ℕ) (frame : 
 
 -- a table that stands for a journal decides as the parts of the journal of an instance
 abbrev pub TableIsolated : Type 0
-TableIsolated = (settings : Settings) (parts : Parts) (journal : Journal) (i m : ℕ) (frame : Frame) → Stands settings parts journal → frame_instance settings frame ≡ Some i → decide_by settings (view_in parts m) frame ≡ decide_by settings (view_in (parts_in settings (of_instance journal i)) (max m parts.now)) frame
+TableIsolated = (settings : Settings) (parts : Parts) (journal : Journal) (i m : ℕ) (frame : Frame) → Stands settings parts journal → frame_instance settings frame ≡ Some i → let mine = parts_in settings (of_instance journal i) in decide_by (standing_in settings parts) (view_in parts m) frame ≡ decide_by (standing_in settings mine) (view_in mine (max m parts.now)) frame
 
 -- two tables that stand for journals that are one to an instance decide alike, asked as of one moment
 abbrev pub TablesAlike : Type 0
-TablesAlike = (settings : Settings) (one other : Parts) (mine theirs : Journal) (i m n : ℕ) (frame : Frame) → Stands settings one mine → Stands settings other theirs → of_instance mine i ≡ of_instance theirs i → max m one.now ≡ max n other.now → frame_instance settings frame ≡ Some i → decide_by settings (view_in one m) frame ≡ decide_by settings (view_in other n) frame
+TablesAlike = (settings : Settings) (one other : Parts) (mine theirs : Journal) (i m n : ℕ) (frame : Frame) → Stands settings one mine → Stands settings other theirs → of_instance mine i ≡ of_instance theirs i → max m one.now ≡ max n other.now → frame_instance settings frame ≡ Some i → decide_by (standing_in settings one) (view_in one m) frame ≡ decide_by (standing_in settings other) (view_in other n) frame

@@ -2,7 +2,7 @@
 use Rattle.std.specs.Prelude.{ℕ, ◌-◌, ◌≤◌, max, Bool, true, false, List, [], ◌∷◌, count_by, drop, length, map}
 use Rattle.lisp_settings.specs.declared.settings.Settings.{Settings}
 use Rattle.router_log.specs.declared.entry.Entry.{Entry}
-use Rattle.router_log.specs.declared.entry.Entry.TheVariants.{Learned, Asked, Retried, Answered, Probed, ProbeAnswered, Bits, EchoStarted, EchoHeard, DataFrom, EchoWanted, Solicited}
+use Rattle.router_log.specs.declared.entry.Entry.TheVariants.{Learned, Asked, Retried, Answered, Probed, ProbeAnswered, Bits, EchoStarted, EchoHeard, DataFrom, EchoWanted, Solicited, Changed}
 
 -- the entries, the newest first
 abbrev pub Journal : Type 0
@@ -22,6 +22,7 @@ moment_of (EchoHeard moment rloc) = moment
 moment_of (DataFrom moment rloc) = moment
 moment_of (EchoWanted moment rloc nonce) = moment
 moment_of (Solicited moment rloc eid nonce) = moment
+moment_of (Changed moment address up) = moment
 
 -- the moment of the last entry, 0 before the first
 abbrev pub last_moment : Journal → ℕ
@@ -48,6 +49,15 @@ uses_nonce _ = false
 -- how many nonces were used
 abbrev pub drawn : Journal → ℕ
 drawn journal = count_by uses_nonce journal
+
+-- an own locator went up or down
+abbrev pub is_changed : Entry → Bool
+is_changed (Changed moment address up) = true
+is_changed _ = false
+
+-- how often one did
+abbrev pub changed : Journal → ℕ
+changed journal = count_by is_changed journal
 
 -- the first n entries
 abbrev pub first : ℕ → Journal → Journal

@@ -24,5 +24,6 @@ pub mod Rounds
 pub mod Sharing
 pub mod Sides
 pub mod Site
+pub mod Standing
 pub mod Tick
 pub mod View

@@ -1,7 +1,8 @@
 -- What is promised of parts: they stand for the journal.
-use Rattle.std.specs.Prelude.{◌≡◌, ℕ, suc, ◌+◌, ◌*◌, ◌^◌, ◌<◌, ◌≤◌, ◌==◌, ◌||◌, ◌&&◌, nat_le, Bool, true, List, [], ◌∷◌, ◌++◌, length, Option, Some, None, option_map, if◌then◌else◌}
+use Rattle.std.specs.Prelude.{◌≡◌, ℕ, suc, ◌+◌, ◌-◌, ◌*◌, ◌%◌, ◌^◌, ◌<◌, ◌≤◌, ◌==◌, ◌||◌, ◌&&◌, nat_le, Bool, true, List, [], ◌∷◌, ◌++◌, length, map, take, Option, Some, None, option_map, if◌then◌else◌}
 use Rattle.std.specs.List.{All, list_all}
 use Rattle.ip_headers.specs.Udp.{payload_in}
+use Rattle.ip_headers.specs.declared.addr.Addr.{Addr}
 use Rattle.capture_io.specs.Frame.{Frame}
 use Rattle.mapping_records.specs.declared.eid.Eid.{Eid}
 use Rattle.mapping_records.specs.declared.record.Record.{Record}
@@ -9,11 +10,14 @@ use Rattle.map_messages.specs.declared.message.MapRequest.{MapRequest}
 use Rattle.map_messages.specs.declared.message.Message.{Message}
 use Rattle.map_messages.specs.declared.message.Message.TheVariants as message
 use Rattle.lisp_settings.specs.Lawful.{IsLawful}
+use Rattle.lisp_settings.specs.declared.settings.Change.{Change as OwnChange}
+use Rattle.lisp_settings.specs.declared.settings.OwnLocator.{OwnLocator}
 use Rattle.lisp_settings.specs.declared.settings.Settings.{Settings}
 use Rattle.capture_events.specs.Came.{Came}
 use Rattle.capture_events.specs.Events.{Event, Outcome, Tick, Arrival, events, played}
 use Rattle.router_log.specs.Moments.{seconds}
 use Rattle.router_log.specs.declared.entry.Entry.{Entry}
+use Rattle.router_log.specs.declared.entry.Entry.TheVariants.{Changed}
 use Rattle.router_log.specs.declared.notice.Notice.{Notice}
 use Rattle.router_log.specs.declared.notice.Notice.TheVariants as notice
 use Rattle.router_model.specs.Cache.{known_since, told_since}
@@ -21,14 +25,15 @@ use Rattle.router_model.specs.Changes.{Change, journal as of_journal, unchanged}
 use Rattle.router_model.specs.Course.{Control, Datagram, course_of}
 use Rattle.router_model.specs.Decide.{decide, decide_by}
 use Rattle.router_model.specs.Hear.{Heard, Route, hear, hear_by, message_heard, ranges_of}
-use Rattle.router_model.specs.Journal.{Journal, IsRising, last_moment, moment_of, statics}
-use Rattle.router_model.specs.Limits.{most_entries, most_notices, most_targets}
+use Rattle.router_model.specs.Journal.{Journal, IsRising, changed, last_moment, moment_of, statics}
+use Rattle.router_model.specs.Limits.{most_entries, most_notices, most_requests, most_targets, most_told}
 use Rattle.router_model.specs.Mappings.{bit, bit_told, exact, held, live, live_mappings}
 use Rattle.router_model.specs.Note.{note, noted}
-use Rattle.router_model.specs.Parts.{Parts, Stands, absorbed, admits, parts_in, parts_of, table, view_in}
+use Rattle.router_model.specs.Parts.{Parts, Stands, absorbed, admits, parts_in, parts_of, standing_in, table, view_in}
 use Rattle.router_model.specs.Plain.{Router, after_event, plain, started}
-use Rattle.router_model.specs.Proper.{EachFits, IsProper, fits, is_admitted, is_short}
+use Rattle.router_model.specs.Proper.{EachFits, IsProper, MayChange, fits, is_admitted, is_short}
 use Rattle.router_model.specs.Received.{message_in}
+use Rattle.router_model.specs.Standing.{may_change, own_after, own_in, standing, standing_by, standing_with, stood_version}
 use Rattle.router_model.specs.Tick.{tick, ticked}
 use Rattle.router_model.specs.View.{View, view}
 
@@ -38,11 +43,11 @@ PartsAnswer = (settings : Settings) (journal : Journal) (m : ℕ) → IsRising j
 
 -- an entry that fits is admitted, and makes of the parts those of the journal with it
 abbrev pub EntryAbsorbed : Type 0
-EntryAbsorbed = (settings : Settings) (journal : Journal) (entry : Entry) → IsRising journal → fits settings journal entry ≡ true → (admits (parts_in settings journal) entry ≡ true) × (absorbed (parts_in settings journal) entry ≡ parts_in settings (entry ∷ journal))
+EntryAbsorbed = (settings : Settings) (journal : Journal) (entry : Entry) → MayChange settings → IsRising journal → fits settings journal entry ≡ true → (admits (parts_in settings journal) entry ≡ true) × (absorbed (parts_in settings journal) entry ≡ parts_in settings (entry ∷ journal))
 
 -- entry by entry, from the static mappings on
 abbrev pub AllAbsorbed : Type 0
-AllAbsorbed = (settings : Settings) (entries : List Entry) → EachFits settings (statics settings) entries → parts_of settings entries ≡ parts_in settings (entries ++ statics settings)
+AllAbsorbed = (settings : Settings) (entries : List Entry) → MayChange settings → EachFits settings (statics settings) entries → parts_of settings entries ≡ parts_in settings (entries ++ statics settings)
 
 -- moments don't fall in a journal that a router can have
 abbrev pub ProperRises : Type 0
@@ -52,9 +57,9 @@ ProperRises = (settings : Settings) (journal : Journal) → IsProper settings jo
 abbrev pub StandingSees : Type 0
 StandingSees = (settings : Settings) (parts : Parts) (journal : Journal) (m : ℕ) → Stands settings parts journal → view_in parts m ≡ view journal m
 
--- it admits what may follow the journal, the next nonce apart
+-- it admits what may follow the journal, the next nonce and the next change apart
 abbrev pub StandingAdmits : Type 0
-StandingAdmits = (settings : Settings) (parts : Parts) (journal : Journal) (entry : Entry) → Stands settings parts journal → admits parts entry ≡ is_admitted (length journal) (last_moment journal) (view journal (moment_of entry)) entry
+StandingAdmits = (settings : Settings) (parts : Parts) (journal : Journal) (entry : Entry) → Stands settings parts journal → admits parts entry ≡ (is_admitted (length journal) (last_moment journal) (view journal (moment_of entry)) entry && may_change (own_after settings journal) (changed journal) entry)
 
 -- and goes on to stand for it after an entry that fits
 abbrev pub StandingAbsorbs : Type 0
@@ -66,7 +71,7 @@ BitsKept = (eid : Eid) (i : ℕ) (journal : Journal) → (if bit i (known_since 
 
 -- a table begins with the static mappings
 abbrev pub StaticsStand : Type 0
-StaticsStand = (settings : Settings) → Stands settings (parts_of settings []) (statics settings)
+StaticsStand = (settings : Settings) → MayChange settings → Stands settings (parts_of settings []) (statics settings)
 
 -- ### what a table does, it does as the journal
 
@@ -101,14 +106,15 @@ is_sound _ = true
 abbrev pub AreSound : List Notice → Type 0
 AreSound notices = (list_all is_sound notices ≡ true) × (length notices ≤ most_notices)
 
--- a notice is noted by a table as by the journal: the same entries, which fit, and the same emits
+-- a notice is noted by a table as by the journal, whichever own locators stand: the same entries, which fit, and the same
+-- emits
 abbrev pub NotesLift : Type 0
-NotesLift = (settings : Settings) (m more : ℕ) (notice : Notice) (before : Change Journal) → is_sound notice ≡ true → Ready settings m (suc more) before.after → Goes settings m more (noted table settings m notice (tabled settings before)) (noted of_journal settings m notice before)
+NotesLift = (settings : Settings) (locators : List OwnLocator) (steps m more : ℕ) (notice : Notice) (before : Change Journal) → let stands = standing_with settings locators steps in is_sound notice ≡ true → Ready settings m (suc more) before.after → Goes settings m more (noted table stands m notice (tabled settings before)) (noted of_journal stands m notice before)
 
--- a second is for a table what it is for the journal: the same entries, which fit, and the same emits; at most as many
--- as requests are open, and 16
+-- a second is for a table what it is for the journal: the same entries, which fit, and the same emits; at most one for each
+-- change, for each prefix of each locator that is told, for each request that may be open, and 16
 abbrev pub TicksLift : Type 0
-TicksLift = (settings : Settings) (m more : ℕ) (before : Change Journal) → Ready settings m (more + most_targets + length (view before.after m).requests) before.after → Goes settings m more (ticked table settings m (tabled settings before)) (ticked of_journal settings m before)
+TicksLift = (settings : Settings) (m more : ℕ) (before : Change Journal) → Ready settings m (more + (length settings.changes + (most_told * length settings.databases + (most_requests + most_targets)))) before.after → Goes settings m more (ticked table settings m (tabled settings before)) (ticked of_journal settings m before)
 
 -- a table answered a message as the journal
 pub record Hears (settings : Settings) (m more : ℕ) (by_table : Heard Parts) (by_journal : Heard Journal) : Type 0 where
@@ -137,7 +143,7 @@ entries_in (message.Control ecm) = requests_in ecm.request
 
 -- a message is heard by a table as by the journal: the same verdict, the same entries, which fit, and the same emits
 abbrev pub MessagesLift : Type 0
-MessagesLift = (settings : Settings) (m more : ℕ) (route : Route) (read : Message) (before : Change Journal) → is_sound_message read ≡ true → Ready settings m (more + entries_in read) before.after → Hears settings m more (message_heard table settings m route read (tabled settings before)) (message_heard of_journal settings m route read before)
+MessagesLift = (settings : Settings) (locators : List OwnLocator) (steps m more : ℕ) (route : Route) (read : Message) (before : Change Journal) → let stands = standing_with settings locators steps in is_sound_message read ≡ true → Ready settings m (more + entries_in read) before.after → Hears settings m more (message_heard table stands m route read (tabled settings before)) (message_heard of_journal stands m route read before)
 
 -- octets
 abbrev pub AreOctets : List ℕ → Type 0
@@ -149,7 +155,7 @@ IsSoundFrame settings frame most = (d : Datagram) (read : Message) → course_of
 
 -- a frame is heard by a table as by the journal
 abbrev pub FramesLift : Type 0
-FramesLift = (settings : Settings) (m more most : ℕ) (frame : Frame) (before : Change Journal) → IsSoundFrame settings frame most → Ready settings m (more + most) before.after → Hears settings m more (hear_by table settings m frame (tabled settings before)) (hear_by of_journal settings m frame before)
+FramesLift = (settings : Settings) (locators : List OwnLocator) (steps m more most : ℕ) (frame : Frame) (before : Change Journal) → let stands = standing_with settings locators steps in IsSoundFrame stands frame most → Ready settings m (more + most) before.after → Hears settings m more (hear_by table stands m frame (tabled settings before)) (hear_by of_journal stands m frame before)
 
 -- ### the promises of a table
 
@@ -164,16 +170,16 @@ abbrev pub MayGo : Journal → ℕ → Type 0
 MayGo journal m = (last_moment journal ≤ m) × (length journal < 2 ^ 61)
 
 abbrev pub TableDecides : Type 0
-TableDecides = (settings : Settings) (parts : Parts) (journal : Journal) (m : ℕ) (frame : Frame) → Stands settings parts journal → decide_by settings (view_in parts m) frame ≡ decide settings journal m frame
+TableDecides = (settings : Settings) (parts : Parts) (journal : Journal) (m : ℕ) (frame : Frame) → Stands settings parts journal → decide_by (standing_in settings parts) (view_in parts m) frame ≡ decide settings journal m frame
 
 abbrev pub TableNotes : Type 0
-TableNotes = (settings : Settings) (parts : Parts) (journal : Journal) (m : ℕ) (notice : Notice) → Stands settings parts journal → MayGo journal m → is_sound notice ≡ true → Follows settings (noted table settings m notice (unchanged parts)) (note settings journal m notice)
+TableNotes = (settings : Settings) (parts : Parts) (journal : Journal) (m : ℕ) (notice : Notice) → Stands settings parts journal → MayGo journal m → is_sound notice ≡ true → Follows settings (noted table (standing_in settings parts) m notice (unchanged parts)) (note settings journal m notice)
 
 abbrev pub TableTicks : Type 0
 TableTicks = (settings : Settings) (parts : Parts) (journal : Journal) (second : ℕ) → Stands settings parts journal → MayGo journal (seconds second) → Follows settings (ticked table settings (seconds second) (unchanged parts)) (tick settings journal second)
 
 abbrev pub TableHears : Type 0
-TableHears = (settings : Settings) (parts : Parts) (journal : Journal) (m : ℕ) (frame : Frame) → Stands settings parts journal → MayGo journal m → AreOctets frame.octets → let by_table = hear_by table settings m frame (unchanged parts) in let by_journal = hear settings journal m frame in (by_table.verdict ≡ by_journal.verdict) × Follows settings by_table.change by_journal.change
+TableHears = (settings : Settings) (parts : Parts) (journal : Journal) (m : ℕ) (frame : Frame) → Stands settings parts journal → MayGo journal m → AreOctets frame.octets → let by_table = hear_by table (standing_in settings parts) m frame (unchanged parts) in let by_journal = hear settings journal m frame in (by_table.verdict ≡ by_journal.verdict) × Follows settings by_table.change by_journal.change
 
 -- a decision on a frame of octets gives at most five notices, and sound ones alone
 abbrev pub NoticesSound : Type 0
@@ -208,7 +214,7 @@ outcome_tabled outcome =
 -- from the static mappings on a table gives the lines and packets of the plain router, and its parts are those of that
 -- router's journal, which is proper
 abbrev pub TableReplays : Type 0
-TableReplays = (settings : Settings) (events : List Event) → AreInOrder 0 events → length (statics settings) + most_entries * length events ≤ 2 ^ 62 → (played (after_event table) (router_tabled (started settings)) events ≡ outcome_tabled (played plain (started settings) events)) × IsProper settings (played plain (started settings) events).after.memory
+TableReplays = (settings : Settings) (events : List Event) → MayChange settings → AreInOrder 0 events → length (statics settings) + most_entries * length events ≤ 2 ^ 62 → (played (after_event table) (router_tabled (started settings)) events ≡ outcome_tabled (played plain (started settings) events)) × IsProper settings (played plain (started settings) events).after.memory
 
 -- the frames of a capture are in order, and have octets
 abbrev pub FramesInOrder : ℕ → List Frame → Type 0
@@ -231,6 +237,45 @@ CameFits = (settings : Settings) (frames : List Frame) → IsLawful settings →
 -- router's journal, which is proper
 abbrev pub CaptureReplays : Type 0
 CaptureReplays = (settings : Settings) (frames : List Frame) → IsLawful settings → Came frames → (played (after_event table) (router_tabled (started settings)) (events frames) ≡ outcome_tabled (played plain (started settings) (events frames))) × IsProper settings (played plain (started settings) (events frames)).after.memory
+
+-- ### own locators that go up and down
+
+-- lawful settings have what journals ask of them
+abbrev pub LawfulMayChange : Type 0
+LawfulMayChange = (settings : Settings) → IsLawful settings → MayChange settings
+
+-- an own locator's address, and whether it goes up
+abbrev pub told_change : OwnChange → Addr × Bool
+told_change change = (change.address, change.up)
+
+-- those of the changes in a journal, the oldest first
+abbrev pub changes_in : Journal → List (Addr × Bool)
+changes_in [] = []
+changes_in (Changed moment address up ∷ before) = changes_in before ++ (address, up) ∷ []
+changes_in (_ ∷ before) = changes_in before
+
+-- in a journal that a router can have they are the settings' first ones, in order, each once
+abbrev pub ChangesComeOnce : Type 0
+ChangesComeOnce = (settings : Settings) (journal : Journal) → IsProper settings journal → (changed journal ≤ length settings.changes) × (changes_in journal ≡ map told_change (take (changed journal) settings.changes))
+
+-- what a frame is doesn't depend on them
+abbrev pub CourseStands : Type 0
+CourseStands = (settings : Settings) (journal : Journal) (frame : Frame) → course_of (standing settings journal) frame ≡ course_of settings frame
+
+-- what is heard and what is noted changes none, so its packets are those of the settings by which it was judged
+abbrev pub HearsStill : Type 0
+HearsStill = (settings : Settings) (journal : Journal) (m : ℕ) (frame : Frame) → standing settings (hear settings journal m frame).change.after ≡ standing settings journal
+
+abbrev pub NotesStill : Type 0
+NotesStill = (settings : Settings) (journal : Journal) (m : ℕ) (notice : Notice) → standing settings (note settings journal m notice).after ≡ standing settings journal
+
+-- a version goes round among 1 to 4,095, and 0 stays
+abbrev pub VersionsStep : Type 0
+VersionsStep = (steps : ℕ) → (stood_version steps 0 ≡ 0) × ((version : ℕ) → 1 ≤ version → version ≤ 4095 → stood_version steps version ≡ suc ((version - 1 + steps) % 4095))
+
+-- two numbers tell which settings stand
+abbrev pub OwnTells : Type 0
+OwnTells = (settings : Settings) (journal : Journal) → standing_by settings (own_in (own_after settings journal) (changed journal)) ≡ standing settings journal
 
 -- ### what the mappings of a view are
 

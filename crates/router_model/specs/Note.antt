@@ -13,6 +13,7 @@ use Rattle.router_model.specs.Changes.{Change, Ledger, asked, emitted, entered, 
 use Rattle.router_model.specs.Journal.{Journal}
 use Rattle.router_model.specs.Mappings.{Held, bit, exact, force}
 use Rattle.router_model.specs.Site.{ours}
+use Rattle.router_model.specs.Standing.{standing}
 use Rattle.router_model.specs.View.{View}
 
 -- no mapping tells where packets go: none is in force, or one that says to ask
@@ -78,6 +79,6 @@ module _ {S : Type 0} (ledger : Ledger S) (settings : Settings) (m : ℕ) where
       if settings.echo && (seen ledger settings m change).may_start rloc
       then entered ledger settings m (entry.EchoStarted m rloc (next_nonce ledger settings m change % 2 ^ 24)) change else change
 
--- a notice at m, noted in the journal
+-- a notice at m, noted in the journal, over the settings that stand
 abbrev pub note : Settings → Journal → ℕ → Notice → Change Journal
-note settings before m notice = noted journal settings m notice (unchanged before)
+note settings before m notice = noted journal (standing settings before) m notice (unchanged before)

@@ -1,5 +1,5 @@
 -- What a table keeps of a journal: only what still counts, and so no journal.
-use Rattle.std.specs.Prelude.{◌≡◌, ℕ, suc, ◌+◌, max, Bool, List, [], ◌∷◌, filter, length, map, if◌then◌else◌}
+use Rattle.std.specs.Prelude.{◌≡◌, ℕ, suc, ◌+◌, ◌&&◌, max, Bool, List, [], ◌∷◌, filter, length, map, if◌then◌else◌}
 use Rattle.lisp_settings.specs.declared.settings.OwnLocator.{OwnLocator}
 use Rattle.lisp_settings.specs.declared.settings.Settings.{Settings}
 use Rattle.router_log.specs.declared.entry.Entry.{Entry}
@@ -9,12 +9,14 @@ use Rattle.request_queue.specs.declared.request.Request.{Request}
 use Rattle.router_model.specs.Cache.{held_of, kept_mappings, mapping_kind}
 use Rattle.map_cache.specs.Cache.{lasts}
 use Rattle.router_model.specs.Changes.{Ledger}
-use Rattle.router_model.specs.Journal.{Journal, drawn, last_moment, moment_of, uses_nonce, statics}
+use Rattle.router_model.specs.Journal.{Journal, changed, drawn, is_changed, last_moment, moment_of, uses_nonce, statics}
 use Rattle.router_model.specs.Kept.{absorb}
 use Rattle.router_model.specs.Observed.{observed, observing}
 use Rattle.router_model.specs.Proper.{IsProper, is_admitted}
 use Rattle.router_model.specs.Requests.{open_requests, request_kind}
 use Rattle.request_queue.specs.Queue.{is_waiting}
+use Rattle.router_model.specs.declared.own.Own.{Own}
+use Rattle.router_model.specs.Standing.{changed_by, may_change, own_after, own_in, standing_by}
 use Rattle.router_model.specs.View.{View, view_of}
 
 -- all that a table keeps, as of the last entry's moment
@@ -23,8 +25,9 @@ pub record Parts : Type 0 where
   pub count : ℕ
   pub drawn : ℕ
   pub now : ℕ
-  -- those of the settings that the table is for
+  -- the own locators as they stand, and the number of changes made
   pub own : List OwnLocator
+  pub steps : ℕ
   -- in order of EID
   pub mappings : List Mapping
   -- in asking order
@@ -39,7 +42,8 @@ parts_at settings journal now = record {
   count = length journal;
   drawn = drawn journal;
   now = now;
-  own = settings.locators;
+  own = own_after settings journal;
+  steps = changed journal;
   mappings = kept_mappings now journal;
   requests = open_requests now journal;
   observed = recent now (observed journal);
@@ -65,9 +69,18 @@ view_at parts now =
 unfoldable pub view_in : Parts → ℕ → View
 view_in parts m = view_at parts (max m parts.now)
 
--- the entry may follow what the parts are of, its nonce apart
+-- the entry may follow what the parts are of, its nonce apart, and which change comes next
 unfoldable pub admits : Parts → Entry → Bool
-admits parts entry = is_admitted parts.count parts.now (view_in parts (moment_of entry)) entry
+admits parts entry =
+    is_admitted parts.count parts.now (view_in parts (moment_of entry)) entry && may_change parts.own parts.steps entry
+
+-- which own locators are up, and how many changes were made
+abbrev pub own_of : Parts → Own
+own_of parts = own_in parts.own parts.steps
+
+-- the settings after the changes made
+abbrev pub standing_in : Settings → Parts → Settings
+standing_in settings parts = standing_by settings (own_of parts)
 
 -- ### parts with one entry more
 
@@ -77,7 +90,8 @@ with_entry entry parts = record {
   count = suc parts.count;
   drawn = (if uses_nonce entry then 1 else 0) + parts.drawn;
   now = moment_of entry;
-  own = parts.own;
+  own = changed_by entry parts.own;
+  steps = (if is_changed entry then 1 else 0) + parts.steps;
   mappings = absorb mapping_kind (lasts (moment_of entry)) entry parts.mappings;
   requests = absorb request_kind (is_waiting (moment_of entry)) entry parts.requests;
   observed = observing (moment_of entry) entry parts.observed;
@@ -94,4 +108,10 @@ parts_of settings (entry ∷ entries) = absorbed (parts_of settings entries) ent
 
 -- parts keep entries as a journal does
 abbrev pub table : Ledger Parts
-table = record { see = view_in; add = absorbed; count = λ parts. parts.count }
+table = record {
+  see = view_in;
+  add = absorbed;
+  count = λ parts. parts.count;
+  steps = λ parts. parts.steps;
+  stands = standing_in;
+}

@@ -37,7 +37,7 @@ abbrev pub packets_of : ℕ → Option (List ℕ) → List Packet
 packets_of moment None = []
 packets_of moment (Some packet) = record { moment = moment; octets = packet } ∷ []
 
--- the packets of emits, at a moment
+-- the packets of emits, at a moment, by the settings that stand right behind them
 abbrev pub emit_packets : Settings → ℕ → List Emit → List Packet
 emit_packets settings moment emits =
     map (λ emit. record { moment = moment; octets = emit_packet settings emit }) emits
@@ -55,26 +55,28 @@ module _ {S : Type 0} (ledger : Ledger S) where
   abbrev pub after_message : Router S → Frame → Heard S → Outcome (Router S)
   after_message router frame heard =
       after_frame router frame heard.verdict
-      (emit_packets router.settings frame.moment heard.change.emits) heard.change.after
+      (emit_packets (ledger.stands router.settings heard.change.after) frame.moment heard.change.emits) heard.change.after
 
   -- a data packet, which was decided, and what its notices changed
   abbrev pub after_data : Router S → Frame → Verdict → Change S → Outcome (Router S)
   after_data router frame verdict change =
       after_frame router frame verdict
-      (packets_of frame.moment (packet_of verdict) ++ emit_packets router.settings frame.moment change.emits)
+      (packets_of frame.moment (packet_of verdict)
+      ++ emit_packets (ledger.stands router.settings change.after) frame.moment change.emits)
       change.after
 
   -- a data packet by its decision, whose notices are noted in order
   abbrev pub after_decision : Router S → Frame → Decision → Outcome (Router S)
   after_decision router frame decision =
       after_data router frame decision.verdict
-      (each (noted ledger router.settings frame.moment) decision.notices (unchanged router.memory))
+      (each (noted ledger (ledger.stands router.settings router.memory) frame.moment) decision.notices
+      (unchanged router.memory))
 
   -- a second has no line; its packets have its moment
   abbrev pub after_tick : Router S → ℕ → Change S → Outcome (Router S)
   after_tick router moment change = record {
     lines = [];
-    packets = emit_packets router.settings moment change.emits;
+    packets = emit_packets (ledger.stands router.settings change.after) moment change.emits;
     after = record router { memory = change.after };
   }
 
@@ -84,15 +86,16 @@ module _ {S : Type 0} (ledger : Ledger S) where
       after_tick router (seconds second) (ticked ledger router.settings (seconds second) (unchanged router.memory))
   after_event router (Arrival frame) =
       if control router.settings frame
-      then after_message router frame (hear_by ledger router.settings frame.moment frame (unchanged router.memory))
+      then after_message router frame
+      (hear_by ledger (ledger.stands router.settings router.memory) frame.moment frame (unchanged router.memory))
       else after_decision router frame
-      (decide_by router.settings (ledger.see router.memory frame.moment) frame)
+      (decide_by (ledger.stands router.settings router.memory) (ledger.see router.memory frame.moment) frame)
 
 -- a router as it begins, with its static mappings
 abbrev pub started : Settings → Router Journal
 started settings = record { settings = settings; memory = statics settings }
 
--- what the plain router does at an event: it decides a frame by all of its journal
+-- what the plain router does at an event: it decides a frame by all of its journal, over the settings that stand
 abbrev pub plain : Router Journal → Event → Outcome (Router Journal)
 plain router event = after_event ledgers.journal router event
 

@@ -1,16 +1,20 @@
 -- Journals that a router can have.
-use Rattle.std.specs.Prelude.{◌≡◌, ℕ, ◌%◌, ◌^◌, ◌==◌, ◌||◌, ◌&&◌, nat_le, nat_lt, not, Bool, false, true, IsTrue, List, [], ◌∷◌, ◌++◌, length, Option, Some, None, is_some}
+use Rattle.std.specs.Prelude.{◌≡◌, ◌≤◌, ℕ, ◌%◌, ◌^◌, ◌==◌, ◌||◌, ◌&&◌, nat_le, nat_lt, not, Bool, false, true, IsTrue, List, [], ◌∷◌, ◌++◌, length, slice_get, Option, Some, None, is_some}
+use Rattle.std.specs.List.{All, AllByRecursion}
 use Rattle.mapping_records.specs.declared.record.Record.{Record}
 use Rattle.lisp_settings.specs.Nonces.{nonce_of}
+use Rattle.lisp_settings.specs.declared.settings.Change.{Change}
 use Rattle.lisp_settings.specs.declared.settings.Settings.{Settings}
 use Rattle.router_log.specs.declared.entry.Entry.{Entry}
-use Rattle.router_log.specs.declared.entry.Entry.TheVariants.{Learned, Asked, Retried, Answered, Probed, ProbeAnswered, Bits, EchoStarted, EchoHeard, DataFrom, EchoWanted, Solicited}
+use Rattle.router_log.specs.declared.entry.Entry.TheVariants.{Learned, Asked, Retried, Answered, Probed, ProbeAnswered, Bits, EchoStarted, EchoHeard, DataFrom, EchoWanted, Solicited, Changed}
 use Rattle.router_model.specs.Changes.{has_room}
-use Rattle.router_model.specs.Journal.{Journal, drawn, last_moment, moment_of, statics}
-use Rattle.router_model.specs.Limits.{most_locators, most_probes, most_requests, most_retries}
+use Rattle.router_model.specs.Journal.{Journal, changed, drawn, last_moment, moment_of, statics}
+use Rattle.router_model.specs.Limits.{most_changes, most_databases, most_locators, most_probes, most_requests, most_retries}
 use Rattle.router_model.specs.Mappings.{exact}
 use Rattle.request_queue.specs.Queue.{with_nonce}
 use Rattle.request_queue.specs.declared.request.Request.{Request}
+use Rattle.router_model.specs.Site.{is_own}
+use Rattle.router_model.specs.Standing.{has_change}
 use Rattle.router_model.specs.View.{View, view}
 
 -- action and version of a record have their bits, and its locators are no more than a mapping may have
@@ -40,6 +44,7 @@ suits v (EchoHeard moment rloc) = is_some (v.echo_on rloc)
 suits v (DataFrom moment rloc) = v.data_due rloc
 suits v (EchoWanted moment rloc nonce) = v.may_want rloc nonce && is_short nonce
 suits v (Solicited moment rloc eid nonce) = v.may_solicit rloc eid
+suits v (Changed moment address up) = true
 
 -- the entry may follow so many entries, of which the last has that moment, seen so at its own; its nonce apart
 abbrev pub is_admitted : ℕ → ℕ → View → Entry → Bool
@@ -53,11 +58,12 @@ has_nonce next (EchoStarted moment rloc nonce) = nonce == next % 2 ^ 24
 has_nonce next (Solicited moment rloc eid nonce) = nonce == next
 has_nonce next _ = true
 
--- the entry may follow the journal
+-- the entry may follow the journal; one of a change is the settings' next one
 unfoldable pub fits : Settings → Journal → Entry → Bool
 fits settings journal entry =
     is_admitted (length journal) (last_moment journal) (view journal (moment_of entry)) entry
-    && has_nonce (nonce_of settings.seed settings.nonces (drawn journal)) entry
+    && (has_nonce (nonce_of settings.seed settings.nonces (drawn journal)) entry
+    && has_change (slice_get settings.changes (changed journal)) entry)
 
 -- each of the entries, the newest of which stands first, fits what stands before it
 abbrev pub EachFits : Settings → Journal → List Entry → Type 0
@@ -65,8 +71,21 @@ EachFits settings before [] = Unit {0}
 EachFits settings before (entry ∷ entries) =
     IsTrue (fits settings (entries ++ before) entry) × EachFits settings before entries
 
+-- their seconds don't fall
+abbrev pub AreInTurn : List Change → Type 0
+AreInTurn [] = Unit {0}
+AreInTurn (change ∷ changes) = AllByRecursion (λ (next : Change). change.at ≤ next.at) changes × AreInTurn changes
+
+-- what journals ask of settings, and lawful ones have: few changes, in turn, of own locators, and few databases
+pub record MayChange (settings : Settings) : Type 0 where
+  pub few_changes : length settings.changes ≤ most_changes
+  pub turns : AreInTurn settings.changes
+  pub own : All (λ change. is_own settings.locators change.address ≡ true) settings.changes
+  pub few_databases : length settings.databases ≤ most_databases
+
 -- the static mappings, and further entries of which each fits
 pub record IsProper (settings : Settings) (journal : Journal) : Type 0 where
+  pub may : MayChange settings
   pub entries : List Entry
   pub whole : journal ≡ entries ++ statics settings
   pub fit : EachFits settings (statics settings) entries

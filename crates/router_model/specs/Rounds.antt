@@ -18,6 +18,7 @@ use Rattle.router_model.specs.Hear.{Heard, hear}
 use Rattle.router_model.specs.Journal.{Journal, first}
 use Rattle.router_model.specs.Note.{noted}
 use Rattle.router_model.specs.Plain.{Router, emit_packets, packet_of, packets_of, started}
+use Rattle.router_model.specs.Standing.{standing}
 use Rattle.router_model.specs.Tick.{tick}
 
 -- ### lines
@@ -104,13 +105,13 @@ module _ (settings : Settings) where
   -- of a second: packets at its moment
   abbrev pub of_second : ℕ → Change Journal → Told
   of_second s change =
-      record { lines = []; packets = emit_packets settings (seconds s) change.emits; notices = [] }
+      record { lines = []; packets = emit_packets (standing settings change.after) (seconds s) change.emits; notices = [] }
 
   -- of a control message, which was heard with the journal before it
   abbrev pub of_message : Journal → Frame → Heard Journal → Told
   of_message journal frame heard = record {
     lines = line_of frame (length journal) heard.verdict ∷ [];
-    packets = emit_packets settings frame.moment heard.change.emits;
+    packets = emit_packets (standing settings heard.change.after) frame.moment heard.change.emits;
     notices = [];
   }
 
@@ -152,10 +153,10 @@ module _ (settings : Settings) where
   -- the notices of a round are noted together at a moment, after all else
   abbrev pub with_notices : ℕ → Journal → Told → Round
   with_notices moment last told =
-      let change = each (noted ledgers.journal settings moment) told.notices (unchanged last) in
+      let change = each (noted ledgers.journal (standing settings last) moment) told.notices (unchanged last) in
       record {
         lines = told.lines;
-        packets = told.packets ++ emit_packets settings moment change.emits;
+        packets = told.packets ++ emit_packets (standing settings change.after) moment change.emits;
         after = change.after;
       }
 

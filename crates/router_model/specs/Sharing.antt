@@ -206,7 +206,7 @@ abbrev pub RoundInOrder : Type 0
 RoundInOrder = (previous : Option ℕ) (frames : List Frame) → FramesInOrder (unwrap_or previous 0) frames → AreInOrder (unwrap_or previous 0) (events_after previous frames)
 
 -- the journal after a round is one that a router can have; its last entry isn't later than the round's last frame, and
--- at most 2,048 entries came for each event
+-- at most 8,192 entries came for each event
 abbrev pub RoundStays : Type 0
 RoundStays = (settings : Settings) (previous : Option ℕ) (frames : List Frame) (journal : Journal) (ns : List ℕ) (m : ℕ) → MayBegin settings m journal (events_after previous frames) → let after = (round settings previous frames journal ns).after in IsProper settings after × ((last_moment after ≤ max m (closing_moment frames)) × (length after ≤ length journal + most_entries * length (events_after previous frames)))
 

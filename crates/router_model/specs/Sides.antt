@@ -13,7 +13,7 @@ use Rattle.router_model.specs.Decide.{decide_by}
 use Rattle.router_model.specs.Hear.{Heard, hear_by}
 use Rattle.router_model.specs.Journal.{Journal}
 use Rattle.router_model.specs.Note.{noted}
-use Rattle.router_model.specs.Parts.{Parts, view_in}
+use Rattle.router_model.specs.Parts.{Parts, standing_in, view_in}
 use Rattle.router_model.specs.Plain.{emit_packets, packet_of, packets_of}
 use Rattle.router_model.specs.Rounds.{Line, Told, decided, line_of}
 use Rattle.router_model.specs.Tick.{ticked}
@@ -64,7 +64,7 @@ module _ {S : Type 0} (ledger : Ledger S) (settings : Settings) where
   -- a second
   abbrev pub second_written : ℕ → Change S → Writing S
   second_written s change = record {
-    items = Second (emit_packets settings (seconds s) change.emits) ∷ [];
+    items = Second (emit_packets (ledger.stands settings change.after) (seconds s) change.emits) ∷ [];
     batches = change.entries ∷ [];
     after = change.after;
   }
@@ -72,7 +72,9 @@ module _ {S : Type 0} (ledger : Ledger S) (settings : Settings) where
   -- a control message
   abbrev pub message_written : ℕ → Frame → Heard S → Writing S
   message_written n frame heard = record {
-    items = Message (line_of frame n heard.verdict) (emit_packets settings frame.moment heard.change.emits) ∷ [];
+    items =
+        Message (line_of frame n heard.verdict)
+        (emit_packets (ledger.stands settings heard.change.after) frame.moment heard.change.emits) ∷ [];
     batches = heard.change.entries ∷ [];
     after = heard.change.after;
   }
@@ -82,7 +84,8 @@ module _ {S : Type 0} (ledger : Ledger S) (settings : Settings) where
   event_written state (Tick s) = second_written s (ticked ledger settings (seconds s) (unchanged state))
   event_written state (Arrival frame) =
       if control settings frame
-      then message_written (ledger.count state) frame (hear_by ledger settings frame.moment frame (unchanged state))
+      then message_written (ledger.count state) frame
+      (hear_by ledger (ledger.stands settings state) frame.moment frame (unchanged state))
       else left_for_later state frame
 
   -- events in order
@@ -105,7 +108,7 @@ ruling settings last n frame = record { n = n; decision = decided settings last 
 -- the same by the parts that a table keeps
 abbrev pub ruling_by : Settings → Parts → Frame → Ruling
 ruling_by settings parts frame =
-    record { n = parts.count; decision = decide_by settings (view_in parts frame.moment) frame }
+    record { n = parts.count; decision = decide_by (standing_in settings parts) (view_in parts frame.moment) frame }
 
 -- data packets in order, each by its number
 abbrev pub rulings : Settings → Journal → List ℕ → List Frame → List Ruling
@@ -160,13 +163,15 @@ pub record Worked (S : Type 0) : Type 0 where
 module _ {S : Type 0} (ledger : Ledger S) (settings : Settings) where
   -- the notices are noted together at a moment, as one batch
   abbrev pub noting : ℕ → S → List Ruling → Change S
-  noting moment state ruled = each (noted ledger settings moment) (notices_of ruled) (unchanged state)
+  noting moment state ruled =
+      each (noted ledger (ledger.stands settings state) moment) (notices_of ruled) (unchanged state)
 
   -- a round by what was written, what became of the data packets, and what their notices changed
   abbrev pub put_together : ℕ → Writing S → List Ruling → Change S → Worked S
   put_together moment written ruled change = record {
     lines = lines_by written.items ruled;
-    packets = packets_by written.items ruled ++ emit_packets settings moment change.emits;
+    packets =
+        packets_by written.items ruled ++ emit_packets (ledger.stands settings change.after) moment change.emits;
     batches = written.batches ++ change.entries ∷ [];
     after = change.after;
   }

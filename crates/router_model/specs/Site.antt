@@ -1,23 +1,24 @@
 -- What the settings say of addresses: own locators, attachments, the site's prefixes.
-use Rattle.std.specs.Prelude.{ℕ, ◌+◌, ◌*◌, ◌==◌, ◌&&◌, Bool, List, [], ◌∷◌, filter, Option, Some, None, if◌then◌else◌}
-use Rattle.std.specs.List.{list_any}
+use Rattle.std.specs.Prelude.{ℕ, ◌+◌, ◌*◌, ◌==◌, ◌&&◌, Bool, List, [], ◌∷◌, filter, is_some, option_and_then, Option, Some, None, if◌then◌else◌}
 use Rattle.ip_headers.specs.Addr.{width}
 use Rattle.ip_headers.specs.declared.addr.Addr.{Addr}
-use Rattle.mapping_records.specs.Eids.{longest, same_address}
+use Rattle.mapping_records.specs.Eids.{longest}
 use Rattle.mapping_records.specs.declared.eid.Eid.{Eid}
+pub use Rattle.lisp_settings.specs.Changes.{is_own}
 use Rattle.lisp_settings.specs.declared.settings.Attachment.{Attachment}
 use Rattle.lisp_settings.specs.declared.settings.Database.{Database}
 use Rattle.lisp_settings.specs.declared.settings.OwnLocator.{OwnLocator}
-
--- an own locator, up or not, has this address
-abbrev pub is_own : List OwnLocator → Addr → Bool
-is_own locators address = list_any (λ own. same_address own.addr address) locators
+use Rattle.lisp_settings.specs.declared.settings.Settings.{Settings}
 
 -- ours, for the family of an address: the first own locator that is up, in order of address
 abbrev pub ours : List OwnLocator → Addr → Option Addr
 ours [] to = None
 ours (own ∷ others) to =
     if own.up && (width own.addr == width to) then Some own.addr else ours others to
+
+-- there is a resolver, and ours of its family
+abbrev pub reaches_resolver : Settings → Bool
+reaches_resolver settings = is_some (option_and_then (ours settings.locators) settings.resolver)
 
 -- the own locators that are up
 abbrev pub up_locators : List OwnLocator → List OwnLocator

@@ -1,7 +1,14 @@
--- What a second makes of the journal: requests that are sent again, and probes (RFC 9301, section 7.1).
-use Rattle.std.specs.Prelude.{ℕ, ◌==◌, ◌&&◌, nat_lt, not, Bool, List, [], filter, flat_map, fold, map, take, is_some, if◌then◌else◌}
+-- What a second makes of the journal: own locators that go up and down, locators that are told, requests that are sent again,
+-- and probes (RFC 9301, sections 6.1 and 7.1).
+use Rattle.std.specs.Prelude.{ℕ, ◌==◌, ◌&&◌, nat_lt, not, Bool, false, true, List, [], ◌∷◌, drop, filter, flat_map, fold, map, take, is_some, if◌then◌else◌}
+use Rattle.std.specs.Ordering.{is_lt}
+use Rattle.ip_headers.specs.declared.addr.Addr.{Addr}
+use Rattle.mapping_records.specs.Eids.{same_address}
+use Rattle.mapping_records.specs.Orders.{addr_order}
 use Rattle.mapping_records.specs.declared.eid.Eid.{Eid}
 use Rattle.mapping_records.specs.declared.record.Locator.{Locator}
+use Rattle.lisp_settings.specs.declared.settings.Change.{Change as OwnChange}
+use Rattle.lisp_settings.specs.declared.settings.Database.{Database}
 use Rattle.lisp_settings.specs.declared.settings.Settings.{Settings}
 use Rattle.locator_state.specs.Turns.{has_rested, with_target}
 use Rattle.locator_state.specs.declared.target.Target.{Target}
@@ -12,9 +19,11 @@ use Rattle.router_log.specs.declared.emit.Emit.TheVariants as emit
 use Rattle.router_log.specs.declared.entry.Entry.TheVariants as entry
 use Rattle.router_model.specs.Changes.{Change, Ledger, each, emitted, entered, journal, next_nonce, seen, unchanged}
 use Rattle.router_model.specs.Journal.{Journal}
-use Rattle.router_model.specs.Limits.{most_probes, most_targets}
+use Rattle.router_model.specs.Limits.{most_probes, most_targets, most_told}
 use Rattle.router_model.specs.Mappings.{Held}
-use Rattle.router_model.specs.Site.{is_own, ours}
+use Rattle.router_model.specs.Note.{solicited}
+use Rattle.router_model.specs.Site.{is_own, ours, reaches_resolver}
+use Rattle.router_model.specs.Standing.{due_changes}
 use Rattle.router_model.specs.View.{View}
 
 -- a locator may be taken, unless its priority is 255
@@ -48,6 +57,39 @@ candidates settings v =
 abbrev pub next_targets : Settings → View → List Target
 next_targets settings v = take most_targets (candidates settings v)
 
+-- ### which locators are told
+
+-- the address in order among others, once
+abbrev pub with_address : Addr → List Addr → List Addr
+with_address address [] = address ∷ []
+with_address address (first ∷ others) =
+    if same_address address first then first ∷ others
+    else if is_lt (addr_order address first) then address ∷ first ∷ others else first ∷ with_address address others
+
+-- a locator that may be told: it isn't an own one, and there is an own one of its family
+abbrev pub is_told : Settings → Addr → Bool
+is_told settings address = not (is_own settings.locators address) && is_some (ours settings.locators address)
+
+-- those of a mapping that may be taken
+abbrev pub named_in : Held → List Addr
+named_in held = map (λ (locator : Locator). locator.addr) (filter may_take held.mapping.locators)
+
+-- those of live mappings that may be told, in order of address
+abbrev pub named : Settings → View → List Addr
+named settings v =
+    fold (λ so_far address. with_address address so_far) [] (filter (is_told settings) (flat_map named_in v.mappings))
+
+-- the first of them (this router's choice)
+unfoldable pub first_told : List Addr → List Addr
+first_told addresses = take most_told addresses
+
+-- changes came
+abbrev pub some_came : List OwnChange → Bool
+some_came [] = false
+some_came (change ∷ changes) = true
+
+-- ### what is done
+
 module _ {S : Type 0} (ledger : Ledger S) (settings : Settings) (m : ℕ) where
   -- a request goes out again
   abbrev pub retried : Request → Change S → Change S
@@ -76,9 +118,51 @@ module _ {S : Type 0} (ledger : Ledger S) (settings : Settings) (m : ℕ) where
   all_probed change =
       if settings.probe then each probed (next_targets settings (seen ledger settings m change)) change else change
 
-  -- both, one after the other
+  -- a locator is asked to ask for a database prefix anew, where it may be
+  abbrev pub told : Addr → Database → Change S → Change S
+  told address database change =
+      if (seen ledger settings m change).may_solicit address database.eid
+      then solicited ledger settings m (next_nonce ledger settings m change) address database.eid change else change
+
+  -- it is told of each
+  abbrev pub told_all : Addr → Change S → Change S
+  told_all address change = each (told address) settings.databases change
+
+  -- the first locators that mappings name are told, where changes came
+  abbrev pub all_told : Bool → Change S → Change S
+  all_told came change =
+      if came then each told_all (first_told (named settings (seen ledger settings m change))) change else change
+
+  -- requests are sent again where the resolver is reached
+  abbrev pub retried_where : Bool → Change S → Change S
+  retried_where reaches change = if reaches then all_retried change else change
+
+  -- what follows the changes of own locators, over the settings that stand by then
+  unfoldable pub after_changes : Bool → Change S → Change S
+  after_changes came change = all_probed (retried_where (reaches_resolver settings) (all_told came change))
+
+module _ {S : Type 0} (ledger : Ledger S) (settings : Settings) (m : ℕ) where
+  -- an own locator goes up or down
+  abbrev pub made : OwnChange → Change S → Change S
+  made own change = entered ledger settings m (entry.Changed m own.address own.up) change
+
+  -- the settings' changes that come next, as far as their seconds aren't later
+  abbrev pub due_now : S → List OwnChange
+  due_now before = due_changes m (drop (ledger.steps before) settings.changes)
+
+  -- these changes
+  abbrev pub all_changed : List OwnChange → Change S → Change S
+  all_changed changes change = each made changes change
+
+  -- what a second makes of some changes, and what follows them
+  abbrev pub ticked_by : List OwnChange → Change S → Change S
+  ticked_by changes change =
+      after_changes ledger (ledger.stands settings (all_changed changes change).after) m (some_came changes)
+      (all_changed changes change)
+
+  -- a second: the changes, what locators are told, requests, and probes
   unfoldable pub ticked : Change S → Change S
-  ticked change = all_probed (all_retried change)
+  ticked change = ticked_by (due_now change.after) change
 
 -- second s, in the journal
 abbrev pub tick : Settings → Journal → ℕ → Change Journal

@@ -16,7 +16,7 @@ ghost use Rattle.router_model.specs.Decide.{decide_by};
 ghost use Rattle.router_model.specs.Hear.{drops, hear, reply_heard};
 ghost use Rattle.router_model.specs.Isolation.{AgreesDecides, DecisionIsolated, MomentIsolated, NoneAsks, RisingIsolated, TableIsolated, TablesAlike};
 ghost use Rattle.router_model.specs.Journal.{Journal, statics};
-ghost use Rattle.router_model.specs.Lifting.{AllAbsorbed, BitsKept, CameFits, CameInOrder, CaptureReplays, EntryAbsorbed, EventsInOrder, LiveIsExact, NoticesSound, PartsAnswer, ProperRises, StandingAbsorbs, StandingAdmits, StandingSees, StaticsStand, TableDecides, TableHears, TableNotes, TableReplays, TableTicks};
+ghost use Rattle.router_model.specs.Lifting.{AllAbsorbed, BitsKept, CameFits, CameInOrder, CaptureReplays, ChangesComeOnce, CourseStands, EntryAbsorbed, EventsInOrder, HearsStill, LawfulMayChange, LiveIsExact, NotesStill, NoticesSound, OwnTells, PartsAnswer, ProperRises, StandingAbsorbs, StandingAdmits, StandingSees, StaticsStand, TableDecides, TableHears, TableNotes, TableReplays, TableTicks, VersionsStep};
 ghost use Rattle.router_model.specs.Received.{message_in};
 ghost use Rattle.router_model.specs.View.{Agrees, View, view};
 
@@ -120,6 +120,27 @@ pub fn captures_replay_plainly()
     ensures order { CameInOrder }
     ensures room { CameFits }
     ensures replays { CaptureReplays }
+{}
+
+/// The changes in a journal that a router can have are the first ones of its settings, in order,
+/// each once; lawful settings have what such journals ask of them.
+pub fn changes_come_once()
+    ensures once { ChangesComeOnce }
+    ensures lawful { LawfulMayChange }
+{}
+
+/// Seconds alone change own locators: what a message or a notice makes of a journal changes none.
+pub fn seconds_alone_change_own_locators()
+    ensures hears { HearsStill }
+    ensures notes { NotesStill }
+{}
+
+/// A version goes round among 1 to 4,095, and 0 stays. Two numbers tell which settings stand, and
+/// what a frame is doesn't depend on them.
+pub fn own_and_steps()
+    ensures versions { VersionsStep }
+    ensures own { OwnTells }
+    ensures course { CourseStands }
 {}
 
 /// Of the live mappings of a journal that of an EID is the one last learned for it, if that is live.

@@ -21,6 +21,8 @@ fn a_list_has_so_many_items_at_most(rt: HostRuntime) -> Result<(), Fail> {
         ("attachment", "{},", 4097, "too-many", "attachment"),
         ("mapping", "{},", 65_536, "missing", "mapping.0.iid"),
         ("mapping", "{},", 65_537, "too-many", "mapping"),
+        ("change", "{},", 256, "missing", "change.0.at"),
+        ("change", "{},", 257, "too-many", "change"),
     ] {
         let items = repeated(alloc, item, times)?;
         let text = format!(in alloc; "{list} = [{items}]\n{LOCATOR}")?;

@@ -17,6 +17,7 @@ pub fn assert_same(rt: &impl Abort, again: &Settings, first: &Settings) {
     for (again, first) in again.mappings.as_slice().iter().zip(mappings) {
         assert_same_mapping(rt, again, first);
     }
+    assert_eq!(rt; again.changes.as_slice(), first.changes.as_slice());
 }
 
 fn assert_same_mapping(rt: &impl Abort, again: &Record, first: &Record) {

@@ -4,7 +4,7 @@ ghost use Rattle.lisp_settings.specs.Lawful.{IsLawful};
 use crate::sameness::assert_same;
 use crate::texts::{LOCATOR, SITE};
 use lisp_settings::{
-    Addr, Attachment, Locator, OwnLocator, Record, Settings, read_settings, write_settings,
+    Addr, Attachment, Change, Locator, OwnLocator, Record, Settings, read_settings, write_settings,
 };
 use std::alloc::Global;
 use std::process::Abort;
@@ -95,6 +95,12 @@ mapping = [
     {iid = 3, prefix = "10.0.0.0/9", locator = [{address = "::1"}, {address = "::"}]},
     {iid = 3, prefix = "10.0.0.0/8", version = 4095},
 ]
+change = [
+    {at = 9, address = "::1", up = true},
+    {at = 9, address = "192.0.2.1", up = true},
+    {at = 0, address = "::1", up = false},
+    {at = 4294967295, address = "192.0.2.9", up = false},
+]
 "#,
         ),
         // Addresses and prefixes of each form.
@@ -156,6 +162,11 @@ locator = [
 ]
 attachment = [{vlan = 4095, iid = 16777215}, {vlan = 0, iid = 1}]
 database = [{iid = 16777215, prefix = "2001:db8::/32", version = 4095}]
+change = [
+    {at = 4294967295, address = "192.0.2.1", up = false},
+    {at = 7, address = "::1", up = true},
+    {at = 7, address = "192.0.2.1", up = true},
+]
 [[mapping]]
 iid = 16777215
 prefix = "10.2.0.0/16"
@@ -174,7 +185,28 @@ locator = [{address = "198.51.100.7", priority = 2, weight = 3, up = false}]
     for mapping in settings.mappings.as_slice() {
         assert_mapping(&rt, mapping);
     }
+    assert_changes(&rt, settings.changes.as_slice());
     Ok(())
+}
+
+// The changes stand in order of second, then address.
+fn assert_changes(rt: &impl Abort, changes: &[Change]) {
+    let v4 = Change {
+        at: 7,
+        address: Addr::V4(0xc000_0201),
+        up: true,
+    };
+    let v6 = Change {
+        at: 7,
+        address: Addr::V6(1),
+        up: true,
+    };
+    let last = Change {
+        at: 4_294_967_295,
+        address: Addr::V4(0xc000_0201),
+        up: false,
+    };
+    assert_eq!(rt; changes, [v4, v6, last].as_slice());
 }
 
 // The values of the keys of the top, of the own locators and of the attachments.

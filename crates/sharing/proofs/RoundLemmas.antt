@@ -20,7 +20,7 @@ use Rattle.router_model.specs.Lifting.{AreOctets, FramesInOrder}
 use Rattle.router_model.specs.Limits.{most_entries, most_event_packets, most_mappings, most_round_octets}
 use Rattle.router_model.specs.Journal.{Journal, statics}
 use Rattle.lisp_settings.specs.Lawful.{IsLawful}
-use Rattle.router_core.specs.Steps.{HasEntered}
+use Rattle.router_core.specs.Steps.{HasTicked}
 use Rattle.router_model.proofs.ReplayLemmas.{statics-first}
 use Rattle.router_model.proofs.StaticsLemmas.{length-statics}
 use Rattle.router_model.specs.Parts.{Parts, Stands, parts_in}
@@ -320,7 +320,7 @@ round-left settings parts p g octets written progress may some =
 -- a round was worked
 pub ready-worked : (settings : Settings) (before after : Publication) (old new : Parts) (size : ℕ) (previous : Option ℕ) (frames : List Frame) (octets written sent : ℕ) (progress : Progress) (done : RoundDone)
     → MayGather settings old before (gathering_of settings before.batches size previous frames) octets progress written → 1 ≤ length frames
-    → IsRound settings previous frames before after new done → GrewBy before after → HasEntered (most_entries * length (events_after previous frames)) (closing_moment frames) old new
+    → IsRound settings previous frames before after new done → GrewBy before after → HasTicked (most_entries * length (events_after previous frames)) (closing_moment frames) old new
     → sent ≤ written + most_event_packets * length (events_after previous frames)
     → MayGather settings new after (gathering_of settings after.batches size (Some (closing_moment frames)) []) 0 progress sent
 ready-worked settings before after old new size previous frames octets written sent progress done may some is grew entered few =

@@ -66,4 +66,7 @@ settings-lawful n few = record {
   few_mappings = omega (arith, length-map-range_with_len trial_mapping 0 n, few);
   mappings = All-map IsLawfulMapping trial_mapping (range_with_len 0 n) (λ k d less. mapping-lawful _);
   eids = eids-sorted 0 n;
+  few_changes = omega arith;
+  changes = All-nil _;
+  moments = tt;
 }

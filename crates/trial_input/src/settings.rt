@@ -50,6 +50,7 @@ pub fn trial_settings(alloc: Global, n: u32) -> Result<Settings, NoMemory>
         attachments,
         databases,
         mappings,
+        changes: Items::new(alloc),
     })
 }
 

@@ -102,5 +102,14 @@ pub(crate) fn copied_entry(alloc: Global, entry: &Entry) -> Result<Entry, NoMemo
             eid: *eid,
             nonce: *nonce,
         }),
+        Entry::Changed {
+            moment,
+            address,
+            up,
+        } => Ok(Entry::Changed {
+            moment: *moment,
+            address: *address,
+            up: *up,
+        }),
     }
 }

@@ -1,11 +1,12 @@
 use Rattle.std.proofs.Common.{rules, ◌≡◌, ◌∙◌, ◌+◌, ◌++◌, List, length, map, take, sym, ap, subst, arith}
 use Rattle.router_log.specs.declared.notice.Notice.{Notice}
+use Rattle.router_model.specs.Parts.{standing_in}
 use Rattle.router_model.specs.Sides.{notices_of}
 use Rattle.forwarders.specs.declared.ruled.Ruled.{Ruled}
 use Rattle.forwarders.specs.Gathering.{Notes}
 use Rattle.forwarders.specs.Given.{IsGiven}
 use Rattle.forwarders.specs.Ruling.{ruling_of}
-use Rattle.forwarders.proofs.NoteLemmas.{given-few, notes-both, notices-more}
+use Rattle.forwarders.proofs.NoteLemmas.{given-few, notes-both, notes-stand, notices-more}
 use Rattle.forwarders.proofs.notices.note_all.Goals as goal
 
 pub note_each-requires-clause-count : goal.note_each-requires-clause-count
@@ -23,7 +24,7 @@ note_each-requires-clause-count c =
 
 pub loop-one-preserved : goal.loop-one-preserved
 loop-one-preserved c =
-    let settings = c.args.settings.now in
+    let stands = standing_in c.args.settings.now c.args.table.now.parts in
     let moment = c.args.moment in
     let ruled : List Ruled = c.args.ruled.now in
     let i = c.loop-one.one-index in
@@ -31,6 +32,7 @@ loop-one-preserved c =
     let past : List Notice = notices_of (map ruling_of (take i ruled)) in
     let whole : past ++ c.as_slice-notices.result.now ≡ notices_of (map ruling_of (take (i + 1) ruled)) =
     ap (λ (l : List Notice). past ++ l) c.as_slice-notices.ensures ∙ sym (notices-more ruled i one c.loop-one-test.true c.one-item.is) in
-    subst (λ (l : List Notice). Notes settings moment l c.args.table.now.parts c.args.entries.now c.args.items.now.items c.note_each.new.table.parts c.note_each.new.entries c.note_each.new.items.items) whole
-    (notes-both settings moment past c.as_slice-notices.result.now c.args.table.now.parts c.loop-one.table.parts c.note_each.new.table.parts c.args.entries.now c.loop-one.entries c.note_each.new.entries
-    c.args.items.now.items c.loop-one.items.items c.note_each.new.items.items c.loop-one.invariant c.in_ok-note_each.ensures)
+    subst (λ (l : List Notice). Notes stands moment l c.args.table.now.parts c.args.entries.now c.args.items.now.items c.note_each.new.table.parts c.note_each.new.entries c.note_each.new.items.items) whole
+    (notes-both stands moment past c.as_slice-notices.result.now c.args.table.now.parts c.loop-one.table.parts c.note_each.new.table.parts c.args.entries.now c.loop-one.entries c.note_each.new.entries
+    c.args.items.now.items c.loop-one.items.items c.note_each.new.items.items c.loop-one.invariant
+    (notes-stand c.args.settings.now moment c.as_slice-notices.result.now c.args.table.now.parts c.loop-one.table.parts c.note_each.new.table.parts c.loop-one.entries c.note_each.new.entries c.loop-one.items.items c.note_each.new.items.items c.loop-one.invariant.entered c.in_ok-note_each.ensures))

@@ -1,13 +1,20 @@
-use Rattle.std.proofs.Common.{sym, subst, arith}
+use Rattle.std.proofs.Common.{◌∙◌, sym, ap, subst, arith}
 use Rattle.std.proofs.lemmas.Result.{on_ok_weaker}
 use Rattle.router_model.specs.Journal.{extended}
+use Rattle.router_model.specs.Parts.{Parts}
 use Rattle.router_model.specs.Proper.{IsProper}
+use Rattle.router_model.specs.Standing.{without_ups}
+use Rattle.router_model.proofs.UpsLemmas.{own_after-site}
 use Rattle.forwarders.specs.Batches.{journal_of}
 use Rattle.forwarders.specs.Finishing.{noted_of}
 use Rattle.forwarders.specs.Publication.{Publication}
 use Rattle.forwarders.proofs.RoundLemmas.{all-given}
 use Rattle.forwarders.proofs.RunLemmas.{all-run, closes-early, few-places, notices-go, notices-room, then-stands}
 use Rattle.forwarders.proofs.round.work_round.Goals as goal
+
+pub write_round-requires-clause-own : goal.write_round-requires-clause-own
+write_round-requires-clause-own g c =
+    ap (λ (p : Parts). without_ups p.own) c.requires.stands.whole ∙ own_after-site c.args.settings.now (journal_of c.args.published.now.batches)
 
 pub decide_round-requires-clause-number : goal.decide_round-requires-clause-number
 decide_round-requires-clause-number g c = λ κs bounds.

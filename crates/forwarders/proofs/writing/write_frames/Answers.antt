@@ -10,7 +10,7 @@ use Rattle.forwarders.proofs.writing.write_frames.Goals as goal
 pub write_seconds-requires-clause-own : goal.write_seconds-requires-clause-own
 write_seconds-requires-clause-own c =
     let frames : List Frame = c.args.frames.now in
-    c.requires.own ∙ sym (writes-own c.args.settings.now frames (events_after (Some c.args.from) (take c.loop-place.place frames)) c.args.table.now.parts c.loop-place.table.parts c.args.written.now c.loop-place.written c.loop-place.invariant.writes)
+    writes-own c.args.settings.now frames (events_after (Some c.args.from) (take c.loop-place.place frames)) c.args.table.now.parts c.loop-place.table.parts c.args.written.now c.loop-place.written c.loop-place.invariant.writes ∙ c.requires.own
 
 pub write_seconds-requires-clause-order : goal.write_seconds-requires-clause-order
 write_seconds-requires-clause-order c =

@@ -1,4 +1,4 @@
-use Rattle.std.proofs.Common.{◌≡◌, ◌∙◌, ℕ, List, get_or, Some, sym, ap, subst, arith}
+use Rattle.std.proofs.Common.{◌≡◌, ◌∙◌, ℕ, List, get_or, Some, ap, subst, arith}
 use Rattle.capture_io.specs.Frame.{Frame}
 use Rattle.capture_events.specs.Events.{events_after, ticks}
 use Rattle.forwarders.specs.Gathering.{Writes}
@@ -9,7 +9,7 @@ use Rattle.forwarders.proofs.writing.write_round.Goals as goal
 pub write_frames-requires-clause-own : goal.write_frames-requires-clause-own
 write_frames-requires-clause-own c =
     let frames : List Frame = c.args.frames.now in
-    c.requires.own ∙ sym (writes-own c.args.settings.now frames (ticks c.args.previous c.first.inside.moment) c.args.table.now.parts c.write_seconds.new.table.parts c.args.written.now c.write_seconds.new.written (c.in_ok-write_seconds.ensures.writes frames))
+    writes-own c.args.settings.now frames (ticks c.args.previous c.first.inside.moment) c.args.table.now.parts c.write_seconds.new.table.parts c.args.written.now c.write_seconds.new.written (c.in_ok-write_seconds.ensures.writes frames) ∙ c.requires.own
 
 pub write_frames-requires-clause-count : goal.write_frames-requires-clause-count
 write_frames-requires-clause-count c =

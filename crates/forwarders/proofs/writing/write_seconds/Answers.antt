@@ -1,4 +1,4 @@
-use Rattle.std.proofs.Common.{◌≡◌, ◌∙◌, ℕ, suc, ◌+◌, ◌-◌, ◌≤◌, [], map, Option, unwrap_or, sym, ap, subst, arith}
+use Rattle.std.proofs.Common.{◌≡◌, ◌∙◌, ℕ, suc, ◌+◌, ◌-◌, ◌≤◌, [], map, Option, unwrap_or, ap, subst, arith}
 use Rattle.std.specs.List.{range_with_len}
 use Rattle.capture_events.specs.Events.{Tick, second_of}
 use Rattle.forwarders.specs.Gathering.{Writes}
@@ -9,7 +9,7 @@ pub write_second-requires-clause-own : goal.write_second-requires-clause-own
 write_second-requires-clause-own c =
     let first = c.second_of-first.result + 1 in
     let n = c.loop-second.second - first in
-    c.requires.own ∙ sym (writes-own c.args.settings.now [] (map Tick (range_with_len first n)) c.args.table.now.parts c.loop-second.table.parts c.args.written.now c.loop-second.written (c.loop-second.invariant.writes []))
+    writes-own c.args.settings.now [] (map Tick (range_with_len first n)) c.args.table.now.parts c.loop-second.table.parts c.args.written.now c.loop-second.written (c.loop-second.invariant.writes []) ∙ c.requires.own
 
 pub write_second-requires-clause-may : goal.write_second-requires-clause-may
 write_second-requires-clause-may c =

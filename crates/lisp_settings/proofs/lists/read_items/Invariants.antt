@@ -7,8 +7,8 @@ use Rattle.lisp_settings.proofs.lists.read_items.Given as goal
 
 abbrev pub invariant-loop-value : goal.invariant-loop-value
 invariant-loop-value g l = record {
-  read : each l.list g.T.Item.reads g.T.Item.key g.T.Item.order [] (items_view l.tables)
-      ≡ each l.list g.T.Item.reads g.T.Item.key g.T.Item.order l.items.items (items_view (drop l.value-index l.tables));
+  read : each l.list (g.T.Item.reads l.known) g.T.Item.key g.T.Item.order [] (items_view l.tables)
+      ≡ each l.list (g.T.Item.reads l.known) g.T.Item.key g.T.Item.order l.items.items (items_view (drop l.value-index l.tables));
   seen : (key : g.row.T-Key.Denot) → contains g.T.Key.Ord.cmp l.seen key
       ≡ list_any (λ item. is_eq (g.T.Item.order (g.T.Item.key item) key)) l.items.items;
 }

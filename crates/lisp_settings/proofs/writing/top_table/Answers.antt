@@ -2,7 +2,8 @@ use Rattle.std.proofs.Common.{rules, map, subst, nat_cmp}
 use Rattle.std.proofs.lemmas.Map.Keys.{IsDistinct-from_sorted}
 use Rattle.toml.specs.View.{array_view, table_view}
 use Rattle.mapping_records.specs.Orders.{addr_order, eid_order}
-use Rattle.lisp_settings.specs.Settings.{attachment_in, database_in, locator_in, mapping_in}
+use Rattle.lisp_settings.specs.Changes.{change_key, change_order}
+use Rattle.lisp_settings.specs.Settings.{attachment_in, change_in, database_in, locator_in, mapping_in}
 use Rattle.lisp_settings.specs.Writing.{IsArrayOf}
 use Rattle.lisp_settings.proofs.TopLemmas.{IsTopTable, settings_in-top, top-plain}
 use Rattle.lisp_settings.proofs.writing.top_table.Goals as goal
@@ -23,23 +24,29 @@ pub write_items-requires-4-clause-distinct : goal.write_items-requires-4-clause-
 write_items-requires-4-clause-distinct c =
     rw c.as_slice-4.ensures (IsDistinct-from_sorted eid_order (map (λ mapping. mapping.eid) c.args.settings.now.mappings) c.requires.eids)
 
-made : (c : goal.In_ok-put_array-4) → IsTopTable c.args.settings.now (table_view c.put_array-4.new.table)
+pub write_items-requires-5-clause-distinct : goal.write_items-requires-5-clause-distinct
+write_items-requires-5-clause-distinct c =
+    rw c.as_slice-5.ensures (IsDistinct-from_sorted change_order (map change_key c.args.settings.now.changes) c.requires.moments)
+
+made : (c : goal.In_ok-put_array-5) → IsTopTable c.args.settings.now (table_view c.put_array-5.new.table)
 made c = record {
   front = table_view c.in_ok-top.top;
   locators = array_view c.in_ok-locators.locators;
   attachments = array_view c.in_ok-attachments.attachments;
   databases = array_view c.in_ok-databases.databases;
   mappings = array_view c.in_ok-mappings.mappings;
+  changes = array_view c.in_ok-changes.changes;
   fronts = c.in_ok-top.ensures;
-  own = subst (λ items. IsArrayOf locator_in (λ own. own.addr) addr_order 1 items (array_view c.in_ok-locators.locators)) c.as_slice.ensures c.in_ok-locators.ensures;
-  attached = subst (λ items. IsArrayOf attachment_in (λ attachment. attachment.vlan) nat_cmp 1 items (array_view c.in_ok-attachments.attachments)) c.as_slice-2.ensures c.in_ok-attachments.ensures;
-  based = subst (λ items. IsArrayOf database_in (λ database. database.eid) eid_order 1 items (array_view c.in_ok-databases.databases)) c.as_slice-3.ensures c.in_ok-databases.ensures;
-  mapped = subst (λ items. IsArrayOf mapping_in (λ mapping. mapping.eid) eid_order 3 items (array_view c.in_ok-mappings.mappings)) c.as_slice-4.ensures c.in_ok-mappings.ensures;
+  own = subst (λ items. IsArrayOf locator_in (λ own. own.addr) addr_order 1 items (array_view c.in_ok-locators.locators)) c.as_slice.ensures (c.in_ok-locators.ensures tt (λ k d less. tt));
+  attached = subst (λ items. IsArrayOf attachment_in (λ attachment. attachment.vlan) nat_cmp 1 items (array_view c.in_ok-attachments.attachments)) c.as_slice-2.ensures (c.in_ok-attachments.ensures tt (λ k d less. tt));
+  based = subst (λ items. IsArrayOf database_in (λ database. database.eid) eid_order 1 items (array_view c.in_ok-databases.databases)) c.as_slice-3.ensures (c.in_ok-databases.ensures tt (λ k d less. tt));
+  mapped = subst (λ items. IsArrayOf mapping_in (λ mapping. mapping.eid) eid_order 3 items (array_view c.in_ok-mappings.mappings)) c.as_slice-4.ensures (c.in_ok-mappings.ensures tt (λ k d less. tt));
+  changed = subst (λ items. IsArrayOf (change_in c.args.settings.now.locators) change_key change_order 1 items (array_view c.in_ok-changes.changes)) c.as_slice-5.ensures (c.in_ok-changes.ensures c.args.settings.now.locators (rw c.as_slice-5.ensures c.requires.changes));
   members = search rules;
 }
 
 pub returns-clause-reads : goal.returns-clause-reads
-returns-clause-reads c few = settings_in-top c.args.settings.now (table_view c.put_array-4.new.table) (made c) c.requires few
+returns-clause-reads c few = settings_in-top c.args.settings.now (table_view c.put_array-5.new.table) (made c) c.requires few
 
 pub returns-clause-plain : goal.returns-clause-plain
-returns-clause-plain c = top-plain c.args.settings.now (table_view c.put_array-4.new.table) (made c)
+returns-clause-plain c = top-plain c.args.settings.now (table_view c.put_array-5.new.table) (made c)

@@ -3,13 +3,14 @@ use Rattle.std.proofs.lemmas.Result.{on_ok_weaker}
 use Rattle.router_log.specs.declared.emit.Emit.{Emit}
 use Rattle.router_model.specs.Emits.{emit_packet}
 use Rattle.router_model.specs.Plain.{emit_packets}
+use Rattle.router_model.specs.Standing.{standing_by}
 use Rattle.replay.specs.Taking.{Sends}
 use Rattle.replay.proofs.ReplayLemmas.{first-left, sends-more}
 use Rattle.replay.proofs.taking.+push_emits.Goals as goal
 
 pub returns : goal.returns
 returns t c =
-    let settings = c.args.settings.now in
+    let settings = standing_by c.args.settings.now c.args.own.now in
     let moment = c.args.moment in
     let emits = c.args.emits.now in
     let emit = c.emit-item.result in

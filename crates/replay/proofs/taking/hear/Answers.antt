@@ -7,8 +7,10 @@ use Rattle.router_log.specs.declared.emit.Emit.{Emit}
 use Rattle.router_model.specs.Changes.{unchanged}
 use Rattle.router_model.specs.Hear.{Heard, course_heard}
 use Rattle.router_model.specs.Limits.{most_heard}
-use Rattle.router_model.specs.Parts.{Parts, table}
+use Rattle.router_model.specs.Parts.{Parts, standing_in, table}
 use Rattle.router_model.specs.Plain.{after_message, emit_packets}
+use Rattle.router_model.specs.Standing.{standing_by}
+use Rattle.router_model.specs.declared.own.Own.{Own}
 use Rattle.router_core.specs.Seen.{course_seen}
 use Rattle.router_core.specs.Steps.{HasEntered, MayStep}
 use Rattle.router_core.specs.Table.{heard_seen}
@@ -36,15 +38,17 @@ returns-clause-gathers c =
     let new : Output = c.push_emits.new.output in
     let first : Output = record { lines = c.push_frame_line.new.out; records = old.records; written = old.written } in
     let heard : Heard Parts = heard_seen c.hear_course.new.self.parts c.in_ok-heard.heard in
-    let is : heard ≡ course_heard table settings frame.moment (course_seen c.args.course) (unchanged parts) =
-    c.in_ok-heard.ensures.parts ∙ ap (λ (m : ℕ). course_heard table settings m (course_seen c.args.course) (unchanged parts)) now in
+    let is : heard ≡ course_heard table (standing_in settings parts) frame.moment (course_seen c.args.course) (unchanged parts) =
+    c.in_ok-heard.ensures.parts ∙ ap (λ (m : ℕ). course_heard table (standing_in settings parts) m (course_seen c.args.course) (unchanged parts)) now in
     let lines : first.lines ≡ old.lines ++ frame_line frame.number frame.moment parts.count heard.verdict =
     c.in_ok-push_frame_line.ensures
     ∙ ap (λ (n : ℕ). old.lines ++ frame_line inside.number inside.moment n heard.verdict) c.count-entries.ensures
     ∙ ap (λ (f : Frame). old.lines ++ frame_line f.number f.moment parts.count heard.verdict) c.frame.view_is in
     on_ok_weaker c.push_emits.result (λ sends.
-    let sent : Sends (emit_packets settings frame.moment heard.change.emits) first new =
-    subst (λ (m : ℕ). Sends (emit_packets settings m heard.change.emits) first new) now
-    (subst (λ (l : List Emit). Sends (emit_packets settings inside.moment l) first new) c.as_slice.ensures sends) in
+    let stands = standing_in settings c.hear_course.new.self.parts in
+    let sent : Sends (emit_packets stands frame.moment heard.change.emits) first new =
+    subst (λ (m : ℕ). Sends (emit_packets stands m heard.change.emits) first new) now
+    (subst (λ (l : List Emit). Sends (emit_packets stands inside.moment l) first new) c.as_slice.ensures
+    (subst (λ (own : Own). Sends (emit_packets (standing_by settings own) inside.moment c.as_slice.result.now) first new) c.own-own.ensures sends)) in
     subst (λ (h : Heard Parts). GathersFew (after_message table (router_of settings parts) frame h) old new) is
     (message-gathers (router_of settings parts) frame heard old first new lines refl refl sent c.in_ok-heard.ensures.sent.few)) c.push_emits.ensures

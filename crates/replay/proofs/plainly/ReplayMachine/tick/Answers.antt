@@ -3,7 +3,7 @@ use Rattle.capture_events.specs.Events.{Tick}
 use Rattle.router_model.specs.Parts.{table}
 use Rattle.router_model.specs.Plain.{after_event}
 use Rattle.replay.specs.Taking.{router_of}
-use Rattle.replay.proofs.ReplayLemmas.{gathers-determined, on_ok_three, on_ok_two, own-kept, packets-later, packets-left, ready-later, room-left}
+use Rattle.replay.proofs.ReplayLemmas.{gathers-determined, on_ok_three, on_ok_two, own-kept, own-stands, packets-later, packets-left, ready-later, room-left}
 use Rattle.replay.proofs.plainly.ReplayMachine.tick.Goals as goal
 
 pub take_second-requires-clause-may : goal.take_second-requires-clause-may
@@ -12,6 +12,9 @@ take_second-requires-clause-may c =
     let later = c.requires.later in
     let room = room-left c.args._progress.frames c.args.self.now.table.parts.count (unwrap_or c.args._progress.moment 0) c.requires.most (omega (arith, later)) ready.1.1.1.0 in
     record { later = omega (arith, ready.1.1.0, later); count = omega (arith, room) }
+
+pub take_second-requires-clause-own : goal.take_second-requires-clause-own
+take_second-requires-clause-own c = own-stands c.args.self.now.settings.now c.args.self.now.table.parts c.requires.ready.1.0
 
 pub take_second-requires-clause-room : goal.take_second-requires-clause-room
 take_second-requires-clause-room c =

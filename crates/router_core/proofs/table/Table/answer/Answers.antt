@@ -17,9 +17,9 @@ pub returns-clause-parts : goal.returns-clause-parts
 returns-clause-parts c =
     let m = c.args.m in
     let inside = c.self.inside in
-    ap₂ (λ (now : ℕ) (l : List Mapping). parts_with inside.own (inside.count + 1) inside.drawn now l c.answer.new.self.requests c.purge-3.new.self.observed) c.purge.ensures.now c.purge.ensures.mappings
-    ∙ ap₂ (λ (l : List Request) (p : Observed). parts_with inside.own (inside.count + 1) inside.drawn m (lasting m inside.cache.mappings) l p) (c.answer.ensures.requests ∙ ap (without_nonce c.args.nonce) c.purge-2.ensures.requests) c.purge-3.ensures.observed
-    ∙ answered-parts inside.own inside.count inside.drawn inside.cache.now inside.cache.mappings inside.queue.requests inside.locators.observed m c.args.nonce
+    ap₂ (λ (now : ℕ) (l : List Mapping). parts_with inside.own.items inside.steps (inside.count + 1) inside.drawn now l c.answer.new.self.requests c.purge-3.new.self.observed) c.purge.ensures.now c.purge.ensures.mappings
+    ∙ ap₂ (λ (l : List Request) (p : Observed). parts_with inside.own.items inside.steps (inside.count + 1) inside.drawn m (lasting m inside.cache.mappings) l p) (c.answer.ensures.requests ∙ ap (without_nonce c.args.nonce) c.purge-2.ensures.requests) c.purge-3.ensures.observed
+    ∙ answered-parts inside.own.items inside.steps inside.count inside.drawn inside.cache.now inside.cache.mappings inside.queue.requests inside.locators.observed m c.args.nonce
     ∙ ap (λ (t : TableSeen). with_entry (Answered m c.args.nonce) t.parts) c.self.view_is
 
 pub invariant_of-self : goal.invariant_of-self

@@ -121,3 +121,9 @@ returns-in-Solicited-clause-parts c =
 pub returns-in-Solicited-clause-journal : goal.returns-in-Solicited-clause-journal
 returns-in-Solicited-clause-journal c =
     on_ok_weaker c.apply_solicited.result (λ is settings journal. stands-with settings c.args.self.now.parts c.apply_solicited.new.self.parts journal c.args.entry.now is) (returns-in-Solicited-clause-parts c)
+
+pub returns-in-Changed-clause-parts : goal.returns-in-Changed-clause-parts
+returns-in-Changed-clause-parts c = c.change.ensures.parts ∙ absorbed-as c.args.self.now.parts c.args.entry.now _ c.in-Changed.is c.requires
+
+pub returns-in-Changed-clause-journal : goal.returns-in-Changed-clause-journal
+returns-in-Changed-clause-journal c settings journal = stands-with settings c.args.self.now.parts c.change.new.self.parts journal c.args.entry.now (returns-in-Changed-clause-parts c)

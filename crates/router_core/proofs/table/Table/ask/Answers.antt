@@ -22,9 +22,9 @@ returns-clause-parts c =
     let room = subst (λ (t : TableSeen). 0 < t.request_room) (sym c.self.view_is) c.requires.room in
     let rs : c.ask.new.self.requests ≡ after =
     was_asked c.ask.result inside.queue.spare (length (waiting m inside.queue.requests)) c.ask.ensures.ok c.ask.ensures.memory room c.ask.ensures.full place in
-    ap₂ (λ (now : ℕ) (l : List Mapping). parts_with inside.own (inside.count + 1) (inside.drawn + 1) now l c.ask.new.self.requests c.purge-2.new.self.observed) c.purge.ensures.now c.purge.ensures.mappings
-    ∙ ap₂ (λ (l : List Request) (p : Observed). parts_with inside.own (inside.count + 1) (inside.drawn + 1) m (lasting m inside.cache.mappings) l p) rs c.purge-2.ensures.observed
-    ∙ asked-parts inside.own inside.count inside.drawn inside.cache.now inside.cache.mappings inside.queue.requests inside.locators.observed m c.args.eid c.args.source c.args.invoked c.args.nonce
+    ap₂ (λ (now : ℕ) (l : List Mapping). parts_with inside.own.items inside.steps (inside.count + 1) (inside.drawn + 1) now l c.ask.new.self.requests c.purge-2.new.self.observed) c.purge.ensures.now c.purge.ensures.mappings
+    ∙ ap₂ (λ (l : List Request) (p : Observed). parts_with inside.own.items inside.steps (inside.count + 1) (inside.drawn + 1) m (lasting m inside.cache.mappings) l p) rs c.purge-2.ensures.observed
+    ∙ asked-parts inside.own.items inside.steps inside.count inside.drawn inside.cache.now inside.cache.mappings inside.queue.requests inside.locators.observed m c.args.eid c.args.source c.args.invoked c.args.nonce
     ∙ ap (λ (t : TableSeen). with_entry (Asked m c.args.eid c.args.source c.args.invoked c.args.nonce) t.parts) c.self.view_is
 
 pub invariant_of-self : goal.invariant_of-self

@@ -10,7 +10,7 @@ pub returns : goal.returns
 returns c = λ so settings own.
     let kept = c.self.inside in
     let before : c.args.m < kept.rest = grind (arith, nat_tests, so) in
-    let same : kept.own ≡ settings.locators = ap (λ (t : TableSeen). t.parts.own) c.self.view_is ∙ sym own in
+    let same : kept.own.items ≡ settings.locators = ap (λ (t : TableSeen). t.parts.own) c.self.view_is ∙ sym own in
     let at_rest : IsAtRest settings.locators kept.rest c.args.self.now.parts.observed.probes c.args.self.now.parts.mappings =
     subst (λ (t : TableSeen). IsAtRest settings.locators kept.rest t.parts.observed.probes t.parts.mappings) c.self.view_is
     (subst (λ (l : List OwnLocator). IsAtRest l kept.rest kept.locators.observed.probes kept.cache.mappings) same c.self.invariant.1) in

@@ -22,9 +22,9 @@ returns-clause-parts c =
     let locator_room = subst (λ (t : TableSeen). length mapping.locators ≤ t.locator_room) (sym c.self.view_is) c.requires.locator_room in
     let ms : c.learn.new.self.mappings ≡ learned m mapping c.args.fixed inside.cache.mappings =
     was_learned c.learn.result (has_room mapping (lasting m inside.cache.mappings)) c.learn.ensures.ok (c.learn.ensures.memory room locator_room) c.learn.ensures.full place in
-    ap₂ (λ (now : ℕ) (l : List Mapping). parts_with inside.own (inside.count + 1) inside.drawn now l c.purge.new.self.requests c.purge-2.new.self.observed) c.learn.ensures.now ms
-    ∙ ap₂ (λ (r : List Request) (p : Observed). parts_with inside.own (inside.count + 1) inside.drawn m (learned m mapping c.args.fixed inside.cache.mappings) r p) c.purge.ensures.requests c.purge-2.ensures.observed
-    ∙ learned-parts inside.own inside.count inside.drawn inside.cache.now inside.cache.mappings inside.queue.requests inside.locators.observed m mapping c.args.fixed
+    ap₂ (λ (now : ℕ) (l : List Mapping). parts_with inside.own.items inside.steps (inside.count + 1) inside.drawn now l c.purge.new.self.requests c.purge-2.new.self.observed) c.learn.ensures.now ms
+    ∙ ap₂ (λ (r : List Request) (p : Observed). parts_with inside.own.items inside.steps (inside.count + 1) inside.drawn m (learned m mapping c.args.fixed inside.cache.mappings) r p) c.purge.ensures.requests c.purge-2.ensures.observed
+    ∙ learned-parts inside.own.items inside.steps inside.count inside.drawn inside.cache.now inside.cache.mappings inside.queue.requests inside.locators.observed m mapping c.args.fixed
     ∙ ap (λ (t : TableSeen). with_entry (Learned m mapping c.args.fixed) t.parts) c.self.view_is
 
 pub invariant_of-self : goal.invariant_of-self

@@ -13,5 +13,5 @@ returns-clause-journal c =
     let m = c.args.m in
     let notice = c.args.notice.now in
     IfOk-weaker c.note_by.result _ _ (λ changed is journal stands may.
-    subst (λ (t : Change Parts). Follows settings t (note settings journal m notice)) (sym (rw c.of.ensures at is))
+    subst (λ (t : Change Parts). Follows settings t (note settings journal m notice)) (sym (rw c.site-site.ensures at is))
     (table-notes settings c.args.self.now.parts journal m notice stands may c.requires.sound)) c.note_by.ensures.parts

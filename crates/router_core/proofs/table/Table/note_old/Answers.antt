@@ -1,8 +1,9 @@
-use Rattle.std.proofs.Common.{◌∙◌, not, is_some, sym}
+use Rattle.std.proofs.Common.{◌∙◌, not, sym}
 use Rattle.request_queue.specs.Queue.{covered}
 use Rattle.router_model.specs.Mappings.{exact}
 use Rattle.router_model.specs.Note.{is_learned}
 use Rattle.router_model.specs.Parts.{view_in}
+use Rattle.router_model.specs.Site.{reaches_resolver}
 use Rattle.router_core.proofs.ChangeLemmas.{both, may_ask-place}
 use Rattle.router_core.proofs.table.Table.note_old.Goals as goal
 
@@ -13,4 +14,4 @@ make_request-requires-clause-place c =
     let v = view_in p c.args.m in
     let old = sym c.may_renew.ensures ∙ c.if-not-may_renew.false in
     let may = (both (is_learned (exact v.mappings eid)) _ old).1 in
-    may_ask-place p c.args.m c.requires.may.later (both (not (covered v.requests eid)) _ (both (is_some c.args.site.now.resolver) _ may).1).1
+    may_ask-place p c.args.m c.requires.may.later (both (not (covered v.requests eid)) _ (both (reaches_resolver c.args.site.now) _ may).1).1

@@ -20,9 +20,9 @@ returns-clause-parts c =
     let room = subst (λ (t : TableSeen). 0 < t.probe_room) (sym c.self.view_is) c.requires.room in
     let os : c.probed.new.self.observed ≡ with_probes m (probed m c.args.rloc c.args.nonce inside.locators.observed.probes) inside.locators.observed =
     was_kept c.probed.result inside.locators.probe_room c.probed.ensures.ok c.probed.ensures.memory room in
-    ap₂ (λ (now : ℕ) (l : List Mapping). parts_with inside.own (inside.count + 1) (inside.drawn + 1) now l c.purge-2.new.self.requests c.probed.new.self.observed) c.purge.ensures.now c.purge.ensures.mappings
-    ∙ ap₂ (λ (l : List Request) (p : Observed). parts_with inside.own (inside.count + 1) (inside.drawn + 1) m (lasting m inside.cache.mappings) l p) c.purge-2.ensures.requests os
-    ∙ probed-parts inside.own inside.count inside.drawn inside.cache.now inside.cache.mappings inside.queue.requests inside.locators.observed m c.args.rloc c.args.nonce
+    ap₂ (λ (now : ℕ) (l : List Mapping). parts_with inside.own.items inside.steps (inside.count + 1) (inside.drawn + 1) now l c.purge-2.new.self.requests c.probed.new.self.observed) c.purge.ensures.now c.purge.ensures.mappings
+    ∙ ap₂ (λ (l : List Request) (p : Observed). parts_with inside.own.items inside.steps (inside.count + 1) (inside.drawn + 1) m (lasting m inside.cache.mappings) l p) c.purge-2.ensures.requests os
+    ∙ probed-parts inside.own.items inside.steps inside.count inside.drawn inside.cache.now inside.cache.mappings inside.queue.requests inside.locators.observed m c.args.rloc c.args.nonce
     ∙ ap (λ (t : TableSeen). with_entry (Probed m c.args.rloc c.args.nonce) t.parts) c.self.view_is
 
 pub invariant_of-self : goal.invariant_of-self

@@ -22,9 +22,9 @@ pub returns-clause-parts : goal.returns-clause-parts
 returns-clause-parts c =
     let m = c.args.m in
     let inside = c.self.inside in
-    ap₂ (λ (now : ℕ) (l : List Mapping). parts_with inside.own (inside.count + 1) inside.drawn now l c.retry.new.self.requests c.purge-3.new.self.observed) c.purge.ensures.now c.purge.ensures.mappings
-    ∙ ap₂ (λ (l : List Request) (p : Observed). parts_with inside.own (inside.count + 1) inside.drawn m (lasting m inside.cache.mappings) l p) (c.retry.ensures.requests ∙ ap (sent_again c.args.nonce) c.purge-2.ensures.requests) c.purge-3.ensures.observed
-    ∙ retried-parts inside.own inside.count inside.drawn inside.cache.now inside.cache.mappings inside.queue.requests inside.locators.observed m c.args.nonce
+    ap₂ (λ (now : ℕ) (l : List Mapping). parts_with inside.own.items inside.steps (inside.count + 1) inside.drawn now l c.retry.new.self.requests c.purge-3.new.self.observed) c.purge.ensures.now c.purge.ensures.mappings
+    ∙ ap₂ (λ (l : List Request) (p : Observed). parts_with inside.own.items inside.steps (inside.count + 1) inside.drawn m (lasting m inside.cache.mappings) l p) (c.retry.ensures.requests ∙ ap (sent_again c.args.nonce) c.purge-2.ensures.requests) c.purge-3.ensures.observed
+    ∙ retried-parts inside.own.items inside.steps inside.count inside.drawn inside.cache.now inside.cache.mappings inside.queue.requests inside.locators.observed m c.args.nonce
     ∙ ap (λ (t : TableSeen). with_entry (Retried m c.args.nonce) t.parts) c.self.view_is
 
 pub invariant_of-self : goal.invariant_of-self

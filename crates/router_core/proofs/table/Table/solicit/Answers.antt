@@ -13,20 +13,17 @@ use Rattle.router_core.proofs.EntryLemmas.{parts_with, solicited-parts, was_kept
 use Rattle.router_core.proofs.LengthLemmas.{few-solicits, solicited-few}
 use Rattle.router_core.proofs.table.Table.solicit.Goals as goal
 
-pub returns : goal.returns
-returns c =
+pub returns-clause-parts : goal.returns-clause-parts
+returns-clause-parts c =
     let m = c.args.m in
     let inside = c.self.inside in
     let room = subst (λ (t : TableSeen). 0 < t.solicit_room) (sym c.self.view_is) c.requires.room in
     let os : c.solicited.new.self.observed ≡ with_solicits m (solicited m c.args.rloc c.args.eid inside.locators.observed.solicits) inside.locators.observed =
     was_kept c.solicited.result inside.locators.solicit_room c.solicited.ensures.ok c.solicited.ensures.memory room in
-    record {
-      parts =
-          ap₂ (λ (now : ℕ) (l : List Mapping). parts_with inside.own (inside.count + 1) (inside.drawn + 1) now l c.purge-2.new.self.requests c.solicited.new.self.observed) c.purge.ensures.now c.purge.ensures.mappings
-          ∙ ap₂ (λ (l : List Request) (p : Observed). parts_with inside.own (inside.count + 1) (inside.drawn + 1) m (lasting m inside.cache.mappings) l p) c.purge-2.ensures.requests os
-          ∙ solicited-parts inside.own inside.count inside.drawn inside.cache.now inside.cache.mappings inside.queue.requests inside.locators.observed m c.args.rloc c.args.eid c.args.nonce
-          ∙ ap (λ (t : TableSeen). with_entry (Solicited m c.args.rloc c.args.eid c.args.nonce) t.parts) c.self.view_is;
-    }
+    ap₂ (λ (now : ℕ) (l : List Mapping). parts_with inside.own.items inside.steps (inside.count + 1) (inside.drawn + 1) now l c.purge-2.new.self.requests c.solicited.new.self.observed) c.purge.ensures.now c.purge.ensures.mappings
+    ∙ ap₂ (λ (l : List Request) (p : Observed). parts_with inside.own.items inside.steps (inside.count + 1) (inside.drawn + 1) m (lasting m inside.cache.mappings) l p) c.purge-2.ensures.requests os
+    ∙ solicited-parts inside.own.items inside.steps inside.count inside.drawn inside.cache.now inside.cache.mappings inside.queue.requests inside.locators.observed m c.args.rloc c.args.eid c.args.nonce
+    ∙ ap (λ (t : TableSeen). with_entry (Solicited m c.args.rloc c.args.eid c.args.nonce) t.parts) c.self.view_is
 
 pub invariant_of-self : goal.invariant_of-self
 invariant_of-self c =

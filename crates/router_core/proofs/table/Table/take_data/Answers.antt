@@ -18,9 +18,9 @@ returns c =
     let inside = c.self.inside in
     record {
       parts =
-          ap₂ (λ (now : ℕ) (l : List Mapping). parts_with inside.own (inside.count + 1) inside.drawn now l c.purge-2.new.self.requests c.data_from.new.self.observed) c.purge.ensures.now c.purge.ensures.mappings
-          ∙ ap₂ (λ (l : List Request) (p : Observed). parts_with inside.own (inside.count + 1) inside.drawn m (lasting m inside.cache.mappings) l p) c.purge-2.ensures.requests c.data_from.ensures.observed
-          ∙ data-parts inside.own inside.count inside.drawn inside.cache.now inside.cache.mappings inside.queue.requests inside.locators.observed m c.args.rloc.now
+          ap₂ (λ (now : ℕ) (l : List Mapping). parts_with inside.own.items inside.steps (inside.count + 1) inside.drawn now l c.purge-2.new.self.requests c.data_from.new.self.observed) c.purge.ensures.now c.purge.ensures.mappings
+          ∙ ap₂ (λ (l : List Request) (p : Observed). parts_with inside.own.items inside.steps (inside.count + 1) inside.drawn m (lasting m inside.cache.mappings) l p) c.purge-2.ensures.requests c.data_from.ensures.observed
+          ∙ data-parts inside.own.items inside.steps inside.count inside.drawn inside.cache.now inside.cache.mappings inside.queue.requests inside.locators.observed m c.args.rloc.now
           ∙ ap (λ (t : TableSeen). with_entry (DataFrom m c.args.rloc.now) t.parts) c.self.view_is;
     }
 

@@ -20,9 +20,9 @@ returns c =
     let inside = c.self.inside in
     record {
       parts =
-          ap₂ (λ (now : ℕ) (l : List Mapping). parts_with inside.own (inside.count + 1) inside.drawn now l c.purge-2.new.self.requests c.purge-3.new.self.observed) (c.set_bits.ensures.now ∙ c.purge.ensures.now) (c.set_bits.ensures.mappings ∙ ap told c.purge.ensures.mappings)
-          ∙ ap₂ (λ (l : List Request) (p : Observed). parts_with inside.own (inside.count + 1) inside.drawn m (told (lasting m inside.cache.mappings)) l p) c.purge-2.ensures.requests c.purge-3.ensures.observed
-          ∙ told-parts inside.own inside.count inside.drawn inside.cache.now inside.cache.mappings inside.queue.requests inside.locators.observed m eid c.args.bits c.args.width
+          ap₂ (λ (now : ℕ) (l : List Mapping). parts_with inside.own.items inside.steps (inside.count + 1) inside.drawn now l c.purge-2.new.self.requests c.purge-3.new.self.observed) (c.set_bits.ensures.now ∙ c.purge.ensures.now) (c.set_bits.ensures.mappings ∙ ap told c.purge.ensures.mappings)
+          ∙ ap₂ (λ (l : List Request) (p : Observed). parts_with inside.own.items inside.steps (inside.count + 1) inside.drawn m (told (lasting m inside.cache.mappings)) l p) c.purge-2.ensures.requests c.purge-3.ensures.observed
+          ∙ told-parts inside.own.items inside.steps inside.count inside.drawn inside.cache.now inside.cache.mappings inside.queue.requests inside.locators.observed m eid c.args.bits c.args.width
           ∙ ap (λ (t : TableSeen). with_entry (Bits m eid c.args.bits c.args.width) t.parts) c.self.view_is;
     }
 

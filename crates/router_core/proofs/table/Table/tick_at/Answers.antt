@@ -1,32 +1,36 @@
-use Rattle.std.proofs.Common.{◌≡◌, ◌∙◌, List, ap₂, sym, subst}
-use Rattle.std.specs.List.{All}
-use Rattle.std.proofs.lemmas.List.Elements.{All-nil}
-use Rattle.request_queue.specs.Queue.{all_due}
-use Rattle.router_log.specs.declared.emit.Emit.{Emit}
-use Rattle.router_log.specs.declared.entry.Entry.{Entry}
-use Rattle.router_model.specs.Changes.{each, unchanged}
-use Rattle.router_model.specs.Parts.{table}
-use Rattle.router_model.specs.Tick.{retried}
-use Rattle.router_core.specs.Sendable.{IsSendable}
-use Rattle.router_core.specs.Table.{change_of}
-use Rattle.router_core.proofs.TickingLemmas.{retried-from, ticked-by}
+use Rattle.std.proofs.Common.{◌∙◌, ap, arith, sym, subst}
+use Rattle.std.proofs.lemmas.Result.{IfOk-weaker}
+use Rattle.lisp_settings.specs.declared.settings.Settings.{Settings}
+use Rattle.router_core.specs.Steps.{AreSent, HasEntered}
+use Rattle.router_core.proofs.SecondLemmas.{if_ok-with, second-of, stands-on, ticked-left, ticked-still}
 use Rattle.router_core.proofs.table.Table.tick_at.Goals as goal
 
-pub probe_next-requires-clause-sendable : goal.probe_next-requires-clause-sendable
-probe_next-requires-clause-sendable c =
-    c.retry_each.ensures.sendable c.args.site.now
-    (subst (All (IsSendable c.args.site.now)) (sym (c.in_ok-reserve-2.ensures.items ∙ c.new-emits.ensures.items)) (All-nil (IsSendable c.args.site.now)))
+pub change_and_send-requires-clause-few : goal.change_and_send-requires-clause-few
+change_and_send-requires-clause-few c = omega (arith, c.changes_left-left.ensures.few, c.requires.lawful.few_changes)
+
+pub change_and_send-requires-clause-some : goal.change_and_send-requires-clause-some
+change_and_send-requires-clause-some c = sym c.is_due.ensures ∙ c.if-is_due.true
+
+pub returns-then-is_due-clause-parts : goal.returns-then-is_due-clause-parts
+returns-then-is_due-clause-parts c =
+    let left = c.changes_left-left in
+    IfOk-weaker c.change_and_send.result _ _ (λ changed is.
+    is ∙ ticked-left c.args.m c.args.settings.now c.args.self.now.parts left.result.now left.ensures.left) c.change_and_send.ensures.parts
+
+pub send_at-requires-clause-own : goal.send_at-requires-clause-own
+send_at-requires-clause-own c = ap (λ (s : Settings). s.locators) c.site-site.ensures ∙ c.requires.own
 
 pub returns-clause-parts : goal.returns-clause-parts
 returns-clause-parts c =
-    let settings = c.args.site.now in
-    let m = c.args.m in
-    let p = c.args.self.now.parts in
-    let change = change_of c.retry_each.new.self.parts c.retry_each.new.entries.items c.retry_each.new.emits.items in
-    let first : change ≡ each (retried table settings m) (all_due m p.requests) (unchanged p) =
-    c.retry_each.ensures.change settings
-    ∙ retried-from settings m c.as_slice.result.now (all_due m p.requests) c.reserve_probes.new.self.parts p c.reserve.new.self.items c.reserve-2.new.self.items
-    (c.as_slice.ensures.value ∙ c.in_ok-due.ensures.items) c.in_ok-reserve_probes.ensures.parts (c.in_ok-reserve.ensures.items ∙ c.new-entries.ensures.items) (c.in_ok-reserve-2.ensures.items ∙ c.new-emits.ensures.items) in
-    ap₂ (λ (e : List Entry) (f : List Emit). change_of c.probe_next.new.self.parts e f) c.from_vec.ensures c.from_vec-2.ensures
-    ∙ c.probe_next.ensures.change
-    ∙ ticked-by settings m p change c.requires.may.later first
+    let left = c.changes_left-left in
+    IfOk-weaker c.send_at.result _ _ (λ changed is.
+    is ∙ ticked-still c.args.m c.args.settings.now c.args.self.now.parts left.result.now _ left.ensures.left (sym c.is_due.ensures ∙ c.if-is_due.false) c.site-site.ensures) c.send_at.ensures.parts
+
+pub returns-clause-sent : goal.returns-clause-sent
+returns-clause-sent c =
+    let settings = c.args.settings.now in
+    if_ok-with c.send_at.result _ _ (λ (entered : HasEntered 5392 c.args.m c.args.self.now.parts c.send_at.new.self.parts) changed sent.
+    subst (λ (s : Settings). AreSent s 5392 changed.emits) (c.site-site.ensures ∙ stands-on settings c.args.self.now.parts c.send_at.new.self.parts entered.own entered.steps) sent) c.send_at.ensures.step.entered c.send_at.ensures.sent
+
+pub returns-clause-step : goal.returns-clause-step
+returns-clause-step c = second-of 5392 c.args.m c.args.self.now.parts c.send_at.new.self.parts c.send_at.result c.send_at.ensures.step

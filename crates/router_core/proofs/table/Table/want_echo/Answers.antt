@@ -22,9 +22,9 @@ returns c =
     was_kept c.echo_wanted.result inside.locators.wish_room c.echo_wanted.ensures.ok c.echo_wanted.ensures.memory room in
     record {
       parts =
-          ap₂ (λ (now : ℕ) (l : List Mapping). parts_with inside.own (inside.count + 1) inside.drawn now l c.purge-2.new.self.requests c.echo_wanted.new.self.observed) c.purge.ensures.now c.purge.ensures.mappings
-          ∙ ap₂ (λ (l : List Request) (p : Observed). parts_with inside.own (inside.count + 1) inside.drawn m (lasting m inside.cache.mappings) l p) c.purge-2.ensures.requests os
-          ∙ wanted-parts inside.own inside.count inside.drawn inside.cache.now inside.cache.mappings inside.queue.requests inside.locators.observed m c.args.rloc c.args.nonce
+          ap₂ (λ (now : ℕ) (l : List Mapping). parts_with inside.own.items inside.steps (inside.count + 1) inside.drawn now l c.purge-2.new.self.requests c.echo_wanted.new.self.observed) c.purge.ensures.now c.purge.ensures.mappings
+          ∙ ap₂ (λ (l : List Request) (p : Observed). parts_with inside.own.items inside.steps (inside.count + 1) inside.drawn m (lasting m inside.cache.mappings) l p) c.purge-2.ensures.requests os
+          ∙ wanted-parts inside.own.items inside.steps inside.count inside.drawn inside.cache.now inside.cache.mappings inside.queue.requests inside.locators.observed m c.args.rloc c.args.nonce
           ∙ ap (λ (t : TableSeen). with_entry (EchoWanted m c.args.rloc c.args.nonce) t.parts) c.self.view_is;
     }
 
