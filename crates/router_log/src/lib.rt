@@ -3,6 +3,7 @@
 #![tactic(auto)]
 
 mod decision;
+mod digits;
 mod emit;
 mod entry;
 mod kept;

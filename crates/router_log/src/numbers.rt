@@ -3,17 +3,19 @@ ghost use Rattle.std.specs.Prelude.{◌≡◌, ◌<◌, ◌+◌, ◌%◌, ◌++�
 ghost use Rattle.std.specs.Fmt.{decimal};
 ghost use Rattle.router_log.specs.Numbers.{address_text, dotted, fixed_decimal, fixed_hex, four_groups, groups, hex_16, hex_glyph, named};
 
+use crate::digits::{write_behind_dot, write_digits};
 use ip_headers::Addr;
 use octets::{NoMemory, Octets};
 
 /// Appends a number in decimal digits.
+#[tactic(auto, using(crate::proofs::DigitLemmas::length_any))]
 pub fn push_number(number: u64, out: &mut Octets) -> Result<(), NoMemory>
     ensures { OnOk result (out.new ≡ out.old ++ decimal number) }
 {
-    if number >= 10 {
-        push_number(number / 10, out)?;
-    }
-    out.push(b'0' + (number % 10) as u8)
+    // A number of 64 bits has at most 20 digits.
+    let mut text = [0u8; 20];
+    let from = write_digits(number, &mut text, 20);
+    out.append(&text[from..])
 }
 
 /// Appends a name and a number.
@@ -109,16 +111,18 @@ pub fn push_address(address: Addr, out: &mut Octets) -> Result<(), NoMemory>
     }
 }
 
+#[tactic(auto, using(crate::proofs::DigitLemmas::length_octet))]
 fn push_dotted(number: u32, out: &mut Octets) -> Result<(), NoMemory>
     ensures { OnOk result (out.new ≡ out.old ++ dotted number) }
 {
-    push_number(u64::from(number / 16_777_216), out)?;
-    out.push(b'.')?;
-    push_number(u64::from(number / 65_536 % 256), out)?;
-    out.push(b'.')?;
-    push_number(u64::from(number / 256 % 256), out)?;
-    out.push(b'.')?;
-    push_number(u64::from(number % 256), out)
+    let number = u64::from(number);
+    // Four numbers of at most three digits, and three dots.
+    let mut text = [0u8; 15];
+    let fourth = write_behind_dot(number % 256, &mut text, 15);
+    let third = write_behind_dot(number / 256 % 256, &mut text, fourth);
+    let second = write_behind_dot(number / 65_536 % 256, &mut text, third);
+    let first = write_digits(number / 16_777_216, &mut text, second);
+    out.append(&text[first..])
 }
 
 fn push_groups(number: u128, out: &mut Octets) -> Result<(), NoMemory>

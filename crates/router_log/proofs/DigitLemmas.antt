@@ -1,0 +1,54 @@
+-- The decimal digits of a number: the last two behind the others, and how many there are.
+use Rattle.std.proofs.Common.{◌≡◌, ℕ, zero, suc, ◌+◌, ◌-◌, ◌*◌, ◌/◌, ◌%◌, ◌^◌, ◌<◌, ◌≤◌, Bool, true, ◌&&◌, T, eqb, List, [], ◌∷◌, ◌++◌, length, get_or, ap, ◌∙◌, inl, inr, arith, eq-zero-or-pos, eqb→eq, append_assoc, length-append}
+use Rattle.std.specs.Fmt.{decimal}
+use Rattle.std.proofs.lemmas.Fmt.{decimal_digit, decimal_step, length-decimal-le}
+use lib.Ieee.Fits.{and_l, and_r}
+use Rattle.router_log.specs.declared.digits.TheConstants.{PAIRS}
+
+-- the two digits of a number below 100
+abbrev pub pair : ℕ → List ℕ
+pair n = (48 + n / 10) ∷ (48 + n % 10) ∷ []
+
+-- a number of two digits
+pub decimal_two : (n : ℕ) → 10 ≤ n → n < 100 → decimal n ≡ pair n
+decimal_two n low high = rw (decimal_step n low (omega arith), decimal_digit (n / 10) (omega arith))
+
+-- a number of more digits: the last two stand behind the others
+pub decimal_more : (n : ℕ) → 100 ≤ n → n < 2 ^ 64 → decimal n ≡ decimal (n / 100) ++ pair (n % 100)
+decimal_more n low fits =
+    let others : n / 10 / 10 ≡ n / 100 = omega arith in
+    let tens : n / 10 % 10 ≡ n % 100 / 10 = omega arith in
+    let ones : n % 10 ≡ n % 100 % 10 = omega arith in
+    rw (decimal_step n (omega arith) fits, decimal_step (n / 10) (omega arith) (omega arith), append_assoc, others, tens, ← ones)
+
+-- it has two digits more than the others
+pub length_more : (n : ℕ) → 100 ≤ n → n < 2 ^ 64 → length (decimal n) ≡ length (decimal (n / 100)) + 2
+length_more n low fits = ap length (decimal_more n low fits) ∙ length-append _ _
+
+-- an octet has at most three digits
+pub length_octet : (n : ℕ) → n < 256 → length (decimal n) ≤ 3
+length_octet n high = length-decimal-le 3 n (omega arith) (omega arith) (omega arith)
+
+-- a number of 64 bits has at most twenty
+pub length_any : (n : ℕ) → n < 2 ^ 64 → length (decimal n) ≤ 20
+length_any n fits = length-decimal-le 20 n (omega arith) (omega arith) fits
+
+-- the first n pairs of the table are the digits of the numbers below n
+abbrev are_pairs : ℕ → Bool
+are_pairs zero = true
+are_pairs (suc n) =
+    (eqb (get_or PAIRS (n * 2) 0) (48 + n / 10) && eqb (get_or PAIRS (n * 2 + 1) 0) (48 + n % 10)) && are_pairs n
+
+-- so is each of them
+pair_below : (n p : ℕ) → T (are_pairs n) → p < n → (get_or PAIRS (p * 2) 0 ≡ 48 + p / 10) × (get_or PAIRS (p * 2 + 1) 0 ≡ 48 + p % 10)
+pair_below zero p test below = absurd (omega arith)
+pair_below (suc n) p test below =
+    let here = and_l _ (are_pairs n) test in
+    elim (eq-zero-or-pos (n - p)) [
+      | inl last ↦ let same : p ≡ n = omega arith in rw same (eqb→eq _ _ (and_l _ _ here), eqb→eq _ _ (and_r _ _ here))
+      | inr more ↦ pair_below n p (and_r _ (are_pairs n) test) (omega arith)
+    ]
+
+-- a pair of the table
+pub pair_at : (p : ℕ) → p < 100 → (get_or PAIRS (p * 2) 0 ≡ 48 + p / 10) × (get_or PAIRS (p * 2 + 1) 0 ≡ 48 + p % 10)
+pair_at p below = pair_below 100 p tt below
