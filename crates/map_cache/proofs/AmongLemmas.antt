@@ -93,7 +93,7 @@ module _ {A : Type 0} where
       by true passes rest is = record { item = y; among = inl refl; passes = passes }
       by false passes rest is = record { item = (rest is).item; among = inr (rest is).among; passes = (rest is).passes }
 
-below-among : (eid : Eid) (items : List Mapping) (x : Mapping) → IsBelow eid items → Among x items → eid_order eid x.eid ≡ Less
+pub below-among : (eid : Eid) (items : List Mapping) (x : Mapping) → IsBelow eid items → Among x items → eid_order eid x.eid ≡ Less
 below-among eid [] x below among = absurd among
 below-among eid (y ∷ items) x below among = elim among [
   | inl same ↦ ap (λ (i : Mapping). eid_order eid i.eid) (sym same) ∙ below.0

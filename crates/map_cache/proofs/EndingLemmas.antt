@@ -11,9 +11,8 @@ use Rattle.mapping_records.specs.Eids.{same_eid}
 use Rattle.mapping_records.specs.Orders.{eid_order, put_in_order}
 use Rattle.mapping_records.specs.declared.eid.Eid.{Eid}
 use Rattle.map_cache.specs.Cache.{without_eid}
-use Rattle.map_cache.specs.Indexed.{ends_as, names_as}
+use Rattle.map_cache.specs.Indexed.{ends_as}
 use Rattle.map_cache.specs.declared.keys.Ending.{Ending}
-use Rattle.map_cache.specs.declared.keys.Naming.{Naming}
 use Rattle.map_cache.specs.declared.mapping.Mapping.{Mapping}
 use Rattle.map_cache.proofs.EidLemmas.{is_eq-eid}
 use Rattle.map_cache.proofs.PlaceOfLemmas.{lesser-apart, same-there, there-same, without-below, IsAbsent, IsThere}
@@ -91,14 +90,6 @@ third true true c is = is
 third true false c is = absurd (true≢false (sym is))
 third false b c is = absurd (true≢false (sym is))
 
-first : (a b : Bool) → (a && b) ≡ true → a ≡ true
-first true b is = refl
-first false b is = is
-
 pub ends-left : (eid : Eid) (key : Ending) (items : List Mapping) (n : ℕ) (x : Mapping) → IsThere eid items n → slice_get items n ≡ Some x → list_any (ends_as key) (without_eid eid items) ≡ (not (ends_as key x) && list_any (ends_as key) items)
 ends-left eid key items n x there is =
     any-left eid key.eid (ends_as key) (λ y passes. third (not y.fixed) (y.end == key.end) (same_eid y.eid key.eid) passes) items n x there is
-
-pub names-left : (eid : Eid) (key : Naming) (items : List Mapping) (n : ℕ) (x : Mapping) → IsThere eid items n → slice_get items n ≡ Some x → list_any (names_as key) (without_eid eid items) ≡ (not (names_as key x) && list_any (names_as key) items)
-names-left eid key items n x there is =
-    any-left eid key.eid (names_as key) (λ y passes. first (same_eid y.eid key.eid) _ passes) items n x there is

@@ -11,9 +11,8 @@ pub mod FoundLemmas
 pub mod FullLemmas
 pub mod IndexedLemmas
 pub mod LastingLemmas
-pub mod NameLemmas
 pub mod NamedLemmas
-pub mod NextLemmas
+pub mod NamingLemmas
 pub mod PlaceLemmas
 pub mod PlaceOfLemmas
 pub mod RoomLemmas

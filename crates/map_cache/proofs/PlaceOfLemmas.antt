@@ -1,7 +1,9 @@
 -- Where the mapping of an EID is, and where it would go.
-use Rattle.std.proofs.Common.{◌≡◌, ℕ, zero, suc, ◌+◌, ◌-◌, ◌<◌, ◌≤◌, Bool, true, false, cond, not, List, [], ◌∷◌, length, take, drop, All, IsFalse, Option, Some, None, IfSome, is_some, slice_get, Ordering, Less, Equal, Greater, is_lt, is_eq, refl, sym, ap, subst, ◌∙◌, arith, inl, inr, true≢false, ◌⊎◌}
+use Rattle.std.proofs.Common.{◌≡◌, ℕ, zero, suc, ◌-◌, ◌<◌, ◌≤◌, Bool, true, false, cond, not, List, [], ◌∷◌, length, take, drop, All, IsFalse, Option, Some, None, IfSome, is_some, remove, slice_get, Ordering, Less, Equal, Greater, is_lt, is_eq, refl, sym, ap, subst, ◌∙◌, arith, inl, inr, true≢false, ◌⊎◌}
 use Rattle.std.specs.Ordering.{ordering_reverse}
+use Rattle.std.proofs.lemmas.Cmp.{tied_itself}
 use Rattle.std.proofs.lemmas.List.Elements.{All-cons, All-head, All-nil}
+use Rattle.std.proofs.lemmas.Option.{same_Some}
 use Rattle.mapping_records.proofs.OrderLemmas.{eid_order-total}
 use Rattle.mapping_records.specs.Eids.{same_eid}
 use Rattle.mapping_records.specs.Orders.{eid_order}
@@ -9,9 +11,9 @@ use Rattle.mapping_records.specs.declared.eid.Eid.{Eid}
 use Rattle.map_cache.specs.Lists.{IsAbove, IsAscending, IsBelow, IsPlace}
 use Rattle.map_cache.specs.Cache.{exact, without_eid}
 use Rattle.map_cache.specs.declared.mapping.Mapping.{Mapping}
+use Rattle.map_cache.proofs.AmongLemmas.{among-place, below-among}
 use Rattle.map_cache.proofs.AscendingLemmas.{IsBelow-lower, Less-is_lt}
 use Rattle.map_cache.proofs.EidLemmas.{is_eq-eid}
-use Rattle.map_cache.proofs.PlaceLemmas.{length-without_eid}
 
 -- ### the place, by what stands before it and at it
 
@@ -112,7 +114,7 @@ without-below eid (x ∷ items) below =
     ap (λ b. cond (not b) (x ∷ without_eid eid items) (without_eid eid items)) (greater-apart eid x below.0)
     ∙ ap (λ l. x ∷ l) (without-below eid items below.1)
 
-exact-absent : (eid : Eid) (items : List Mapping) (n : ℕ) → IsAbsent eid items n → exact items eid ≡ None
+pub exact-absent : (eid : Eid) (items : List Mapping) (n : ℕ) → IsAbsent eid items n → exact items eid ≡ None
 exact-absent eid [] n absent = refl
 exact-absent eid (x ∷ items) zero absent = exact-below eid (x ∷ items) absent
 exact-absent eid (x ∷ items) (suc n) absent =
@@ -191,10 +193,43 @@ module _ (eid : Eid) (items : List Mapping) (n : ℕ) (ascending : IsAscending i
     | inr absent ↦ absent
   ]
 
--- where none goes, there is none
-pub none-new : (eid : Eid) (items : List Mapping) → without_eid eid items ≡ items → is_some (exact items eid) ≡ false
-none-new eid items same = by (is_some (exact items eid)) (length-without_eid eid items)
-  where
-    by : (b : Bool) → length (without_eid eid items) + cond b 1 0 ≤ length items → b ≡ false
-    by true less = absurd (omega (arith, less, ap length same))
-    by false less = refl
+-- ### a mapping that is taken from its place
+
+-- it is where its EID is
+pub there-itself : (items : List Mapping) (n : ℕ) (x : Mapping) → IsAscending items → slice_get items n ≡ Some x → IsThere x.eid items n
+there-itself [] n x ascending at = cc
+there-itself (y ∷ items) zero x ascending at =
+    subst (λ (z : Mapping). IsThere z.eid (y ∷ items) zero) (same_Some y x at) (tied_itself eid_order-total y.eid, ascending.0)
+there-itself (y ∷ items) (suc n) x ascending at =
+    (below-among y.eid items x ascending.0 (among-place items n x at), there-itself items n x ascending.1 at)
+
+-- none of its EID is left, and one would go there
+pub absent-left : (eid : Eid) (items : List Mapping) (n : ℕ) → IsThere eid items n → IsAbsent eid (remove items n) n
+absent-left eid [] n there = elim there [ ]
+absent-left eid (x ∷ []) zero there = tt
+absent-left eid (x ∷ y ∷ items) zero there = there.1
+absent-left eid (x ∷ items) (suc n) there = (there.0, absent-left eid items n there.1)
+
+below-behind : (eid : Eid) (items : List Mapping) → IsBelow eid items → All (λ mapping. IsFalse (is_lt (eid_order mapping.eid eid))) items
+below-behind eid [] below = All-nil (λ (mapping : Mapping). IsFalse (is_lt (eid_order mapping.eid eid)))
+below-behind eid (x ∷ items) below =
+    All-cons (λ (mapping : Mapping). IsFalse (is_lt (eid_order mapping.eid eid))) x items (ap is_lt (eid_order-total.antisymm x.eid eid ∙ ap ordering_reverse below.0)) (below-behind eid items below.1)
+
+pub place-absent : (eid : Eid) (items : List Mapping) (n : ℕ) → IsAbsent eid items n → IsPlace eid items n
+place-absent eid [] zero absent = record {
+  within = omega arith;
+  before = tt;
+  behind = All-nil (λ (mapping : Mapping). IsFalse (is_lt (eid_order mapping.eid eid)));
+}
+place-absent eid [] (suc n) absent = elim absent [ ]
+place-absent eid (x ∷ items) zero absent = record {
+  within = omega arith;
+  before = tt;
+  behind = below-behind eid (x ∷ items) absent;
+}
+place-absent eid (x ∷ items) (suc n) absent =
+    let rest = place-absent eid items n absent.1 in record {
+      within = omega (arith, rest.within);
+      before = (absent.0, rest.before);
+      behind = rest.behind;
+    }

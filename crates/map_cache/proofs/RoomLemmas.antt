@@ -1,30 +1,25 @@
--- How many keys find mappings: no more than there are mappings, and addresses that they name.
-use Rattle.std.proofs.Common.{◌≡◌, ℕ, suc, ◌*◌, ◌≤◌, ◌&&◌, ◌||◌, Bool, true, false, cond, not, List, [], ◌∷◌, ◌++◌, length, map, Ordering, Less, is_eq, Result, Ok, Err, OnOk, OnErr, max, refl, sym, ap, ap₂, ◌∙◌, arith, true≢false}
+-- How many keys find mappings: no more than there are mappings.
+use Rattle.std.proofs.Common.{◌≡◌, ℕ, suc, ◌*◌, ◌≤◌, ◌&&◌, ◌||◌, Bool, true, false, cond, not, List, [], ◌∷◌, length, map, Ordering, Less, is_eq, Result, Ok, Err, OnOk, OnErr, max, refl, sym, ap, ap₂, ◌∙◌, arith, true≢false}
 use Rattle.std.specs.Cmp.{IsTotalOrder}
 use Rattle.std.specs.List.{list_any, sum_by}
 use Rattle.std.specs.List.Sorted.{IsStrictlySortedBy}
 use Rattle.std.specs.Ordering.{eq_by_cmp}
 use Rattle.std.specs.Set.{is_member}
 use Rattle.std.proofs.lemmas.Cmp.{eq_by_cmp_equiv}
-use Rattle.std.proofs.lemmas.List.{length-append, length-map}
+use Rattle.std.proofs.lemmas.List.{length-map}
 use Rattle.std.proofs.lemmas.List.Elements.{recursion_from_All}
-use Rattle.std.proofs.lemmas.List.Folds.{list_any-append}
 use Rattle.std.proofs.lemmas.List.Sums.{sum_by-cons}
 use Rattle.std.proofs.lemmas.Map.Keys.{IsDistinct-from_sorted}
 use Rattle.std.proofs.lemmas.Map.Made.{length-le_from_is_member}
-use Rattle.mapping_records.specs.Eids.{same_address, same_eid}
 use Rattle.mapping_records.specs.declared.eid.Eid.{Eid}
-use Rattle.mapping_records.specs.declared.record.Locator.{Locator}
 use Rattle.named_list.specs.Named.{Named}
 use Rattle.ordered_set.specs.Keys.{has, Ascends}
-use Rattle.map_cache.specs.Indexed.{all_stays, ending_order, ending_order-total, ends_as, has_address, names_as, naming_order, naming_order-total, IsIndexed}
+use Rattle.map_cache.specs.Indexed.{all_stays, ending_order, ending_order-total, ends_as, IsIndexed}
 use Rattle.map_cache.specs.Lists.{AllFew}
 use Rattle.map_cache.specs.declared.stay.Stay.{Stay}
 use Rattle.map_cache.specs.declared.keys.Ending.{Ending}
-use Rattle.map_cache.specs.declared.keys.Naming.{Naming}
 use Rattle.map_cache.specs.declared.mapping.Mapping.{Mapping}
 use Rattle.map_cache.proofs.EidLemmas.{is_eq-eid, is_eq-nat, is_eq-then}
-use Rattle.map_cache.proofs.NameLemmas.{is_eq-naming}
 
 -- ### keys that ascend
 
@@ -51,10 +46,6 @@ either_way true b c d first second is = ap (λ (x : Bool). x || d) (first refl)
 either_way false b true d first second is = refl
 either_way false b false d first second is = second is
 
-left_of : (a b : Bool) → (a && b) ≡ true → a ≡ true
-left_of true b is = refl
-left_of false b is = is
-
 right_of : (a b : Bool) → (a && b) ≡ true → b ≡ true
 right_of true b is = is
 right_of false b is = absurd (true≢false (sym is))
@@ -75,47 +66,10 @@ ends-among key (x ∷ items) is = either_way (ends_as key x) (list_any (ends_as 
         ∙ right_of (not x.fixed) _ passes
 
 -- there are no more ends than mappings
-pub endings-few : (list : Named Mapping) (pairs : List (Eid × Stay)) (endings : List Ending) (naming : List Naming) → IsIndexed list pairs endings naming → Ascends ending_order endings → length endings ≤ length list.items
-endings-few list pairs endings naming is ascends =
+pub endings-few : (list : Named Mapping) (pairs : List (Eid × Stay)) (endings : List Ending) → IsIndexed list pairs endings → Ascends ending_order endings → length endings ≤ length list.items
+endings-few list pairs endings is ascends =
     let few = at_most ending_order ending_order-total endings (map ending_of list.items) ascends (λ key among. ends-among key list.items (sym (is.ends key) ∙ among)) in
     omega (arith, few, length-map list.items ending_of)
-
--- ### by address
-
-abbrev naming_of : Eid → Locator → Naming
-naming_of eid locator = record { addr = locator.addr; eid = eid }
-
-abbrev names_of : List Mapping → List Naming
-names_of [] = []
-names_of (x ∷ items) = map (naming_of x.eid) x.details.locators ++ names_of items
-
-locators-among : (eid : Eid) (key : Naming) → same_eid eid key.eid ≡ true → (locators : List Locator) → list_any (has_address key) locators ≡ true → has naming_order key (map (naming_of eid) locators) ≡ true
-locators-among eid key same [] is = is
-locators-among eid key same (x ∷ locators) is = either_way (has_address key x) (list_any (has_address key) locators) (is_eq (naming_order (naming_of eid x) key)) (has naming_order key (map (naming_of eid) locators)) ties (locators-among eid key same locators) is
-  where
-    ties : has_address key x ≡ true → is_eq (naming_order (naming_of eid x) key) ≡ true
-    ties passes = is_eq-naming (naming_of eid x) key ∙ ap₂ (λ p q. p && q) (right_of _ (same_address x.addr key.addr) passes) same
-
-names-among : (key : Naming) (items : List Mapping) → list_any (names_as key) items ≡ true → has naming_order key (names_of items) ≡ true
-names-among key [] is = is
-names-among key (x ∷ items) is =
-    list_any-append _ (map (naming_of x.eid) x.details.locators) (names_of items)
-    ∙ either_way (names_as key x) (list_any (names_as key) items) (has naming_order key (map (naming_of x.eid) x.details.locators)) (has naming_order key (names_of items)) named (names-among key items) is
-  where
-    named : names_as key x ≡ true → has naming_order key (map (naming_of x.eid) x.details.locators) ≡ true
-    named passes = locators-among x.eid key (left_of (same_eid x.eid key.eid) _ passes) x.details.locators (right_of (same_eid x.eid key.eid) _ passes)
-
-length-names_of : (items : List Mapping) → AllFew items → length (names_of items) ≤ 32 * length items
-length-names_of [] few = omega arith
-length-names_of (x ∷ items) few =
-    let rest = length-names_of items few.1 in
-    omega (arith, rest, few.0, length-append (map (naming_of x.eid) x.details.locators) (names_of items), length-map x.details.locators (naming_of x.eid))
-
--- there are at most 32 names for each mapping
-pub naming-few : (list : Named Mapping) (pairs : List (Eid × Stay)) (endings : List Ending) (naming : List Naming) → IsIndexed list pairs endings naming → Ascends naming_order naming → AllFew list.items → length naming ≤ 32 * length list.items
-naming-few list pairs endings naming is ascends few =
-    let all = at_most naming_order naming_order-total naming (names_of list.items) ascends (λ key among. names-among key list.items (sym (is.names key) ∙ among)) in
-    omega (arith, all, length-names_of list.items few)
 
 -- ### by EID
 

@@ -81,13 +81,11 @@ learned m mapping fixed mappings =
 abbrev pub bits_told : Eid → ℕ → ℕ → List Mapping → List Mapping
 bits_told eid bits width mappings = map (told_mapping eid bits width) mappings
 
--- a cache as callers see it: the greatest moment that it was handed, its mappings, for how many more, with how many
--- locators, it has room, for how many mappings and locators it has place in all, and how many items its lists have
+-- a cache as callers see it: the greatest moment that it was handed, its mappings, for how many more it has room, for how
+-- many it has place in all, and how many items its lists have
 pub record Cache : Type 0 where
   pub now : ℕ
   pub mappings : List Mapping
   pub spare : ℕ
-  pub locator_spare : ℕ
   pub mapping_places : ℕ
-  pub locator_places : ℕ
   pub kept : ℕ

@@ -3,19 +3,17 @@ use Rattle.std.specs.Prelude.{◌≡◌, ◌-◌, ◌^◌, ◌==◌, ◌&&◌, �
 use Rattle.std.specs.List.{list_any}
 use Rattle.std.specs.Cmp.{IsTotalOrder}
 use Rattle.std.proofs.lemmas.Cmp.{nat_cmp_total, on_total, then_total}
-use Rattle.mapping_records.proofs.OrderLemmas.{addr_order-total, eid_order-total}
+use Rattle.mapping_records.proofs.OrderLemmas.{eid_order-total}
 use Rattle.std.specs.Ordering.{nat_cmp, ordering_then}
 use Rattle.std.specs.declared.cmp.Ordering.{Ordering}
-use Rattle.mapping_records.specs.Eids.{same_address, same_eid}
-use Rattle.mapping_records.specs.Orders.{addr_order, eid_order}
+use Rattle.mapping_records.specs.Eids.{same_eid}
+use Rattle.mapping_records.specs.Orders.{eid_order}
 use Rattle.mapping_records.specs.declared.eid.Eid.{Eid}
-use Rattle.mapping_records.specs.declared.record.Locator.{Locator}
 use Rattle.named_list.specs.Named.{Named}
 use Rattle.ordered_set.specs.Keys.{has}
 use Rattle.map_cache.specs.Lists.{IsAscending}
 use Rattle.map_cache.specs.declared.stay.Stay.{Stay}
 use Rattle.map_cache.specs.declared.keys.Ending.{Ending}
-use Rattle.map_cache.specs.declared.keys.Naming.{Naming}
 use Rattle.map_cache.specs.declared.mapping.Mapping.{Mapping}
 
 -- ### by EID
@@ -64,42 +62,18 @@ ending_order-total = then_total (on_total (λ key. key.end) nat_cmp_total) (on_t
 abbrev pub ends_as : Ending → Mapping → Bool
 ends_as key mapping = not mapping.fixed && ((mapping.end == key.end) && same_eid mapping.eid key.eid)
 
--- ### by address
-
--- by address, then EID
-abbrev pub naming_order : Naming → Naming → Ordering
-naming_order a b = ordering_then (addr_order a.addr b.addr) (eid_order a.eid b.eid)
-
-pub naming_order-total : IsTotalOrder naming_order
-naming_order-total = then_total (on_total (λ key. key.addr) addr_order-total) (on_total (λ key. key.eid) eid_order-total)
-
--- the locator may be used, and has that address
-abbrev pub has_address : Naming → Locator → Bool
-has_address key locator = not (locator.priority == 255) && same_address locator.addr key.addr
-
--- locators of the mapping of an EID name the address so
-abbrev pub names_by : Eid → List Locator → Naming → Bool
-names_by eid locators key = same_eid eid key.eid && list_any (has_address key) locators
-
--- the mapping names the address so
-abbrev pub names_as : Naming → Mapping → Bool
-names_as key mapping = names_by mapping.eid mapping.details.locators key
-
 -- ### all of it
 
 -- the mappings are in order of EID, the trie tells of each of them, and the keys are theirs
-pub record IsIndexed (mappings : Named Mapping) (pairs : List (Eid × Stay)) (endings : List Ending) (naming : List Naming) : Type 0 where
+pub record IsIndexed (mappings : Named Mapping) (pairs : List (Eid × Stay)) (endings : List Ending) : Type 0 where
   pub ascending : IsAscending mappings.items
   pub stay : pairs ≡ all_stays mappings.names mappings.items
   pub ends : (key : Ending) → has ending_order key endings ≡ list_any (ends_as key) mappings.items
-  pub names : (key : Naming) → has naming_order key naming ≡ list_any (names_as key) mappings.items
 
--- what is seen of mappings that are found so: they, for how many more, with how many locators, there is room, for how many
--- mappings some list has place, for how many locators, and how many items the lists have
+-- what is seen of mappings that are found so: they, for how many more there is room, for how many some list has place, and
+-- how many items the lists have
 pub record Listed : Type 0 where
   pub mappings : List Mapping
   pub spare : ℕ
-  pub locator_spare : ℕ
   pub mapping_places : ℕ
-  pub locator_places : ℕ
   pub kept : ℕ

@@ -4,7 +4,7 @@ ghost use Rattle.std.specs.Option.{option_copied};
 ghost use Rattle.prefix_table.specs.Limits.{most_nodes};
 ghost use Rattle.named_list.specs.Rings.{ring_names};
 ghost use Rattle.map_cache.specs.Cache.{bits_told, exact, has_room, in_force, lasting, learned};
-ghost use Rattle.map_cache.specs.Limits.{all_locators, most_locators, most_mappings};
+ghost use Rattle.map_cache.specs.Limits.{most_locators, most_mappings};
 ghost use Rattle.map_cache.specs.Lists.{IsFew};
 ghost use Rattle.map_cache.specs.Named.{least_named, named_above};
 ghost use Rattle.map_cache.specs.declared.fault.LearnFault.TheVariants.{CacheFull, Memory};
@@ -38,9 +38,7 @@ impl Model for MapCache {
       now = cache.now;
       mappings = cache.indexed.mappings;
       spare = cache.indexed.spare;
-      locator_spare = cache.indexed.locator_spare;
       mapping_places = cache.indexed.mapping_places;
-      locator_places = cache.indexed.locator_places;
       kept = cache.indexed.kept;
     } };
 
@@ -54,9 +52,7 @@ impl MapCache {
         ensures now { result.now ≡ 0 }
         ensures mappings { result.mappings ≡ [] }
         ensures spare { result.spare ≡ 0 }
-        ensures locator_spare { result.locator_spare ≡ 0 }
         ensures mapping_places { result.mapping_places ≡ 0 }
-        ensures locator_places { result.locator_places ≡ 0 }
     {
         MapCache {
             now: 0,
@@ -82,16 +78,15 @@ impl MapCache {
         self.now
     }
 
-    /// How many mappings are kept. What all lists have in all is at most 43 items for each mapping and 2
-    /// for each locator for which there is place, and one for each ring of names.
+    /// How many mappings are kept. What all lists have in all is at most 43 items for each mapping for
+    /// which there is place, and one for each ring of names.
     pub fn len(&self) -> usize
         ensures len { result ≡ length self.entry.now.mappings }
         ensures most { result ≤ most_mappings }
         ensures tied { result + self.entry.now.spare ≤ self.entry.now.mapping_places }
-        ensures locators_tied { self.entry.now.locator_spare ≤ self.entry.now.locator_places }
         ensures kept { self.entry.now.kept
-            ≤ 43 * self.entry.now.mapping_places + 2 * self.entry.now.locator_places
-            + (2 * self.entry.now.mapping_places + self.entry.now.locator_places) / ring_names }
+            ≤ 43 * self.entry.now.mapping_places
+            + 2 * self.entry.now.mapping_places / ring_names }
     {
         self.indexed.len_kept()
     }
@@ -104,27 +99,20 @@ impl MapCache {
         self.indexed.mapping(index)
     }
 
-    /// Makes room for `n` further mappings with so many locators in all, with those that there is room
-    /// for already.
-    pub fn reserve(&mut self, n: u32, locators: u32) -> Result<(), NoMemory>
+    /// Makes room for `n` further mappings, with those that there is room for already. Their locators
+    /// take no room of their own, so that it is made for any number of them.
+    pub fn reserve(&mut self, n: u32, _locators: u32) -> Result<(), NoMemory>
         requires mappings { n ≤ most_mappings }
-        requires locators { locators ≤ all_locators }
         ensures now { self.new.now ≡ self.old.now }
         ensures mappings { self.new.mappings ≡ self.old.mappings }
         ensures spare { self.old.spare ≤ self.new.spare }
-        ensures locator_spare { self.old.locator_spare ≤ self.new.locator_spare }
         ensures at_most { self.new.spare ≤ max self.old.spare n }
-        ensures locators_at_most { self.new.locator_spare
-            ≤ max self.old.locator_spare locators }
         ensures mapping_places { self.new.mapping_places
             ≤ max self.old.mapping_places (length self.old.mappings + n) }
-        ensures locator_places { self.new.locator_places
-            ≤ max self.old.locator_places (most_locators * length self.old.mappings + locators) }
         ensures ok { OnOk result (n ≤ self.new.spare) }
-        ensures locators_ok { OnOk result (locators ≤ self.new.locator_spare) }
-        ensures enough { n ≤ self.old.spare → locators ≤ self.old.locator_spare → IsOk result }
+        ensures enough { n ≤ self.old.spare → IsOk result }
     {
-        self.indexed.reserve(n, locators)
+        self.indexed.reserve(n)
     }
 
     /// Takes away what has ended at a moment. Only what goes is looked at.
@@ -135,9 +123,7 @@ impl MapCache {
         ensures spare { self.old.spare ≤ self.new.spare }
         ensures total { length self.new.mappings + self.new.spare
             ≤ length self.old.mappings + self.old.spare }
-        ensures locator_spare { self.old.locator_spare ≤ self.new.locator_spare }
         ensures mapping_places { self.new.mapping_places ≤ self.old.mapping_places }
-        ensures locator_places { self.new.locator_places ≤ self.old.locator_places }
     {
         self.indexed.drop_ended(m);
         self.now = m;
@@ -154,17 +140,12 @@ impl MapCache {
         ensures err { OnErr result (self.new.mappings ≡ lasting m self.old.mappings) }
         ensures full { (result ≡ Err CacheFull)
             ↔ IsFalse (has_room mapping (lasting m self.old.mappings)) }
-        ensures memory { 0 < self.old.spare → length mapping.locators ≤ self.old.locator_spare
-            → result ≢ Err Memory }
+        ensures memory { 0 < self.old.spare → result ≢ Err Memory }
         ensures spare { self.old.spare ≤ self.new.spare + 1 }
-        ensures locator_spare { self.old.locator_spare
-            ≤ self.new.locator_spare + length mapping.locators }
         ensures refused { OnErr result (length self.new.mappings + self.new.spare
             ≤ max (length self.old.mappings + self.old.spare) (length self.new.mappings + 1)) }
         ensures mapping_places { self.new.mapping_places
             ≤ max self.old.mapping_places (length self.old.mappings + 1) }
-        ensures locator_places { self.new.locator_places ≤ max self.old.locator_places
-            (most_locators * length self.old.mappings + length mapping.locators) }
     {
         self.purge(m);
         if mapping.ttl == 0 {
@@ -174,8 +155,7 @@ impl MapCache {
         if !self.has_place(&mapping.eid) {
             return Err(LearnFault::CacheFull);
         }
-        self.indexed
-            .reserve(1, mapping.locators.as_slice().len() as u32)?;
+        self.indexed.reserve(1)?;
         let mapping = fresh(m, mapping, fixed);
         self.indexed.put(mapping);
         Ok(())
@@ -196,9 +176,7 @@ impl MapCache {
         ensures now { self.new.now ≡ self.old.now }
         ensures mappings { self.new.mappings ≡ bits_told eid.now bits width self.old.mappings }
         ensures spare { self.new.spare ≡ self.old.spare }
-        ensures locator_spare { self.new.locator_spare ≡ self.old.locator_spare }
         ensures mapping_places { self.new.mapping_places ≤ self.old.mapping_places }
-        ensures locator_places { self.new.locator_places ≤ self.old.locator_places }
     {
         self.indexed.tell(eid, bits, width);
     }

@@ -6,8 +6,8 @@ ghost use Rattle.map_cache.specs.Cache.{exact, in_force, lasting, without_eid};
 ghost use Rattle.map_cache.specs.Named.{least_named, named_above};
 
 use crate::indexed::Indexed;
-use crate::lasting::first_lasting;
-use crate::searching::comes_after;
+use crate::naming::lesser_of;
+use crate::searching::lasts;
 use crate::stay::stay_lasts;
 use crate::{Mapping, Reads};
 use ip_headers::Addr;
@@ -71,12 +71,18 @@ impl Indexed {
         ensures { result ≡ least_named
             (named_above (option_copied after.entry) (lasting m self.now.mappings)) }
     {
-        // The set says that its keys are in order, the list that each mapping has a name.
-        let _ = (self.naming.len(), self.mappings.len());
-        let first = self
-            .naming
-            .place(|naming| !comes_after(after, &naming.addr));
-        let naming = first_lasting(m, first, &self.naming, &self.by_eid)?;
-        Some((naming.addr, naming.eid))
+        let mut best = None;
+        for index in 0..self.len() {
+            let mapping = self.mapping(index);
+            if lasts(m, mapping) {
+                best = lesser_of(
+                    best,
+                    after,
+                    &mapping.eid,
+                    mapping.details.locators.as_slice(),
+                );
+            }
+        }
+        best
     }
 }

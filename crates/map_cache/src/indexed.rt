@@ -1,16 +1,15 @@
 // Mappings in order of EID, and what finds them.
-ghost use Rattle.std.specs.Prelude.{◌≡◌, ◌≤◌, ◌<◌, ◌+◌, ◌*◌, ◌/◌, [], false, length, max, slice_get, Some, is_some, IfOk, OnOk, IsOk};
+ghost use Rattle.std.specs.Prelude.{◌≡◌, ◌≤◌, ◌<◌, ◌+◌, ◌*◌, ◌/◌, [], false, length, max, remove, slice_get, Some, is_some, IfOk, OnOk, IsOk};
 ghost use Rattle.mapping_records.specs.Orders.{eid_order, put_in_order};
 ghost use Rattle.named_list.specs.Rings.{ring_names};
 ghost use Rattle.map_cache.specs.Cache.{bits_told, exact, lasting, without_eid};
-ghost use Rattle.map_cache.specs.Limits.{all_locators, most_locators, most_mappings};
+ghost use Rattle.map_cache.specs.Limits.{most_mappings};
 ghost use Rattle.map_cache.specs.Lists.{AllFew, IsAscending, IsPlace};
 
 use crate::bits::tell;
 use crate::copies::copied;
 use crate::endings::{add_ending, drop_ending};
-use crate::keys::{Ending, Naming};
-use crate::names::{add_names, drop_names};
+use crate::keys::Ending;
 use crate::searching::{is_below, same_eid};
 use crate::stay::{Stay, stay_until};
 use crate::{Mapping, NoMemory};
@@ -21,7 +20,7 @@ use prefix_table::PrefixTable;
 use std::alloc::Global;
 use std::marker::Model;
 
-/// Mappings, each EID once, and what finds them by EID, by end and by locator.
+/// Mappings, each EID once, and what finds them by EID and by end.
 #[derive(Drop)]
 pub(crate) struct Indexed {
     // In order of EID.
@@ -29,7 +28,6 @@ pub(crate) struct Indexed {
     pub(crate) by_eid: PrefixTable<Stay>,
     // Of those that end.
     pub(crate) endings: OrderedSet<Ending>,
-    pub(crate) naming: OrderedSet<Naming>,
     // Of copies.
     alloc: Global,
 }
@@ -43,18 +41,15 @@ impl Model for Indexed {
     ghost view = { λ indexed. record {
       mappings = indexed.mappings.items;
       spare = min indexed.mappings.spare (min indexed.by_eid.spare indexed.endings.spare);
-      locator_spare = indexed.naming.spare;
       mapping_places = max (length indexed.mappings.items + indexed.mappings.spare)
           (max (length indexed.mappings.items + indexed.by_eid.spare)
           (length indexed.endings.keys + indexed.endings.spare));
-      locator_places = length indexed.naming.keys + indexed.naming.spare;
-      kept = indexed.mappings.kept + (indexed.by_eid.kept
-          + (indexed.endings.kept + (indexed.naming.kept
-          + sum_by (λ mapping. length mapping.details.locators) indexed.mappings.items)));
+      kept = indexed.mappings.kept + (indexed.by_eid.kept + (indexed.endings.kept
+          + sum_by (λ mapping. length mapping.details.locators) indexed.mappings.items));
     } };
 
     ghost invariant = { λ indexed. IsIndexed indexed.mappings indexed.by_eid.pairs
-        indexed.endings.keys indexed.naming.keys };
+        indexed.endings.keys };
 }
 
 impl Indexed {
@@ -62,15 +57,12 @@ impl Indexed {
     pub(crate) fn new(alloc: Global) -> Indexed
         ensures mappings { result.mappings ≡ [] }
         ensures spare { result.spare ≡ 0 }
-        ensures locator_spare { result.locator_spare ≡ 0 }
         ensures mapping_places { result.mapping_places ≡ 0 }
-        ensures locator_places { result.locator_places ≡ 0 }
     {
         Indexed {
             mappings: NamedList::new(alloc),
             by_eid: PrefixTable::new(alloc),
             endings: OrderedSet::new(alloc),
-            naming: OrderedSet::new(alloc),
             alloc,
         }
     }
@@ -83,42 +75,31 @@ impl Indexed {
         let mappings = self.mappings.copy(|mapping| copied(alloc, mapping))?;
         let by_eid = self.by_eid.copy(|stay| Ok(*stay))?;
         let endings = self.endings.copy()?;
-        let naming = self.naming.copy()?;
         Ok(Indexed {
             mappings,
             by_eid,
             endings,
-            naming,
             alloc,
         })
     }
 
-    /// Makes room for `n` further mappings with so many locators in all.
-    pub(crate) fn reserve(&mut self, n: u32, locators: u32) -> Result<(), NoMemory>
+    /// Makes room for `n` further mappings.
+    pub(crate) fn reserve(&mut self, n: u32) -> Result<(), NoMemory>
         requires n { n ≤ most_mappings }
-        requires locators { locators ≤ all_locators }
         requires len { length self.old.mappings ≤ most_mappings }
-        requires few { AllFew self.old.mappings }
         ensures mappings { self.new.mappings ≡ self.old.mappings }
         ensures spare { self.old.spare ≤ self.new.spare }
-        ensures locator_spare { self.old.locator_spare ≤ self.new.locator_spare }
         ensures at_most { self.new.spare ≤ max self.old.spare n }
-        ensures locators_at_most { self.new.locator_spare
-            ≤ max self.old.locator_spare locators }
         ensures mapping_places { self.new.mapping_places
             ≤ max self.old.mapping_places (length self.old.mappings + n) }
-        ensures locator_places { self.new.locator_places
-            ≤ max self.old.locator_places (most_locators * length self.old.mappings + locators) }
         ensures ok { OnOk result (n ≤ self.new.spare) }
-        ensures locators_ok { OnOk result (locators ≤ self.new.locator_spare) }
-        ensures enough { n ≤ self.old.spare → locators ≤ self.old.locator_spare → IsOk result }
+        ensures enough { n ≤ self.old.spare → IsOk result }
     {
-        // The lengths say that no key is there twice, so that they are few.
-        let _ = (self.endings.len(), self.naming.len());
+        // The length says that no key is there twice, so that they are few.
+        let _ = self.endings.len();
         self.mappings.reserve(n)?;
         self.by_eid.reserve(n)?;
-        self.endings.reserve(n)?;
-        self.naming.reserve(locators)
+        self.endings.reserve(n)
     }
 
     /// The number of mappings.
@@ -134,13 +115,11 @@ impl Indexed {
         requires { AllFew self.now.mappings }
         ensures len { result ≡ length self.now.mappings }
         ensures tied { result + self.now.spare ≤ self.now.mapping_places }
-        ensures locators_tied { self.now.locator_spare ≤ self.now.locator_places }
         ensures kept { self.now.kept
-            ≤ 43 * self.now.mapping_places + 2 * self.now.locator_places
-            + (2 * self.now.mapping_places + self.now.locator_places) / ring_names }
+            ≤ 43 * self.now.mapping_places + 2 * self.now.mapping_places / ring_names }
     {
         // The lengths say how much is kept.
-        let _ = (self.by_eid.len(), self.endings.len(), self.naming.len());
+        let _ = (self.by_eid.len(), self.endings.len());
         self.mappings.len()
     }
 
@@ -165,39 +144,50 @@ impl Indexed {
     /// Puts a mapping in place of that of its EID. Takes no memory.
     pub(crate) fn put(&mut self, mapping: Mapping)
         requires spare { 0 < self.old.spare }
-        requires locators { length mapping.details.locators ≤ self.old.locator_spare }
         ensures mappings { self.new.mappings ≡ put_in_order (λ item. item.eid) eid_order mapping
             (without_eid mapping.eid self.old.mappings) }
         ensures spare { self.old.spare ≤ self.new.spare + 1 }
-        ensures locator_spare { self.old.locator_spare
-            ≤ self.new.locator_spare + length mapping.details.locators }
         ensures mapping_places { self.new.mapping_places ≤ self.old.mapping_places }
-        ensures locator_places { self.new.locator_places ≤ self.old.locator_places }
     {
-        self.drop_eid(&mapping.eid);
-        self.enter(mapping);
+        let place = place_of(&mapping.eid, &self.mappings);
+        if is_at(place, &mapping.eid, &self.mappings) {
+            self.take(place);
+        }
+        self.enter(place, mapping);
     }
 
-    // Puts in a mapping of an EID of which there is none.
-    fn enter(&mut self, mapping: Mapping)
+    // Puts in a mapping of an EID of which there is none, at its place.
+    fn enter(&mut self, place: usize, mapping: Mapping)
         requires spare { 0 < self.old.spare }
-        requires locators { length mapping.details.locators ≤ self.old.locator_spare }
-        requires new { without_eid mapping.eid self.old.mappings ≡ self.old.mappings }
+        requires place { IsPlace mapping.eid self.old.mappings place }
+        requires new { is_some (exact self.old.mappings mapping.eid) ≡ false }
         ensures mappings { self.new.mappings ≡ put_in_order (λ item. item.eid) eid_order mapping
             self.old.mappings }
         ensures spare { self.old.spare ≤ self.new.spare + 1 }
-        ensures locator_spare { self.old.locator_spare
-            ≤ self.new.locator_spare + length mapping.details.locators }
         ensures mapping_places { self.new.mapping_places ≤ self.old.mapping_places }
-        ensures locator_places { self.new.locator_places ≤ self.old.locator_places }
     {
-        let place = place_of(&mapping.eid, &self.mappings);
+        // The length says that there are as many names as mappings.
+        let _ = self.mappings.len();
         add_ending(&mapping, &mut self.endings);
-        let locators = mapping.details.locators.as_slice();
-        add_names(&mapping.eid, locators, &mut self.naming);
         let (eid, fixed, end) = (mapping.eid, mapping.fixed, mapping.end);
         let name = self.mappings.insert(place, mapping);
         self.by_eid.insert(eid, stay_until(fixed, end, name));
+    }
+
+    // Takes the mapping at a place away.
+    fn take(&mut self, place: usize)
+        requires { place < length self.old.mappings }
+        ensures mappings { self.new.mappings ≡ remove self.old.mappings place }
+        ensures spare { self.old.spare ≤ self.new.spare }
+        ensures total { length self.new.mappings + self.new.spare
+            ≤ length self.old.mappings + self.old.spare }
+        ensures mapping_places { self.new.mapping_places ≤ self.old.mapping_places }
+    {
+        // The length says that there are as many names as mappings.
+        let _ = self.mappings.len();
+        let mapping = self.mappings.remove(place);
+        self.by_eid.remove(&mapping.eid);
+        drop_ending(&mapping, &mut self.endings);
     }
 
     /// Takes the mapping of that EID away. Takes no memory.
@@ -206,19 +196,12 @@ impl Indexed {
         ensures spare { self.old.spare ≤ self.new.spare }
         ensures total { length self.new.mappings + self.new.spare
             ≤ length self.old.mappings + self.old.spare }
-        ensures locator_spare { self.old.locator_spare ≤ self.new.locator_spare }
         ensures mapping_places { self.new.mapping_places ≤ self.old.mapping_places }
-        ensures locator_places { self.new.locator_places ≤ self.old.locator_places }
     {
         let place = place_of(eid, &self.mappings);
-        if !is_at(place, eid, &self.mappings) {
-            return;
+        if is_at(place, eid, &self.mappings) {
+            self.take(place);
         }
-        let mapping = self.mappings.remove(place);
-        self.by_eid.remove(eid);
-        drop_ending(&mapping, &mut self.endings);
-        let locators = mapping.details.locators.as_slice();
-        drop_names(&mapping.eid, locators, &mut self.naming);
     }
 
     /// Takes away what has ended at a moment. Takes no memory.
@@ -227,9 +210,7 @@ impl Indexed {
         ensures spare { self.old.spare ≤ self.new.spare }
         ensures total { length self.new.mappings + self.new.spare
             ≤ length self.old.mappings + self.old.spare }
-        ensures locator_spare { self.old.locator_spare ≤ self.new.locator_spare }
         ensures mapping_places { self.new.mapping_places ≤ self.old.mapping_places }
-        ensures locator_places { self.new.locator_places ≤ self.old.locator_places }
     {
         while let Some(eid) = self.first_ended(m) {
             self.drop_eid(&eid);
@@ -241,9 +222,7 @@ impl Indexed {
         requires { width ≤ 32 }
         ensures mappings { self.new.mappings ≡ bits_told eid.now bits width self.old.mappings }
         ensures spare { self.new.spare ≡ self.old.spare }
-        ensures locator_spare { self.new.locator_spare ≡ self.old.locator_spare }
         ensures mapping_places { self.new.mapping_places ≤ self.old.mapping_places }
-        ensures locator_places { self.new.locator_places ≤ self.old.locator_places }
     {
         let place = place_of(eid, &self.mappings);
         if is_at(place, eid, &self.mappings) {

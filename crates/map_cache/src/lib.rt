@@ -9,11 +9,10 @@ mod fault;
 mod finding;
 mod indexed;
 mod keys;
-mod lasting;
 mod laws;
 mod learning;
 mod mapping;
-mod names;
+mod naming;
 mod searching;
 mod stay;
 

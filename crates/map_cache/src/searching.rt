@@ -30,7 +30,7 @@ pub fn lasts(now: u64, mapping: &Mapping) -> bool
     mapping.fixed || u128::from(now) < mapping.end
 }
 
-fn is_less(a: &Addr, b: &Addr) -> bool
+pub(crate) fn is_less(a: &Addr, b: &Addr) -> bool
     ensures { result ≡ is_lt (addr_order a.now b.now) }
 {
     a < b

@@ -1,9 +1,8 @@
 -- The table of the static mappings, one mapping after another.
-use Rattle.std.proofs.Common.{◌≡◌, ℕ, suc, ◌<◌, ◌≤◌, ◌==◌, ◌||◌, not, nat_lt, Bool, true, false, cond, IsTrue, List, [], ◌∷◌, ◌++◌, length, get_or, drop, ◌+◌, map, filter, is_some, is_lt, refl, sym, ap, subst, ◌∙◌, arith}
-use Rattle.std.specs.List.{sum_by}
+use Rattle.std.proofs.Common.{◌≡◌, ℕ, suc, ◌<◌, ◌≤◌, ◌==◌, ◌||◌, not, nat_lt, Bool, true, false, cond, IsTrue, List, [], ◌∷◌, ◌++◌, length, ◌+◌, map, filter, is_some, is_lt, refl, sym, ap, subst, ◌∙◌, arith}
 use Rattle.std.proofs.lemmas.Bool.Decides.{nat_tests}
 use Rattle.std.proofs.lemmas.List.{map-append}
-use Rattle.std.proofs.lemmas.List.Sums.{count_by-le-length, length-filter, sum_by-drop_more}
+use Rattle.std.proofs.lemmas.List.Sums.{count_by-le-length, length-filter}
 use Rattle.lisp_settings.specs.declared.settings.Settings.{Settings}
 use Rattle.mapping_records.specs.Eids.{same_eid}
 use Rattle.mapping_records.specs.Orders.{eid_order, put_in_order}
@@ -77,9 +76,3 @@ static-place mapping ms few = by (mapping.ttl == 0) (is_some (exact (lasting 0 m
     by true b c is = refl
     by false true c is = refl
     by false false c is = is
-
--- the locators of the next one, and those to come behind it
-pub to_come-next : (mappings : List Record) (i : ℕ) (item : Record) → i < length mappings → item ≡ get_or mappings i item → sum_by (λ mapping. length mapping.locators) (drop i mappings) ≡ length item.locators + sum_by (λ mapping. length mapping.locators) (drop (i + 1) mappings)
-to_come-next mappings i item within is =
-    sum_by-drop_more (λ (mapping : Record). length mapping.locators) mappings i item within
-    ∙ ap (λ (mapping : Record). length mapping.locators + sum_by (λ (other : Record). length other.locators) (drop (i + 1) mappings)) (sym is)

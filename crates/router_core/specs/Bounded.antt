@@ -48,7 +48,6 @@ most_kept = 12000000
 -- and what is reserved at once: all mappings of a reply, requests, probes
 pub record AreBounded (cache : Cache) (queue : Queue) (located : Located) (own_count : ℕ) : Type 0 where
   pub mappings : cache.mapping_places ≤ most_mappings + most_message_records
-  pub locators : cache.locator_places ≤ most_locators * (most_mappings + most_message_records)
   pub requests : queue.places ≤ 2 * (most_requests + most_reserved_requests)
   pub probes : located.places ≤ 2 * (most_probes + most_reserved_probes)
   pub longest : longest located.observed ≤ most_probes

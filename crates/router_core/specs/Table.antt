@@ -14,7 +14,6 @@ use Rattle.router_core.specs.declared.changed.Heard.{Heard}
 pub record TableSeen : Type 0 where
   pub parts : Parts
   pub mapping_room : ℕ
-  pub locator_room : ℕ
   pub request_room : ℕ
   pub probe_room : ℕ
   pub start_room : ℕ

@@ -112,7 +112,7 @@ impl Table {
         ensures taken { IsTaken (Learned m mapping.now false) self.old.parts self.new.parts result }
     {
         let mapping = copied(self.alloc, mapping)?;
-        self.reserve_mappings(1, mapping.locators.len() as u32)?;
+        self.reserve_mappings(1)?;
         self.learn(m, mapping, false);
         Ok(())
     }

@@ -1,5 +1,5 @@
 // What a Map-Reply teaches.
-ghost use Rattle.std.specs.Prelude.{◌≡◌, ◌<◌, ◌≤◌, ◌+◌, ◌*◌, ◌&&◌, ◌||◌, nat_lt, max, is_some, [], Some, not, length, map, IfOk, vec_len, vec_capacity};
+ghost use Rattle.std.specs.Prelude.{◌≡◌, ◌<◌, ◌≤◌, ◌+◌, ◌&&◌, ◌||◌, nat_lt, max, is_some, [], Some, not, length, map, IfOk, vec_len, vec_capacity};
 ghost use Rattle.map_cache.specs.Cache.{exact, lasting};
 ghost use Rattle.std.specs.List.{All, list_any};
 ghost use Rattle.std.specs.List.Sorted.{IsStrictlySortedBy};
@@ -10,7 +10,7 @@ ghost use Rattle.router_model.specs.Changes.{each, has_room, unchanged};
 ghost use Rattle.router_model.specs.Hear.{is_asked_for, is_fit, is_static, replied_to, taught};
 ghost use Rattle.mapping_records.specs.Eids.{same_eid};
 ghost use Rattle.mapping_records.specs.Orders.{eid_order};
-ghost use Rattle.router_model.specs.Limits.{most_heard, most_locators, most_mappings};
+ghost use Rattle.router_model.specs.Limits.{most_heard, most_mappings};
 ghost use Rattle.router_model.specs.Parts.{table, view_in};
 ghost use Rattle.router_core.specs.Site.{IsSite};
 ghost use Rattle.router_core.specs.Copies.{all_copies, copies_of};
@@ -21,7 +21,7 @@ use crate::copies::{Copies, all_copies};
 use crate::grounds::Grounds;
 use crate::site::Site;
 use crate::{Heard, Table};
-use map_cache::{MOST_LOCATORS, MOST_MAPPINGS};
+use map_cache::MOST_MAPPINGS;
 use map_messages::MapReply;
 use mapping_records::{Eid, Record};
 use node_store::Reads;
@@ -57,8 +57,7 @@ impl Table {
         let mut entries = Vec::new(self.alloc);
         entries.reserve(1 + mappings.len())?;
         let mut copies = all_copies(self.alloc, mappings)?;
-        let n = mappings.len() as u32;
-        self.reserve_mappings(n, n * MOST_LOCATORS as u32)?;
+        self.reserve_mappings(mappings.len() as u32)?;
         self.answer(m, reply.nonce);
         entries.push_reserved(Entry::Answered {
             moment: m,
@@ -93,7 +92,6 @@ impl Table {
         requires range { All InRange records.now }
         requires copies { copies.old.items ≡ all_copies records.now }
         requires mapping_room { length records.now ≤ self.old.mapping_room }
-        requires locator_room { most_locators * length records.now ≤ self.old.locator_room }
         requires room { vec_len entries.old + length records.now ≤ vec_capacity entries.old }
         ensures change { change_of self.new.parts entries.new.items []
             ≡ each (taught table grounds.now.site.now grounds.now.m grounds.now.asked.now
@@ -123,7 +121,6 @@ impl Table {
         requires range { InRange mapping.now }
         requires copies { copies ≡ copies_of mapping.now }
         requires mapping_room { 0 < self.old.mapping_room }
-        requires locator_room { most_locators ≤ self.old.locator_room }
         requires room { vec_len entries.old < vec_capacity entries.old }
         ensures change { change_of self.new.parts entries.new.items []
             ≡ taught table grounds.now.site.now grounds.now.m grounds.now.asked.now
@@ -131,7 +128,6 @@ impl Table {
             (change_of self.old.parts entries.old.items []) }
         ensures entered { HasEntered 1 grounds.now.m self.old.parts self.new.parts }
         ensures mapping_room { self.old.mapping_room ≤ self.new.mapping_room + 1 }
-        ensures locator_room { self.old.locator_room ≤ self.new.locator_room + most_locators }
         ensures entries { AreAdded 1 entries.old entries.new }
     {
         if !self.is_taken(grounds, mapping) {

@@ -1,24 +1,23 @@
 // Room for what entries bring, made before any of them is taken.
-ghost use Rattle.std.specs.Prelude.{◌≡◌, ◌<◌, ◌≤◌, ◌*◌, length, OnOk};
+ghost use Rattle.std.specs.Prelude.{◌≡◌, ◌<◌, ◌≤◌, length, OnOk};
 ghost use Rattle.locator_state.specs.Limits.{most_reserved as most_reserved_probes};
 ghost use Rattle.request_queue.specs.Limits.{most_reserved as most_reserved_requests};
-ghost use Rattle.router_model.specs.Limits.{most_locators, most_message_records};
+ghost use Rattle.router_model.specs.Limits.{most_message_records};
 
 use crate::Table;
 use octets::NoMemory;
 
 impl Table {
-    /// Makes room for so many further mappings, at most those of a reply, with so many locators in all.
-    pub(crate) fn reserve_mappings(&mut self, n: u32, locators: u32) -> Result<(), NoMemory>
-        requires n { n ≤ most_message_records }
-        requires locators { locators ≤ most_locators * most_message_records }
+    /// Makes room for so many further mappings, at most those of a reply.
+    pub(crate) fn reserve_mappings(&mut self, n: u32) -> Result<(), NoMemory>
+        requires { n ≤ most_message_records }
         ensures parts { self.new.parts ≡ self.old.parts }
         ensures room { OnOk result (n ≤ self.new.mapping_room) }
-        ensures locator_room { OnOk result (locators ≤ self.new.locator_room) }
     {
         // The length says that there are at most as many as may live.
         let _ = self.cache.len();
-        self.cache.reserve(n, locators)
+        // Locators take no room of their own.
+        self.cache.reserve(n, 0)
     }
 
     /// Makes room for so many further requests.

@@ -1,10 +1,10 @@
 // A table: what a router remembers of its journal.
-ghost use Rattle.std.specs.Prelude.{◌≡◌, ◌<◌, ◌≤◌, ◌+◌, true, All, [], length, map, sum_by, IfOk, OnOk};
+ghost use Rattle.std.specs.Prelude.{◌≡◌, ◌<◌, ◌≤◌, ◌+◌, true, All, [], length, map, IfOk, OnOk};
 ghost use Rattle.lisp_settings.specs.Lawful.{IsLawful, IsLawfulMapping};
 ghost use Rattle.lisp_settings.specs.declared.settings.Settings.{Settings as SettingsValue};
 ghost use Rattle.router_log.specs.declared.entry.Entry.TheVariants.{Learned};
 ghost use Rattle.router_model.specs.Journal.{extended, statics};
-ghost use Rattle.router_model.specs.Limits.{all_locators, most_locators, most_mappings};
+ghost use Rattle.router_model.specs.Limits.{most_locators, most_mappings};
 ghost use Rattle.router_model.specs.Parts.{Stands, parts_in, own_of, standing_in};
 ghost use Rattle.router_core.specs.Bounded.{most_kept};
 
@@ -58,7 +58,6 @@ impl Model for Table {
         observed = table.locators.observed;
       };
       mapping_room = table.cache.spare;
-      locator_room = table.cache.locator_spare;
       request_room = table.queue.spare;
       probe_room = table.locators.probe_room;
       start_room = table.locators.start_room;
@@ -119,16 +118,15 @@ impl Table {
         }
     }
 
-    // Makes room for so many static mappings, with so many locators in all, where there is none yet.
-    fn reserve_statics(&mut self, n: u32, locators: u32) -> Result<(), NoMemory>
+    // Makes room for so many static mappings, where there is none yet.
+    fn reserve_statics(&mut self, n: u32) -> Result<(), NoMemory>
         requires none { self.old.parts.mappings ≡ [] }
         requires n { n ≤ most_mappings }
-        requires locators { locators ≤ all_locators }
         ensures parts { self.new.parts ≡ self.old.parts }
         ensures room { OnOk result (n ≤ self.new.mapping_room) }
-        ensures locator_room { OnOk result (locators ≤ self.new.locator_room) }
     {
-        self.cache.reserve(n, locators)
+        // Locators take no room of their own.
+        self.cache.reserve(n, 0)
     }
 
     // Learns the static mappings, where there was no entry yet.
@@ -138,7 +136,7 @@ impl Table {
         ensures { OnOk result (self.new.parts ≡ parts_in settings.now (statics settings.now)) }
     {
         let mappings = settings.mappings.as_slice();
-        self.reserve_statics(mappings.len() as u32, locator_count(mappings))?;
+        self.reserve_statics(mappings.len() as u32)?;
         self.learn_statics(mappings)
     }
 
@@ -150,8 +148,6 @@ impl Table {
         requires few { length mappings.now ≤ most_mappings }
         requires lawful { All IsLawfulMapping mappings.now }
         requires room { length mappings.now ≤ self.old.mapping_room }
-        requires locator_room { sum_by (λ mapping. length mapping.locators) mappings.now
-            ≤ self.old.locator_room }
         ensures { OnOk result ((settings : SettingsValue) → self.old.parts ≡ parts_in settings []
             → self.new.parts ≡ parts_in settings
             (extended [] (map (λ mapping. Learned 0 mapping true) mappings.now))) }
@@ -195,18 +191,4 @@ impl Table {
         // The lengths say how much is kept.
         let _ = (self.cache.len(), self.queue.len(), self.locators.len());
     }
-}
-
-// How many locators mappings have in all.
-fn locator_count(mappings: &[Record]) -> u32
-    requires few_mappings { length mappings.now ≤ most_mappings }
-    requires lawful { All IsLawfulMapping mappings.now }
-    ensures count { result ≡ sum_by (λ mapping. length mapping.locators) mappings.now }
-    ensures most { result ≤ all_locators }
-{
-    let mut count = 0;
-    for mapping in mappings {
-        count += mapping.locators.as_slice().len() as u32;
-    }
-    count
 }

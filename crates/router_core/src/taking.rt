@@ -24,11 +24,8 @@ impl Table {
         requires fixed { IsTrue fixed → mapping.ttl ≢ 0 }
         requires place { IsTrue (has_room mapping (lasting m self.old.parts.mappings)) }
         requires room { 0 < self.old.mapping_room }
-        requires locator_room { length mapping.locators ≤ self.old.locator_room }
         ensures parts { self.new.parts ≡ with_entry (Learned m mapping fixed) self.old.parts }
         ensures mapping_room { self.old.mapping_room ≤ self.new.mapping_room + 1 }
-        ensures locator_room { self.old.locator_room
-            ≤ self.new.locator_room + length mapping.locators }
         ensures request_room { self.old.request_room ≤ self.new.request_room }
     {
         self.rest = 0;
@@ -64,7 +61,6 @@ impl Table {
         requires may { MayEnter 1 m self.old.parts }
         ensures parts { self.new.parts ≡ with_entry (Answered m nonce) self.old.parts }
         ensures mapping_room { self.old.mapping_room ≤ self.new.mapping_room }
-        ensures locator_room { self.old.locator_room ≤ self.new.locator_room }
         ensures request_room { self.old.request_room ≤ self.new.request_room }
     {
         self.rest = 0;

@@ -1,7 +1,7 @@
 -- The limits of a router, what follows from them, and the ports of LISP.
 use Rattle.std.specs.Prelude.{ℕ, ◌+◌, ◌*◌}
 pub use Rattle.lisp_settings.specs.Limits.{most_changes, most_databases}
-pub use Rattle.map_cache.specs.Limits.{all_locators, most_locators, most_mappings}
+pub use Rattle.map_cache.specs.Limits.{most_locators, most_mappings}
 pub use Rattle.request_queue.specs.Limits.{most_requests, most_retries}
 pub use Rattle.locator_state.specs.Limits.{most_probes, most_solicits, most_starts, most_targets, most_wishes}
 

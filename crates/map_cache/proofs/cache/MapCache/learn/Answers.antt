@@ -67,17 +67,7 @@ returns-in_err-reserve-clause-mapping_places c =
     let purged = rw (← c.self.view_is) at c.purge.ensures in
     omega (arith, length-lasting c.args.m c.args.self.now.mappings, ap length purged.mappings, purged.mapping_places, c.reserve.ensures.mapping_places)
 
-pub returns-in_err-reserve-clause-locator_places : goal.returns-in_err-reserve-clause-locator_places
-returns-in_err-reserve-clause-locator_places c =
-    let purged = rw (← c.self.view_is) at c.purge.ensures in
-    omega (arith, length-lasting c.args.m c.args.self.now.mappings, ap length c.as_slice.ensures, c.requires.locators, ap length purged.mappings, purged.locator_places, c.reserve.ensures.locator_places)
-
 pub returns-clause-mapping_places : goal.returns-clause-mapping_places
 returns-clause-mapping_places c =
     let purged = rw (← c.self.view_is) at c.purge.ensures in
     omega (arith, length-lasting c.args.m c.args.self.now.mappings, ap length purged.mappings, purged.mapping_places, c.reserve.ensures.mapping_places, c.put.ensures.mapping_places)
-
-pub returns-clause-locator_places : goal.returns-clause-locator_places
-returns-clause-locator_places c =
-    let purged = rw (← c.self.view_is) at c.purge.ensures in
-    omega (arith, length-lasting c.args.m c.args.self.now.mappings, ap length c.as_slice.ensures, c.requires.locators, ap length purged.mappings, purged.locator_places, c.reserve.ensures.locator_places, c.put.ensures.locator_places)

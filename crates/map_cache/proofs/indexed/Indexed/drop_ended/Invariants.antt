@@ -8,9 +8,7 @@ invariant-loop-eid l =
     (lasting l.m l.self.mappings ≡ lasting l.m l.initial.self.mappings)
     × (l.initial.self.spare ≤ l.self.spare)
     × (length l.self.mappings + l.self.spare ≤ length l.initial.self.mappings + l.initial.self.spare)
-    × (l.initial.self.locator_spare ≤ l.self.locator_spare)
     × (l.self.mapping_places ≤ l.initial.self.mapping_places)
-    × (l.self.locator_places ≤ l.initial.self.locator_places)
 
 abbrev pub decreases-loop-eid : goal.decreases-loop-eid
 decreases-loop-eid l = length l.self.mappings

@@ -1,5 +1,5 @@
 use Rattle.std.proofs.Common.{ap, arith, length}
-use Rattle.map_cache.proofs.RoomLemmas.{endings-few, stay-few, naming-few, room-after}
+use Rattle.map_cache.proofs.RoomLemmas.{endings-few, stay-few, room-after}
 use Rattle.map_cache.proofs.indexed.Indexed.reserve.Goals as goal
 
 pub reserve-requires-2 : goal.reserve-requires-2
@@ -11,22 +11,11 @@ reserve-requires-2 c =
 pub reserve-requires-3 : goal.reserve-requires-3
 reserve-requires-3 c =
     let len = rw (← c.self.view_is) at c.requires.len in
-    let few = endings-few _ _ _ _ c.self.invariant c.len.ensures.ascends in
+    let few = endings-few _ _ _ c.self.invariant c.len.ensures.ascends in
     omega (arith, c.requires.n, len, few)
-
-pub reserve-requires-4 : goal.reserve-requires-4
-reserve-requires-4 c =
-    let len = rw (← c.self.view_is) at c.requires.len in
-    let few = naming-few _ _ _ _ c.self.invariant c.len-2.ensures.ascends (rw (← c.self.view_is) at c.requires.few) in
-    omega (arith, c.requires.locators, len, few)
 
 pub returns-clause-mapping_places : goal.returns-clause-mapping_places
 returns-clause-mapping_places c =
-    let few = endings-few _ _ _ _ c.self.invariant c.len.ensures.ascends in
-    rw (← c.self.view_is) (omega (arith, few, ap length c.reserve.ensures.items, c.in_ok-reserve.ensures.ok, c.in_ok-reserve-2.ensures.ok, ap length c.reserve-3.ensures.keys, c.in_ok-reserve-3.ensures.ok))
-
-pub returns-clause-locator_places : goal.returns-clause-locator_places
-returns-clause-locator_places c =
-    let few = naming-few _ _ _ _ c.self.invariant c.len-2.ensures.ascends (rw (← c.self.view_is) at c.requires.few) in
-    let room = room-after c.reserve-4.result _ _ c.args.locators c.reserve-4.ensures.ok c.reserve-4.ensures.err in
-    rw (← c.self.view_is) (omega (arith, few, room, ap length c.reserve-4.ensures.keys))
+    let few = endings-few _ _ _ c.self.invariant c.len.ensures.ascends in
+    let room = room-after c.reserve-3.result _ _ c.args.n c.reserve-3.ensures.ok c.reserve-3.ensures.err in
+    rw (← c.self.view_is) (omega (arith, few, ap length c.reserve.ensures.items, c.in_ok-reserve.ensures.ok, c.in_ok-reserve-2.ensures.ok, ap length c.reserve-3.ensures.keys, room))

@@ -12,8 +12,6 @@ learn_each-requires t c =
     let one = c.learn_one.ensures.entered.count in
     let rooms = c.requires.mapping_room in
     let room = c.learn_one.ensures.mapping_room in
-    let locator_rooms = c.requires.locator_room in
-    let locator_room = c.learn_one.ensures.locator_room in
     let places = c.requires.room in
     let most = c.learn_one.ensures.entries.most_more in
     let capacity = c.learn_one.ensures.entries.capacity in (
@@ -28,10 +26,7 @@ learn_each-requires t c =
               copies-left records c.args.copies.now.items c.remove-copy.new.self.items c.requires.copies c.remove-copy.ensures.by_index.2,
               (
                 omega (arith, fewer, some, rooms, room),
-                (
-                  omega (arith, fewer, some, locator_rooms, locator_room),
-                  omega (arith, fewer, some, places, most, capacity),
-                ),
+                omega (arith, fewer, some, places, most, capacity),
               ),
             ),
           ),

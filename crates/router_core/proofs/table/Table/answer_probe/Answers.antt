@@ -37,7 +37,6 @@ invariant_of-self c =
       subst AreShort (sym c.probe_answered.ensures.observed) (probes-short m (probe_answered m c.args.nonce inside.locators.observed.probes) inside.locators.observed c.self.invariant.3),
       record {
         mappings = omega (arith, are.mappings, c.purge.ensures.mapping_places);
-        locators = omega (arith, are.locators, c.purge.ensures.locator_places);
         requests = omega (arith, are.requests, c.purge-2.ensures.places);
         probes = omega (arith, are.probes, c.probe_answered.ensures.places);
         longest = subst (λ (o : Observed). longest o ≤ 9600) (sym c.probe_answered.ensures.observed) (probe_answered-few m c.args.nonce inside.locators.observed are.longest);

@@ -39,7 +39,6 @@ invariant_of-self c =
       subst AreShort (sym c.purge-2.ensures.observed) (recent-short m inside.locators.observed c.self.invariant.3),
       record {
         mappings = omega (arith, are.mappings, c.purge.ensures.mapping_places);
-        locators = omega (arith, are.locators, c.purge.ensures.locator_places);
         requests = omega (arith, are.requests, c.ask.ensures.places, c.len.ensures.len, c.len.ensures.most);
         probes = omega (arith, are.probes, c.purge-2.ensures.places);
         longest = subst (λ (o : Observed). longest o ≤ 9600) (sym c.purge-2.ensures.observed) (recent-few m inside.locators.observed are.longest);

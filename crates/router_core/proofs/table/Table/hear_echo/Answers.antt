@@ -36,7 +36,6 @@ invariant_of-self c =
       subst AreShort (sym c.echo_heard.ensures.observed) (heard-short m c.args.rloc.now inside.locators.observed c.self.invariant.3),
       record {
         mappings = omega (arith, are.mappings, c.purge.ensures.mapping_places);
-        locators = omega (arith, are.locators, c.purge.ensures.locator_places);
         requests = omega (arith, are.requests, c.purge-2.ensures.places);
         probes = omega (arith, are.probes, c.echo_heard.ensures.places);
         longest = subst (λ (o : Observed). longest o ≤ 9600) (sym c.echo_heard.ensures.observed) (heard-few m c.args.rloc.now inside.locators.observed are.longest);

@@ -19,9 +19,8 @@ returns-clause-parts c =
     let inside = c.self.inside in
     let place = subst (λ (t : TableSeen). IsTrue (has_room mapping (lasting m t.parts.mappings))) (sym c.self.view_is) c.requires.place in
     let room = subst (λ (t : TableSeen). 0 < t.mapping_room) (sym c.self.view_is) c.requires.room in
-    let locator_room = subst (λ (t : TableSeen). length mapping.locators ≤ t.locator_room) (sym c.self.view_is) c.requires.locator_room in
     let ms : c.learn.new.self.mappings ≡ learned m mapping c.args.fixed inside.cache.mappings =
-    was_learned c.learn.result (has_room mapping (lasting m inside.cache.mappings)) c.learn.ensures.ok (c.learn.ensures.memory room locator_room) c.learn.ensures.full place in
+    was_learned c.learn.result (has_room mapping (lasting m inside.cache.mappings)) c.learn.ensures.ok (c.learn.ensures.memory room) c.learn.ensures.full place in
     ap₂ (λ (now : ℕ) (l : List Mapping). parts_with inside.own.items inside.steps (inside.count + 1) inside.drawn now l c.purge.new.self.requests c.purge-2.new.self.observed) c.learn.ensures.now ms
     ∙ ap₂ (λ (r : List Request) (p : Observed). parts_with inside.own.items inside.steps (inside.count + 1) inside.drawn m (learned m mapping c.args.fixed inside.cache.mappings) r p) c.purge.ensures.requests c.purge-2.ensures.observed
     ∙ learned-parts inside.own.items inside.steps inside.count inside.drawn inside.cache.now inside.cache.mappings inside.queue.requests inside.locators.observed m mapping c.args.fixed
@@ -38,14 +37,12 @@ invariant_of-self c =
       (
           let place = subst (λ (t : TableSeen). IsTrue (has_room c.args.mapping (lasting m t.parts.mappings))) (sym c.self.view_is) c.requires.place in
           let room = subst (λ (t : TableSeen). 0 < t.mapping_room) (sym c.self.view_is) c.requires.room in
-          let locator_room = subst (λ (t : TableSeen). length c.args.mapping.locators ≤ t.locator_room) (sym c.self.view_is) c.requires.locator_room in
           let ms : c.learn.new.self.mappings ≡ learned m c.args.mapping c.args.fixed inside.cache.mappings =
-          was_learned c.learn.result (has_room c.args.mapping (lasting m inside.cache.mappings)) c.learn.ensures.ok (c.learn.ensures.memory room locator_room) c.learn.ensures.full place in
+          was_learned c.learn.result (has_room c.args.mapping (lasting m inside.cache.mappings)) c.learn.ensures.ok (c.learn.ensures.memory room) c.learn.ensures.full place in
           subst AreVersioned (sym ms) (learned-versioned m c.args.mapping c.args.fixed inside.cache.mappings c.requires.version c.self.invariant.2)),
       subst AreShort (sym c.purge-2.ensures.observed) (recent-short m inside.locators.observed c.self.invariant.3),
       record {
         mappings = omega (arith, are.mappings, c.learn.ensures.mapping_places, c.len.ensures.len, c.len.ensures.most);
-        locators = omega (arith, are.locators, c.learn.ensures.locator_places, c.len.ensures.len, c.len.ensures.most, c.requires.locators);
         requests = omega (arith, are.requests, c.purge.ensures.places);
         probes = omega (arith, are.probes, c.purge-2.ensures.places);
         longest = subst (λ (o : Observed). longest o ≤ 9600) (sym c.purge-2.ensures.observed) (recent-few m inside.locators.observed are.longest);

@@ -21,19 +21,6 @@ few mapping = least (length (take 32 mapping.locators)) (length mapping.locators
 pub learn-requires-clause-locators : goal.learn-requires-clause-locators
 learn-requires-clause-locators c = rw (ap (λ (copy : Copies). copy.kept) c.requires.copies) (few c.args.mapping.now)
 
-kept_few : (copies : Copies) (mapping : Record) → copies ≡ copies_of mapping → length copies.kept.locators ≤ 32
-kept_few copies mapping is = let same = ap (λ (copy : Copies). length copy.kept.locators) is in let less = few mapping in omega (arith, same, less)
-
-pub learn-requires-clause-locator_room : goal.learn-requires-clause-locator_room
-learn-requires-clause-locator_room c =
-    let kept = kept_few c.args.copies c.args.mapping.now c.requires.copies in
-    omega (arith, kept, c.requires.locator_room)
-
-pub returns-clause-locator_room : goal.returns-clause-locator_room
-returns-clause-locator_room c =
-    let kept = kept_few c.args.copies c.args.mapping.now c.requires.copies in
-    omega (arith, kept, c.learn.ensures.locator_room)
-
 pub learn-requires-clause-place : goal.learn-requires-clause-place
 learn-requires-clause-place c =
     let mapping = c.args.mapping.now in

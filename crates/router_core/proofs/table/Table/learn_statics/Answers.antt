@@ -4,7 +4,7 @@ use Rattle.map_cache.specs.declared.mapping.Mapping.{Mapping}
 use Rattle.mapping_records.specs.declared.record.Record.{Record}
 use Rattle.router_log.specs.declared.entry.Entry.TheVariants.{Learned}
 use Rattle.router_model.specs.Parts.{Parts, parts_in, with_entry}
-use Rattle.router_core.proofs.StaticLemmas.{journal_of, static-few, static-parts, static-place, to_come-next}
+use Rattle.router_core.proofs.StaticLemmas.{journal_of, static-few, static-parts, static-place}
 use Rattle.router_core.proofs.table.Table.learn_statics.Goals as goal
 
 pub learn-requires-clause-place : goal.learn-requires-clause-place
@@ -34,14 +34,14 @@ loop-mapping-init c = (
       omega (arith, c.requires.count),
       (
         subst (λ (l : List Mapping). length l ≤ 0) (sym c.requires.none) (omega arith),
-        (omega (arith, c.requires.room), c.requires.locator_room),
+        omega (arith, c.requires.room),
       ),
     ),
   ),
 )
 
 pub learn-requires-clause-room : goal.learn-requires-clause-room
-learn-requires-clause-room c = omega (arith, c.loop-mapping.invariant.1.1.1.1.0, c.loop-mapping-test.true)
+learn-requires-clause-room c = omega (arith, c.loop-mapping.invariant.1.1.1.1, c.loop-mapping-test.true)
 
 pub loop-mapping-preserved : goal.loop-mapping-preserved
 loop-mapping-preserved c =
@@ -57,12 +57,8 @@ loop-mapping-preserved c =
     let few = known.1.1.0 in
     let count = known.1.0 in
     let more = static-few item before in
-    let room = known.1.1.1.0 in
-    let left = c.learn.ensures.mapping_room in
-    let to_come = to_come-next mappings i item below c.mapping-item.is in
-    let places = known.1.1.1.1 in
-    let taken_places = c.learn.ensures.locator_room in
-    let own : length c.in_ok-mapping.mapping.locators ≡ length item.locators = ap (λ (r : Record). length r.locators) c.in_ok-mapping.ensures in (
+    let room = known.1.1.1 in
+    let left = c.learn.ensures.mapping_room in (
       (λ settings begins.
           same ∙ static-parts settings (take i mappings) item before (c.loop-mapping.invariant.0 settings begins)
           ∙ ap (λ (l : List Record). parts_in settings (journal_of l)) (ap (λ (r : Record). take i mappings ++ r ∷ []) c.mapping-item.is ∙ sym (take_more mappings i item below))),
@@ -72,17 +68,8 @@ loop-mapping-preserved c =
           subst (λ (q : Parts). q.count ≤ i + 1) (sym same) (omega (arith, count)),
           (
             subst (λ (q : Parts). length q.mappings ≤ i + 1) (sym same) (omega (arith, few, more)),
-            (omega (arith, room, left), omega (arith, to_come, places, taken_places, own)),
+            omega (arith, room, left),
           ),
         ),
       ),
     )
-
-pub learn-requires-clause-locator_room : goal.learn-requires-clause-locator_room
-learn-requires-clause-locator_room c =
-    let mappings = c.args.mappings.now in
-    let item = c.mapping-item.result in
-    let to_come = to_come-next mappings c.loop-mapping.mapping-index item c.loop-mapping-test.true c.mapping-item.is in
-    let places = c.loop-mapping.invariant.1.1.1.1.1 in
-    let own : length c.in_ok-mapping.mapping.locators ≡ length item.locators = ap (λ (r : Record). length r.locators) c.in_ok-mapping.ensures in
-    omega (arith, to_come, places, own)

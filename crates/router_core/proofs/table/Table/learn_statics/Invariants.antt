@@ -1,5 +1,4 @@
-use Rattle.std.proofs.Common.{◌≡◌, ◌≤◌, ◌+◌, [], drop, length, take}
-use Rattle.std.specs.List.{sum_by}
+use Rattle.std.proofs.Common.{◌≡◌, ◌≤◌, ◌+◌, [], length, take}
 use Rattle.lisp_settings.specs.declared.settings.Settings.{Settings}
 use Rattle.router_model.specs.Parts.{parts_in}
 use Rattle.router_core.proofs.StaticLemmas.{journal_of}
@@ -9,5 +8,4 @@ abbrev pub invariant-loop-mapping : goal.invariant-loop-mapping
 invariant-loop-mapping l =
     ((settings : Settings) → l.initial.self.parts ≡ parts_in settings [] → l.self.parts ≡ parts_in settings (journal_of (take l.mapping-index l.mappings)))
     × ((l.self.parts.now ≤ 0) × ((l.self.parts.count ≤ l.mapping-index)
-    × ((length l.self.parts.mappings ≤ l.mapping-index) × ((length l.mappings ≤ l.self.mapping_room + l.mapping-index)
-    × (sum_by (λ mapping. length mapping.locators) (drop l.mapping-index l.mappings) ≤ l.self.locator_room)))))
+    × ((length l.self.parts.mappings ≤ l.mapping-index) × (length l.mappings ≤ l.self.mapping_room + l.mapping-index))))

@@ -41,7 +41,6 @@ invariant_of-self c =
       subst AreShort (sym os) (probes-short m (probed m c.args.rloc c.args.nonce inside.locators.observed.probes) inside.locators.observed c.self.invariant.3),
       record {
         mappings = omega (arith, are.mappings, c.purge.ensures.mapping_places);
-        locators = omega (arith, are.locators, c.purge.ensures.locator_places);
         requests = omega (arith, are.requests, c.purge-2.ensures.places);
         probes = omega (arith, are.probes, are.longest, c.probed.ensures.places);
         longest = subst (λ (o : Observed). longest o ≤ 9600) (sym os) (probed-few m c.args.rloc c.args.nonce inside.locators.observed are.longest place);

@@ -41,7 +41,6 @@ invariant_of-self c =
       subst AreShort (sym os) (solicits-short m (solicited m c.args.rloc c.args.eid inside.locators.observed.solicits) inside.locators.observed c.self.invariant.3),
       record {
         mappings = omega (arith, are.mappings, c.purge.ensures.mapping_places);
-        locators = omega (arith, are.locators, c.purge.ensures.locator_places);
         requests = omega (arith, are.requests, c.purge-2.ensures.places);
         probes = omega (arith, are.probes, are.longest, c.solicited.ensures.places);
         longest = subst (λ (o : Observed). longest o ≤ 9600) (sym os) (solicited-few m c.args.rloc c.args.eid inside.locators.observed are.longest place);

@@ -36,7 +36,6 @@ invariant_of-self c =
       subst AreShort (sym c.data_from.ensures.observed) (data-short m c.args.rloc.now inside.locators.observed c.self.invariant.3),
       record {
         mappings = omega (arith, are.mappings, c.purge.ensures.mapping_places);
-        locators = omega (arith, are.locators, c.purge.ensures.locator_places);
         requests = omega (arith, are.requests, c.purge-2.ensures.places);
         probes = omega (arith, are.probes, c.data_from.ensures.places);
         longest = subst (λ (o : Observed). longest o ≤ 9600) (sym c.data_from.ensures.observed) (data-few m c.args.rloc.now inside.locators.observed are.longest);

@@ -44,7 +44,6 @@ invariant_of-self c =
       subst AreShort (sym os) (wanted-short m c.args.rloc c.args.nonce inside.locators.observed c.requires.short c.self.invariant.3),
       record {
         mappings = omega (arith, are.mappings, c.purge.ensures.mapping_places);
-        locators = omega (arith, are.locators, c.purge.ensures.locator_places);
         requests = omega (arith, are.requests, c.purge-2.ensures.places);
         probes = omega (arith, are.probes, are.longest, c.echo_wanted.ensures.places);
         longest = subst (λ (o : Observed). longest o ≤ 9600) (sym os) (wanted-few m c.args.rloc c.args.nonce inside.locators.observed are.longest place);
