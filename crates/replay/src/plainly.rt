@@ -32,7 +32,6 @@ use router_core::Table;
 use std::alloc::Global;
 
 /// A router that is replayed.
-#[derive(Drop)]
 struct Replay<'a> {
     settings: &'a Settings,
     table: Table,
@@ -137,7 +136,9 @@ pub(crate) fn audit_plainly<D: Desk>(
 {
     let table = Table::new(alloc, settings)?;
     let mut router = Replay { settings, table };
-    audit_frames(alloc, desk, &mut router, input, sent)
+    let audited = audit_frames(alloc, desk, &mut router, input, sent);
+    entries_of(router);
+    audited
 }
 
 // The length of a router's journal. It ends here, so that nothing is left to be dropped where a call
@@ -145,5 +146,6 @@ pub(crate) fn audit_plainly<D: Desk>(
 fn entries_of(router: Replay<'_>) -> u64
     ensures { result ≡ router.entry.table.parts.count }
 {
-    router.table.count()
+    let Replay { settings: _, table } = router;
+    table.closed()
 }

@@ -159,6 +159,14 @@ impl Table {
         Ok(())
     }
 
+    /// Drops a table that is of no use any more, which says how long its journal was. Where a table
+    /// ends otherwise, all that it has is dropped anew in the function at hand.
+    pub fn closed(self) -> u64
+        ensures { result ≡ self.parts.count }
+    {
+        self.count
+    }
+
     /// The length of the journal.
     pub fn count(&self) -> u64
         ensures { result ≡ self.now.parts.count }

@@ -89,16 +89,21 @@ pub(crate) fn begun<'a, R: Threads + Wait + Sync, G: Gate>(
         g.octets beginning 0) }
 {
     let table = Table::new(alloc, settings)?;
-    let published = open_hall(crew.rt, alloc, settings, &table, crew.workers)?;
-    Ok(Gathering {
-        settings,
-        table,
-        published,
-        size: crew.round,
-        previous: None,
-        frames: Vec::new(alloc),
-        octets: 0,
-    })
+    match open_hall(crew.rt, alloc, settings, &table, crew.workers) {
+        Ok(published) => Ok(Gathering {
+            settings,
+            table,
+            published,
+            size: crew.round,
+            previous: None,
+            frames: Vec::new(alloc),
+            octets: 0,
+        }),
+        Err(refused) => {
+            table.closed();
+            Err(refused)
+        }
+    }
 }
 
 impl<'a> Gathering<'a> {
@@ -108,7 +113,7 @@ impl<'a> Gathering<'a> {
     {
         let Gathering {
             settings: _,
-            table: _,
+            table,
             published,
             size: _,
             previous: _,
@@ -117,6 +122,7 @@ impl<'a> Gathering<'a> {
         } = self;
         let entries = published.count();
         published.close(rt);
+        table.closed();
         entries
     }
 }
