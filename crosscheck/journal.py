@@ -1,4 +1,5 @@
 """The journal of a plain router: a list of entries, and each question a scan of that list."""
+import functools
 from typing import NamedTuple, Optional
 
 from messages import Eid, Record
@@ -107,27 +108,47 @@ def ends(entry):
     return entry.moment + minutes * 60 * SECOND
 
 
+def by_entries(scan):
+    """A scan that asks for no moment: what it finds stands until an entry is added, so it is found once till then."""
+    @functools.wraps(scan)
+    def found(self, *parts):
+        if self.scanned != len(self):
+            self.scanned, self.answers = len(self), {}
+        key = scan, *parts
+        if key not in self.answers:
+            self.answers[key] = scan(self, *parts)
+        return self.answers[key]
+    return found
+
+
 class Journal(list):
+    """Entries, to which others are added at the end alone."""
+    scanned = None
+
     def now(self, moment):
         return max(moment, self[-1].moment) if self else moment
 
+    @by_entries
+    def of(self, kind):
+        """The entries of a kind."""
+        return [entry for entry in self if type(entry) is kind]
+
+    @by_entries
+    def learned(self):
+        """The last thing learned of each EID."""
+        return {entry.mapping.eid: entry for entry in self.of(Learned)}
+
     def live(self, moment):
         """The last thing learned of each EID, where it is fixed or its time isn't over."""
-        now, last = self.now(moment), {}
-        for entry in self:
-            if type(entry) is Learned:
-                last[entry.mapping.eid] = entry
-        return {eid: entry for eid, entry in last.items() if entry.fixed or now < ends(entry)}
+        now = self.now(moment)
+        return {eid: entry for eid, entry in self.learned().items() if entry.fixed or now < ends(entry)}
 
     def in_force(self, moment, eid):
         """What was learned last of the longest live mapping that covers the EID, or None."""
-        now, last = self.now(moment), {}
-        for entry in self:
-            if type(entry) is Learned and entry.mapping.eid.covers(eid):
-                last[entry.mapping.eid] = entry
-        live = [entry for entry in last.values() if entry.fixed or now < ends(entry)]
-        return max(live, key=lambda entry: entry.mapping.eid.length, default=None)
+        covering = [entry for entry in self.live(moment).values() if entry.mapping.eid.covers(eid)]
+        return max(covering, key=lambda entry: entry.mapping.eid.length, default=None)
 
+    @by_entries
     def status(self, eid):
         """Whether each locator of a live mapping is up: by its last status bit since it was learned, or its record."""
         up = []
@@ -139,26 +160,39 @@ class Journal(list):
                 up[:told] = [entry.bits >> i & 1 == 1 for i in range(told)]
         return up
 
-    def open_requests(self, moment):
-        """For each nonce its last request, where no answer follows and it is younger than 7 s."""
-        now, last = self.now(moment), {}
+    @by_entries
+    def unanswered(self):
+        """For each nonce its last request, where no answer follows."""
+        last = {}
         for entry in self:
             if type(entry) is Asked:
                 last.pop(entry.nonce, None)
                 last[entry.nonce] = entry
             elif type(entry) is Answered:
                 last.pop(entry.nonce, None)
-        return {nonce: entry for nonce, entry in last.items() if now - entry.moment < OPEN}
+        return last
 
-    def due(self, moment):
-        """The open requests that are to be sent again, in the order in which they were asked."""
-        now, times = self.now(moment), {}
+    def open_requests(self, moment):
+        """For each nonce its last request, where no answer follows and it is younger than 7 s."""
+        now = self.now(moment)
+        return {nonce: entry for nonce, entry in self.unanswered().items() if now - entry.moment < OPEN}
+
+    @by_entries
+    def times(self):
+        """How often the last request with each nonce was sent again."""
+        times = {}
         for entry in self:
             if type(entry) is Asked:
                 times[entry.nonce] = 0
             elif type(entry) is Retried:
                 times[entry.nonce] += 1
-        return [entry for nonce, entry in self.open_requests(moment).items()
+        return times
+
+    def due(self, moment):
+        """The open requests that are to be sent again, in the order in which they were asked."""
+        now, waiting = self.now(moment), self.open_requests(moment)
+        times = self.times() if waiting else {}
+        return [entry for nonce, entry in waiting.items()
                 if times[nonce] < len(AGAIN) and now - entry.moment >= AGAIN[times[nonce]]]
 
     def drawn(self):
@@ -166,12 +200,12 @@ class Journal(list):
         return sum(map(kinds.count, (Asked, Probed, EchoStarted, Solicited)))
 
     def changes(self):
-        return [entry for entry in self if type(entry) is Changed]
+        return self.of(Changed)
 
     def younger(self, kind, age, moment):
         """The entries of a kind that are younger than an age."""
         now = self.now(moment)
-        return [entry for entry in self if type(entry) is kind and now - entry.moment < age]
+        return [entry for entry in self.of(kind) if now - entry.moment < age]
 
     def may_ask(self, moment, eid):
         """Whether no open request covers the EID, and there is room for one more."""
@@ -184,6 +218,7 @@ class Journal(list):
         live = self.live(moment)
         return mapping.eid in live or len(live) < MOST_MAPPINGS
 
+    @by_entries
     def probes(self):
         """Each probe, and whether it is answered: of those with one nonce an answer is that of the last."""
         found, last = [], {}
@@ -215,13 +250,14 @@ class Journal(list):
     def last_probes(self, moment):
         """When each locator was last probed, where that still counts."""
         now = self.now(moment)
-        last = {entry.address: entry.moment for entry in self if type(entry) is Probed}
+        last = {entry.address: entry.moment for entry in self.of(Probed)}
         return {address: start for address, start in last.items() if now - start < PROBE_COUNTS}
 
     def may_probe(self, moment):
         """How many probes more can count."""
         return MOST_PROBES - len(self.younger(Probed, PROBE_COUNTS, moment))
 
+    @by_entries
     def echoes(self):
         """The last echo request of each locator."""
         last = {}
@@ -248,7 +284,7 @@ class Journal(list):
 
     def wanted(self, moment, address):
         """The nonce that a locator wants to see, or None."""
-        last = [entry for entry in self if type(entry) is EchoWanted and entry.address == address][-1:]
+        last = [entry for entry in self.of(EchoWanted) if entry.address == address][-1:]
         return next((entry.nonce for entry in last if self.now(moment) - entry.moment < WANTED), None)
 
     def may_start(self, moment, address):
@@ -260,9 +296,11 @@ class Journal(list):
         return (len(self.younger(EchoWanted, WANTED, moment)) < MOST_ECHOES
                 and self.wanted(moment, address) != nonce)
 
-    def may_solicit(self, moment, address, eid):
+    def may_solicit(self, moment, pairs):
+        """Those of some pairs of a locator and a prefix that may be solicited one after another."""
         made = self.younger(Solicited, SOLICITED, moment)
-        return len(made) < MOST_ECHOES and all((entry.address, entry.eid) != (address, eid) for entry in made)
+        told = {(entry.address, entry.eid) for entry in made}
+        return [pair for pair in pairs if pair not in told][:MOST_ECHOES - len(made)]
 
     def next_second(self, second):
         """Behind a second in which nothing was to be done: the first one in which something may be, or None.
@@ -270,7 +308,7 @@ class Journal(list):
         As long as no frame comes, something new can only be to be done where a request or a probe gets older
         than one of the ages that make it so. All else that time does is to end what is open, live or counts.
         """
-        ages = {Asked: AGAIN, Probed: (PROBE_AGAIN, PROBE_COUNTS)}
-        moments = [entry.moment + age for entry in self for age in ages.get(type(entry), ())]
+        ages = [(Asked, AGAIN), (Probed, (PROBE_AGAIN, PROBE_COUNTS))]
+        moments = [entry.moment + age for kind, some in ages for entry in self.of(kind) for age in some]
         least = min((moment for moment in moments if moment > second * SECOND), default=None)
         return None if least is None else -(-least // SECOND)

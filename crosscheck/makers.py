@@ -12,8 +12,11 @@ MANY = OTHERS + [f"198.51.100.{i}" for i in range(32, 56)] + [f"2001:db8:e::{i:x
 RESOLVERS = ["203.0.113.9", "2001:db8:9::9"]
 HOMES = ["10.1.0.0/16", "10.1.2.0/24", "10.1.2.8/29", "10.1.9.0/24", "2001:db8:1::/48", "2001:db8:1:7::/64"]
 AWAY = ["10.2.0.0/16", "10.2.9.0/24", "10.2.9.8/29", "10.0.0.0/8", "2001:db8:2::/48", "2001:db8::/32"]
+CROWD = MANY + [f"198.51.100.{i}" for i in range(64, 192)]
 # How many locators a mapping has.
 COUNTS = [0, 0, 1, 2, 3, 4, 6, 24]
+# Of how many prefixes the changes behind the first seconds tell, mostly, each counted as often as it is told.
+TOLD = 36
 
 
 def raw(text):
@@ -70,11 +73,23 @@ def mapping(r, iid, prefix, pool, counts=COUNTS):
                     f"up = {r.choice(['true', 'true', 'false'])}"]
 
 
-def changes(r, owns):
-    """In most settings up to 20 changes of own locators: around the first frames, soon behind them, or never."""
+def crowd(r, iid):
+    """Mappings that mostly name more locators than are told of a change, which is too many to be probed."""
+    for i in range(r.choice([4, 5, 6])):
+        yield from mapping(r, iid, f"10.2.{16 + i}.0/24", CROWD, [32])
+
+
+def changes(r, owns, prefixes):
+    """In most settings up to 20 changes of own locators: around the first frames, soon behind them, or never.
+
+    Those around them tell of each of the site's prefixes once; the others may do so anew, so that there are mostly few
+    of them where there are many prefixes.
+    """
     start, found = 1_700_000_000, set()
-    for _ in range(r.choice([0, 0, 1, 2, 5, 20])):
-        at = start + r.choice([r.randrange(-2, 3), r.randrange(8), r.randrange(60), r.randrange(700), 10**6])
+    anew = 20 if r.random() < 0.05 else TOLD // max(1, prefixes)
+    for i in range(r.choice([0, 0, 1, 2, 5, 20])):
+        seconds = [r.randrange(-2, 3), r.randrange(8), r.randrange(60), r.randrange(700), 10**6]
+        at = start + r.choice(seconds if i < anew else seconds[:2])
         found.update((at, address) for address in r.sample(owns, r.choice([1, 1, min(2, len(owns)), len(owns)])))
     found.update((r.choice([0, 2**32 - 1]), address) for address in owns[:1] if r.random() < 0.05)
     for at, address in r.sample(sorted(found), min(20, len(found))):
@@ -90,7 +105,7 @@ def settings(r):
         up += [address] if word == "true" else []
         lines += ["[[locator]]", f'address = "{address}"', f"up = {word}"]
         lines += r.choice([[], [f"priority = {r.randrange(256)}", f"weight = {r.randrange(256)}"]])
-    lines = first_keys(r, up) + lines
+    keys = first_keys(r, up)
     iids, most = r.sample([0, 7, 300], r.choice([1, 2, 2, 3])), r.choice([0, 1, 6])
     pool = r.choice([OTHERS, OTHERS, MANY])
     lines += attachments(r, iids)
@@ -99,8 +114,11 @@ def settings(r):
             lines += ["[[database]]", f"iid = {iid}", f'prefix = "{prefix}"', *version(r)]
         for prefix in r.sample(AWAY, r.randint(0, most)):
             lines += mapping(r, iid, prefix, pool)
-    lines += changes(r, owns)
-    return "\n".join(lines) + "\n"
+    if r.random() < 0.05:
+        keys = [line for line in keys if line != "probe = true"]
+        lines += crowd(r, iids[0])
+    lines += changes(r, owns, lines.count("[[database]]"))
+    return "\n".join(keys + lines) + "\n"
 
 
 WORDS = ["1", "-1", "0", "255", "256", "4095", "4096", "16777215", "16777216", "true", "false", "1.5", "[]", "{}",

@@ -1,13 +1,14 @@
 #!/usr/bin/env python3
 """Compares the built program with the plain router where mappings nest deeply, and where many differ little.
 
-usage: nested.py PROGRAM [ROUNDS [SEED]]
+usage: nested.py PROGRAM [ROUNDS [SEED [FIRST]]]
 Each round makes up to 2,000 EIDs of a few addresses: of one address the prefixes of all lengths, mostly with gaps,
 and those that differ from them in the last bit; all hosts and all prefixes of a small prefix; hosts that differ in one
 bit; and the same in several instances. Some are mappings of the settings, with up to 32 locators. The frames are mostly
 packets to addresses at the ends of these EIDs and beside them, and replies of many records, which learn, replace,
 shorten and take away what nests around the asked address, some a minute or two behind the frame before; and then such
-frames with workers, as compare.py has them. It ends with status 1 at the first difference.
+frames with workers, as compare.py has them. It ends with status 1 at the first difference. FIRST is the number of the
+first round, 0 if it is left out.
 """
 import struct
 
@@ -132,7 +133,7 @@ def settings(r, iids, fixed):
     pool, counts = r.choice([OTHERS, MANY, NUMBERED]), r.choice([COUNTS, COUNTS, [0, *COUNTS, 9, 32]])
     for eid in fixed:
         lines += mapping(r, eid.iid, f"{text_of(randomly(r, eid))}/{eid.length}", pool, counts)
-    lines += changes(r, OWN)
+    lines += changes(r, OWN, len(HOMES) * len(iids))
     return "\n".join(lines) + "\n"
 
 

@@ -95,8 +95,13 @@ class Noting:
         """What is sent for a notice."""
         return self.notes[type(notice)](moment, *notice) or []
 
+    def nonces(self, count):
+        """The next nonces, for so many entries."""
+        drawn = self.journal.drawn()
+        return [nonce_at(self.site.nonces, self.site.seed, drawn + i) for i in range(count)]
+
     def nonce(self):
-        return nonce_at(self.site.nonces, self.site.seed, self.journal.drawn())
+        return self.nonces(1)[0]
 
     # Requests.
 
@@ -118,9 +123,14 @@ class Noting:
             return self.asked(moment, eid)
 
     def solicited(self, moment, address, eid):
-        if self.site.ours(len(address)) and self.journal.may_solicit(moment, address, eid):
-            self.journal.append(Solicited(moment, address, eid, self.nonce()))
-            return [solicit_packet(self.site, self.journal[-1])]
+        return self.all_solicited(moment, [(address, eid)]) if self.site.ours(len(address)) else []
+
+    def all_solicited(self, moment, pairs):
+        """Solicitations to locators of ours, each for a prefix, one after another as long as they may be made."""
+        pairs = self.journal.may_solicit(moment, pairs)
+        made = [Solicited(moment, *pair, nonce) for pair, nonce in zip(pairs, self.nonces(len(pairs)))]
+        self.journal += made
+        return [solicit_packet(self.site, entry) for entry in made]
 
     # What is known of locators.
 

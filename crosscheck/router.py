@@ -69,8 +69,7 @@ class Router(Noting):
     def told_all(self, moment):
         """Solicitations to the first locators, in order of address, that can be reached; for each prefix of the site."""
         told = sorted(self.named(moment), key=by_address)[:MOST_TOLD]
-        return [sent for address in told for eid in self.site.databases
-                for sent in self.solicited(moment, address, eid) or []]
+        return self.all_solicited(moment, [(address, eid) for address in told for eid in self.site.databases])
 
     def sent_again(self, moment):
         sent = []
@@ -85,8 +84,8 @@ class Router(Noting):
         waiting = [address for address in named
                    if address not in last or self.journal.now(moment) - last[address] >= PROBE_AGAIN]
         waiting.sort(key=lambda address: (last.get(address, -1), by_address(address)))
-        for address in waiting[:min(MOST_AT_ONCE, self.journal.may_probe(moment))]:
-            nonce = self.nonce()
+        waiting = waiting[:min(MOST_AT_ONCE, self.journal.may_probe(moment))]
+        for address, nonce in zip(waiting, self.nonces(len(waiting))):
             self.journal.append(Probed(moment, address, nonce))
             sent.append(probe_packet(self.site, address, nonce, named[address]))
         return sent
@@ -96,8 +95,8 @@ class Router(Noting):
         named = {}
         for eid, entry in sorted(self.journal.live(moment).items()):
             for locator in entry.mapping.locators:
-                if locator.priority != 255 and self.is_reached(locator.address):
-                    named.setdefault(locator.address, eid)
+                if locator.address not in named and locator.priority != 255 and self.is_reached(locator.address):
+                    named[locator.address] = eid
         return named
 
     def is_reached(self, address):

@@ -10,6 +10,8 @@ from messages import Eid
 from rounds import Stepwise
 
 MILLI, DAY = 10**6, 86_400 * SECOND
+# Behind so many entries, all of which the plain router scans, no pause is longer than a second.
+SCANNED = 2000
 # Long pauses between frames, in seconds: of requests, probes and echoes, of those that come again, of those that count.
 LONG = [(3, 10)] * 10 + [(55, 65)] * 5 + [(590, 610), (0, 700)]
 
@@ -323,6 +325,8 @@ class Talk:
             if i > 0 and not late:
                 aim = self.aimed() if self.r.random() < self.shares()[0] else None
                 moment, make = aim or (self.later(), self.any)
+            if len(self.router.journal) > SCANNED and not self.hurried:
+                moment = min(moment, self.now + SECOND)
             self.now = max(self.now, moment)
             self.router.until(self.now)
             frame = self.tagged(make())
