@@ -1,7 +1,7 @@
 """Frames from outside that regard what a router has: Map-Requests, and packets in tunnels."""
 from fitting import away, longer, named, plain_ip, randomly, record, shorter, summed
 from headers import Headers
-from makers import OTHERS, OWN, between, raw, spoiled, udp
+from makers import IIDS, OTHERS, OWN, between, raw, spoiled, udp
 from messages import Eid
 from sending import located
 
@@ -28,9 +28,9 @@ class Arrivals:
         r = self.r
         pool = r.choice([*pools, []])
         if not pool:
-            return away(r, r.choice([0, 7, 300]))
+            return away(r, r.choice(IIDS))
         eid = r.choice(pool)
-        host, other = Eid.host(eid.iid, randomly(r, eid)), eid._replace(iid=r.choice([0, 7, 300]))
+        host, other = Eid.host(eid.iid, randomly(r, eid)), eid._replace(iid=r.choice(IIDS))
         return r.choice([eid, eid, longer(r, eid), longer(r, eid), host, shorter(r, eid), other])
 
     def eids(self, pools):

@@ -52,6 +52,10 @@ TO_COME = [
         "beside another of its second", "from before the first frame", "to what already was", "that tells somebody",
         "that tells nobody", "with a probe in its second")),
     "second in which a request is held back", "miss that isn't asked for, as the resolver isn't reached",
+    *(f"{kind} at the {limit} of its instance" for limit in ("limit", "share")
+      for kind in ("request that isn't made", "record that is passed over", "record that replaces a mapping")),
+    "record that takes a mapping away at the limit of its instance", "request that isn't made at a limit of 1024",
+    "packet delivered in an instance that isn't attached", "settings whose limits are too many in all",
     *(f"behind a change: verdict {word}" for word in (
         "encapsulated", "drop 6 dest-version-newer", "drop 19 no-locator", "drop 24 no-reply-path",
         "control request answered=1", "control probe-reply"))]
@@ -65,6 +69,12 @@ def verdict_kind(verdict):
     if words[:2] == ["drop", "1"]:
         return " ".join(words[:4] + words[5:])
     return re.sub(r"=(\d{2,}|[2-9])", "=many", verdict)
+
+
+def is_elsewhere(site, verdict):
+    """Whether a packet is delivered in an instance that isn't attached."""
+    words = verdict.split()
+    return words[0] == "delivered" and int(words[1]) not in site.limits
 
 
 def tunnel_kind(header):
@@ -132,9 +142,31 @@ class Counted(Router):
         return packets
 
     def missed(self, moment, eid, source):
-        wants = self.site.resolver and not self.site.reaches_resolver() and self.journal.may_ask(moment, eid)
+        wants = (self.site.resolver and not self.site.reaches_resolver()
+                 and self.journal.may_ask(moment, eid, self.site.limit(eid.iid)))
         self.counts["miss that isn't asked for, as the resolver isn't reached"] += bool(wants)
         return super().missed(moment, eid, source)
+
+    def count_limited(self, eid, kind):
+        """Counts what regards an instance at its limit, by whether that is of the settings or a share."""
+        self.counts[f"{kind} at the {'limit' if eid.iid in self.site.stated else 'share'} of its instance"] += 1
+
+    def asked(self, moment, eid, *how, **more):
+        limit = self.site.limit(eid.iid)
+        others = [entry for entry in self.journal.open_requests(moment).values() if entry.eid.covers(eid)]
+        if self.site.reaches_resolver() and not others and self.journal.open_in(moment, eid.iid) >= limit.requests:
+            self.count_limited(eid, "request that isn't made")
+            self.counts["request that isn't made at a limit of 1024"] += limit.requests == 1024
+        return super().asked(moment, eid, *how, **more)
+
+    def may_learn(self, moment, covering, record):
+        eid, live = record.eid, self.journal.live(moment)
+        within = any(other.covers(eid) for other in covering) and eid not in self.site.static
+        if within and self.journal.learned_in(moment, eid.iid) >= self.site.limit(eid.iid).mappings:
+            kinds = {(True, True): "replaces a mapping", (True, False): "takes a mapping away",
+                     (False, True): "is passed over", (False, False): "takes nothing away"}
+            self.count_limited(eid, f"record that {kinds[eid in live, record.ttl > 0]}")
+        return super().may_learn(moment, covering, record)
 
     def usable(self, moment, mapping):
         deaf = self.journal.deaf(moment)
@@ -247,13 +279,15 @@ def counted(r, folder, counts):
     counted_blocks(random.Random(r.random()), path, counts)
     try:
         router = Counted(Site(text.encode()), counts)
-    except rules.Fault:
+    except rules.Fault as fault:
         counts["settings at fault"] += 1
+        counts["settings whose limits are too many in all"] += str(fault) == "too-many limit"
         return
     for moment, link, frame in frames_of(path):
         counts.update(packet_kind(packet) for _, packet in router.until(moment))
         verdict, packets = router.take(moment, link, frame)
         kind = "verdict " + verdict_kind(verdict)
+        counts["packet delivered in an instance that isn't attached"] += is_elsewhere(router.site, verdict)
         counts.update([kind, *packet_kinds(verdict, packets)] + [f"behind a change: {kind}"] * bool(router.journal.changes()))
     counts.update("entry " + type(entry).__name__ for entry in router.journal)
     at_once = collections.Counter(entry.moment for entry in router.journal if type(entry) is Probed)

@@ -12,7 +12,7 @@ PROBE_OPEN, PROBE_AGAIN, PROBE_COUNTS = 3 * SECOND, 60 * SECOND, 600 * SECOND
 # How long an echo is asked for, and how long that counts; how long one that a peer wants is given; how long a
 # solicitation isn't made again.
 ECHO_ON, ECHO_COUNTS, WANTED, SOLICITED = 10 * SECOND, 60 * SECOND, 2 * SECOND, 10 * SECOND
-MOST_REQUESTS, MOST_MAPPINGS, MOST_PROBES = 1024, 65536, 9600
+MOST_PROBES = 9600
 # Echoes asked for, echoes wanted, and solicitations, each.
 MOST_ECHOES = 4096
 
@@ -207,16 +207,24 @@ class Journal(list):
         now = self.now(moment)
         return [entry for entry in self.of(kind) if now - entry.moment < age]
 
-    def may_ask(self, moment, eid):
-        """Whether no open request covers the EID, and there is room for one more."""
-        requests = self.open_requests(moment).values()
-        return len(requests) < MOST_REQUESTS and not any(entry.eid.covers(eid) for entry in requests)
+    def open_in(self, moment, iid):
+        """How many requests for EIDs of an instance are open."""
+        return sum(entry.eid.iid == iid for entry in self.open_requests(moment).values())
 
-    def may_learn(self, moment, mapping):
-        if mapping.ttl == 0:
+    def learned_in(self, moment, iid):
+        """How many mappings of an instance are live, but for those that are fixed."""
+        return sum(eid.iid == iid and not entry.fixed for eid, entry in self.live(moment).items())
+
+    def may_ask(self, moment, eid, limit):
+        """Whether no open request covers the EID, and fewer of its instance are open than the limit of that allows."""
+        requests = self.open_requests(moment).values()
+        return self.open_in(moment, eid.iid) < limit.requests and not any(entry.eid.covers(eid) for entry in requests)
+
+    def may_learn(self, moment, mapping, limit):
+        """Whether a mapping that isn't fixed takes one away, replaces one, or finds fewer of its instance than its limit."""
+        if mapping.ttl == 0 or mapping.eid in self.live(moment):
             return True
-        live = self.live(moment)
-        return mapping.eid in live or len(live) < MOST_MAPPINGS
+        return self.learned_in(moment, mapping.eid.iid) < limit.mappings
 
     @by_entries
     def probes(self):

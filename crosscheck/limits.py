@@ -10,8 +10,8 @@ from row_runs import REPLAY, SECOND, SHARED, START, Row, Run, capture_of, octets
 
 TEXTS, PACKETS, _ = tables_of(SHARED)
 MILLI, MICRO = 10**6, 1000
-# Requests that are open; echoes asked for, echoes wanted and peers solicited; mappings that live.
-MOST_OPEN, MOST, MOST_MAPPINGS = 1024, 4096, 65536
+# Requests of an instance that are open; echoes asked for, echoes wanted and peers solicited; mappings that live; limits.
+MOST_OPEN, MOST, MOST_MAPPINGS, MOST_LIMITS = 1024, 4096, 65536, 4096
 # Of a frame; 64 times as many are 16 MiB.
 MOST_OCTETS = 262144
 LISTED = 0x0102030405060708
@@ -22,12 +22,12 @@ def shared(name):
     return octets_of(name, PACKETS)
 
 
-def row(name, shows, frames, packets, entries, settings, words=REPLAY):
+def row(name, shows, frames, packets, entries, settings, words=REPLAY, link="raw"):
     """A row of frames with their moments and verdicts, and packets with their moments."""
     lines = [f"{i} {(START + moment) // SECOND}.{moment % SECOND:09} {verdict}\n"
              for i, (moment, _, verdict) in enumerate(frames, 1)]
     report = "".join(lines) + f"end frames={len(frames)} written={len(packets)} entries={entries}\n"
-    files = {"settings": settings.encode(), "in": capture_of([frame[:2] for frame in frames])}
+    files = {"settings": settings.encode(), "in": capture_of([frame[:2] for frame in frames], link)}
     return Row("limits.py", name, shows, [Run(words.split(), files, 0, report, capture_of(packets))])
 
 
@@ -47,11 +47,12 @@ def to(dest):
 # Requests and mappings.
 
 
-def asked(i):
-    """The request for the numbered address, with the nonce that is drawn after i others."""
+def asked(i, iid=100, nonce=None):
+    """The request for the numbered address of an instance, with the nonce that is drawn after i others, or one given."""
     octets = bytearray(shared("asked"))
     octets[48:52] = octets[-4:] = destination(i)
-    octets[64:72] = struct.pack(">Q", drawn(i, LISTED))
+    octets[64:72] = struct.pack(">Q", drawn(i, LISTED) if nonce is None else nonce)
+    octets[80:84] = octets[106:110] = struct.pack(">I", iid)
     ip_summed(octets, 32)
     udp_summed(octets, 32)
     udp_summed(octets, 0)
@@ -83,6 +84,51 @@ def live_mappings():
               (100 * MILLI, shared("reply"), f"n={MOST_MAPPINGS + 1} control reply learned=0 passed=1")]
     return row("a mapping more than may be live", "A record that finds the table full is passed over.",
                frames, [(0, shared("asked"))], MOST_MAPPINGS + 2, settings)
+
+
+# Limits of instances.
+
+
+def tagged(octets, vlan):
+    """A frame in a VLAN."""
+    return bytes(12) + struct.pack(">HHH", 0x8100, vlan, 0x0800) + octets
+
+
+def requests_of_two():
+    """All misses are within a second, in which no request is sent again."""
+    settings = TEXTS["tenant"] + "".join(f"[[attachment]]\nvlan = {vlan}\niid = 200\n" for vlan in (5, 6))
+    settings += '[[database]]\niid = 200\nprefix = "10.1.0.0/16"\n'
+    frames = [(i * MICRO, tagged(to(destination(i)), 0), f"n={i} drop 13 miss") for i in range(MOST_OPEN + 1)]
+    frames += [((MOST_OPEN + i) * MICRO, tagged(to(destination(0)), 4 + i), f"n={MOST_OPEN + i - 1} drop 13 miss")
+               for i in (1, 2)]
+    packets = [(i * MICRO, asked(i)) for i in range(MOST_OPEN)]
+    packets.append(((MOST_OPEN + 1) * MICRO, asked(0, 200, drawn(MOST_OPEN, LISTED))))
+    return row("one request more than an instance may have, and one of another", "A miss of another instance asks yet.",
+               frames, packets, MOST_OPEN + 1, settings, link="ethernet")
+
+
+def all_limited(mappings, requests, more=""):
+    """Settings of as many instances as there are VLANs, from 100 on, each with a limit of so many mappings and requests."""
+    numbers = range(MOST_LIMITS)
+    attached = ",".join(f"{{vlan = {i}, iid = {100 + i}}}" for i in numbers)
+    limited = ",".join(f"{{iid = {100 + i}, mappings = {mappings}, requests = {requests}}}" for i in numbers)
+    tenant = TEXTS["tenant"].replace("[[attachment]]\nvlan = 0\niid = 100\n", "")
+    return f"attachment = [{attached}]\nlimit = [{limited}{more}]\n{tenant}"
+
+
+def most_limits():
+    """Each instance may have four requests, which makes as many as there may be of all."""
+    requests = 4
+    frames = [(i * MICRO, to(destination(i)), f"n={i} drop 13 miss") for i in range(requests + 1)]
+    packets = [(i * MICRO, asked(i)) for i in range(requests)]
+    yield row("4,096 limits of 16 mappings and 4 requests", "They are all mappings and requests that there may be.",
+              frames, packets, requests, all_limited(MOST_MAPPINGS // MOST_LIMITS, requests))
+    for name, settings in [
+            ("4,096 limits of 17 mappings", all_limited(17, 0)), ("4,096 limits of 5 requests", all_limited(0, 5)),
+            ("4,097 limits", all_limited(0, 0, ",{}"))]:
+        files = {"settings": settings.encode(), "in": capture_of([])}
+        run = Run(REPLAY.split(), files, 2, "settings too-many limit\n", None)
+        yield Row("limits.py", name, "One more than there may be, or one more of each.", [run])
 
 
 # Echoes and peers.
@@ -291,6 +337,6 @@ def rounds_by_halves():
 
 
 def rows():
-    return [open_requests(), live_mappings(), wanted_echoes(), solicited_peers(), started_echoes(), most_changes(),
-            most_told(),
+    return [open_requests(), live_mappings(), requests_of_two(), *most_limits(), wanted_echoes(), solicited_peers(),
+            started_echoes(), most_changes(), most_told(),
             *rounds_by_size(), *rounds_by_octets(), *rounds_by_halves()]

@@ -2,6 +2,7 @@
 import ipaddress
 import struct
 
+from limiting import limits
 from sending import located
 from wire import ones_sum
 
@@ -12,6 +13,8 @@ MANY = OTHERS + [f"198.51.100.{i}" for i in range(32, 56)] + [f"2001:db8:e::{i:x
 RESOLVERS = ["203.0.113.9", "2001:db8:9::9"]
 HOMES = ["10.1.0.0/16", "10.1.2.0/24", "10.1.2.8/29", "10.1.9.0/24", "2001:db8:1::/48", "2001:db8:1:7::/64"]
 AWAY = ["10.2.0.0/16", "10.2.9.0/24", "10.2.9.8/29", "10.0.0.0/8", "2001:db8:2::/48", "2001:db8::/32"]
+# Instances, and VLANs beside 0.
+IIDS, VLANS = [0, 7, 300, 301, 2**24 - 1], [5, 6, 7, 4095]
 CROWD = MANY + [f"198.51.100.{i}" for i in range(64, 192)]
 # How many locators a mapping has.
 COUNTS = [0, 0, 1, 2, 3, 4, 6, 24]
@@ -58,10 +61,9 @@ def shares(r, count):
 
 
 def attachments(r, iids):
-    vlans = ([0] if r.random() < 0.9 else []) + r.sample([5, 6, 4095], r.choice([1, 2, 3]))
-    for i, vlan in enumerate(vlans):
-        iid = iids[i % len(iids)] if r.random() < 0.9 else r.choice([0, 7, 300])
-        yield from ["[[attachment]]", f"vlan = {vlan}", f"iid = {iid}"]
+    """The instance of each of some VLANs, mostly of all of these instances, or of all but the last."""
+    vlans = ([0] if r.random() < 0.9 else []) + r.sample(VLANS, r.choice([1, 2, 3] if len(iids) < 3 else [2, 3, 4]))
+    return {vlan: iids[i % len(iids)] if r.random() < 0.9 else r.choice(IIDS) for i, vlan in enumerate(vlans)}
 
 
 def mapping(r, iid, prefix, pool, counts=COUNTS):
@@ -98,7 +100,7 @@ def changes(r, owns, prefixes):
 
 
 def settings(r):
-    """Settings of one to three instances, in half of them of two."""
+    """Settings of one to three instances, in half of them of two; or, in two fifths, of two to five, with limits."""
     lines, up, owns = [], [], r.sample(OWN, r.randint(1, 4))
     for address in owns:
         word = r.choice(["true", "true", "true", "false"])
@@ -106,9 +108,10 @@ def settings(r):
         lines += ["[[locator]]", f'address = "{address}"', f"up = {word}"]
         lines += r.choice([[], [f"priority = {r.randrange(256)}", f"weight = {r.randrange(256)}"]])
     keys = first_keys(r, up)
-    iids, most = r.sample([0, 7, 300], r.choice([1, 2, 2, 3])), r.choice([0, 1, 6])
-    pool = r.choice([OTHERS, OTHERS, MANY])
-    lines += attachments(r, iids)
+    is_limited = r.random() < 0.4
+    iids, most = r.sample(IIDS, r.choice([2, 2, 3, 4, 5] if is_limited else [1, 2, 2, 3])), r.choice([0, 1, 6])
+    pool, attached = r.choice([OTHERS, OTHERS, MANY]), attachments(r, iids)
+    lines += [line for vlan, iid in attached.items() for line in ("[[attachment]]", f"vlan = {vlan}", f"iid = {iid}")]
     for iid in iids:
         for prefix in r.sample(HOMES, r.choice([0, 3, 4, 4, 5, 5, 6, 6, 6, 6])):
             lines += ["[[database]]", f"iid = {iid}", f'prefix = "{prefix}"', *version(r)]
@@ -118,6 +121,8 @@ def settings(r):
         keys = [line for line in keys if line != "probe = true"]
         lines += crowd(r, iids[0])
     lines += changes(r, owns, lines.count("[[database]]"))
+    if is_limited:
+        lines += limits(r, sorted(set(attached.values())), lines.count("[[mapping]]"))
     return "\n".join(keys + lines) + "\n"
 
 
@@ -126,9 +131,10 @@ WORDS = ["1", "-1", "0", "255", "256", "4095", "4096", "16777215", "16777216", "
          '"1.2.3.04"', '"1.2.3.4"', '"1.2.3"', '"1.2.3.256"', '"10.1.2.3/16"', '"10.1.2.3/33"', '"10.1.2.3/016"',
          '"::/128"', '"::/129"', '"2001:DB8::/32"', '"12345::"', '"a::b::c"', '"192.0.2.1"', '"+1.2.3.4"', '"::1/+1"',
          '"' + "0aF" * 21 + "9" + '"', '"0123456789abcDEF"', '["0123456789abcdef", "0123456789abcdeg"]', "8", "7",
-         "4294967295", "4294967296"]
-KEYS, UNKNOWN = ["seed", "nonces", "resolver", "ttl", "probe", "echo"], ["seeds", "A"]
-INNER = ["address", "priority", "weight", "up", "vlan", "iid", "prefix", "version", "action", "locator", "zone", "at"]
+         "4294967295", "4294967296", "1024", "1025", "65536", "65537"]
+KEYS, UNKNOWN = ["seed", "nonces", "resolver", "ttl", "probe", "echo", "limit"], ["seeds", "A"]
+INNER = ["address", "priority", "weight", "up", "vlan", "iid", "prefix", "version", "action", "locator", "zone", "at",
+         "mappings", "requests"]
 
 
 def spoiled_settings(r):
@@ -207,7 +213,7 @@ def inside(r, to_site):
 def tunnelled(r):
     source, dest = between(r, lambda: raw(r.choice(OTHERS + OWN)), lambda: raw(r.choice(OWN)))
     flags = r.choice([0, 0x08, 0x48, 0x40, 0x80, 0xC8, 0x90, 0xFF, 0x01])
-    lisp = bytes([flags]) + r.randbytes(3) + struct.pack(">I", r.choice([0, 7, 300, 9]) << 8 | 1)
+    lisp = bytes([flags]) + r.randbytes(3) + struct.pack(">I", r.choice([*IIDS, 9]) << 8 | 1)
     payload = lisp + inside(r, r.random() < 0.9) + bytes(r.choice([0, 0, 5]))
     ports = r.choice([50000, 4342]), r.choice([4341] * 9 + [4342, 53])
     return ip(r, source, dest, udp(r, source, dest, payload, ports))
@@ -280,6 +286,6 @@ def framed(r, link, octets):
     """The packet as a frame of the link, sometimes tagged or of another type."""
     if link == 101:
         return octets
-    tag = r.choice([b"", struct.pack(">HH", 0x8100, r.choice([0, 5, 6, 4095, 0xE005, 0xE005, 9]))])
+    tag = r.choice([b"", struct.pack(">HH", 0x8100, r.choice([0, *VLANS, 0xE005, 0xE005, 9]))])
     kind = struct.pack(">H", r.choice([0x0800, 0x86DD] * 10 + [0x0806]))
     return spoiled(r, MAC + tag + kind + octets + bytes(r.choice([0, 0, 18])), 0.05)

@@ -6,8 +6,9 @@ Each round makes up to 2,000 EIDs of a few addresses: of one address the prefixe
 and those that differ from them in the last bit; all hosts and all prefixes of a small prefix; hosts that differ in one
 bit; and the same in several instances. Some are mappings of the settings, with up to 32 locators. The frames are mostly
 packets to addresses at the ends of these EIDs and beside them, and replies of many records, which learn, replace,
-shorten and take away what nests around the asked address, some a minute or two behind the frame before; and then such
-frames with workers, as compare.py has them. It ends with status 1 at the first difference. FIRST is the number of the
+shorten and take away what nests around the asked address, some a minute or two behind the frame before; in a quarter of
+the rounds instances have limits, some of which are reached; and then come such frames with workers, as compare.py has
+them. It ends with status 1 at the first difference. FIRST is the number of the
 first round, 0 if it is left out.
 """
 import struct
@@ -15,6 +16,7 @@ import struct
 from compare import Round, main, write
 from fitting import longer, randomly, record, shorter
 from journal import SECOND, Learned
+from limiting import LAWFUL, limits
 from makers import HOMES, MANY, OTHERS, OWN, changes, first_keys, mapping, raw, version
 from messages import Eid
 from sites import Site
@@ -24,6 +26,8 @@ from wire import text_of
 MOST_EIDS, MOST_OCTETS = 2000, 50_000
 # Frames of a round, and of one with probes, with which the plain router soon has much to scan.
 FRAMES, PROBING = 200, 120
+# The limits of an instance, where it has some.
+FEW = [1, 3, 10, 30, 100]
 INSTANCES = [0, 7, 300, 256, 2**16 + 7, 2**24 - 1]
 # How many locators mappings have, and from which addresses: where these are few, many mappings name each.
 COUNTS = [0, 0, 1, 1, 1, 1, 2, 2, 3, 4]
@@ -134,6 +138,8 @@ def settings(r, iids, fixed):
     for eid in fixed:
         lines += mapping(r, eid.iid, f"{text_of(randomly(r, eid))}/{eid.length}", pool, counts)
     lines += changes(r, OWN, len(HOMES) * len(iids))
+    if r.random() < 0.25:
+        lines += limits(r, iids, len(fixed), FEW, LAWFUL)
     return "\n".join(lines) + "\n"
 
 

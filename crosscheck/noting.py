@@ -106,8 +106,8 @@ class Noting:
     # Requests.
 
     def asked(self, moment, eid, source=None, invoked=False):
-        """Asks for an EID, where the resolver can be reached and no open request covers it."""
-        if not self.site.reaches_resolver() or not self.journal.may_ask(moment, eid):
+        """Asks for an EID, where the resolver can be reached and the journal and the instance's limit allow it."""
+        if not self.site.reaches_resolver() or not self.journal.may_ask(moment, eid, self.site.limit(eid.iid)):
             return []
         self.journal.append(Asked(moment, eid, source, invoked, self.nonce()))
         return [request_packet(self.site, self.journal[-1])]

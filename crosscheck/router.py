@@ -299,9 +299,14 @@ class Router(Noting):
     def learned(self, moment, covering, records):
         taken = 0
         for record in records:
-            within = any(eid.covers(record.eid) for eid in covering)
-            if within and record.eid not in self.site.static and self.journal.may_learn(moment, record):
+            if self.may_learn(moment, covering, record):
                 kept = record._replace(locators=record.locators[:32])
                 self.journal.append(Learned(moment, kept, False))
                 taken += 1
         return f"control reply learned={taken} passed={len(records) - taken}"
+
+    def may_learn(self, moment, covering, record):
+        """Whether a record lies within one that covers what was asked for, none is fixed, and its instance has room."""
+        within = any(eid.covers(record.eid) for eid in covering)
+        limit = self.site.limit(record.eid.iid)
+        return within and record.eid not in self.site.static and self.journal.may_learn(moment, record, limit)

@@ -8,8 +8,11 @@ HEX = re.compile(r"[0-9a-fA-F]*")
 NUMBER = re.compile(r"0|[1-9][0-9]{0,2}")
 GROUP = re.compile(r"[0-9a-fA-F]{1,4}")
 MOST_OCTETS = 2**24
+# Mappings that may live, and requests that may be open: for one instance, and for all.
+MOST_MAPPINGS, MOST_REQUESTS, MOST_OPEN = 65536, 1024, 16384
 # The keys of the top table, in the order in which they are judged.
-KEYS = ("seed", "nonces", "resolver", "ttl", "probe", "echo", "locator", "attachment", "database", "mapping", "change")
+KEYS = ("seed", "nonces", "resolver", "ttl", "probe", "echo", "locator", "attachment", "database", "mapping", "change",
+        "limit")
 
 
 class Fault(Exception):
@@ -159,6 +162,27 @@ def change(owns):
     return read
 
 
+def limit(instances):
+    """What reads a limit of one of these instances."""
+    def attached(value):
+        iid = whole(2**24 - 1)(value)
+        return iid if iid in instances else None
+
+    def read(table, path):
+        only(table, ("iid", "mappings", "requests"), path)
+        iid = required(table, "iid", attached, path)
+        required(table, "mappings", whole(MOST_MAPPINGS), path)
+        required(table, "requests", whole(MOST_REQUESTS), path)
+        return iid
+    return read
+
+
+def are_within(limits, statics):
+    """Whether limits, with so many static mappings, are no more in all than may live and be open."""
+    mappings, requests = (sum(table[key] for table in limits) for key in ("mappings", "requests"))
+    return statics + mappings <= MOST_MAPPINGS and requests <= MOST_OPEN
+
+
 def reaches(table, resolver):
     """Whether an own locator is up in the resolver's family."""
     return table.get("up", True) and len(address(table["address"])) == len(address(resolver))
@@ -183,10 +207,13 @@ def check(top):
     items(top, "locator", 32, locator, [], 1)
     items(top, "attachment", 4096, attachment, [])
     items(top, "database", 64, database, [])
-    items(top, "mapping", 65536, mapping, [])
+    items(top, "mapping", MOST_MAPPINGS, mapping, [])
     items(top, "change", 256, change({address(table["address"]) for table in top["locator"]}), [])
+    items(top, "limit", 4096, limit({table["iid"] for table in top.get("attachment", [])}), [])
     if "resolver" in top and not any(reaches(table, top["resolver"]) for table in top["locator"]):
         fail("bad-value", ["resolver"])
+    if not are_within(top.get("limit", []), len(top.get("mapping", []))):
+        fail("too-many", ["limit"])
 
 
 def finite(text):

@@ -1,4 +1,4 @@
-"""The site of a settings file: its own locators, EIDs, instances and static mappings."""
+"""The site of a settings file: its own locators, EIDs, instances with their limits, and static mappings."""
 import copy
 import ipaddress
 from typing import NamedTuple
@@ -7,6 +7,12 @@ import settings as rules
 from journal import SECOND
 from lisp import successor
 from messages import Eid, Locator, Record
+
+
+class Limit(NamedTuple):
+    """How many mappings an instance may learn, and how many requests for its EIDs may be open."""
+    mappings: int
+    requests: int
 
 
 class Change(NamedTuple):
@@ -42,6 +48,18 @@ def changes_of(top):
     return sorted(changes, key=lambda change: (change.at, by_address(change.address)))
 
 
+def stated_in(top):
+    """The limits that are stated, by their instances."""
+    return {table["iid"]: Limit(table["mappings"], table["requests"]) for table in top.get("limit", [])}
+
+
+def share_of(stated, statics, count):
+    """An equal share, for so many instances, of what static mappings and the limits that are stated leave."""
+    mappings, requests = (sum(numbers) for numbers in zip((statics, 0), *stated.values()))
+    left = rules.MOST_MAPPINGS - mappings, rules.MOST_OPEN - requests
+    return Limit(left[0] // count, min(rules.MOST_REQUESTS, left[1] // count))
+
+
 def stepped(version, steps):
     """A version so many steps on."""
     for _ in range(steps):
@@ -69,6 +87,9 @@ class Site:
         self.nonces = [int(text, 16) for text in top.get("nonces", [])]
         self.seed = bytes.fromhex(top.get("seed", 64 * "0"))
         self.changes = changes_of(top)
+        self.stated, attached = stated_in(top), set(self.attachments.values())
+        share = share_of(self.stated, len(self.mappings), max(1, len(attached - self.stated.keys())))
+        self.limits = {iid: self.stated.get(iid, share) for iid in attached}
 
     def standing(self, changes):
         """The site behind changes: each own locator is as its last one says, and each version so many steps on."""
@@ -82,6 +103,10 @@ class Site:
         """The site at a moment of a run whose first frame is at another: each second behind that makes what is due."""
         second = moment // SECOND
         return self.standing([change for change in self.changes if change.at <= second and begin < second * SECOND])
+
+    def limit(self, iid):
+        """What an instance may learn and ask: nothing where it isn't attached."""
+        return self.limits.get(iid, Limit(0, 0))
 
     def is_own(self, address):
         return any(own.address == address for own in self.locators)

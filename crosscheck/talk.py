@@ -1,11 +1,12 @@
 """A capture made from a number beside a plain router, so that its frames fit what the router asked and learned."""
+import collections
 import struct
 
 from arrivals import Arrivals
 from fitting import away, longer, plain_ip, randomly, record, shorter, summed
-from journal import (AGAIN, ECHO_COUNTS, ECHO_ON, MOST_REQUESTS, OPEN, PROBE_AGAIN, PROBE_COUNTS, PROBE_OPEN, SECOND,
-                     SOLICITED, WANTED, Asked, Bits, EchoStarted, EchoWanted, Learned, Solicited, ends)
-from makers import AWAY, HOMES, OTHERS, between, framed, host, inside, packet, raw, spoiled, udp
+from journal import (AGAIN, ECHO_COUNTS, ECHO_ON, OPEN, PROBE_AGAIN, PROBE_COUNTS, PROBE_OPEN, SECOND, SOLICITED, WANTED,
+                     Asked, Bits, EchoStarted, EchoWanted, Learned, Solicited, ends)
+from makers import AWAY, HOMES, IIDS, OTHERS, between, framed, host, inside, packet, raw, spoiled, udp
 from messages import Eid
 from rounds import Stepwise
 
@@ -90,7 +91,7 @@ class Talk:
         for _ in range(r.choice([0, 0, 0, 1, 2, 4])):
             eids.append(r.choice([
                 longer(r, covering), longer(r, covering), shorter(r, asked.eid), covering, asked.eid,
-                away(r, asked.eid.iid), longer(r, covering)._replace(iid=r.choice([0, 7, 300]))]))
+                away(r, asked.eid.iid), longer(r, covering)._replace(iid=r.choice(IIDS))]))
         static = [eid for eid in self.site.static if covering.covers(eid)]
         if static and r.random() < 0.5:
             eids.append(r.choice(static))
@@ -136,7 +137,7 @@ class Talk:
     def probe_reply(self, probe):
         """A reply to a probe, mostly from its locator, with records that don't count."""
         r = self.r
-        records = [record(r, away(r, r.choice([0, 7, 300]))) for _ in range(r.choice([0, 1, 1, 2]))]
+        records = [record(r, away(r, r.choice(IIDS))) for _ in range(r.choice([0, 1, 1, 2]))]
         message = self.message(r.choice([8] * 20 + [12, 9, 13, 10, 0]), probe.nonce, records)
         reached = any(len(own.address) == len(probe.address) for own in self.site.locators)
         return self.sent_here((lambda: probe.address) if reached and r.random() < 0.88 else self.other, message)
@@ -170,7 +171,7 @@ class Talk:
                  if type(entry) in (Asked, Learned, Bits)]
         if known and r.random() < (0.1 if self.hurried else 0.4):
             return r.choice(known)
-        home = r.choice(self.homes())
+        home = r.choice(self.homes()[:1] if self.hurried and r.random() < 0.9 else self.homes())
         if r.random() < 0.2:
             return Eid.host(home.iid, host(r, AWAY))
         return Eid.host(home.iid, raw("10.0.0.0")[:1] + r.randbytes(3) if home.width == 32
@@ -270,11 +271,16 @@ class Talk:
 
     # All frames.
 
+    def is_full(self):
+        """Whether an instance has as many open requests as it may, if it may have any."""
+        waiting = collections.Counter(entry.eid.iid for entry in self.router.journal.open_requests(self.now).values())
+        return any(waiting[iid] >= self.site.limit(iid).requests for iid in waiting)
+
     def shares(self):
         """How often a frame is at an end; else a reply; else comes from outside in another way; else is any."""
         if not self.hurried:
             return 0.15, 0.3, 0.35, 0.1
-        self.filled = self.filled or len(self.router.journal.open_requests(self.now)) >= MOST_REQUESTS
+        self.filled = self.filled or self.is_full()
         return (0.001, 0.15, 0.4, 0.1) if self.filled else (0, 0.005, 0.01, 0.01)
 
     def mapped(self):

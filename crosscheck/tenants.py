@@ -1,13 +1,16 @@
 #!/usr/bin/env python3
 """Holds what is said of a tenant's frames against what is said of them where no other tenant has any.
 
-usage: tenants.py [PROGRAM [ROUNDS [SEED]]]
-Each round makes settings of two to five instances and a capture of 300 frames, each of one of them: packets of the
-site, packets in tunnels that tell status bits and versions, solicitations, and replies to what the router asked, at
-times seconds or a minute behind the frame before. It is replayed, and then for each instance so is a capture of that
-one's frames alone, in which a reply has the nonce that the router drew there. Each line of these must be what it was
-but for its number and its n. No locator is probed or asked for an echo, since what is known of one is of no instance.
+usage: tenants.py [PROGRAM [ROUNDS [SEED]]] | tenants.py --pooled [ROUNDS [SEED]]
+Each round makes settings of two to five instances, mostly with limits, and a capture of some 300 frames, each of one of
+them: packets of the site, packets in tunnels that tell status bits and versions, solicitations, and replies to what the
+router asked, at times seconds or a minute behind the frame before; now and then one floods the router with packets to
+any address. It is replayed, and then, with the same settings, so is for each instance a capture of that one's frames
+alone, in which a reply has the nonce that the router drew there. Each line of these must be what it was but for its
+number and its n. No locator is probed or asked for an echo, since what is known of one is of no instance.
 With no program named the plain router is judged. It ends with status 1 at the first difference, and leaves its files.
+With --pooled a wrong plain router is, in which each instance's limit counts what all have asked and learned: it ends
+with status 1 where less than a third of the rounds tell that.
 """
 import functools
 import os
@@ -21,7 +24,8 @@ import tempfile
 import plain
 from compare import write, write_records
 from fitting import away, longer, plain_ip, randomly, record, shorter
-from journal import SECOND
+from journal import SECOND, Journal
+from limiting import LAWFUL, limits
 from lisp import INSTANCE, STATUS, VERSIONS
 from makers import AWAY, HOMES, OTHERS, between, host, mapping, raw, udp, version
 from messages import Eid
@@ -30,21 +34,27 @@ from sending import eid_octets, located
 from sites import Site
 
 FRAMES, ETHERNET, BEGIN = 300, 1, 1_700_000_000 * SECOND
+# Frames of a flood, and how far they are apart at most.
+FLOOD, APART = 20, SECOND // 100
 IIDS, OWN = [7, 100, 200, 300, 0xFFFFFF], ["192.0.2.1", "2001:db8:f::1"]
 SOLICITATION = 0x11
 
 
 def settings(r):
-    """Settings of some instances, each with a VLAN, prefixes of the site, and mappings of about the same EIDs."""
+    """Settings of some instances, each with a VLAN, prefixes of the site, and mappings of about the same EIDs; mostly
+    with limits, of which little may be left for those that have none."""
     lines = ['resolver = "203.0.113.9"', f'seed = "{r.randbytes(32).hex()}"']
     for address in OWN:
         lines += ["[[locator]]", f'address = "{address}"']
-    for vlan, iid in enumerate(r.sample(IIDS, r.randint(2, 5))):
+    iids = r.sample(IIDS, r.randint(2, 5))
+    for vlan, iid in enumerate(iids):
         lines += ["[[attachment]]", f"vlan = {vlan}", f"iid = {iid}"]
         for prefix in r.sample(HOMES, r.randint(2, len(HOMES))):
             lines += ["[[database]]", f"iid = {iid}", f'prefix = "{prefix}"', *version(r)]
         for prefix in r.sample(AWAY, r.choice([0, 0, 1, 2])):
             lines += mapping(r, iid, prefix, OTHERS, [0, 1, 2, 3])
+    if r.random() < 0.8:
+        lines += limits(r, iids, lines.count("[[mapping]]"), left=LAWFUL)
     return "\n".join(lines) + "\n"
 
 
@@ -70,8 +80,9 @@ class Town:
 
     def __init__(self, r, text):
         self.r, self.site = r, Site(text.encode())
+        self.iids = sorted({own.iid for own in self.site.databases})
         self.vlans = {iid: vlan for vlan, iid in self.site.attachments.items()}
-        self.all, self.alone = Side(self.site), {iid: Side(self.site) for iid in self.vlans}
+        self.all, self.alone = Side(self.site), {iid: Side(self.site) for iid in self.iids}
         self.owners, self.now = [None], BEGIN
         # A frame of nobody, so that the seconds of all captures begin with the same one.
         for side in self.sides():
@@ -128,7 +139,7 @@ class Town:
     def reply(self, eid, r, nonce):
         """A Map-Reply for an EID that was asked for, with records of its instance, some of which don't fit it."""
         covering = shorter(r, eid)
-        eids = [covering, *(longer(r, covering) for _ in range(r.choice([0, 0, 1, 3])))]
+        eids = [covering, *(longer(r, covering) for _ in range(r.choice([0, 0, 1, 3, 12])))]
         eids += [away(r, eid.iid)] * (r.random() < 0.2)
         front = bytes([0x20, 0, 0, len(eids)]) + struct.pack(">Q", nonce)
         return self.outside(r, front + b"".join(record(r, one) for one in eids), (4342, 4342))
@@ -140,7 +151,7 @@ class Town:
         longest = r.choice([1, SECOND // 10, SECOND, 4 * SECOND] if r.random() < 0.98 else [60 * SECOND, 70 * SECOND])
         return self.now + r.randrange(longest)
 
-    def made(self, iid):
+    def made(self, iid, is_flood):
         """What makes a frame of an instance, and the EID to whose request it replies, or None."""
         r, mapped = self.r, self.mapped(iid)
         waiting = [asked.eid for asked in self.all.router.journal.open_requests(self.now).values()
@@ -148,6 +159,8 @@ class Town:
         if waiting and r.random() < 0.4:
             eid = r.choice(waiting)
             return functools.partial(self.reply, eid), eid
+        if is_flood:
+            return functools.partial(self.leaving, iid, Eid.host(iid, b"\x0a" + r.randbytes(3))), None
         if mapped and r.random() < 0.4:
             one = r.choice(mapped)
             up = self.all.router.journal.status(one.eid)
@@ -158,12 +171,19 @@ class Town:
         eids = [one.eid for one in mapped] + waiting + [away(r, iid)]
         return functools.partial(self.leaving, iid, r.choice(eids)), None
 
-    def step(self):
+    def play(self, count):
+        """So many frames, or some more where the last ones are a flood."""
+        while len(self.owners) <= count:
+            iid, is_flood = self.r.choice(self.iids), self.r.random() < 0.02
+            for _ in range(FLOOD if is_flood else 1):
+                self.now = self.now + self.r.randrange(APART) if is_flood else self.later()
+                self.step(iid, is_flood)
+
+    def step(self, iid, is_flood):
         """One frame more, in the capture of all and in that of its tenant."""
-        self.now = self.later()
-        iid, seed = self.r.choice(list(self.vlans)), self.r.getrandbits(64)
+        seed = self.r.getrandbits(64)
         self.all.router.until(self.now)
-        make, asked = self.made(iid)
+        make, asked = self.made(iid, is_flood)
         self.owners.append(iid)
         for side in (self.all, self.alone[iid]):
             side.router.until(self.now)
@@ -177,11 +197,27 @@ def said(report):
     return [[moment, *more] for _, moment, _, *more in map(str.split, lines[:-1])]
 
 
-class Held:
-    """The files of a round, and what replays them."""
+class Pooled(Journal):
+    """A journal that counts for each instance what regards any, which is wrong."""
 
-    def __init__(self, folder, program):
-        self.folder, self.program = folder, program
+    def open_in(self, moment, iid):
+        return len(self.open_requests(moment))
+
+    def learned_in(self, moment, iid):
+        return sum(not entry.fixed for entry in self.live(moment).values())
+
+
+def pooled(router, frames, file):
+    """Plays frames through a router with such a journal."""
+    router.journal = Pooled(router.journal)
+    plain.played(router, frames, file)
+
+
+class Held:
+    """The files of a round, and what replays them: a program, or the plain router by a call that plays frames."""
+
+    def __init__(self, folder, program, play=plain.played):
+        self.folder, self.program, self.play = folder, program, play
 
     def path(self, name):
         return os.path.join(self.folder, name)
@@ -190,7 +226,7 @@ class Held:
         """What is said of each frame of a side's capture."""
         write_records(self.path(name), ETHERNET, side.frames)
         files = self.path("settings.toml"), self.path(name), self.path("output.pcap")
-        return said(plain.said(plain.replay, *files) if self.program is None else self.program_said(*files))
+        return said(self.program_said(*files) if self.program else plain.said(plain.replay, *files, self.play))
 
     def program_said(self, settings_file, capture, output):
         words = [self.program, "replay", "--settings", settings_file, "--in", capture, "--out", output]
@@ -201,8 +237,7 @@ class Held:
         text = settings(r)
         write(self.path("settings.toml"), text)
         town = Town(r, text)
-        for _ in range(FRAMES):
-            town.step()
+        town.play(FRAMES)
         lines = self.replayed("all.pcap", town.all)
         for iid, side in town.alone.items():
             name = f"{iid}.pcap"
@@ -213,10 +248,23 @@ class Held:
         return ""
 
 
+def told_apart(rounds, seed):
+    """In how many rounds the wrong router is told from a right one."""
+    count = 0
+    for number in range(rounds):
+        with tempfile.TemporaryDirectory() as folder:
+            count += bool(Held(folder, None, pooled).differs(random.Random(f"{seed} {number}")))
+    return count
+
+
 def main():
     words = sys.argv[1:]
     program = words[0] if words else None
     rounds, seed = (int(word) for word in (words[1:] + ["20", "1"][len(words[1:]):])[:2])
+    if program == "--pooled":
+        count = told_apart(rounds, seed)
+        print(f"{rounds} rounds of tenants with pooled limits, {count} differ")
+        return int(3 * count < rounds)
     for number in range(rounds):
         with tempfile.TemporaryDirectory() as folder:
             told = Held(folder, program).differs(random.Random(f"{seed} {number}"))

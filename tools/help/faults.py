@@ -18,8 +18,12 @@ SENTENCES = {
         "bad-value": "the value of this key isn't one that it takes",
         "bad-value resolver": "it takes an address, of whose family an own locator is up",
         "bad-value change.N.address": "it takes the address of an own locator",
-        "duplicate": "an earlier item of the list has the same address, VLAN, instance and prefix, or second and address",
+        "bad-value limit.N.iid": "it takes the instance of an attachment",
+        "duplicate": "an earlier item of the list has the same address, VLAN, instance and prefix, second and address, or "
+                     "instance",
         "too-many": "the list at this key has more items than it may have",
+        "too-many limit": "there are more than 4,096 limits; or they come, with the mappings of the file, to more than "
+                          "65,536 mappings, or to more than 16,384 requests",
     },
     "capture": {
         "bad-magic": "the file doesn't begin as a capture in the pcap format does; a pcapng file is replayed with "

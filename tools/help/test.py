@@ -36,6 +36,7 @@ from words import MAPPINGS, NUMBERS  # noqa: E402
 
 LOCATOR = '[[locator]]\naddress = "192.0.2.1"\n'
 OTHER, CHANGE = LOCATOR.replace("2.1", "2.2"), '[[change]]\nat = 1\naddress = "192.0.2.1"\nup = true\n'
+ATTACHED, LIMIT = "[[attachment]]\nvlan = 0\niid = 7\n", "[[limit]]\niid = 7\nmappings = 65536\nrequests = 1\n"
 REPLAY = ["replay", "--settings", "s.toml", "--in", "i.pcap", "--out", "o.pcap"]
 AUDIT = ["audit", "--settings", "s.toml", "--in", "i.pcap", "--sent", "o.pcap"]
 wrong = []
@@ -218,8 +219,12 @@ SETTINGS = [
     (OTHER + CHANGE, "bad-value change.0.address", "it takes the address of an own locator"),
     (OTHER + CHANGE, "bad-value change.0.address", 's.toml:5: address = "192.0.2.1"'),
     (LOCATOR + CHANGE * 2, "duplicate change.1", "s.toml:7: [[change]]"),
-    (LOCATOR + CHANGE * 2, "duplicate change.1", "or second and address"),
+    (LOCATOR + CHANGE * 2, "duplicate change.1", "second and address, or"),
     ("change = [\n{at = 1, up = true}]\n" + LOCATOR, "missing change.0.address", "s.toml:2: {at = 1, up = true}]  (it should"),
+    (LOCATOR + LIMIT, "bad-value limit.0.iid", "it takes the instance of an attachment"),
+    (LOCATOR + ATTACHED + LIMIT * 2, "duplicate limit.1", "s.toml:10: [[limit]]"),
+    (LOCATOR + ATTACHED + LIMIT + '[[mapping]]\niid = 7\nprefix = "::/0"\n', "too-many limit", "s.toml:6: [[limit]]"),
+    (LOCATOR + ATTACHED + LIMIT + '[[mapping]]\niid = 7\nprefix = "::/0"\n', "too-many limit", "more than 65,536 mappings"),
 ]
 
 

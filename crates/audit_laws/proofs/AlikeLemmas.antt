@@ -4,6 +4,7 @@ use Rattle.std.specs.Prelude.{is_some}
 use Rattle.std.proofs.lemmas.Bool.{cases_lt}
 use Rattle.ip_headers.specs.declared.addr.Addr.{Addr}
 use Rattle.mapping_records.specs.declared.eid.Eid.{Eid}
+use Rattle.lisp_settings.specs.Instances.{limits_in}
 use Rattle.lisp_settings.specs.declared.settings.Change.{Change as OwnChange}
 use Rattle.lisp_settings.specs.declared.settings.Database.{Database}
 use Rattle.lisp_settings.specs.declared.settings.OwnLocator.{OwnLocator}
@@ -120,9 +121,9 @@ module _ (n : ℕ) where
 
     pub alike-noted : (one : Notice) → Alike (noted of_journal others m one) (noted of_journal settings m one)
     unfolding noted
-    alike-noted (notice.Ask eid source) = alike-if (λ change. is_missing settings (seen of_journal settings m change) eid) _ _ (alike-asked eid source false)
+    alike-noted (notice.Ask eid source) = alike-if (λ change. is_missing settings (limits_in settings) (seen of_journal settings m change) eid) _ _ (alike-asked eid source false)
     alike-noted (notice.Refresh eid) =
-        alike-if (λ change. is_learned (exact (seen of_journal settings m change).mappings eid) && may_ask settings (seen of_journal settings m change) eid) _ _ (alike-asked eid None false)
+        alike-if (λ change. is_learned (exact (seen of_journal settings m change).mappings eid) && may_ask settings (limits_in settings) (seen of_journal settings m change) eid) _ _ (alike-asked eid None false)
     alike-noted (notice.Bits eid rloc bits width) =
         alike-if (λ change. is_news rloc bits width (exact (seen of_journal settings m change).mappings eid)) _ _ (alike-entered (λ change. entry.Bits m eid bits width))
     alike-noted (notice.EchoWanted rloc nonce) = alike-if (λ change. (seen of_journal settings m change).may_want rloc nonce) _ _ (alike-entered (λ change. entry.EchoWanted m rloc nonce))

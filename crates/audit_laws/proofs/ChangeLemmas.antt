@@ -20,6 +20,7 @@ use Rattle.map_messages.specs.declared.message.MapReply.{MapReply}
 use Rattle.map_messages.specs.declared.message.MapRequest.{MapRequest}
 use Rattle.map_messages.specs.declared.message.Message.{Message}
 use Rattle.map_messages.specs.declared.message.Message.TheVariants as message
+use Rattle.lisp_settings.specs.Instances.{limits_in}
 use Rattle.lisp_settings.specs.declared.settings.Database.{Database}
 use Rattle.lisp_settings.specs.declared.settings.Settings.{Settings}
 use Rattle.locator_state.specs.Turns.{goes_before, with_target}
@@ -61,10 +62,10 @@ module _ (settings : Settings) (site : IsSite settings) (before : List ℕ) (m :
   sound-noted : (one : Notice) (change : Change Journal) → IsSound settings before change → IsSound settings before (noted of_journal settings m one change)
   unfolding noted
   sound-noted (notice.Ask eid source) change sound =
-      sound-if settings before m (is_missing settings (seen of_journal settings m change) eid) _ change
+      sound-if settings before m (is_missing settings (limits_in settings) (seen of_journal settings m change) eid) _ change
       (λ is. sound-asked settings before m eid source false change (may-resolver settings before m (seen of_journal settings m change) eid (and_parts _ _ is).0) sound) sound
   sound-noted (notice.Refresh eid) change sound =
-      sound-if settings before m (is_learned (exact (seen of_journal settings m change).mappings eid) && may_ask settings (seen of_journal settings m change) eid) _ change
+      sound-if settings before m (is_learned (exact (seen of_journal settings m change).mappings eid) && may_ask settings (limits_in settings) (seen of_journal settings m change) eid) _ change
       (λ is. sound-asked settings before m eid None false change (may-resolver settings before m (seen of_journal settings m change) eid (and_parts _ _ is).1) sound) sound
   sound-noted (notice.Bits eid rloc bits width) change sound =
       sound-if settings before m (is_news rloc bits width (exact (seen of_journal settings m change).mappings eid)) _ change
@@ -211,11 +212,11 @@ module _ (settings : Settings) (site : IsSite settings) (before : List ℕ) (m :
   sound-asked_again None change some sound = sound
   sound-asked_again (Some eid) change some sound = sound-asked settings before m eid None true change some sound
 
-  renewable-resolver : (v : View) (o : Option Held) → IfSome (renewable settings v o) (λ eid. IsTrue (reaches_resolver settings))
+  renewable-resolver : (v : View) (o : Option Held) → IfSome (renewable settings (limits_in settings) v o) (λ eid. IsTrue (reaches_resolver settings))
   renewable-resolver v None = tt
-  renewable-resolver v (Some held) = by (not held.fixed && may_ask settings v held.eid) refl
+  renewable-resolver v (Some held) = by (not held.fixed && may_ask settings (limits_in settings) v held.eid) refl
     where
-      by : (b : Bool) → (not held.fixed && may_ask settings v held.eid) ≡ b → IfSome (cond b (Some held.eid) None) (λ eid. IsTrue (reaches_resolver settings))
+      by : (b : Bool) → (not held.fixed && may_ask settings (limits_in settings) v held.eid) ≡ b → IfSome (cond b (Some held.eid) None) (λ eid. IsTrue (reaches_resolver settings))
       by true is = may-resolver settings before m v held.eid (and_parts _ _ is).1
       by false is = tt
 
@@ -223,7 +224,7 @@ module _ (settings : Settings) (site : IsSite settings) (before : List ℕ) (m :
   sound-renewed range change sound =
       let v = seen of_journal settings m change in
       let held : Option Held = force v.mappings range.iid range.addr range.len in
-      sound-asked_again (renewable settings v held) change (renewable-resolver v held) sound
+      sound-asked_again (renewable settings (limits_in settings) v held) change (renewable-resolver v held) sound
 
   sound-replied : (asker : Asker) (reply : MapReply) (path : Option Path) (change : Change Journal) → length (canonical_reply reply) ≤ 65000 → (All IsInRange settings.locators → AreOctets (canonical_reply reply)) → IsSound settings before change → IsSound settings before (replied asker reply path change).change
   sound-replied asker reply None change short made sound = sound
@@ -243,7 +244,7 @@ module _ (settings : Settings) (site : IsSite settings) (before : List ℕ) (m :
 
   sound-taught : (eid : Eid) (mappings : List Record) (mapping : Record) (change : Change Journal) → IsSound settings before change → IsSound settings before (taught of_journal settings m eid mappings mapping change)
   sound-taught eid mappings mapping change sound =
-      sound-if settings before m (is_asked_for eid mappings mapping && (not (is_static settings mapping) && has_room (seen of_journal settings m change) mapping)) _ change
+      sound-if settings before m (is_asked_for eid mappings mapping && (not (is_static settings mapping) && has_room (limits_in settings) (seen of_journal settings m change) mapping)) _ change
       (λ is. sound-entered settings before m (entry.Learned m (shortened mapping) false) change refl tt sound) sound
 
   sound-replied_to : (reply : MapReply) (o : Option Request) (change : Change Journal) → IsSound settings before change → IsSound settings before (replied_to of_journal settings m reply o change).change

@@ -13,6 +13,7 @@ use Rattle.map_messages.specs.declared.message.MapReply.{MapReply}
 use Rattle.map_messages.specs.declared.message.MapRequest.{MapRequest}
 use Rattle.map_messages.specs.declared.message.Message.{Message}
 use Rattle.map_messages.specs.declared.message.Message.TheVariants as message
+use Rattle.lisp_settings.specs.Instances.{limits_in}
 use Rattle.lisp_settings.specs.declared.settings.Settings.{Settings}
 use Rattle.request_queue.specs.Queue.{with_nonce}
 use Rattle.request_queue.specs.declared.request.Request.{Request}
@@ -79,7 +80,7 @@ module _ (n : ℕ) (settings : Settings) (seed nonces : List ℕ) (agree : (i : 
   }
     where
       found : Change Journal → Option Eid
-      found change = renewable settings (seen of_journal settings m change) (force (seen of_journal settings m change).mappings range.iid range.addr range.len)
+      found change = renewable settings (limits_in settings) (seen of_journal settings m change) (force (seen of_journal settings m change).mappings range.iid range.addr range.len)
 
   heard-answered : (asker : Asker) (request : MapRequest) → HeardAlike n (answered others asker request) (answered settings asker request)
   heard-answered asker request = heard-self (answered settings asker request) (λ change past. subst (λ k. n < k) (sym (ap drawn (same change))) past)
@@ -107,7 +108,7 @@ module _ (n : ℕ) (settings : Settings) (seed nonces : List ℕ) (agree : (i : 
 
   alike-taught : (eid : Eid) (mappings : List Record) (mapping : Record) → Alike n (taught of_journal others m eid mappings mapping) (taught of_journal settings m eid mappings mapping)
   alike-taught eid mappings mapping =
-      alike-if n (λ change. is_asked_for eid mappings mapping && (not (is_static settings mapping) && has_room (seen of_journal settings m change) mapping)) _ _
+      alike-if n (λ change. is_asked_for eid mappings mapping && (not (is_static settings mapping) && has_room (limits_in settings) (seen of_journal settings m change) mapping)) _ _
       (alike-entered n settings seed nonces agree m (λ change. entry.Learned m (shortened mapping) false))
 
   heard-replied_to : (reply : MapReply) (o : Option Request) → HeardAlike n (replied_to of_journal others m reply o) (replied_to of_journal settings m reply o)

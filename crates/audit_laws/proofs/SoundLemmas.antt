@@ -5,6 +5,7 @@ use Rattle.std.proofs.lemmas.Bool.{and_parts, true≢false}
 use Rattle.std.proofs.lemmas.List.Elements.{All-push, filter_map-append}
 use Rattle.ip_headers.specs.declared.addr.Addr.{Addr}
 use Rattle.mapping_records.specs.declared.eid.Eid.{Eid}
+use Rattle.lisp_settings.specs.Instances.{limits_in}
 use Rattle.lisp_settings.specs.declared.settings.Settings.{Settings}
 use Rattle.router_log.specs.declared.emit.Emit.{Emit}
 use Rattle.router_log.specs.declared.emit.Emit.TheVariants as emit
@@ -124,5 +125,5 @@ module _ (settings : Settings) (before : List ℕ) (m : ℕ) where
   sound-all {A} step one items change sound = sound-each step (λ (a : A). Unit {0}) (λ a change any. one a change) items change (each-any items) sound
 
   -- where an EID may be asked for, the resolver is reached
-  pub may-resolver : (v : View) (eid : Eid) → may_ask settings v eid ≡ true → IsTrue (reaches_resolver settings)
+  pub may-resolver : (v : View) (eid : Eid) → may_ask settings (limits_in settings) v eid ≡ true → IsTrue (reaches_resolver settings)
   may-resolver v eid may = (and_parts (reaches_resolver settings) _ may).0

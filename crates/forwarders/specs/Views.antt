@@ -38,6 +38,7 @@ no_settings = record {
   databases = [];
   mappings = [];
   changes = [];
+  limits = [];
 }
 
 abbrev pub settings_in : View → Settings

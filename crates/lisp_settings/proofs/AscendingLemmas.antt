@@ -14,7 +14,7 @@ use Rattle.lisp_settings.specs.Lists.{ascending}
 
 module _ {A K : Type 0} (key : A → K) (order : K → K → Ordering) where
   -- the entries with one more item
-  abbrev entered : List (K × A) → A → List (K × A)
+  abbrev pub entered : List (K × A) → A → List (K × A)
   entered entries next = insert_entry order entries (key next) next
 
   -- one entry more at most
@@ -64,10 +64,10 @@ module _ {A K : Type 0} (key : A → K) (order : K → K → Ordering) where
         by Greater greater above rest = (recursion_from_All (λ y. order e.0 y ≡ Less) (keys_of (insert_entry order es k v)) (All-keys-insert_entry order k v (λ y. order e.0 y ≡ Less) es above (total.antisymm e.0 k ∙ ap ordering_reverse greater)), rest)
 
     -- each entry's key is its item's, up to the order
-    abbrev AreTied : List (K × A) → Type 0
+    abbrev pub AreTied : List (K × A) → Type 0
     AreTied es = AllByRecursion (λ e. order e.0 (key e.1) ≡ Equal) es
 
-    entered-tied : (es : List (K × A)) (v : A) → AreTied es → AreTied (entered es v)
+    pub entered-tied : (es : List (K × A)) (v : A) → AreTied es → AreTied (entered es v)
     entered-tied [] v tied = (tied_itself total (key v), tt)
     entered-tied (e ∷ es) v tied = by (order (key v) e.0) refl (entered-tied es v tied.1)
       where

@@ -8,20 +8,23 @@ use Rattle.std.specs.List.Sorted.{IsStrictlySortedBy}
 use Rattle.toml.specs.Data.{Data, Members, as_bool, as_integer}
 use Rattle.ip_headers.specs.declared.addr.Addr.{Addr}
 use Rattle.lisp_settings.specs.Changes.{IsChangeOf, change_key, change_order}
-use Rattle.lisp_settings.specs.Limits.{default_minutes, most_attachments, most_changes, most_databases, most_locators, most_mappings, most_nonces}
+use Rattle.lisp_settings.specs.Instances.{IsLimitOf, attached_instance, is_within, only_within}
+use Rattle.lisp_settings.specs.Limits.{default_minutes, most_attachments, most_changes, most_databases, most_limits, most_locators, most_mappings, most_nonces, most_requests}
 use Rattle.lisp_settings.specs.Lawful.{IsLawful, IsLawfulAttachment, IsLawfulDatabase, IsLawfulLocator, IsLawfulMapping}
 use Rattle.lisp_settings.specs.Lists.{any_ascending, ascending, nonces_at, one_or_more}
 use Rattle.mapping_records.specs.Orders.{addr_order, eid_order}
-use Rattle.lisp_settings.specs.Settings.{attachment_in, attachments, change_in, changes, database_in, databases, eid_in, locator_in, locator_of, mapped_in, mapped_locators, mapping_in, mappings, own_locators, settings_in, top_keys, version_in}
+use Rattle.lisp_settings.specs.Settings.{attachment_in, attachments, change_in, changes, database_in, databases, eid_in, limit_in, limits, locator_in, locator_of, mapped_in, mapped_locators, mapping_in, mappings, own_locators, settings_in, top_keys, version_in}
 use Rattle.lisp_settings.specs.Fields.{only_keys, optional}
 use Rattle.lisp_settings.specs.Resolver.{is_reachable, only_reachable, resolver_in}
 use Rattle.lisp_settings.specs.Values.{seed, in_range, number}
+use Rattle.lisp_settings.specs.declared.settings.Attachment.{Attachment}
 use Rattle.lisp_settings.specs.declared.settings.OwnLocator.{OwnLocator}
 use Rattle.lisp_settings.specs.declared.fault.SettingsFault.{SettingsFault}
 use Rattle.lisp_settings.specs.declared.fault.SettingsFault.TheVariants.{BadValue}
 use Rattle.lisp_settings.proofs.AscendingLemmas.{ascending-all, ascending-few, ascending-some, ascending-sorted}
 use Rattle.lisp_settings.proofs.ChangeLemmas.{change_in-own, change_order-total}
 use Rattle.lisp_settings.proofs.EachLemmas.{AreFew, IfOk-any, pass, step, required-holds, optional-holds, any_number-few, one_or_more-some}
+use Rattle.lisp_settings.proofs.LimitLemmas.{HasAttached, attached_instance-attached, only_within-within}
 use Rattle.mapping_records.proofs.OrderLemmas.{addr_order-total, eid_order-total}
 
 -- between the two
@@ -117,6 +120,19 @@ changes-lawful : (locators : List OwnLocator) (top : Members) → IfOk (changes 
 changes-lawful locators top =
     any_ascending-kept (codes "change") (change_in locators) change_key change_order change_order-total (IsChangeOf locators) (change_in-own locators) most_changes top
 
+limit_in-lawful : (attachments : List Attachment) (table : Members) → IfOk (limit_in attachments table) (IsLimitOf attachments)
+limit_in-lawful attachments table =
+    let Is : _ → Type 0 = IsLimitOf attachments in
+    pass Is _ _ (λ known.
+    step (HasAttached attachments) Is _ _ (required-holds (HasAttached attachments) (codes "iid") (attached_instance attachments) table (attached_instance-attached attachments)) (λ iid attached.
+    step (IsWithin 0 most_mappings) Is _ _ (required-holds (IsWithin 0 most_mappings) (codes "mappings") (number 0 most_mappings) table (number-within 0 most_mappings)) (λ mappings few.
+    step (IsWithin 0 most_requests) Is _ _ (required-holds (IsWithin 0 most_requests) (codes "requests") (number 0 most_requests) table (number-within 0 most_requests)) (λ requests small.
+    record { attached = attached; mappings = few.1; requests = small.1 }))))
+
+limits-lawful : (attachments : List Attachment) (top : Members) → IfOk (limits attachments top) (AreKept (λ limit. limit.iid) nat_cmp (IsLimitOf attachments) most_limits)
+limits-lawful attachments top =
+    any_ascending-kept (codes "limit") (limit_in attachments) (λ limit. limit.iid) nat_cmp nat_cmp_total (IsLimitOf attachments) (limit_in-lawful attachments) most_limits top
+
 -- the resolver is reachable where there is one
 abbrev IsReached : List OwnLocator → Option Addr → Type 0
 IsReached locators resolver = IfSome resolver (λ addr. IsTrue (is_reachable locators addr))
@@ -141,8 +157,10 @@ settings_in-lawful top =
     step (AreKept (λ database. database.eid) eid_order IsLawfulDatabase most_databases) IsLawful (databases top) _ (databases-lawful top) (λ databases based.
     step (AreKept (λ mapping. mapping.eid) eid_order IsLawfulMapping most_mappings) IsLawful (mappings top) _ (mappings-lawful top) (λ mappings mapped.
     step (AreKept change_key change_order (IsChangeOf locators) most_changes) IsLawful (changes locators top) _ (changes-lawful locators top) (λ changes changed.
-    step (λ r. IsReached locators resolver) IsLawful (only_reachable locators resolver)
-    (λ r. Ok (record {
+    step (AreKept (λ limit. limit.iid) nat_cmp (IsLimitOf attachments) most_limits) IsLawful (limits attachments top) _ (limits-lawful attachments top) (λ limits limited.
+    step (λ r. IsReached locators resolver) IsLawful (only_reachable locators resolver) _ (only_reachable-reached locators resolver) (λ r reached.
+    step (λ w. IsTrue (is_within (length mappings) limits)) IsLawful (only_within mappings limits)
+    (λ w. Ok (record {
       seed = seed;
       nonces = nonces;
       resolver = resolver;
@@ -154,7 +172,8 @@ settings_in-lawful top =
       databases = databases;
       mappings = mappings;
       changes = changes;
-    })) (only_reachable-reached locators resolver) (λ r reached.
+      limits = limits;
+    })) (only_within-within mappings limits) (λ w fit.
     record {
       resolver = reached;
       ttl = within;
@@ -173,4 +192,8 @@ settings_in-lawful top =
       few_changes = changed.few;
       changes = changed.all;
       moments = changed.sorted;
-    })))))))))))))
+      few_limits = limited.few;
+      limits = limited.all;
+      instances = limited.sorted;
+      within = fit;
+    })))))))))))))))

@@ -6,13 +6,17 @@ pub mod EachLemmas
 pub mod EidLemmas
 pub mod FieldLemmas
 pub mod HexLemmas
+pub mod InstanceLemmas
 pub mod ItemLemmas
 pub mod LawfulLemmas
+pub mod LimitLemmas
 pub mod ListLemmas
 pub mod NonceLemmas
 pub mod PrefixLemmas
 pub mod ReadingFaults
 pub mod ReadingLemmas
+pub mod SumLemmas
 pub mod TableLemmas
 pub mod TextLemmas
 pub mod TopLemmas
+pub mod WithinLemmas

@@ -6,13 +6,14 @@ use Rattle.toml.proofs.Views.{items_view-push, view-String}
 use Rattle.toml.specs.Data.{string, Items, no_items, item, Members, as_array, as_bool, get_member, push_item}
 use Rattle.toml.specs.View.{items_view}
 use Rattle.toml.specs.declared.value.Value.{Value, String as Text}
+use Rattle.lisp_settings.specs.Instances.{only_within}
 use Rattle.lisp_settings.specs.Limits.{default_minutes, most_nonces}
 use Rattle.lisp_settings.specs.Fields.{only_keys, optional, taken, value_or}
 use Rattle.lisp_settings.specs.Hex.{hex_number}
 use Rattle.lisp_settings.specs.Lists.{count, each_nonce, few_items, nonces_at}
 use Rattle.lisp_settings.specs.Places.{item_key}
 use Rattle.lisp_settings.specs.Resolver.{only_reachable, resolver_in}
-use Rattle.lisp_settings.specs.Settings.{attachments, changes, databases, mappings, own_locators, settings_in, top_keys}
+use Rattle.lisp_settings.specs.Settings.{attachments, changes, databases, limits, mappings, own_locators, settings_in, top_keys}
 use Rattle.lisp_settings.specs.Values.{nonce, number, seed}
 use Rattle.lisp_settings.specs.Writing.{IsNonceArray}
 use Rattle.lisp_settings.specs.declared.settings.Settings.{Settings}
@@ -52,7 +53,9 @@ settings_in-few top =
     pass HasFew (databases top) _ (λ databases.
     pass HasFew (mappings top) _ (λ mappings.
     pass HasFew (changes locators top) _ (λ changes.
-    pass HasFew (only_reachable locators resolver) _ (λ reachable. few)))))))))))))
+    pass HasFew (limits attachments top) _ (λ limits.
+    pass HasFew (only_reachable locators resolver) _ (λ reachable.
+    pass HasFew (only_within mappings limits) _ (λ within. few)))))))))))))))
 
 -- a text behind those that were read
 each_nonce-push : (list earlier : List ℕ) (array : Items) (text nonces : List ℕ) (next : ℕ) → each_nonce list earlier array ≡ Ok nonces → hex_number text ≡ Some next → each_nonce list earlier (push_item array (string text)) ≡ Ok (nonces ++ next ∷ [])

@@ -8,12 +8,13 @@ use Rattle.ip_headers.specs.declared.addr.Addr.{Addr}
 use Rattle.mapping_records.proofs.OrderLemmas.{addr_order-total, eid_order-total}
 use Rattle.mapping_records.specs.Orders.{addr_order, eid_order}
 use Rattle.lisp_settings.specs.Changes.{change_key, change_order}
-use Rattle.lisp_settings.specs.Limits.{default_minutes, most_attachments, most_changes, most_databases, most_locators, most_mappings, most_nonces}
+use Rattle.lisp_settings.specs.Instances.{only_within}
+use Rattle.lisp_settings.specs.Limits.{default_minutes, most_attachments, most_changes, most_databases, most_limits, most_locators, most_mappings, most_nonces}
 use Rattle.lisp_settings.specs.Fields.{if_ok, only_keys, optional}
 use Rattle.lisp_settings.specs.Lawful.{IsLawful}
 use Rattle.lisp_settings.specs.Lists.{any_ascending, any_number, ascending, count, nonces_at, one_or_more}
 use Rattle.lisp_settings.specs.Resolver.{is_reachable, only_reachable, resolver_in}
-use Rattle.lisp_settings.specs.Settings.{attachment_in, attachments, change_in, changes, database_in, databases, locator_in, mapping_in, mappings, own_locators, settings_in, top_keys}
+use Rattle.lisp_settings.specs.Settings.{attachment_in, attachments, change_in, changes, database_in, databases, limit_in, limits, locator_in, mapping_in, mappings, own_locators, settings_in, top_keys}
 use Rattle.lisp_settings.specs.Values.{number, seed}
 use Rattle.lisp_settings.specs.Writing.{with_member, IsArrayOf, IsFrontTable, IsPlain, IsResolverTable}
 use Rattle.lisp_settings.specs.declared.fault.SettingsFault.{SettingsFault}
@@ -47,10 +48,14 @@ only_reachable-lawful : (settings : Settings) (resolver : Option Addr) → IfSom
 only_reachable-lawful settings None reached = refl
 only_reachable-lawful settings (Some addr) reached = rw reached refl
 
+-- lawful limits are no more than may be
+only_within-lawful : (settings : Settings) → IsLawful settings → only_within settings.mappings settings.limits ≡ Ok settings.limits
+only_within-lawful settings lawful = rw lawful.within refl
+
 -- the members with the lists of tables, behind others
-abbrev listed : Items → Items → Items → Items → Items → Members → Members
-listed locators attachments databases mappings changes front =
-    with_member (codes "change") (array changes) (with_member (codes "mapping") (array mappings) (with_member (codes "database") (array databases) (with_member (codes "attachment") (array attachments) (with_member (codes "locator") (array locators) front))))
+abbrev listed : Items → Items → Items → Items → Items → Items → Members → Members
+listed locators attachments databases mappings changes limits front =
+    with_member (codes "limit") (array limits) (with_member (codes "change") (array changes) (with_member (codes "mapping") (array mappings) (with_member (codes "database") (array databases) (with_member (codes "attachment") (array attachments) (with_member (codes "locator") (array locators) front)))))
 
 -- the members that are no tables, behind a resolver's
 abbrev fronted : Settings → List ℕ → Items → Members → Members
@@ -58,7 +63,7 @@ fronted settings seed nonces resolver =
     with_member (codes "echo") (boolean settings.echo) (with_member (codes "probe") (boolean settings.probe) (with_member (codes "ttl") (integer (pos settings.ttl)) (with_member (codes "nonces") (array nonces) (with_member (codes "seed") (string seed) resolver))))
 
 -- what the keys of a top table hold
-record HasMembers (settings : Settings) (seed : List ℕ) (nonces locators attachments databases mappings changes : Items) (top : Members) : Type 0 where
+record HasMembers (settings : Settings) (seed : List ℕ) (nonces locators attachments databases mappings changes limits : Items) (top : Members) : Type 0 where
   known : only_keys top_keys top ≡ Ok top
   at_seed : get_member (codes "seed") top ≡ Some (string seed)
   at_nonces : get_member (codes "nonces") top ≡ Some (array nonces)
@@ -71,10 +76,11 @@ record HasMembers (settings : Settings) (seed : List ℕ) (nonces locators attac
   at_databases : get_member (codes "database") top ≡ Some (array databases)
   at_mappings : get_member (codes "mapping") top ≡ Some (array mappings)
   at_changes : get_member (codes "change") top ≡ Some (array changes)
+  at_limits : get_member (codes "limit") top ≡ Some (array limits)
 
 -- each key computes, with a resolver and without one
-made_members : (settings : Settings) (seed : List ℕ) (nonces locators attachments databases mappings changes : Items) (resolver : Option Addr) (front : Members) → settings.resolver ≡ resolver → IsResolverTable resolver front → HasMembers settings seed nonces locators attachments databases mappings changes (listed locators attachments databases mappings changes (fronted settings seed nonces front))
-made_members settings seed nonces locators attachments databases mappings changes None front same is = rw is (record {
+made_members : (settings : Settings) (seed : List ℕ) (nonces locators attachments databases mappings changes limits : Items) (resolver : Option Addr) (front : Members) → settings.resolver ≡ resolver → IsResolverTable resolver front → HasMembers settings seed nonces locators attachments databases mappings changes limits (listed locators attachments databases mappings changes limits (fronted settings seed nonces front))
+made_members settings seed nonces locators attachments databases mappings changes limits None front same is = rw is (record {
   known = refl;
   at_seed = refl;
   at_nonces = refl;
@@ -87,8 +93,9 @@ made_members settings seed nonces locators attachments databases mappings change
   at_databases = refl;
   at_mappings = refl;
   at_changes = refl;
+  at_limits = refl;
 })
-made_members settings seed nonces locators attachments databases mappings changes (Some addr) front same is = rw is.2 (record {
+made_members settings seed nonces locators attachments databases mappings changes limits (Some addr) front same is = rw is.2 (record {
   known = refl;
   at_seed = refl;
   at_nonces = refl;
@@ -101,6 +108,7 @@ made_members settings seed nonces locators attachments databases mappings change
   at_databases = refl;
   at_mappings = refl;
   at_changes = refl;
+  at_limits = refl;
 })
 
 -- a top table, by what it was made of
@@ -111,21 +119,23 @@ pub record IsTopTable (settings : Settings) (top : Members) : Type 0 where
   pub databases : Items
   pub mappings : Items
   pub changes : Items
+  pub limits : Items
   pub fronts : IsFrontTable settings front
   pub own : IsArrayOf locator_in (λ own. own.addr) addr_order 1 settings.locators locators
   pub attached : IsArrayOf attachment_in (λ attachment. attachment.vlan) nat_cmp 1 settings.attachments attachments
   pub based : IsArrayOf database_in (λ database. database.eid) eid_order 1 settings.databases databases
   pub mapped : IsArrayOf mapping_in (λ mapping. mapping.eid) eid_order 3 settings.mappings mappings
   pub changed : IsArrayOf (change_in settings.locators) change_key change_order 1 settings.changes changes
-  pub members : top ≡ listed locators attachments databases mappings changes front
+  pub limited : IsArrayOf (limit_in settings.attachments) (λ limit. limit.iid) nat_cmp 1 settings.limits limits
+  pub members : top ≡ listed locators attachments databases mappings changes limits front
 
 -- it reads as the settings
 pub settings_in-top : (settings : Settings) (top : Members) → IsTopTable settings top → IsLawful settings → length settings.nonces ≤ most_nonces → settings_in top ≡ Ok settings
 settings_in-top settings top made lawful few =
     let fronts = made.fronts in
-    let HasAll : Members → Type 0 = HasMembers settings fronts.seed fronts.nonces made.locators made.attachments made.databases made.mappings made.changes in
-    let whole : top ≡ listed made.locators made.attachments made.databases made.mappings made.changes (fronted settings fronts.seed fronts.nonces fronts.resolver) = made.members ∙ ap (listed made.locators made.attachments made.databases made.mappings made.changes) fronts.members in
-    let has : HasAll top = subst HasAll (sym whole) (made_members settings fronts.seed fronts.nonces made.locators made.attachments made.databases made.mappings made.changes settings.resolver fronts.resolver refl fronts.resolver_reads) in
+    let HasAll : Members → Type 0 = HasMembers settings fronts.seed fronts.nonces made.locators made.attachments made.databases made.mappings made.changes made.limits in
+    let whole : top ≡ listed made.locators made.attachments made.databases made.mappings made.changes made.limits (fronted settings fronts.seed fronts.nonces fronts.resolver) = made.members ∙ ap (listed made.locators made.attachments made.databases made.mappings made.changes made.limits) fronts.members in
+    let has : HasAll top = subst HasAll (sym whole) (made_members settings fronts.seed fronts.nonces made.locators made.attachments made.databases made.mappings made.changes made.limits settings.resolver fronts.resolver refl fronts.resolver_reads) in
     let seed_is : optional (codes "seed") seed (replicate 32 0) top ≡ Ok settings.seed = rw (has.at_seed, fronts.seed_reads) refl in
     let nonces_are : nonces_at (codes "nonces") most_nonces top ≡ Ok settings.nonces = rw (has.at_nonces, le-leb (count fronts.nonces) most_nonces (omega (arith, fronts.nonces_read.number))) (fronts.nonces_read.reads (codes "nonces")) in
     let ttl_is : optional (codes "ttl") (number 1 4294967294) default_minutes top ≡ Ok settings.ttl = rw (has.at_ttl, le-leb 1 settings.ttl lawful.ttl.0, le-leb settings.ttl 4294967294 lawful.ttl.1) refl in
@@ -143,6 +153,8 @@ settings_in-top settings top made lawful few =
     any_ascending-array mapping_in (λ mapping. mapping.eid) eid_order eid_order-total (codes "mapping") most_mappings 3 top settings.mappings made.mappings has.at_mappings made.mapped lawful.few_mappings lawful.eids in
     let changes_are : changes settings.locators top ≡ Ok settings.changes =
     any_ascending-array (change_in settings.locators) change_key change_order change_order-total (codes "change") most_changes 1 top settings.changes made.changes has.at_changes made.changed lawful.few_changes lawful.moments in
+    let limits_are : limits settings.attachments top ≡ Ok settings.limits =
+    any_ascending-array (limit_in settings.attachments) (λ limit. limit.iid) nat_cmp nat_cmp_total (codes "limit") most_limits 1 top settings.limits made.limits has.at_limits made.limited lawful.few_limits lawful.instances in
     followed (only_keys top_keys top) top _ _ has.known (
     followed _ settings.seed _ _ seed_is (
     followed _ settings.nonces _ _ nonces_are (
@@ -155,7 +167,9 @@ settings_in-top settings top made lawful few =
     followed _ settings.databases _ _ databases_are (
     followed _ settings.mappings _ _ mappings_are (
     followed _ settings.changes _ _ changes_are (
-    followed _ settings.resolver _ _ (only_reachable-lawful settings settings.resolver lawful.resolver) refl))))))))))))
+    followed _ settings.limits _ _ limits_are (
+    followed _ settings.resolver _ _ (only_reachable-lawful settings settings.resolver lawful.resolver) (
+    followed _ settings.limits _ _ (only_within-lawful settings lawful) refl))))))))))))))
 
 -- the tables before the lists can be printed
 resolver-plain : (resolver : Option Addr) (front : Members) → IsResolverTable resolver front → IsPlain 4 front
@@ -176,8 +190,9 @@ front-plain settings front is =
 pub top-plain : (settings : Settings) (top : Members) → IsTopTable settings top → IsPlain 4 top
 top-plain settings top made =
     rw made.members (
+    with_member-plain 4 (codes "limit") (array made.limits) _ (omega (arith, made.limited.depth)) made.limited.dates (
     with_member-plain 4 (codes "change") (array made.changes) _ (omega (arith, made.changed.depth)) made.changed.dates (
     with_member-plain 4 (codes "mapping") (array made.mappings) _ (omega (arith, made.mapped.depth)) made.mapped.dates (
     with_member-plain 4 (codes "database") (array made.databases) _ (omega (arith, made.based.depth)) made.based.dates (
     with_member-plain 4 (codes "attachment") (array made.attachments) _ (omega (arith, made.attached.depth)) made.attached.dates (
-    with_member-plain 4 (codes "locator") (array made.locators) _ (omega (arith, made.own.depth)) made.own.dates (front-plain settings made.front made.fronts))))))
+    with_member-plain 4 (codes "locator") (array made.locators) _ (omega (arith, made.own.depth)) made.own.dates (front-plain settings made.front made.fronts)))))))

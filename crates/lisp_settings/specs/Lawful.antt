@@ -7,7 +7,8 @@ use Rattle.mapping_records.specs.declared.record.Locator.{Locator}
 use Rattle.mapping_records.specs.declared.record.Record.{Record}
 use Rattle.mapping_records.specs.Orders.{addr_order, eid_order}
 use Rattle.lisp_settings.specs.Changes.{IsChangeOf, change_key, change_order}
-use Rattle.lisp_settings.specs.Limits.{default_minutes, most_attachments, most_changes, most_databases, most_locators, most_mappings}
+use Rattle.lisp_settings.specs.Instances.{IsLimitOf, is_within}
+use Rattle.lisp_settings.specs.Limits.{default_minutes, most_attachments, most_changes, most_databases, most_limits, most_locators, most_mappings}
 use Rattle.lisp_settings.specs.Resolver.{is_reachable}
 use Rattle.lisp_settings.specs.declared.settings.Attachment.{Attachment}
 use Rattle.lisp_settings.specs.declared.settings.Database.{Database}
@@ -58,3 +59,7 @@ pub record IsLawful (settings : Settings) : Type 0 where
   pub few_changes : length settings.changes ≤ most_changes
   pub changes : All (IsChangeOf settings.locators) settings.changes
   pub moments : IsStrictlySortedBy change_order (map change_key settings.changes)
+  pub few_limits : length settings.limits ≤ most_limits
+  pub limits : All (IsLimitOf settings.attachments) settings.limits
+  pub instances : IsStrictlySortedBy nat_cmp (map (λ limit. limit.iid) settings.limits)
+  pub within : IsTrue (is_within (length settings.mappings) settings.limits)

@@ -3,6 +3,7 @@ pub mod Changes
 pub mod Fields
 pub mod Hex
 pub mod Home
+pub mod Instances
 pub mod Lawful
 pub mod Limits
 pub mod Lists

@@ -21,3 +21,15 @@ most_databases = 64
 -- changes of own locators, at most
 abbrev pub most_changes : ℕ
 most_changes = 256
+
+-- limits of instances that are stated, at most
+abbrev pub most_limits : ℕ
+most_limits = 4096
+
+-- requests for EIDs of one instance that wait at once, at most
+abbrev pub most_requests : ℕ
+most_requests = 1024
+
+-- requests that wait at once, at most, whatever their instances
+abbrev pub most_open : ℕ
+most_open = 16384

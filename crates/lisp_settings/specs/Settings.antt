@@ -13,7 +13,8 @@ use Rattle.mapping_records.specs.declared.record.Record.{Record}
 use Rattle.lisp_settings.specs.AddressText.{some_if}
 use Rattle.lisp_settings.specs.Changes.{change_key, change_order, own_address}
 use Rattle.lisp_settings.specs.Fields.{◌>>=◌, only_keys, taken, required, optional}
-use Rattle.lisp_settings.specs.Limits.{default_minutes, most_attachments, most_changes, most_databases, most_locators, most_mappings, most_nonces, most_text_octets}
+use Rattle.lisp_settings.specs.Instances.{attached_instance, only_within}
+use Rattle.lisp_settings.specs.Limits.{default_minutes, most_attachments, most_changes, most_databases, most_limits, most_locators, most_mappings, most_nonces, most_requests, most_text_octets}
 use Rattle.lisp_settings.specs.Lists.{any_ascending, any_number, one_or_more, ascending, nonces_at}
 use Rattle.mapping_records.specs.Orders.{addr_order, eid_order}
 use Rattle.lisp_settings.specs.Resolver.{resolver_in, only_reachable}
@@ -24,6 +25,7 @@ use Rattle.lisp_settings.specs.declared.settings.OwnLocator.{OwnLocator}
 use Rattle.lisp_settings.specs.declared.settings.Attachment.{Attachment}
 use Rattle.lisp_settings.specs.declared.settings.Change.{Change}
 use Rattle.lisp_settings.specs.declared.settings.Database.{Database}
+use Rattle.lisp_settings.specs.declared.settings.LimitItem.{LimitItem}
 use Rattle.lisp_settings.specs.declared.settings.Settings.{Settings}
 
 -- a table of `locator`
@@ -120,6 +122,15 @@ change_in locators table = do
   up ← required (codes "up") as_bool table
   Ok (record { at = at; address = address; up = up })
 
+-- a table of `limit`, of an instance to which one of these attaches a VLAN
+abbrev pub limit_in : List Attachment → Members → Result LimitItem SettingsFault
+limit_in attachments table = do
+  known ← only_keys (codes "iid" ∷ codes "mappings" ∷ codes "requests" ∷ []) table
+  iid ← required (codes "iid") (attached_instance attachments) table
+  mappings ← required (codes "mappings") (number 0 most_mappings) table
+  requests ← required (codes "requests") (number 0 most_requests) table
+  Ok (record { iid = iid; mappings = mappings; requests = requests })
+
 -- the tables of `locator`
 abbrev pub own_locators : Members → Result (List OwnLocator) SettingsFault
 own_locators top = do
@@ -146,11 +157,17 @@ abbrev pub changes : List OwnLocator → Members → Result (List Change) Settin
 changes locators top =
     any_ascending (codes "change") (change_in locators) change_key change_order most_changes top
 
+-- the tables of `limit`, of these attachments
+abbrev pub limits : List Attachment → Members → Result (List LimitItem) SettingsFault
+limits attachments top =
+    any_ascending (codes "limit") (limit_in attachments) (λ limit. limit.iid) nat_cmp most_limits top
+
 -- the keys of the top table
 abbrev pub top_keys : List (List ℕ)
 top_keys =
     codes "seed" ∷ codes "nonces" ∷ codes "resolver" ∷ codes "ttl" ∷ codes "probe" ∷ codes "echo"
-    ∷ codes "locator" ∷ codes "attachment" ∷ codes "database" ∷ codes "mapping" ∷ codes "change" ∷ []
+    ∷ codes "locator" ∷ codes "attachment" ∷ codes "database" ∷ codes "mapping" ∷ codes "change" ∷ codes "limit"
+    ∷ []
 
 -- the minutes for which the site's mappings stay, at the key `ttl`
 abbrev pub ttl_in : Members → Result ℕ SettingsFault
@@ -168,7 +185,7 @@ choices_then next top = do
 
 -- what comes next, where no list of the top table is at fault
 abbrev pub lists_then :
-    (List OwnLocator → List Attachment → List Database → List Record → List Change
+    (List OwnLocator → List Attachment → List Database → List Record → List Change → List LimitItem
     → Result Settings SettingsFault)
     → Members → Result Settings SettingsFault
 lists_then next top = do
@@ -177,7 +194,8 @@ lists_then next top = do
   databases ← databases top
   mappings ← mappings top
   changes ← changes locators top
-  next locators attachments databases mappings changes
+  limits ← limits attachments top
+  next locators attachments databases mappings changes limits
 
 -- the settings in the top table
 abbrev pub settings_in : Members → Result Settings SettingsFault
@@ -194,7 +212,9 @@ settings_in top = do
   databases ← databases top
   mappings ← mappings top
   changes ← changes locators top
+  limits ← limits attachments top
   reachable ← only_reachable locators resolver
+  within ← only_within mappings limits
   Ok (record {
     seed = seed;
     nonces = nonces;
@@ -207,6 +227,7 @@ settings_in top = do
     databases = databases;
     mappings = mappings;
     changes = changes;
+    limits = limits;
   })
 
 -- the settings in a document

@@ -22,7 +22,7 @@ use std::alloc::Global;
 use toml::Table;
 
 /// The greatest Instance ID.
-const GREATEST_INSTANCE: u32 = 16_777_215;
+pub const GREATEST_INSTANCE: u32 = 16_777_215;
 
 impl Item for OwnLocator {
     type Key = Addr;

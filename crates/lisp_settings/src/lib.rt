@@ -8,7 +8,9 @@ mod fault;
 mod fields;
 mod hex;
 mod homes;
+mod instances;
 mod items;
+mod limiting;
 mod limits;
 mod lists;
 mod mappings;
@@ -23,16 +25,18 @@ mod writing;
 
 pub use fault::{Key, SettingsFault};
 pub use homes::home;
+pub use instances::{Limits, limits_of};
 pub use ip_headers::{Addr, Prefix};
 pub use limits::{
-    MOST_ATTACHMENTS, MOST_CHANGES, MOST_DATABASES, MOST_NONCES, MOST_TEXT_OCTETS, limits_are,
+    MOST_ATTACHMENTS, MOST_CHANGES, MOST_DATABASES, MOST_LIMITS, MOST_NONCES, MOST_OPEN,
+    MOST_REQUESTS, MOST_TEXT_OCTETS, limits_are,
 };
 pub use mapping_records::{Eid, Locator, Locators, Record};
 pub use nonces::nonce_at;
 pub use octets::{Items, NoMemory, Octets};
 pub use reading::read_settings;
 pub use settings::{
-    Attachment, Attachments, Change, Changes, Database, Databases, Nonces, OwnLocator, OwnLocators,
-    Records, Settings,
+    Attachment, Attachments, Change, Changes, Database, Databases, LimitItem, LimitItems, Nonces,
+    OwnLocator, OwnLocators, Records, Settings,
 };
 pub use writing::write_settings;

@@ -6,18 +6,21 @@ ghost use Rattle.lisp_settings.specs.Fields.{optional};
 ghost use Rattle.lisp_settings.specs.Lawful.{IsLawful};
 ghost use Rattle.lisp_settings.specs.Limits.{most_nonces};
 ghost use Rattle.lisp_settings.specs.Resolver.{resolver_in};
-ghost use Rattle.lisp_settings.specs.Settings.{attachments, changes, choices_then, databases, lists_then, mappings, own_locators, settings_in, settings_of, ttl_in};
+ghost use Rattle.lisp_settings.specs.Settings.{attachments, changes, choices_then, databases, limits, lists_then, mappings, own_locators, settings_in, settings_of, ttl_in};
 ghost use Rattle.lisp_settings.specs.Values.{seed};
 ghost use Rattle.lisp_settings.specs.declared.fault.SettingsFault.TheVariants as fault;
 
 use crate::fault::SettingsFault;
 use crate::fields::{flag_or, number_or, only_keys, taken, value_at};
-use crate::limits::{MOST_ATTACHMENTS, MOST_CHANGES, MOST_DATABASES, MOST_TEXT_OCTETS};
+use crate::limiting::only_within;
+use crate::limits::{
+    MOST_ATTACHMENTS, MOST_CHANGES, MOST_DATABASES, MOST_LIMITS, MOST_TEXT_OCTETS,
+};
 use crate::lists::{any_ascending, ascending, one_or_more};
 use crate::nonces::nonces_at;
 use crate::resolver::{only_reachable, resolver_at};
 use crate::settings::{
-    Attachments, Changes, Databases, OwnLocator, OwnLocators, Records, Settings,
+    Attachments, Changes, Databases, LimitItems, OwnLocator, OwnLocators, Records, Settings,
 };
 use crate::values;
 use ip_headers::Addr;
@@ -58,13 +61,15 @@ fn read_top(alloc: Global, top: &Table) -> Result<Settings, SettingsFault>
         "database",
         "mapping",
         "change",
+        "limit",
     ];
     only_keys(alloc, top, &known)?;
     let seed = seed_at(alloc, top)?;
     let nonces = nonces_at(alloc, top)?;
     let (resolver, ttl, probe, echo) = choices_at(alloc, top)?;
-    let (locators, attachments, databases, mappings, changes) = lists_at(alloc, top)?;
+    let (locators, attachments, databases, mappings, changes, limits) = lists_at(alloc, top)?;
     only_reachable(alloc, locators.as_slice(), resolver)?;
+    only_within(alloc, mappings.as_slice(), limits.as_slice())?;
     Ok(Settings {
         seed,
         nonces,
@@ -77,6 +82,7 @@ fn read_top(alloc: Global, top: &Table) -> Result<Settings, SettingsFault>
         databases,
         mappings,
         changes,
+        limits,
     })
 }
 
@@ -102,12 +108,23 @@ fn choices_at(alloc: Global, top: &Table) -> Result<(Option<Addr>, u32, bool, bo
 fn lists_at(
     alloc: Global,
     top: &Table,
-) -> Result<(OwnLocators, Attachments, Databases, Records, Changes), SettingsFault>
+) -> Result<
+    (
+        OwnLocators,
+        Attachments,
+        Databases,
+        Records,
+        Changes,
+        LimitItems,
+    ),
+    SettingsFault,
+>
     ensures locators { IfOk result (λ read. own_locators (table_view top.now) ≡ Ok read.0) }
     ensures attachments { IfOk result (λ read. attachments (table_view top.now) ≡ Ok read.1) }
     ensures databases { IfOk result (λ read. databases (table_view top.now) ≡ Ok read.2) }
     ensures mappings { IfOk result (λ read. mappings (table_view top.now) ≡ Ok read.3) }
     ensures changes { IfOk result (λ read. changes read.0 (table_view top.now) ≡ Ok read.4) }
+    ensures limits { IfOk result (λ read. limits read.1 (table_view top.now) ≡ Ok read.5) }
     ensures err { IfErr result (λ e. e ≢ fault.Memory
         → (next : _) → lists_then next (table_view top.now) ≡ Err e) }
 {
@@ -116,7 +133,8 @@ fn lists_at(
     let databases = any_ascending(alloc, &(), top, "database", MOST_DATABASES)?;
     let mappings = any_ascending(alloc, &(), top, "mapping", MOST_MAPPINGS)?;
     let changes = any_ascending(alloc, &locators, top, "change", MOST_CHANGES)?;
-    Ok((locators, attachments, databases, mappings, changes))
+    let limits = any_ascending(alloc, &attachments, top, "limit", MOST_LIMITS)?;
+    Ok((locators, attachments, databases, mappings, changes, limits))
 }
 
 fn seed_at(alloc: Global, top: &Table) -> Result<[u8; 32], SettingsFault>

@@ -21,6 +21,9 @@ pub type Records = Items<Record>;
 /// Changes of own locators, in ascending order of second, then address.
 pub type Changes = Items<Change>;
 
+/// Limits of instances, in ascending order of instance.
+pub type LimitItems = Items<LimitItem>;
+
 /// One of the router's own locators (RFC 9301, section 5.4).
 #[derive(Clone, Copy, Debug, PartialEq, Eq)]
 pub struct OwnLocator {
@@ -59,6 +62,17 @@ pub struct Change {
     pub up: bool,
 }
 
+/// What an instance may have at once.
+#[derive(Clone, Copy, Debug, PartialEq, Eq)]
+pub struct LimitItem {
+    /// The Instance ID, below 2^24.
+    pub iid: u32,
+    /// The mappings that it may learn, at most 65,536.
+    pub mappings: u32,
+    /// The requests for its EIDs that may wait, at most 1,024.
+    pub requests: u32,
+}
+
 /// The settings of a router.
 #[derive(Debug, Drop)]
 pub struct Settings {
@@ -84,4 +98,6 @@ pub struct Settings {
     pub mappings: Records,
     /// What becomes of the own locators, at most 256 changes.
     pub changes: Changes,
+    /// Of instances that are attached, at most 4,096.
+    pub limits: LimitItems,
 }

@@ -51,12 +51,14 @@ fn top_table(alloc: Global, settings: &Settings) -> Result<Table, NoMemory>
     let databases = write_items(alloc, settings.databases.as_slice())?;
     let mappings = write_items(alloc, settings.mappings.as_slice())?;
     let changes = write_items(alloc, settings.changes.as_slice())?;
+    let limits = write_items(alloc, settings.limits.as_slice())?;
     let mut top = front_table(alloc, settings)?;
     put_array(alloc, &mut top, "locator", locators)?;
     put_array(alloc, &mut top, "attachment", attachments)?;
     put_array(alloc, &mut top, "database", databases)?;
     put_array(alloc, &mut top, "mapping", mappings)?;
     put_array(alloc, &mut top, "change", changes)?;
+    put_array(alloc, &mut top, "limit", limits)?;
     Ok(top)
 }
 

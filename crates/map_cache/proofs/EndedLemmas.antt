@@ -36,11 +36,11 @@ both_tie Less r is = absurd (cc is)
 both_tie Equal r is = (refl, is)
 both_tie Greater r is = absurd (cc is)
 
-less-end : (a b : Ending) → ending_order a b ≡ Less → a.end ≤ b.end
+pub less-end : (a b : Ending) → ending_order a b ≡ Less → a.end ≤ b.end
 less-end a b less =
     omega (arith, ltb-false b.end a.end (sym (is_gt-nat a.end b.end) ∙ no_more (nat_cmp a.end b.end) (eid_order a.eid b.eid) less))
 
-tied-end : (a b : Ending) → is_eq (ending_order a b) ≡ true → a.end ≡ b.end
+pub tied-end : (a b : Ending) → is_eq (ending_order a b) ≡ true → a.end ≡ b.end
 tied-end a b ties =
     eqb-true a.end b.end (sym (is_eq-nat a.end b.end) ∙ (both_tie (nat_cmp a.end b.end) (eid_order a.eid b.eid) ties).0)
 

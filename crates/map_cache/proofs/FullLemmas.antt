@@ -1,5 +1,5 @@
 -- A cache with a place for a mapping isn't over its limit with it.
-use Rattle.std.proofs.Common.{◌≡◌, ◌≤◌, ◌+◌, ◌<◌, ◌||◌, ◌==◌, ℕ, suc, true, false, Bool, cond, List, [], ◌∷◌, length, filter, is_some, nat_lt, not, take, slice_get, Some, ◌∙◌, refl, ap, arith}
+use Rattle.std.proofs.Common.{◌≡◌, ◌≤◌, ◌+◌, ◌<◌, ◌&&◌, ◌||◌, ◌==◌, ℕ, suc, true, false, Bool, cond, List, [], ◌∷◌, length, filter, is_some, nat_lt, not, take, slice_get, Some, ◌∙◌, refl, ap, arith}
 use Rattle.std.proofs.lemmas.Bool.{ltb-true}
 use Rattle.std.proofs.lemmas.List.Filters.{length-filter_more}
 use Rattle.std.proofs.lemmas.Option.{get_or_from_slice_get, slice_get_within}
@@ -31,6 +31,12 @@ length-lasting m items = few-filter (lasts m) items (length items) (omega arith)
 
 below-most : (n most : ℕ) → nat_lt n most ≡ true → n < most
 below-most n most h = ltb-true n most h
+
+-- what is within all limits is within the limit of all
+pub within_all : (there few within : Bool) → (there || (few && within)) ≡ true → (there || few) ≡ true
+within_all true few within is = refl
+within_all false true within is = refl
+within_all false false within is = is
 
 -- a mapping that is put where there is a place
 pub few-put : (x : Mapping) (items : List Mapping) (most : ℕ) → length items ≤ most → (is_some (exact items x.eid) || nat_lt (length items) most) ≡ true → length (put_in_order (λ i. i.eid) eid_order x (without_eid x.eid items)) ≤ most

@@ -1,7 +1,9 @@
 pub mod AmongLemmas
 pub mod AscendingLemmas
 pub mod BitLemmas
+pub mod CountLemmas
 pub mod EidLemmas
+pub mod EndedInLemmas
 pub mod EndedLemmas
 pub mod EndingLemmas
 pub mod ExactLemmas

@@ -14,7 +14,7 @@ use Rattle.std.proofs.lemmas.Map.Made.{length-le_from_is_member}
 use Rattle.mapping_records.specs.declared.eid.Eid.{Eid}
 use Rattle.named_list.specs.Named.{Named}
 use Rattle.ordered_set.specs.Keys.{has, Ascends}
-use Rattle.map_cache.specs.Indexed.{all_stays, ending_order, ending_order-total, ends_as, IsIndexed}
+use Rattle.map_cache.specs.Indexed.{all_stays, ending_order, ending_order-total, ends_as, Counted, IsIndexed}
 use Rattle.map_cache.specs.Lists.{AllFew}
 use Rattle.map_cache.specs.declared.stay.Stay.{Stay}
 use Rattle.map_cache.specs.declared.keys.Ending.{Ending}
@@ -24,7 +24,7 @@ use Rattle.map_cache.proofs.EidLemmas.{is_eq-eid, is_eq-nat, is_eq-then}
 -- ### keys that ascend
 
 module _ {K : Type 0} (order : K → K → Ordering) (total : IsTotalOrder order) where
-  sorted : (keys : List K) → Ascends order keys → IsStrictlySortedBy order keys
+  pub sorted : (keys : List K) → Ascends order keys → IsStrictlySortedBy order keys
   unfolding IsStrictlySortedBy
   sorted [] ascends = tt
   sorted (k ∷ keys) ascends = (
@@ -32,7 +32,7 @@ module _ {K : Type 0} (order : K → K → Ordering) (total : IsTotalOrder order
     sorted keys (λ i j d before within. ascends (suc i) (suc j) d (omega (arith, before)) (omega (arith, within))),
   )
 
-  member-has : (keys : List K) (key : K) → is_member (eq_by_cmp order) keys key ≡ has order key keys
+  pub member-has : (keys : List K) (key : K) → is_member (eq_by_cmp order) keys key ≡ has order key keys
   member-has [] key = refl
   member-has (k ∷ keys) key = ap₂ (λ a b. a || b) ((eq_by_cmp_equiv total).symm key k) (member-has keys key)
 
@@ -52,7 +52,7 @@ right_of false b is = absurd (true≢false (sym is))
 
 -- ### by end
 
-abbrev ending_of : Mapping → Ending
+abbrev pub ending_of : Mapping → Ending
 ending_of mapping = record { end = mapping.end; eid = mapping.eid }
 
 ends-among : (key : Ending) (items : List Mapping) → list_any (ends_as key) items ≡ true → has ending_order key (map ending_of items) ≡ true
@@ -66,8 +66,8 @@ ends-among key (x ∷ items) is = either_way (ends_as key x) (list_any (ends_as 
         ∙ right_of (not x.fixed) _ passes
 
 -- there are no more ends than mappings
-pub endings-few : (list : Named Mapping) (pairs : List (Eid × Stay)) (endings : List Ending) → IsIndexed list pairs endings → Ascends ending_order endings → length endings ≤ length list.items
-endings-few list pairs endings is ascends =
+pub endings-few : (list : Named Mapping) (pairs : List (Eid × Stay)) (endings : List Ending) (counts : Counted) → IsIndexed list pairs endings counts → Ascends ending_order endings → length endings ≤ length list.items
+endings-few list pairs endings counts is ascends =
     let few = at_most ending_order ending_order-total endings (map ending_of list.items) ascends (λ key among. ends-among key list.items (sym (is.ends key) ∙ among)) in
     omega (arith, few, length-map list.items ending_of)
 

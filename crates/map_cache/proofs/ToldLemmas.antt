@@ -5,13 +5,14 @@ use Rattle.std.proofs.lemmas.Option.{same_Some}
 use Rattle.mapping_records.specs.Eids.{same_eid}
 use Rattle.mapping_records.specs.declared.eid.Eid.{Eid}
 use Rattle.named_list.specs.Named.{Named}
-use Rattle.map_cache.specs.Cache.{bits_told, told_mapping, with_bits}
-use Rattle.map_cache.specs.Indexed.{all_stays, ends_as, stay_of, IsIndexed}
+use Rattle.map_cache.specs.Cache.{bits_told, learned_in, told_mapping, with_bits}
+use Rattle.map_cache.specs.Indexed.{all_stays, ends_as, stay_of, Counted, IsIndexed}
 use Rattle.map_cache.specs.Lists.{IsBelow}
 use Rattle.map_cache.specs.declared.stay.Stay.{Stay}
 use Rattle.map_cache.specs.declared.keys.Ending.{Ending}
 use Rattle.map_cache.specs.declared.mapping.Mapping.{Mapping}
 use Rattle.map_cache.proofs.AscendingLemmas.{IsAscending-told}
+use Rattle.map_cache.proofs.CountLemmas.{for_each-same, learned_in-told}
 use Rattle.map_cache.proofs.PlaceOfLemmas.{greater-apart, lesser-apart, there-same, IsAbsent, IsThere}
 
 module _ (eid : Eid) (bits width : ℕ) where
@@ -60,9 +61,12 @@ module _ (eid : Eid) (bits width : ℕ) where
       by false = refl
 
   -- what is told leaves what finds the mappings
-  pub indexed-told : (list : Named Mapping) (pairs : List (Eid × Stay)) (endings : List Ending) (items : List Mapping) → items ≡ bits_told eid bits width list.items → IsIndexed list pairs endings → IsIndexed (record list { items = items }) pairs endings
-  indexed-told list pairs endings items told is = rw told (record {
+  pub indexed-told : (list : Named Mapping) (pairs : List (Eid × Stay)) (endings : List Ending) (counts : Counted) (items : List Mapping) → items ≡ bits_told eid bits width list.items → IsIndexed list pairs endings counts → IsIndexed (record list { items = items }) pairs endings counts
+  indexed-told list pairs endings counts items told is = rw told (record {
     ascending = IsAscending-told eid bits width list.items is.ascending;
     stay = is.stay ∙ sym (all_stays-told list.names list.items);
     ends = λ key. is.ends key ∙ sym (any-told (ends_as key) (λ x. refl) list.items);
+    counted =
+        is.counted
+        ∙ for_each-same (λ iid. learned_in iid list.items) (λ iid. learned_in iid (bits_told eid bits width list.items)) (λ iid. sym (learned_in-told eid bits width iid list.items)) counts.limits;
   })

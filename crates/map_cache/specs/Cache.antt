@@ -1,5 +1,7 @@
 -- The map-cache: mappings until their TTL is over (RFC 9301, section 5.4), with status bits (RFC 9300, section 10).
-use Rattle.std.specs.Prelude.{ℕ, ◌+◌, ◌*◌, ◌-◌, ◌/◌, ◌%◌, ◌^◌, ◌==◌, ◌||◌, nat_lt, not, Bool, List, filter, length, map, Option, is_some, if◌then◌else◌}
+use Rattle.std.specs.Prelude.{ℕ, ◌+◌, ◌*◌, ◌-◌, ◌/◌, ◌%◌, ◌^◌, ◌==◌, ◌&&◌, ◌||◌, nat_lt, not, Bool, List, count_by, filter, length, map, Option, is_some, if◌then◌else◌}
+use Rattle.lisp_settings.specs.Instances.{mappings_in}
+use Rattle.lisp_settings.specs.declared.settings.LimitItem.{LimitItem}
 use Rattle.mapping_records.specs.Eids.{exactly, longest, same_eid}
 use Rattle.mapping_records.specs.Orders.{eid_order, put_in_order}
 use Rattle.mapping_records.specs.declared.eid.Eid.{Eid}
@@ -64,10 +66,18 @@ exact mappings eid = exactly (λ mapping. mapping.eid) mappings eid
 abbrev pub in_force : List Mapping → Eid → Option Mapping
 in_force mappings eid = longest (λ mapping. mapping.eid) mappings eid.iid eid.prefix.addr eid.prefix.len
 
--- a mapping may be learned: it takes one away, replaces one, or is within the limit
-abbrev pub has_room : Record → List Mapping → Bool
-has_room mapping mappings =
-    (mapping.ttl == 0) || (is_some (exact mappings mapping.eid) || nat_lt (length mappings) most_mappings)
+-- how many mappings an instance has learned: those that aren't fixed
+abbrev pub learned_in : ℕ → List Mapping → ℕ
+learned_in iid mappings = count_by (λ mapping. (mapping.eid.iid == iid) && not mapping.fixed) mappings
+
+-- a mapping may be learned: it takes one away, replaces one, or is within the limit of all and, unless it is fixed, within
+-- that of its instance
+abbrev pub has_room : List LimitItem → Record → Bool → List Mapping → Bool
+has_room limits mapping fixed mappings =
+    (mapping.ttl == 0)
+    || (is_some (exact mappings mapping.eid)
+    || (nat_lt (length mappings) most_mappings
+    && (fixed || nat_lt (learned_in mapping.eid.iid mappings) (mappings_in limits mapping.eid.iid))))
 
 -- those that haven't ended, once a mapping was learned in place of that of its EID: a TTL of 0 takes it away, unless it is
 -- fixed
@@ -82,10 +92,11 @@ abbrev pub bits_told : Eid → ℕ → ℕ → List Mapping → List Mapping
 bits_told eid bits width mappings = map (told_mapping eid bits width) mappings
 
 -- a cache as callers see it: the greatest moment that it was handed, its mappings, for how many more it has room, for how
--- many it has place in all, and how many items its lists have
+-- many it has place in all, how many items its lists have, and the limits of instances
 pub record Cache : Type 0 where
   pub now : ℕ
   pub mappings : List Mapping
   pub spare : ℕ
   pub mapping_places : ℕ
   pub kept : ℕ
+  pub limits : List LimitItem

@@ -1,16 +1,18 @@
 -- How a cache finds its mappings. No public clause cites this file.
-use Rattle.std.specs.Prelude.{◌≡◌, ◌-◌, ◌^◌, ◌==◌, ◌&&◌, ◌||◌, ℕ, nat_lt, not, false, Bool, List, [], ◌∷◌, Option, None, Some, if◌then◌else◌}
+use Rattle.std.specs.Prelude.{◌≡◌, ◌+◌, ◌-◌, ◌^◌, ◌==◌, ◌&&◌, ◌||◌, ℕ, nat_lt, not, false, Bool, List, [], ◌∷◌, map, Option, None, Some, if◌then◌else◌}
 use Rattle.std.specs.List.{list_any}
 use Rattle.std.specs.Cmp.{IsTotalOrder}
 use Rattle.std.proofs.lemmas.Cmp.{nat_cmp_total, on_total, then_total}
 use Rattle.mapping_records.proofs.OrderLemmas.{eid_order-total}
 use Rattle.std.specs.Ordering.{nat_cmp, ordering_then}
 use Rattle.std.specs.declared.cmp.Ordering.{Ordering}
+use Rattle.lisp_settings.specs.declared.settings.LimitItem.{LimitItem}
 use Rattle.mapping_records.specs.Eids.{same_eid}
 use Rattle.mapping_records.specs.Orders.{eid_order}
 use Rattle.mapping_records.specs.declared.eid.Eid.{Eid}
 use Rattle.named_list.specs.Named.{Named}
 use Rattle.ordered_set.specs.Keys.{has}
+use Rattle.map_cache.specs.Cache.{learned_in}
 use Rattle.map_cache.specs.Lists.{IsAscending}
 use Rattle.map_cache.specs.declared.stay.Stay.{Stay}
 use Rattle.map_cache.specs.declared.keys.Ending.{Ending}
@@ -62,18 +64,43 @@ ending_order-total = then_total (on_total (λ key. key.end) nat_cmp_total) (on_t
 abbrev pub ends_as : Ending → Mapping → Bool
 ends_as key mapping = not mapping.fixed && ((mapping.end == key.end) && same_eid mapping.eid key.eid)
 
+-- the end of an instance's mapping is over at a moment
+abbrev pub has_ended_in : ℕ → ℕ → Ending → Bool
+has_ended_in m iid key = not (nat_lt m key.end) && (key.eid.iid == iid)
+
+-- ### by instance
+
+-- an instance has learned the mapping
+abbrev pub is_learned : ℕ → Mapping → Bool
+is_learned iid mapping = (mapping.eid.iid == iid) && not mapping.fixed
+
+-- the same numbers of instances, with one more for a mapping that was learned
+abbrev pub with_one : Mapping → (ℕ → ℕ) → ℕ → ℕ
+with_one mapping number iid = number iid + (if is_learned iid mapping then 1 else 0)
+
+-- the number of each limit's instance
+abbrev pub for_each : (ℕ → ℕ) → List LimitItem → List ℕ
+for_each number limits = map (λ limit. number limit.iid) limits
+
+-- limits, and for each of them how many mappings its instance has learned
+pub record Counted : Type 0 where
+  pub limits : List LimitItem
+  pub learned : List ℕ
+
 -- ### all of it
 
--- the mappings are in order of EID, the trie tells of each of them, and the keys are theirs
-pub record IsIndexed (mappings : Named Mapping) (pairs : List (Eid × Stay)) (endings : List Ending) : Type 0 where
+-- the mappings are in order of EID, the trie tells of each of them, the keys are theirs, and they are counted
+pub record IsIndexed (mappings : Named Mapping) (pairs : List (Eid × Stay)) (endings : List Ending) (counts : Counted) : Type 0 where
   pub ascending : IsAscending mappings.items
   pub stay : pairs ≡ all_stays mappings.names mappings.items
   pub ends : (key : Ending) → has ending_order key endings ≡ list_any (ends_as key) mappings.items
+  pub counted : counts.learned ≡ for_each (λ iid. learned_in iid mappings.items) counts.limits
 
--- what is seen of mappings that are found so: they, for how many more there is room, for how many some list has place, and
--- how many items the lists have
+-- what is seen of mappings that are found so: they, for how many more there is room, for how many some list has place, how
+-- many items the lists have, and the limits of instances
 pub record Listed : Type 0 where
   pub mappings : List Mapping
   pub spare : ℕ
   pub mapping_places : ℕ
   pub kept : ℕ
+  pub limits : List LimitItem

@@ -1,9 +1,10 @@
 // A map-cache: what was learned, and the moment until which it was purged.
-ghost use Rattle.std.specs.Prelude.{◌≡◌, ◌≤◌, ◌<◌, ◌+◌, ◌*◌, ◌/◌, ◌^◌, ◌↔◌, ◌≢◌, ◌||◌, nat_lt, is_some, Some, IfOk, IfSome, IsTrue, IsFalse, IsOk, [], length, max, slice_get, Err, OnOk, OnErr};
+ghost use Rattle.std.specs.Prelude.{◌≡◌, ◌≤◌, ◌<◌, ◌+◌, ◌*◌, ◌/◌, ◌^◌, ◌↔◌, ◌≢◌, ◌&&◌, ◌||◌, nat_lt, is_some, Some, IfOk, IfSome, IsTrue, IsFalse, IsOk, [], length, max, slice_get, Err, OnOk, OnErr};
 ghost use Rattle.std.specs.Option.{option_copied};
+ghost use Rattle.lisp_settings.specs.Instances.{AreLimits, mappings_in};
 ghost use Rattle.prefix_table.specs.Limits.{most_nodes};
 ghost use Rattle.named_list.specs.Rings.{ring_names};
-ghost use Rattle.map_cache.specs.Cache.{bits_told, exact, has_room, in_force, lasting, learned};
+ghost use Rattle.map_cache.specs.Cache.{bits_told, exact, has_room, in_force, lasting, learned, learned_in};
 ghost use Rattle.map_cache.specs.Limits.{most_locators, most_mappings};
 ghost use Rattle.map_cache.specs.Lists.{IsFew};
 ghost use Rattle.map_cache.specs.Named.{least_named, named_above};
@@ -12,7 +13,7 @@ ghost use Rattle.map_cache.specs.declared.fault.LearnFault.TheVariants.{CacheFul
 use crate::indexed::Indexed;
 use crate::learning::fresh;
 use crate::searching::lasts;
-use crate::{LearnFault, MOST_MAPPINGS, Mapping, NoMemory, Reads};
+use crate::{LearnFault, Limits, MOST_MAPPINGS, Mapping, NoMemory, Reads};
 use ip_headers::Addr;
 use mapping_records::{Eid, Record};
 use std::alloc::Global;
@@ -40,6 +41,7 @@ impl Model for MapCache {
       spare = cache.indexed.spare;
       mapping_places = cache.indexed.mapping_places;
       kept = cache.indexed.kept;
+      limits = cache.indexed.limits;
     } };
 
     ghost invariant = { λ cache. (length cache.indexed.mappings ≤ most_mappings)
@@ -47,20 +49,20 @@ impl Model for MapCache {
 }
 
 impl MapCache {
-    /// A cache with no mappings, at moment 0. Takes no memory.
-    pub fn new(alloc: Global) -> MapCache
-        ensures now { result.now ≡ 0 }
-        ensures mappings { result.mappings ≡ [] }
-        ensures spare { result.spare ≡ 0 }
-        ensures mapping_places { result.mapping_places ≡ 0 }
+    /// A cache with no mappings, at moment 0, with limits of its own for instances. One that has no
+    /// limit learns nothing.
+    pub fn new(alloc: Global, limits: &Limits) -> Result<MapCache, NoMemory>
+        ensures now { IfOk result (λ cache. cache.now ≡ 0) }
+        ensures mappings { IfOk result (λ cache. cache.mappings ≡ []) }
+        ensures spare { IfOk result (λ cache. cache.spare ≡ 0) }
+        ensures mapping_places { IfOk result (λ cache. cache.mapping_places ≡ 0) }
+        ensures limits { IfOk result (λ cache. cache.limits ≡ limits.now) }
     {
-        MapCache {
-            now: 0,
-            indexed: Indexed::new(alloc),
-        }
+        let indexed = Indexed::new(alloc, limits)?;
+        Ok(MapCache { now: 0, indexed })
     }
 
-    /// A cache of its own with the same mappings, at the same moment, and with as much room.
+    /// A cache of its own with the same mappings and limits, at the same moment, and with as much room.
     pub fn copy(&self) -> Result<MapCache, NoMemory>
         ensures { IfOk result (λ copy. copy ≡ self.entry.now) }
     {
@@ -79,14 +81,16 @@ impl MapCache {
     }
 
     /// How many mappings are kept. What all lists have in all is at most 43 items for each mapping for
-    /// which there is place, and one for each ring of names.
+    /// which there is place, one for each ring of names, and two for each limit.
     pub fn len(&self) -> usize
         ensures len { result ≡ length self.entry.now.mappings }
         ensures most { result ≤ most_mappings }
         ensures tied { result + self.entry.now.spare ≤ self.entry.now.mapping_places }
         ensures kept { self.entry.now.kept
             ≤ 43 * self.entry.now.mapping_places
-            + 2 * self.entry.now.mapping_places / ring_names }
+            + 2 * self.entry.now.mapping_places / ring_names
+            + 2 * length self.entry.now.limits }
+        ensures limits { AreLimits self.entry.now.limits }
     {
         self.indexed.len_kept()
     }
@@ -111,6 +115,7 @@ impl MapCache {
             ≤ max self.old.mapping_places (length self.old.mappings + n) }
         ensures ok { OnOk result (n ≤ self.new.spare) }
         ensures enough { n ≤ self.old.spare → IsOk result }
+        ensures limits { self.new.limits ≡ self.old.limits }
     {
         self.indexed.reserve(n)
     }
@@ -124,6 +129,7 @@ impl MapCache {
         ensures total { length self.new.mappings + self.new.spare
             ≤ length self.old.mappings + self.old.spare }
         ensures mapping_places { self.new.mapping_places ≤ self.old.mapping_places }
+        ensures limits { self.new.limits ≡ self.old.limits }
     {
         self.indexed.drop_ended(m);
         self.now = m;
@@ -139,20 +145,21 @@ impl MapCache {
         ensures ok { OnOk result (self.new.mappings ≡ learned m mapping fixed self.old.mappings) }
         ensures err { OnErr result (self.new.mappings ≡ lasting m self.old.mappings) }
         ensures full { (result ≡ Err CacheFull)
-            ↔ IsFalse (has_room mapping (lasting m self.old.mappings)) }
+            ↔ IsFalse (has_room self.old.limits mapping fixed (lasting m self.old.mappings)) }
         ensures memory { 0 < self.old.spare → result ≢ Err Memory }
         ensures spare { self.old.spare ≤ self.new.spare + 1 }
         ensures refused { OnErr result (length self.new.mappings + self.new.spare
             ≤ max (length self.old.mappings + self.old.spare) (length self.new.mappings + 1)) }
         ensures mapping_places { self.new.mapping_places
             ≤ max self.old.mapping_places (length self.old.mappings + 1) }
+        ensures limits { self.new.limits ≡ self.old.limits }
     {
         self.purge(m);
         if mapping.ttl == 0 {
             self.indexed.drop_eid(&mapping.eid);
             return Ok(());
         }
-        if !self.has_place(&mapping.eid) {
+        if !self.has_place(&mapping.eid, fixed) {
             return Err(LearnFault::CacheFull);
         }
         self.indexed.reserve(1)?;
@@ -161,12 +168,23 @@ impl MapCache {
         Ok(())
     }
 
-    // A mapping of that EID is kept, or there are fewer than the limit.
-    fn has_place(&self, eid: &Eid) -> bool
+    // A mapping of that EID is kept, or there is a place for one more.
+    fn has_place(&self, eid: &Eid, fixed: bool) -> bool
         ensures { result ≡ (is_some (exact self.entry.now.mappings eid.now)
-            || nat_lt (length self.entry.now.mappings) most_mappings) }
+            || (nat_lt (length self.entry.now.mappings) most_mappings
+            && (fixed || nat_lt (learned_in eid.now.iid self.entry.now.mappings)
+            (mappings_in self.entry.now.limits eid.now.iid)))) }
     {
-        self.indexed.len() < MOST_MAPPINGS || self.indexed.has(eid)
+        self.is_below_limits(eid.iid, fixed) || self.indexed.has(eid)
+    }
+
+    // There are fewer than the limit of all and, unless it is fixed, than that of the instance.
+    fn is_below_limits(&self, iid: u32, fixed: bool) -> bool
+        ensures { result ≡ (nat_lt (length self.entry.now.mappings) most_mappings
+            && (fixed || nat_lt (learned_in iid self.entry.now.mappings)
+            (mappings_in self.entry.now.limits iid))) }
+    {
+        self.indexed.len() < MOST_MAPPINGS && (fixed || self.has_place_in(self.now, iid))
     }
 
     /// Tells the live mapping of that EID the status bits of its first `width` locators, the lowest
@@ -177,6 +195,7 @@ impl MapCache {
         ensures mappings { self.new.mappings ≡ bits_told eid.now bits width self.old.mappings }
         ensures spare { self.new.spare ≡ self.old.spare }
         ensures mapping_places { self.new.mapping_places ≤ self.old.mapping_places }
+        ensures limits { self.new.limits ≡ self.old.limits }
     {
         self.indexed.tell(eid, bits, width);
     }
@@ -234,5 +253,24 @@ impl MapCache {
             }
         }
         count
+    }
+
+    /// How many mappings of an instance that aren't fixed haven't ended at a moment. None is looked at
+    /// where none has, unless the instance has no limit.
+    pub fn learned_in(&self, m: u64, iid: u32) -> u32
+        requires later { self.now.now ≤ m }
+        ensures { result ≡ learned_in iid (lasting m self.entry.now.mappings) }
+    {
+        self.indexed.learned_in(m, iid)
+    }
+
+    /// They are fewer than the limit of the instance, so that it may learn one more. Where it has no
+    /// limit, it may learn none.
+    pub fn has_place_in(&self, m: u64, iid: u32) -> bool
+        requires later { self.now.now ≤ m }
+        ensures { result ≡ nat_lt (learned_in iid (lasting m self.entry.now.mappings))
+            (mappings_in self.entry.now.limits iid) }
+    {
+        self.indexed.has_place_in(m, iid)
     }
 }

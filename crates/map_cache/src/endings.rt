@@ -1,7 +1,7 @@
 // The ends of mappings, in a set. A mapping that is fixed has none.
-ghost use Rattle.std.specs.Prelude.{◌≡◌, ◌≤◌, ◌<◌, ◌+◌, ◌&&◌, ◌||◌, not, length};
+ghost use Rattle.std.specs.Prelude.{◌≡◌, ◌≤◌, ◌<◌, ◌+◌, ◌&&◌, ◌||◌, ◌^◌, not, count_by, length};
 ghost use Rattle.ordered_set.specs.Keys.{has};
-ghost use Rattle.map_cache.specs.Indexed.{ending_order, ends_as};
+ghost use Rattle.map_cache.specs.Indexed.{ending_order, ends_as, has_ended_in};
 
 use crate::Mapping;
 use crate::keys::Ending;
@@ -39,4 +39,25 @@ pub(crate) fn drop_ending(mapping: &Mapping, endings: &mut OrderedSet<Ending>)
             eid: mapping.eid,
         });
     }
+}
+
+/// How many of an instance's mappings have ended at a moment. Looks at no more than one that hasn't.
+pub(crate) fn ended_in(m: u64, iid: u32, endings: &OrderedSet<Ending>) -> u32
+    requires { length endings.now.keys < 2 ^ 32 }
+    ensures { result ≡ count_by (has_ended_in m iid) endings.now.keys }
+{
+    // The length says that keys are in order.
+    let _ = endings.len();
+    let mut ended = 0;
+    let mut index = 0;
+    while let Some(ending) = endings.get(index) {
+        if u128::from(m) < ending.end {
+            return ended;
+        }
+        if ending.eid.iid == iid {
+            ended += 1;
+        }
+        index += 1;
+    }
+    ended
 }

@@ -8,7 +8,8 @@ use std::alloc::AllocError;
 /// A mapping wasn't learned. Only the purge has taken place.
 #[derive(Clone, Copy, Debug, PartialEq, Eq)]
 pub enum LearnFault {
-    /// So many mappings of other EIDs are live that there is no place for one more.
+    /// So many mappings of other EIDs are live, in all or in the mapping's instance, that there is no
+    /// place for one more.
     CacheFull,
     /// An allocation was refused.
     Memory,

@@ -1,6 +1,7 @@
 // Mappings in order of EID, and what finds them.
 ghost use Rattle.std.specs.Prelude.{◌≡◌, ◌≤◌, ◌<◌, ◌+◌, ◌*◌, ◌/◌, [], false, length, max, remove, slice_get, Some, is_some, IfOk, OnOk, IsOk};
 ghost use Rattle.mapping_records.specs.Orders.{eid_order, put_in_order};
+ghost use Rattle.lisp_settings.specs.Instances.{AreLimits};
 ghost use Rattle.named_list.specs.Rings.{ring_names};
 ghost use Rattle.map_cache.specs.Cache.{bits_told, exact, lasting, without_eid};
 ghost use Rattle.map_cache.specs.Limits.{most_mappings};
@@ -8,11 +9,12 @@ ghost use Rattle.map_cache.specs.Lists.{AllFew, IsAscending, IsPlace};
 
 use crate::bits::tell;
 use crate::copies::copied;
+use crate::counts::Counts;
 use crate::endings::{add_ending, drop_ending};
 use crate::keys::Ending;
 use crate::searching::{is_below, same_eid};
 use crate::stay::{Stay, stay_until};
-use crate::{Mapping, NoMemory};
+use crate::{Limits, Mapping, NoMemory};
 use mapping_records::Eid;
 use named_list::NamedList;
 use ordered_set::OrderedSet;
@@ -20,7 +22,7 @@ use prefix_table::PrefixTable;
 use std::alloc::Global;
 use std::marker::Model;
 
-/// Mappings, each EID once, and what finds them by EID and by end.
+/// Mappings, each EID once, what finds them by EID and by end, and how many each instance has.
 #[derive(Drop)]
 pub(crate) struct Indexed {
     // In order of EID.
@@ -28,6 +30,8 @@ pub(crate) struct Indexed {
     pub(crate) by_eid: PrefixTable<Stay>,
     // Of those that end.
     pub(crate) endings: OrderedSet<Ending>,
+    // Of those that aren't fixed.
+    pub(crate) counts: Counts,
     // Of copies.
     alloc: Global,
 }
@@ -45,26 +49,31 @@ impl Model for Indexed {
           (max (length indexed.mappings.items + indexed.by_eid.spare)
           (length indexed.endings.keys + indexed.endings.spare));
       kept = indexed.mappings.kept + (indexed.by_eid.kept + (indexed.endings.kept
-          + sum_by (λ mapping. length mapping.details.locators) indexed.mappings.items));
+          + (sum_by (λ mapping. length mapping.details.locators) indexed.mappings.items
+          + (length indexed.counts.limits + length indexed.counts.learned))));
+      limits = indexed.counts.limits;
     } };
 
     ghost invariant = { λ indexed. IsIndexed indexed.mappings indexed.by_eid.pairs
-        indexed.endings.keys };
+        indexed.endings.keys indexed.counts };
 }
 
 impl Indexed {
-    /// No mappings. Takes no memory.
-    pub(crate) fn new(alloc: Global) -> Indexed
-        ensures mappings { result.mappings ≡ [] }
-        ensures spare { result.spare ≡ 0 }
-        ensures mapping_places { result.mapping_places ≡ 0 }
+    /// No mappings, with the limits of instances.
+    pub(crate) fn new(alloc: Global, limits: &Limits) -> Result<Indexed, NoMemory>
+        ensures mappings { IfOk result (λ indexed. indexed.mappings ≡ []) }
+        ensures spare { IfOk result (λ indexed. indexed.spare ≡ 0) }
+        ensures mapping_places { IfOk result (λ indexed. indexed.mapping_places ≡ 0) }
+        ensures limits { IfOk result (λ indexed. indexed.limits ≡ limits.now) }
     {
-        Indexed {
+        let counts = Counts::new(alloc, limits)?;
+        Ok(Indexed {
             mappings: NamedList::new(alloc),
             by_eid: PrefixTable::new(alloc),
             endings: OrderedSet::new(alloc),
+            counts,
             alloc,
-        }
+        })
     }
 
     /// The same of their own, with as much room.
@@ -75,10 +84,12 @@ impl Indexed {
         let mappings = self.mappings.copy(|mapping| copied(alloc, mapping))?;
         let by_eid = self.by_eid.copy(|stay| Ok(*stay))?;
         let endings = self.endings.copy()?;
+        let counts = self.counts.copy(alloc)?;
         Ok(Indexed {
             mappings,
             by_eid,
             endings,
+            counts,
             alloc,
         })
     }
@@ -94,6 +105,7 @@ impl Indexed {
             ≤ max self.old.mapping_places (length self.old.mappings + n) }
         ensures ok { OnOk result (n ≤ self.new.spare) }
         ensures enough { n ≤ self.old.spare → IsOk result }
+        ensures limits { self.new.limits ≡ self.old.limits }
     {
         // The length says that no key is there twice, so that they are few.
         let _ = self.endings.len();
@@ -116,10 +128,12 @@ impl Indexed {
         ensures len { result ≡ length self.now.mappings }
         ensures tied { result + self.now.spare ≤ self.now.mapping_places }
         ensures kept { self.now.kept
-            ≤ 43 * self.now.mapping_places + 2 * self.now.mapping_places / ring_names }
+            ≤ 43 * self.now.mapping_places + 2 * self.now.mapping_places / ring_names
+            + 2 * length self.now.limits }
+        ensures limits { AreLimits self.now.limits }
     {
         // The lengths say how much is kept.
-        let _ = (self.by_eid.len(), self.endings.len());
+        let _ = (self.by_eid.len(), self.endings.len(), self.counts.len());
         self.mappings.len()
     }
 
@@ -143,11 +157,13 @@ impl Indexed {
 
     /// Puts a mapping in place of that of its EID. Takes no memory.
     pub(crate) fn put(&mut self, mapping: Mapping)
+        requires few { length self.old.mappings ≤ most_mappings }
         requires spare { 0 < self.old.spare }
         ensures mappings { self.new.mappings ≡ put_in_order (λ item. item.eid) eid_order mapping
             (without_eid mapping.eid self.old.mappings) }
         ensures spare { self.old.spare ≤ self.new.spare + 1 }
         ensures mapping_places { self.new.mapping_places ≤ self.old.mapping_places }
+        ensures limits { self.new.limits ≡ self.old.limits }
     {
         let place = place_of(&mapping.eid, &self.mappings);
         if is_at(place, &mapping.eid, &self.mappings) {
@@ -158,6 +174,7 @@ impl Indexed {
 
     // Puts in a mapping of an EID of which there is none, at its place.
     fn enter(&mut self, place: usize, mapping: Mapping)
+        requires few { length self.old.mappings ≤ most_mappings }
         requires spare { 0 < self.old.spare }
         requires place { IsPlace mapping.eid self.old.mappings place }
         requires new { is_some (exact self.old.mappings mapping.eid) ≡ false }
@@ -165,9 +182,11 @@ impl Indexed {
             self.old.mappings }
         ensures spare { self.old.spare ≤ self.new.spare + 1 }
         ensures mapping_places { self.new.mapping_places ≤ self.old.mapping_places }
+        ensures limits { self.new.limits ≡ self.old.limits }
     {
         // The length says that there are as many names as mappings.
         let _ = self.mappings.len();
+        self.counts.add(&mapping);
         add_ending(&mapping, &mut self.endings);
         let (eid, fixed, end) = (mapping.eid, mapping.fixed, mapping.end);
         let name = self.mappings.insert(place, mapping);
@@ -182,11 +201,13 @@ impl Indexed {
         ensures total { length self.new.mappings + self.new.spare
             ≤ length self.old.mappings + self.old.spare }
         ensures mapping_places { self.new.mapping_places ≤ self.old.mapping_places }
+        ensures limits { self.new.limits ≡ self.old.limits }
     {
         // The length says that there are as many names as mappings.
         let _ = self.mappings.len();
         let mapping = self.mappings.remove(place);
         self.by_eid.remove(&mapping.eid);
+        self.counts.drop(&mapping);
         drop_ending(&mapping, &mut self.endings);
     }
 
@@ -197,6 +218,7 @@ impl Indexed {
         ensures total { length self.new.mappings + self.new.spare
             ≤ length self.old.mappings + self.old.spare }
         ensures mapping_places { self.new.mapping_places ≤ self.old.mapping_places }
+        ensures limits { self.new.limits ≡ self.old.limits }
     {
         let place = place_of(eid, &self.mappings);
         if is_at(place, eid, &self.mappings) {
@@ -211,6 +233,7 @@ impl Indexed {
         ensures total { length self.new.mappings + self.new.spare
             ≤ length self.old.mappings + self.old.spare }
         ensures mapping_places { self.new.mapping_places ≤ self.old.mapping_places }
+        ensures limits { self.new.limits ≡ self.old.limits }
     {
         while let Some(eid) = self.first_ended(m) {
             self.drop_eid(&eid);
@@ -223,6 +246,7 @@ impl Indexed {
         ensures mappings { self.new.mappings ≡ bits_told eid.now bits width self.old.mappings }
         ensures spare { self.new.spare ≡ self.old.spare }
         ensures mapping_places { self.new.mapping_places ≤ self.old.mapping_places }
+        ensures limits { self.new.limits ≡ self.old.limits }
     {
         let place = place_of(eid, &self.mappings);
         if is_at(place, eid, &self.mappings) {

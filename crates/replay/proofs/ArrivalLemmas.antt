@@ -35,7 +35,7 @@ tabled settings parts frames first lawful begins came front =
     let shares = length-append first front.0 in
     let fixed = length-statics settings in
     let mappings = lawful.few_mappings in
-    let room : length (statics settings) + 8192 * length first ≤ 2 ^ 62 = omega (arith, most, few, places, shares, fixed, mappings) in
+    let room : length (statics settings) + 32768 * length first ≤ 2 ^ 62 = omega (arith, most, few, places, shares, fixed, mappings) in
     rw begins (table-replays settings first (lawful-may settings lawful) order room).0
 
 -- of all of them

@@ -148,7 +148,7 @@ stands-kept settings old new own steps = ap₂ (λ locators n. standing_by setti
 
 -- the packets of emits are what a second gives
 pub second-gathers : (router : Router Parts) (moment : ℕ) (change : Change Parts) (old new : Output)
-    → Sends (emit_packets (standing_in router.settings change.after) moment change.emits) old new → length change.emits ≤ 5392 → GathersFew (after_tick table router moment change) old new
+    → Sends (emit_packets (standing_in router.settings change.after) moment change.emits) old new → length change.emits ≤ 20752 → GathersFew (after_tick table router moment change) old new
 second-gathers router moment change old new sent few =
     let count : length (emit_packets (standing_in router.settings change.after) moment change.emits) ≡ length change.emits = length-map change.emits _ in
     record {
@@ -163,13 +163,13 @@ second-later : (m second : ℕ) → m < second * 1000000000 → second_of m + 1 
 second-later m second later = grind (arith, later)
 
 -- what a frame more may add to a journal
-pub ready-more : (frames number before after earlier moment : ℕ) → number ≡ frames + 1 → earlier ≤ moment → before ≤ 65536 + 256 * frames + 5392 * second_of earlier → after ≤ before + 256 → after ≤ 65536 + 256 * number + 5392 * second_of moment
+pub ready-more : (frames number before after earlier moment : ℕ) → number ≡ frames + 1 → earlier ≤ moment → before ≤ 65536 + 256 * frames + 20752 * second_of earlier → after ≤ before + 256 → after ≤ 65536 + 256 * number + 20752 * second_of moment
 ready-more frames number before after earlier moment next later few more =
     let past = not-earlier earlier moment later in
     omega (arith, next, past, few, more)
 
 -- and a second
-pub ready-later : (frames before after earlier second : ℕ) → earlier < second * 1000000000 → before ≤ 65536 + 256 * frames + 5392 * second_of earlier → after ≤ before + 5392 → after ≤ 65536 + 256 * frames + 5392 * second_of (second * 1000000000)
+pub ready-later : (frames before after earlier second : ℕ) → earlier < second * 1000000000 → before ≤ 65536 + 256 * frames + 20752 * second_of earlier → after ≤ before + 20752 → after ≤ 65536 + 256 * frames + 20752 * second_of (second * 1000000000)
 ready-later frames before after earlier second later few more =
     let past = second-later earlier second later in
     let same : second * 1000000000 / 1000000000 ≡ second = grind arith in
@@ -195,19 +195,19 @@ packets-left frames written moment most early few =
     omega (arith, past, most, few)
 
 -- there is room for more
-pub room-left : (frames count moment : ℕ) → frames ≤ 2000000000 → moment < 2 ^ 32 * 1000000000 → count ≤ 65536 + 256 * frames + 5392 * second_of moment → count < 2 ^ 60
+pub room-left : (frames count moment : ℕ) → frames ≤ 2000000000 → moment < 2 ^ 32 * 1000000000 → count ≤ 65536 + 256 * frames + 20752 * second_of moment → count < 2 ^ 60
 room-left frames count moment most early few =
     let past = second-later moment (2 ^ 32) early in
     omega (arith, past, most, few)
 
 -- a router begins ready, with an entry for each static mapping
 pub ready-first : (settings : Settings) (parts : Parts) → IsLawful settings → parts ≡ parts_in settings (statics settings)
-    → IsLawful settings × ((without_ups parts.own ≡ without_ups settings.locators) × ((parts.now ≤ 0) × ((parts.count ≤ 65536 + 256 * 0 + 5392 * second_of 0) × (0 ≤ most_event_packets * (0 + second_of 0)))))
+    → IsLawful settings × ((without_ups parts.own ≡ without_ups settings.locators) × ((parts.now ≤ 0) × ((parts.count ≤ 65536 + 256 * 0 + 20752 * second_of 0) × (0 ≤ most_event_packets * (0 + second_of 0)))))
 ready-first settings parts lawful is =
     let count = length-statics settings in
     let few = lawful.few_mappings in
     let first = statics-first settings in
-    (lawful, (ap (λ (p : Parts). without_ups p.own) is ∙ own_after-site settings (statics settings), (rw is first, (rw is (let few_entries : length (statics settings) ≤ 65536 + 256 * 0 + 5392 * second_of 0 = omega (arith, count, few) in few_entries), omega arith))))
+    (lawful, (ap (λ (p : Parts). without_ups p.own) is ∙ own_after-site settings (statics settings), (rw is first, (rw is (let few_entries : length (statics settings) ≤ 65536 + 256 * 0 + 20752 * second_of 0 = omega (arith, count, few) in few_entries), omega arith))))
 
 -- what is determined at an event was gathered
 pub gathers-determined : {S : Type 0} (step : S → Event → Outcome S) (before after : S) (event : Event) (old new : Output)

@@ -1,18 +1,19 @@
 -- Requests that are dropped one after another, until all that are left pass a test.
-use Rattle.std.proofs.Common.{◌≡◌, ℕ, ◌≤◌, ◌<◌, ◌+◌, ◌*◌, ◌==◌, not, Bool, true, List, [], ◌∷◌, cond, filter, length, max, min, remove, slice_get, Option, None, Some, IfSome, false, refl, sym, ap, ap₂, ◌∙◌, arith}
+use Rattle.std.proofs.Common.{◌≡◌, ℕ, ◌≤◌, ◌<◌, ◌+◌, ◌*◌, Bool, true, List, [], ◌∷◌, cond, filter, length, max, min, remove, slice_get, Option, None, Some, IfSome, false, refl, sym, subst, ap, ap₂, ◌∙◌, arith}
 use Rattle.std.specs.List.{list_all}
 use Rattle.std.proofs.lemmas.Bool.{and_parts}
 use Rattle.std.proofs.lemmas.List.Edits.{length-remove}
 use Rattle.std.proofs.lemmas.List.Sums.{count_by-le-length, length-filter}
 use Rattle.keyed_list.specs.Keyed.{Kept}
 use Rattle.keyed_list.proofs.FilterLemmas.{filter-remove}
-use Rattle.prefix_table.specs.Table.{Table}
-use Rattle.request_queue.specs.Found.{AreEids}
-use Rattle.request_queue.specs.Lists.{all_rest, are_distinct}
-use Rattle.request_queue.specs.Queue.{without_nonce}
+use Rattle.lisp_settings.specs.declared.settings.LimitItem.{LimitItem}
+use Rattle.request_queue.specs.Found.{places_of, spare_of, AreFound}
+use Rattle.request_queue.specs.Lists.{all_rest, are_distinct, KeepsLimits}
+use Rattle.request_queue.specs.declared.index.Index.{Index}
 use Rattle.request_queue.specs.declared.request.Request.{Request}
-use Rattle.request_queue.proofs.DistinctLemmas.{distinct-filter}
+use Rattle.request_queue.proofs.DistinctLemmas.{distinct-left}
 use Rattle.request_queue.proofs.FoundLemmas.{some-there}
+use Rattle.request_queue.proofs.OpenLemmas.{keeps-filter}
 use Rattle.request_queue.proofs.RestLemmas.{all_rest-filter}
 
 pub dropped-less : (old new : Kept Request) (place : ℕ) → place < length old.items → new.items ≡ remove old.items place → length new.items < length old.items
@@ -22,15 +23,30 @@ dropped-less old new place within items =
 
 module _ (test : Request → Bool) where
   -- what was dropped doesn't pass, and no room is lost
-  pub record Dropped (old new : Kept Request) (were are : Table ℕ) : Type 0 where
+  pub record Dropped (old new : Kept Request) (were are : Index) : Type 0 where
     pub same : filter test new.items ≡ filter test old.items
-    pub eids : AreEids are.pairs new.items
+    pub distinct : are_distinct new.items ≡ true
+    pub found : AreFound are new.items
     pub room : old.room ≤ new.room
     pub places : new.places ≡ old.places
-    pub spare : were.spare ≤ are.spare
-    pub total : length are.pairs + are.spare ≡ length were.pairs + were.spare
+    pub spare : spare_of were ≤ spare_of are
+    pub total : places_of are ≡ places_of were
     pub rooms : length new.items + new.room ≤ length old.items + old.room
-    pub spares : length new.items + are.spare ≤ length old.items + were.spare
+    pub spares : length new.items + spare_of are ≤ length old.items + spare_of were
+
+  -- before any is dropped
+  pub dropped-none : (old : Kept Request) (were : Index) → are_distinct old.items ≡ true → AreFound were old.items → Dropped old old were were
+  dropped-none old were distinct found = record {
+    same = refl;
+    distinct = distinct;
+    found = found;
+    room = omega arith;
+    places = refl;
+    spare = omega arith;
+    total = refl;
+    rooms = omega arith;
+    spares = omega arith;
+  }
 
   pub filter-all : (requests : List Request) → list_all test requests ≡ true → filter test requests ≡ requests
   filter-all [] all = refl
@@ -49,11 +65,19 @@ module _ (test : Request → Bool) where
       by None at is = absurd (some-there requests place within at)
       by (Some x) at is = filter-remove test requests place x at is
 
+  distinct-without : (requests : List Request) (place : ℕ) → place < length requests → are_distinct requests ≡ true → are_distinct (remove requests place) ≡ true
+  distinct-without requests place within distinct = by (slice_get requests place) refl
+    where
+      by : (o : Option Request) → slice_get requests place ≡ o → are_distinct (remove requests place) ≡ true
+      by None at = absurd (some-there requests place within at)
+      by (Some x) at = distinct-left requests place x distinct at
+
   -- one more is dropped
-  pub dropped-step : (old mid new : Kept Request) (were between are : Table ℕ) (place : ℕ) → Dropped old mid were between → place < length mid.items → IfSome (slice_get mid.items place) (λ x. test x ≡ false) → new.items ≡ remove mid.items place → mid.room ≤ new.room → AreEids are.pairs new.items → new.places ≡ mid.places → between.spare ≤ are.spare → length are.pairs + are.spare ≡ length between.pairs + between.spare → length new.items + new.room ≤ length mid.items + mid.room → length new.items + are.spare ≤ length mid.items + between.spare → Dropped old new were are
-  dropped-step old mid new were between are place so within fails items room eids places spare total rooms spares = record {
+  pub dropped-step : (old mid new : Kept Request) (were between are : Index) (place : ℕ) → Dropped old mid were between → place < length mid.items → IfSome (slice_get mid.items place) (λ x. test x ≡ false) → new.items ≡ remove mid.items place → mid.room ≤ new.room → AreFound are new.items → new.places ≡ mid.places → spare_of between ≤ spare_of are → places_of are ≡ places_of between → length new.items + new.room ≤ length mid.items + mid.room → length new.items + spare_of are ≤ length mid.items + spare_of between → Dropped old new were are
+  dropped-step old mid new were between are place so within fails items room found places spare total rooms spares = record {
     same = ap (filter test) items ∙ filter-without mid.items place within fails ∙ so.same;
-    eids = eids;
+    distinct = ap are_distinct items ∙ distinct-without mid.items place within so.distinct;
+    found = found;
     room = omega (arith, room, so.room);
     places = places ∙ so.places;
     spare = omega (arith, spare, so.spare);
@@ -62,29 +86,23 @@ module _ (test : Request → Bool) where
     spares = omega (arith, spares, so.spares);
   }
 
-  module _ (old new : Kept Request) (were are : Table ℕ) (so : Dropped old new were are) where
+  module _ (old new : Kept Request) (were are : Index) (so : Dropped old new were are) where
     pub dropped-items : filter test new.items ≡ new.items → new.items ≡ filter test old.items
     dropped-items all = sym all ∙ so.same
 
-    pub dropped-invariant : (wake most : ℕ) → filter test new.items ≡ new.items → (length old.items ≤ most) × ((all_rest wake old.items ≡ true) × ((are_distinct old.items ≡ true) × AreEids were.pairs old.items))
-        → (length new.items ≤ most) × ((all_rest wake new.items ≡ true) × ((are_distinct new.items ≡ true) × AreEids are.pairs new.items))
-    dropped-invariant wake most all is =
+    pub dropped-invariant : (wake : ℕ) (limits : List LimitItem) → filter test new.items ≡ new.items → KeepsLimits limits old.items × ((all_rest wake old.items ≡ true) × ((are_distinct old.items ≡ true) × AreFound were old.items))
+        → KeepsLimits limits new.items × ((all_rest wake new.items ≡ true) × ((are_distinct new.items ≡ true) × AreFound are new.items))
+    dropped-invariant wake limits all is =
         let items = dropped-items all in (
-          omega (arith, is.0, ap (λ (l : List Request). length l) items, length-filter_le old.items),
-          (
-            ap (all_rest wake) items ∙ all_rest-filter test wake old.items is.1.0,
-            (ap are_distinct items ∙ distinct-filter test old.items is.1.1.0, so.eids),
-          ),
+          subst (KeepsLimits limits) (sym items) (keeps-filter test limits old.items is.0),
+          (ap (all_rest wake) items ∙ all_rest-filter test wake old.items is.1.0, (so.distinct, so.found)),
         )
 
-    pub dropped-spare : min old.room were.spare ≤ min new.room are.spare
+    pub dropped-spare : min old.room (spare_of were) ≤ min new.room (spare_of are)
     dropped-spare = omega (arith, so.room, so.spare)
 
-    pub dropped-total : length new.items + min new.room are.spare ≤ length old.items + min old.room were.spare
+    pub dropped-total : length new.items + min new.room (spare_of are) ≤ length old.items + min old.room (spare_of were)
     dropped-total = omega (arith, so.rooms, so.spares)
 
-    pub dropped-places : max new.places (2 * (length are.pairs + are.spare)) ≤ max old.places (2 * (length were.pairs + were.spare))
+    pub dropped-places : max new.places (2 * places_of are) ≤ max old.places (2 * places_of were)
     dropped-places = omega (arith, so.places, so.total)
-
-pub without-fewer : (nonce : ℕ) (requests : List Request) → length (without_nonce nonce requests) ≤ length requests
-without-fewer nonce requests = length-filter_le (λ request. not (request.nonce == nonce)) requests

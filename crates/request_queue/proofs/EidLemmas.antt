@@ -32,7 +32,7 @@ use Rattle.request_queue.proofs.PairLemmas.{among-value, equal-same, is_less, sa
 
 -- ### lists
 
-either : (a b c : Bool) → (a || (b || c)) ≡ (b || (a || c))
+pub either : (a b c : Bool) → (a || (b || c)) ≡ (b || (a || c))
 either true true c = refl
 either true false c = refl
 either false b c = refl
@@ -65,14 +65,14 @@ module _ {A : Type 0} where
       by true is rest (inr later) = (inr (rest later).0, (rest later).1)
       by false is rest later = (inr (rest later).0, (rest later).1)
 
-  any-left : (test : A → Bool) (items : List A) (place : ℕ) (x : A) → slice_get items place ≡ Some x → list_any test items ≡ (test x || list_any test (remove items place))
+  pub any-left : (test : A → Bool) (items : List A) (place : ℕ) (x : A) → slice_get items place ≡ Some x → list_any test items ≡ (test x || list_any test (remove items place))
   any-left test [] place x at = absurd (cc at)
   any-left test (y ∷ items) zero x at = ap (λ z. test z || list_any test items) (same_Some y x at)
   any-left test (y ∷ items) (suc place) x at =
       ap (λ b. test y || b) (any-left test items place x at) ∙ either (test y) (test x) (list_any test (remove items place))
 
   module _ {B : Type 0} (f : A → B) where
-    any-map_is : (test : B → Bool) (items : List A) → list_any test (map f items) ≡ list_any (λ y. test (f y)) items
+    pub any-map_is : (test : B → Bool) (items : List A) → list_any test (map f items) ≡ list_any (λ y. test (f y)) items
     any-map_is test [] = refl
     any-map_is test (y ∷ items) = ap (λ b. test (f y) || b) (any-map_is test items)
 

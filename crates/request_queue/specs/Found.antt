@@ -1,5 +1,5 @@
 -- How requests are found: by nonce and by EID. No public clause cites this file.
-use Rattle.std.specs.Prelude.{◌≡◌, ℕ, Bool, List, fold, Option, None, Some, if◌then◌else◌}
+use Rattle.std.specs.Prelude.{◌≡◌, ◌+◌, ℕ, Bool, List, fold, length, max, min, Option, None, Some, if◌then◌else◌}
 use Rattle.std.specs.List.{list_any}
 use Rattle.keyed_list.specs.Keyed.{greater}
 use Rattle.keyed_list.specs.Keys.{eid_key, nonce_key}
@@ -7,6 +7,8 @@ use Rattle.keyed_list.specs.declared.keyed.Marks.{Marks}
 use Rattle.mapping_records.specs.Eids.{same_eid}
 use Rattle.mapping_records.specs.declared.eid.Eid.{Eid}
 use Rattle.prefix_table.specs.Pairs.{Ascends, value_in, with_pair, without_pair}
+use Rattle.request_queue.specs.Terms.{AreTerms}
+use Rattle.request_queue.specs.declared.index.Index.{Index}
 use Rattle.request_queue.specs.declared.request.Request.{Request}
 
 abbrev pub request_marks : Request → Marks
@@ -33,3 +35,22 @@ with_latest eid (Some start) pairs = with_pair eid start pairs
 pub record AreEids (pairs : List (Eid × ℕ)) (requests : List Request) : Type 0 where
   pub ascends : Ascends pairs
   pub each : (eid : Eid) → value_in eid pairs ≡ latest_start eid requests
+
+-- ### both, and room in them
+
+-- an index of requests
+pub record AreFound (index : Index) (requests : List Request) : Type 0 where
+  pub eids : AreEids index.eids.pairs requests
+  pub terms : AreTerms index.terms.keys requests
+
+-- for how many more requests it has room
+abbrev pub spare_of : Index → ℕ
+spare_of index = min index.eids.spare index.terms.spare
+
+-- for how many it has place
+abbrev pub places_of : Index → ℕ
+places_of index = max (length index.eids.pairs + index.eids.spare) (length index.terms.keys + index.terms.spare)
+
+-- how many items it has in all
+abbrev pub kept_of : Index → ℕ
+kept_of index = index.eids.kept + index.terms.kept

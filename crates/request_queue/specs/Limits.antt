@@ -1,9 +1,6 @@
 -- The limits and times of Map-Requests (RFC 9301, section 5.3). Each is this router's choice.
 use Rattle.std.specs.Prelude.{ℕ}
-
--- requests that wait at once, at most (this router's choice)
-abbrev pub most_requests : ℕ
-most_requests = 1024
+pub use Rattle.lisp_settings.specs.Limits.{most_open, most_requests}
 
 -- requests for which room is made at once, at most (this router's choice)
 abbrev pub most_reserved : ℕ

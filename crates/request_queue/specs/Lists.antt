@@ -1,8 +1,10 @@
 -- What a queue keeps true of its list.
-use Rattle.std.specs.Prelude.{ℕ, ◌-◌, ◌==◌, ◌&&◌, ◌||◌, nat_lt, true, not, Bool, List, [], ◌∷◌}
+use Rattle.std.specs.Prelude.{ℕ, ◌≤◌, ◌-◌, ◌==◌, ◌&&◌, ◌||◌, nat_lt, true, not, Bool, List, [], ◌∷◌}
 use Rattle.std.specs.List.{list_all, list_any}
+use Rattle.lisp_settings.specs.Instances.{requests_in}
+use Rattle.lisp_settings.specs.declared.settings.LimitItem.{LimitItem}
 use Rattle.request_queue.specs.Limits.{most_retries}
-use Rattle.request_queue.specs.Queue.{due}
+use Rattle.request_queue.specs.Queue.{due, open_in}
 use Rattle.request_queue.specs.declared.request.Request.{Request}
 
 -- before a moment it isn't to be sent again
@@ -25,3 +27,7 @@ are_distinct (request ∷ others) = not (has_nonce request.nonce others) && are_
 -- what has that nonce was sent again less than so often
 abbrev pub all_may_again : ℕ → List Request → Bool
 all_may_again nonce requests = list_all (λ request. not (request.nonce == nonce) || nat_lt request.sent_again most_retries) requests
+
+-- of each instance there are no more than its limit
+abbrev pub KeepsLimits : List LimitItem → List Request → Type 0
+KeepsLimits limits requests = (iid : ℕ) → open_in iid requests ≤ requests_in limits iid

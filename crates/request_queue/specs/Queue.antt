@@ -1,8 +1,9 @@
 -- Map-Requests that wait for an answer (RFC 9301, section 5.3).
-use Rattle.std.specs.Prelude.{ℕ, suc, ◌==◌, ◌||◌, ◌&&◌, nat_lt, not, false, Bool, List, [], ◌∷◌, ◌++◌, filter, find, map, Option, None, Some, if◌then◌else◌}
+use Rattle.std.specs.Prelude.{ℕ, suc, ◌==◌, ◌||◌, ◌&&◌, nat_lt, not, false, Bool, List, [], ◌∷◌, ◌++◌, count_by, filter, find, map, Option, None, Some, if◌then◌else◌}
 use Rattle.std.specs.List.{list_any}
 use Rattle.std.specs.Option.{option_map_or}
 use Rattle.ip_headers.specs.declared.addr.Addr.{Addr}
+use Rattle.lisp_settings.specs.declared.settings.LimitItem.{LimitItem}
 use Rattle.mapping_records.specs.Eids.{covers_eid}
 use Rattle.mapping_records.specs.declared.eid.Eid.{Eid}
 use Rattle.router_log.specs.Moments.{younger}
@@ -23,6 +24,10 @@ abbrev pub once_more : Request → Request
 once_more request = record request { sent_again = suc request.sent_again }
 
 -- ### lists of requests
+
+-- how many are for EIDs of an instance
+abbrev pub open_in : ℕ → List Request → ℕ
+open_in iid requests = count_by (λ request. request.eid.iid == iid) requests
 
 -- those that wait
 abbrev pub waiting : ℕ → List Request → List Request
@@ -68,9 +73,10 @@ abbrev pub sent_again : ℕ → List Request → List Request
 sent_again nonce requests = map (λ request. if request.nonce == nonce then once_more request else request) requests
 
 -- a queue as callers see it: its requests in asking order, how many more it has room for, for how many keys it has place,
--- and how many items its lists have
+-- how many items its lists have, and how many requests of each instance may wait
 pub record Queue : Type 0 where
   pub requests : List Request
   pub spare : ℕ
   pub places : ℕ
   pub kept : ℕ
+  pub limits : List LimitItem

@@ -1,6 +1,5 @@
 // The EIDs that requests are for, in a trie, each with the latest start of its requests.
 ghost use Rattle.std.specs.Prelude.{◌≡◌, ◌≤◌, ◌<◌, ◌+◌, ◌++◌, ◌∷◌, [], ◌^◌, IsSome, List, length};
-ghost use Rattle.std.specs.List.{remove};
 ghost use Rattle.std.specs.Option.{option_copied};
 ghost use Rattle.keyed_list.specs.Keyed.{greater};
 ghost use Rattle.prefix_table.specs.Limits.{most_nodes};
@@ -11,7 +10,6 @@ ghost use Rattle.request_queue.specs.declared.request.Request.{Request};
 
 use crate::searching::waits;
 use crate::{Reads, Request};
-use keyed_list::{Key, KeyedList};
 use mapping_records::Eid;
 use prefix_table::PrefixTable;
 
@@ -38,19 +36,11 @@ fn later(best: Option<&u64>, start: u64) -> u64
     }
 }
 
-/// Adds a request at the end. Takes no memory.
-pub(crate) fn add_request(
-    request: Request,
-    requests: &mut KeyedList<Request>,
-    eids: &mut PrefixTable<u64>,
-)
-    requires room { 0 < requests.old.room }
-    requires spare { 0 < eids.old.spare }
-    requires eids { AreEids eids.old.pairs requests.old.items }
-    ensures requests { requests.new.items ≡ requests.old.items ++ request ∷ [] }
-    ensures room { requests.old.room ≤ requests.new.room + 1 }
-    ensures eids { AreEids eids.new.pairs requests.new.items }
-    ensures places { requests.new.places ≡ requests.old.places }
+/// Tells the EID of a request that comes at the end. Takes no memory.
+pub(crate) fn add_eid(request: &Request, eids: &mut PrefixTable<u64>)
+    requires { 0 < eids.old.spare }
+    ensures eids { (requests : List Request) → AreEids eids.old.pairs requests
+        → AreEids eids.new.pairs (requests ++ request.now ∷ []) }
     ensures spare { eids.old.spare ≤ eids.new.spare + 1 }
     ensures total { length eids.new.pairs + eids.new.spare
         ≡ length eids.old.pairs + eids.old.spare }
@@ -59,11 +49,10 @@ pub(crate) fn add_request(
     eids.insert(request.eid, start);
     // The length says that EIDs ascend.
     let _ = eids.len();
-    requests.push(request);
 }
 
-// The EID has that latest start, or goes where there is none. Takes no memory.
-fn tell_latest(eid: &Eid, latest: Option<u64>, eids: &mut PrefixTable<u64>)
+/// The EID has that latest start, or goes where there is none. Takes no memory.
+pub(crate) fn tell_latest(eid: &Eid, latest: Option<u64>, eids: &mut PrefixTable<u64>)
     requires { IsSome (value_in eid.now eids.old.pairs) }
     ensures pairs { eids.new.pairs ≡ with_latest eid.now latest eids.old.pairs }
     ensures spare { eids.old.spare ≤ eids.new.spare }
@@ -79,40 +68,4 @@ fn tell_latest(eid: &Eid, latest: Option<u64>, eids: &mut PrefixTable<u64>)
             eids.insert(*eid, start);
         }
     }
-}
-
-/// Takes the request at a place away. Takes no memory.
-pub(crate) fn drop_request(
-    place: usize,
-    requests: &mut KeyedList<Request>,
-    eids: &mut PrefixTable<u64>,
-)
-    requires place { place < length requests.old.items }
-    requires eids { AreEids eids.old.pairs requests.old.items }
-    ensures requests { requests.new.items ≡ remove requests.old.items place }
-    ensures room { requests.old.room ≤ requests.new.room }
-    ensures eids { AreEids eids.new.pairs requests.new.items }
-    ensures places { requests.new.places ≡ requests.old.places }
-    ensures spare { eids.old.spare ≤ eids.new.spare }
-    ensures rooms { length requests.new.items + requests.new.room
-        ≤ length requests.old.items + requests.old.room }
-    ensures spares { length requests.new.items + eids.new.spare
-        ≤ length requests.old.items + eids.old.spare }
-    ensures total { length eids.new.pairs + eids.new.spare
-        ≡ length eids.old.pairs + eids.old.spare }
-{
-    let request = requests.remove(place);
-    let latest = requests.latest(&Key::eid(&request.eid));
-    tell_latest(&request.eid, latest, eids);
-    // The length says that EIDs ascend.
-    let _ = eids.len();
-}
-
-/// There are no more EIDs than requests.
-pub(crate) fn count_eids(requests: &KeyedList<Request>, eids: &PrefixTable<u64>) -> u32
-    requires { AreEids eids.now.pairs requests.now.items }
-    ensures count { result ≡ length eids.now.pairs }
-    ensures few { result ≤ length requests.now.items }
-{
-    eids.len()
 }

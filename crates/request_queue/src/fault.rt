@@ -7,7 +7,7 @@ use octets::NoMemory;
 /// A request wasn't taken. Only the purge has taken place.
 #[derive(Clone, Copy, Debug, PartialEq, Eq)]
 pub enum AskFault {
-    /// So many requests wait that there is no place for one more.
+    /// So many requests of the EID's instance wait that there is no place for one more.
     QueueFull,
     /// An allocation was refused.
     Memory,

@@ -1,21 +1,24 @@
-// The queue: requests in asking order, and a trie of their EIDs.
-ghost use Rattle.std.specs.Prelude.{◌≡◌, ◌≤◌, ◌<◌, ◌+◌, ◌*◌, ◌^◌, ◌↔◌, [], ◌∷◌, true, length, max, slice_get, Err, Some, IfOk, IfSome, IsTrue, OnOk, OnErr, vec_len, vec_capacity};
+// The queue: requests in asking order, what finds them, and how many of an instance may wait.
+ghost use Rattle.std.specs.Prelude.{◌≡◌, ◌≤◌, ◌<◌, ◌+◌, ◌*◌, ◌^◌, ◌↔◌, [], ◌∷◌, true, nat_lt, length, max, slice_get, Err, Some, IfOk, IfSome, IsTrue, OnOk, OnErr};
 ghost use Rattle.std.specs.Option.{option_copied};
+ghost use Rattle.lisp_settings.specs.Instances.{AreLimits, requests_in};
 ghost use Rattle.prefix_table.specs.Limits.{most_nodes};
-ghost use Rattle.request_queue.specs.Queue.{all_due, asked, asked_after, behind, covered, may_send_again, sent_again, waiting, with_nonce, without_nonce};
-ghost use Rattle.request_queue.specs.Limits.{most_requests, most_reserved};
+ghost use Rattle.request_queue.specs.Queue.{all_due, asked, asked_after, behind, covered, may_send_again, open_in, sent_again, waiting, with_nonce, without_nonce};
+ghost use Rattle.request_queue.specs.Limits.{most_open, most_reserved};
 ghost use Rattle.request_queue.specs.Lists.{are_distinct};
 ghost use Rattle.request_queue.specs.declared.fault.AskFault.TheVariants.{Memory, QueueFull};
 
 use crate::again::{least_wake, send_each_again};
-use crate::eids::{add_request, count_eids, drop_request, is_covered};
+use crate::eids::is_covered;
+use crate::index::{Index, add_request, count_found, drop_request};
 use crate::limits::{FIRST_RETRY, LIFE};
 use crate::searching::{first_due, is_waiting, place_after};
-use crate::{AskFault, MOST_REQUESTS, NoMemory, Reads, Request};
+use crate::terms::open_in;
+use crate::{AskFault, NoMemory, Reads, Request};
 use ip_headers::Addr;
 use keyed_list::{Key, KeyedList};
+use lisp_settings::Limits;
 use mapping_records::Eid;
-use prefix_table::PrefixTable;
 use std::alloc::Global;
 use std::marker::Model;
 
@@ -25,58 +28,69 @@ use std::marker::Model;
 #[derive(Drop)]
 pub struct RequestQueue {
     requests: KeyedList<Request>,
-    // Those that requests are for, each with the latest start of its requests.
-    eids: PrefixTable<u64>,
+    index: Index,
+    // Of each instance no more are kept.
+    limits: Limits,
     // Before that moment none is to be sent again.
     wake: u64,
+    // Of copies.
+    alloc: Global,
 }
 
 impl Model for RequestQueue {
-    ghost use Rattle.std.specs.Prelude.{◌≡◌, ◌≤◌, ◌+◌, ◌*◌, length, max, min, true};
-    ghost use Rattle.request_queue.specs.Found.{AreEids};
-    ghost use Rattle.request_queue.specs.Lists.{all_rest, are_distinct};
+    ghost use Rattle.std.specs.Prelude.{◌≡◌, ◌+◌, ◌*◌, length, max, min, true};
+    ghost use Rattle.request_queue.specs.Found.{AreFound, kept_of, places_of, spare_of};
+    ghost use Rattle.request_queue.specs.Lists.{KeepsLimits, all_rest, are_distinct};
     ghost use Rattle.request_queue.specs.Queue.{Queue};
-    ghost use Rattle.request_queue.specs.Limits.{most_requests};
 
     ghost Value = { Queue };
 
     ghost view = { λ queue. record {
       requests = queue.requests.items;
-      spare = min queue.requests.room queue.eids.spare;
-      places = max queue.requests.places (2 * (length queue.eids.pairs + queue.eids.spare));
-      kept = queue.requests.kept + queue.eids.kept;
+      spare = min queue.requests.room (spare_of queue.index);
+      places = max queue.requests.places (2 * places_of queue.index);
+      kept = queue.requests.kept + (kept_of queue.index + length queue.limits);
+      limits = queue.limits;
     } };
 
-    ghost invariant = { λ queue. (length queue.requests.items ≤ most_requests)
+    ghost invariant = { λ queue. KeepsLimits queue.limits queue.requests.items
         × ((all_rest queue.wake queue.requests.items ≡ true)
         × ((are_distinct queue.requests.items ≡ true)
-        × AreEids queue.eids.pairs queue.requests.items)) };
+        × AreFound queue.index queue.requests.items)) };
 }
 
 impl RequestQueue {
-    /// A queue with no requests. Takes no memory.
-    pub fn new(alloc: Global) -> RequestQueue
-        ensures requests { result.requests ≡ [] }
-        ensures spare { result.spare ≡ 0 }
-        ensures places { result.places ≡ 0 }
+    /// A queue with no requests, of which so many of each instance may wait.
+    pub fn new(alloc: Global, limits: &Limits) -> Result<RequestQueue, NoMemory>
+        ensures requests { IfOk result (λ queue. queue.requests ≡ []) }
+        ensures spare { IfOk result (λ queue. queue.spare ≡ 0) }
+        ensures places { IfOk result (λ queue. queue.places ≡ 0) }
+        ensures limits { IfOk result (λ queue. queue.limits ≡ limits.now) }
     {
-        RequestQueue {
+        let limits = limits.copy(alloc)?;
+        Ok(RequestQueue {
             requests: KeyedList::new(alloc),
-            eids: PrefixTable::new(alloc),
+            index: Index::new(alloc),
+            limits,
             wake: u64::MAX,
-        }
+            alloc,
+        })
     }
 
     /// A queue of its own with the same requests, and with as much room.
     pub fn copy(&self) -> Result<RequestQueue, NoMemory>
         ensures { IfOk result (λ copy. copy ≡ self.now) }
     {
+        let alloc = self.alloc;
+        let limits = self.limits.copy(alloc)?;
         let requests = self.requests.copy()?;
-        let eids = self.eids.copy(|start| Ok(*start))?;
+        let index = self.index.copy()?;
         Ok(RequestQueue {
             requests,
-            eids,
+            index,
+            limits,
             wake: self.wake,
+            alloc,
         })
     }
 
@@ -90,24 +104,27 @@ impl RequestQueue {
         ensures memory { OnErr result (self.old.spare < n) }
         ensures places { self.new.places
             ≤ max self.old.places (2 * (length self.old.requests + n)) }
+        ensures limits { self.new.limits ≡ self.old.limits }
     {
-        // There are no more EIDs than requests, so that they are few.
-        let _ = count_eids(&self.requests, &self.eids);
+        // There are no more EIDs and terms than requests, so that they are few.
+        let _ = (self.len(), count_found(&self.requests, &self.index));
         self.requests.reserve(n)?;
-        self.eids.reserve(n)
+        self.index.reserve(n)
     }
 
-    /// How many requests are kept. No two have one nonce. What all lists have in all is at most 8 items
-    /// for each key for which there is place.
+    /// How many requests are kept. No two have one nonce. What all lists have in all is at most 9 items
+    /// for each key for which there is place, and one for each limit.
     pub fn len(&self) -> usize
         ensures len { result ≡ length self.now.requests }
-        ensures most { result ≤ most_requests }
+        ensures most { result ≤ most_open }
         ensures distinct { are_distinct self.now.requests ≡ true }
         ensures tied { 2 * (result + self.now.spare) ≤ self.now.places }
-        ensures kept { self.now.kept ≤ 8 * self.now.places }
+        ensures kept { self.now.kept ≤ 9 * self.now.places + length self.now.limits }
+        ensures limits { AreLimits self.now.limits }
     {
-        // The length says how much is kept.
-        let _ = self.eids.len();
+        // The lengths say how much is kept, and the limits how many may be.
+        let _ = (self.index.eids.len(), self.index.terms.len());
+        let _ = self.limits.as_slice();
         self.requests.len()
     }
 
@@ -118,9 +135,10 @@ impl RequestQueue {
         ensures total { length self.new.requests + self.new.spare
             ≤ length self.old.requests + self.old.spare }
         ensures places { self.new.places ≤ self.old.places }
+        ensures limits { self.new.limits ≡ self.old.limits }
     {
         while let Some(place) = self.requests.old(m, LIFE) {
-            drop_request(place, &mut self.requests, &mut self.eids);
+            drop_request(place, &mut self.requests, &mut self.index);
         }
     }
 
@@ -138,16 +156,17 @@ impl RequestQueue {
             ≡ asked m eid source invoked nonce self.old.requests) }
         ensures err { OnErr result (self.new.requests ≡ waiting m self.old.requests) }
         ensures full { (result ≡ Err QueueFull)
-            ↔ (most_requests ≤ length (waiting m self.old.requests)) }
+            ↔ (requests_in self.old.limits eid.iid ≤ open_in eid.iid (waiting m self.old.requests)) }
         ensures memory { result ≡ Err Memory → self.old.spare ≡ 0 }
         ensures spare { self.old.spare ≤ self.new.spare + 1 }
         ensures refused { OnErr result (length self.new.requests + self.new.spare
             ≤ max (length self.old.requests + self.old.spare) (length self.new.requests + 1)) }
         ensures places { self.new.places
             ≤ max self.old.places (2 * (length self.old.requests + 1)) }
+        ensures limits { self.new.limits ≡ self.old.limits }
     {
         self.purge(m);
-        if self.requests.len() >= MOST_REQUESTS {
+        if !self.has_place_in(m, eid.iid) {
             return Err(AskFault::QueueFull);
         }
         self.reserve(1)?;
@@ -160,7 +179,7 @@ impl RequestQueue {
             start: m,
             sent_again: 0,
         };
-        add_request(request, &mut self.requests, &mut self.eids);
+        add_request(request, &mut self.requests, &mut self.index);
         self.wake = self.wake.min(m.saturating_add(FIRST_RETRY));
         Ok(())
     }
@@ -172,9 +191,10 @@ impl RequestQueue {
         ensures total { length self.new.requests + self.new.spare
             ≤ length self.old.requests + self.old.spare }
         ensures places { self.new.places ≤ self.old.places }
+        ensures limits { self.new.limits ≡ self.old.limits }
     {
         while let Some(place) = self.requests.place(&Key::nonce(nonce)) {
-            drop_request(place, &mut self.requests, &mut self.eids);
+            drop_request(place, &mut self.requests, &mut self.index);
         }
     }
 
@@ -194,7 +214,7 @@ impl RequestQueue {
         ensures counted { reads.old ≤ reads.new }
         ensures bound { reads.new ≤ reads.old + most_nodes }
     {
-        is_covered(m, eid, &self.eids, reads)
+        is_covered(m, eid, &self.index.eids, reads)
     }
 
     /// The first request that waits, is to be sent again, and was asked after the one with the nonce
@@ -223,6 +243,7 @@ impl RequestQueue {
         ensures behind { behind nonce self.new.requests ≡ behind nonce self.old.requests }
         ensures spare { self.old.spare ≤ self.new.spare }
         ensures places { self.new.places ≤ self.old.places }
+        ensures limits { self.new.limits ≡ self.old.limits }
     {
         send_each_again(nonce, &mut self.requests);
     }
@@ -233,6 +254,7 @@ impl RequestQueue {
         ensures requests { self.new.requests ≡ self.old.requests }
         ensures spare { self.new.spare ≡ self.old.spare }
         ensures places { self.new.places ≤ self.old.places }
+        ensures limits { self.new.limits ≡ self.old.limits }
     {
         self.wake = least_wake(&self.requests);
     }
@@ -240,8 +262,30 @@ impl RequestQueue {
     /// How many requests wait at a moment.
     pub fn open_count(&self, m: u64) -> u32
         ensures count { result ≡ length (waiting m self.now.requests) }
-        ensures most { result ≤ most_requests }
+        ensures most { result ≤ most_open }
     {
+        // The length says that they are few.
+        let _ = self.len();
         self.requests.count(m, LIFE) as u32
+    }
+
+    /// How many requests for EIDs of an instance wait at a moment, found by halving.
+    pub fn open_in(&self, m: u64, iid: u32) -> u32
+        ensures { result ≡ open_in iid (waiting m self.now.requests) }
+    {
+        // The length says that they are few.
+        let _ = self.len();
+        open_in(m, iid, &self.index.terms) as u32
+    }
+
+    /// One more request for an EID of an instance may wait at a moment.
+    pub fn has_place_in(&self, m: u64, iid: u32) -> bool
+        ensures { result ≡ nat_lt (open_in iid (waiting m self.now.requests))
+            (requests_in self.now.limits iid) }
+    {
+        match self.limits.place(iid) {
+            None => false,
+            Some(place) => self.open_in(m, iid) < self.limits.as_slice()[place].requests,
+        }
     }
 }

@@ -4,16 +4,15 @@ use Rattle.std.proofs.lemmas.Bool.Decides.{nat_tests}
 use Rattle.ip_headers.specs.declared.addr.Addr.{Addr}
 use Rattle.mapping_records.specs.declared.eid.Eid.{Eid}
 use Rattle.mapping_records.specs.declared.record.Record.{Record}
-use Rattle.map_cache.specs.Cache as cache
-use Rattle.map_cache.specs.Cache.{lasting}
-use Rattle.request_queue.specs.Queue.{waiting, with_nonce}
+use Rattle.request_queue.specs.Queue.{open_in, waiting, with_nonce}
+use Rattle.lisp_settings.specs.Instances.{requests_in}
 use Rattle.lisp_settings.specs.Nonces.{nonce_of}
 use Rattle.lisp_settings.specs.declared.settings.Settings.{Settings}
 use Rattle.router_log.specs.declared.emit.Emit.{Emit}
 use Rattle.router_log.specs.declared.emit.Emit.TheVariants.{Request as AskFor}
 use Rattle.router_log.specs.declared.entry.Entry.{Entry}
 use Rattle.router_log.specs.declared.entry.Entry.TheVariants.{Answered, Asked, Learned}
-use Rattle.router_model.specs.Changes.{Change, asked, each, entered, has_room, unchanged}
+use Rattle.router_model.specs.Changes.{Change, asked, each, entered, has_room, may_open, unchanged}
 use Rattle.octets.specs.Rules.{first_failing}
 use Rattle.map_messages.specs.Message.{message_rules}
 use Rattle.map_messages.specs.declared.message.MapReply.{MapReply}
@@ -27,7 +26,7 @@ use Rattle.router_model.specs.Journal.{moment_of}
 use Rattle.router_model.specs.Parts.{Parts, absorbed, admits, table, view_in, with_entry}
 use Rattle.router_model.specs.Proper.{suits}
 use Rattle.router_core.specs.Table.{change_of}
-use Rattle.router_core.proofs.HeldLemmas.{drawn-seen, requests-seen, room-seen}
+use Rattle.router_core.proofs.HeldLemmas.{drawn-seen, requests-seen}
 use Rattle.router_model.specs.Standing.{may_change}
 use Rattle.lisp_settings.specs.declared.settings.OwnLocator.{OwnLocator}
 
@@ -49,12 +48,12 @@ abbrev pub IsOther : ℕ → Entry → Type 0
 IsOther m e = (moment_of e ≡ m) × ((own : List OwnLocator) (steps : ℕ) → may_change own steps e ≡ true)
 
 -- one that suits is taken
-pub taken : (p : Parts) (m : ℕ) (e : Entry) → IsOther m e → p.now ≤ m → p.count < 2 ^ 62 → suits (view_in p m) e ≡ true → absorbed p e ≡ with_entry e p
+pub taken : (p : Parts) (m : ℕ) (e : Entry) → IsOther m e → p.now ≤ m → p.count < 2 ^ 62 → suits p.limits (view_in p m) e ≡ true → absorbed p e ≡ with_entry e p
 unfolding admits absorbed
 taken p m e other after few suit =
     ap (λ b. cond b (with_entry e p) p)
     (two-hold _ _
-    (all-three _ _ _ (below p.count few) (upto p.now (moment_of e) (subst (λ (t : ℕ). p.now ≤ t) (sym other.0) after)) (subst (λ (t : ℕ). suits (view_in p t) e ≡ true) (sym other.0) suit))
+    (all-three _ _ _ (below p.count few) (upto p.now (moment_of e) (subst (λ (t : ℕ). p.now ≤ t) (sym other.0) after)) (subst (λ (t : ℕ). suits p.limits (view_in p t) e ≡ true) (sym other.0) suit))
     (other.1 p.own p.steps))
   where
     below : (n : ℕ) → n < 2 ^ 62 → nat_lt n (2 ^ 62) ≡ true
@@ -66,25 +65,18 @@ taken p m e other after few suit =
 small : (n k : ℕ) → n ≤ k → nat_le n k ≡ true
 small n k less = grind (arith, nat_tests)
 
-room-now : (p : Parts) (m : ℕ) (mapping : Record) → p.now ≤ m → cache.has_room mapping (lasting m p.mappings) ≡ has_room (view_in p m) mapping
-room-now p m mapping after = ap (λ (t : ℕ). cache.has_room mapping (lasting t p.mappings)) (sym (later m p.now after)) ∙ room-seen p m mapping
-
 pub requests-now : (p : Parts) (m : ℕ) → p.now ≤ m → (view_in p m).requests ≡ waiting m p.requests
 requests-now p m after = requests-seen p m ∙ ap (λ (t : ℕ). waiting t p.requests) (later m p.now after)
-
--- a mapping that may be learned has its place in the cache
-pub learned-place : (p : Parts) (m : ℕ) (mapping : Record) → p.now ≤ m → has_room (view_in p m) mapping ≡ true → IsTrue (cache.has_room mapping (lasting m p.mappings))
-learned-place p m mapping after is = room-now p m mapping after ∙ is
 
 -- ### a record
 
 -- one that isn't to be learned
-pub taught-not : (settings : Settings) (m : ℕ) (asked : Eid) (mappings : List Record) (mapping : Record) (change : Change Parts) → (is_asked_for asked mappings mapping && (not (is_static settings mapping) && has_room (view_in change.after m) mapping)) ≡ false → change ≡ taught table settings m asked mappings mapping change
+pub taught-not : (settings : Settings) (m : ℕ) (asked : Eid) (mappings : List Record) (mapping : Record) (change : Change Parts) → (is_asked_for asked mappings mapping && (not (is_static settings mapping) && has_room change.after.limits (view_in change.after m) mapping)) ≡ false → change ≡ taught table settings m asked mappings mapping change
 taught-not settings m asked mappings mapping change isn't =
     sym (ap (λ b. cond b (entered table settings m (Learned m (shortened mapping) false) change) change) isn't)
 
 -- one that is
-pub taught-so : (settings : Settings) (m : ℕ) (asked : Eid) (mappings : List Record) (mapping : Record) (p : Parts) (entries : List Entry) → p.now ≤ m → p.count < 2 ^ 62 → mapping.action ≤ 7 → mapping.version ≤ 4095 → length (shortened mapping).locators ≤ 32 → (is_asked_for asked mappings mapping && (not (is_static settings mapping) && has_room (view_in p m) mapping)) ≡ true → change_of (with_entry (Learned m (shortened mapping) false) p) (entries ++ Learned m (shortened mapping) false ∷ []) [] ≡ taught table settings m asked mappings mapping (change_of p entries [])
+pub taught-so : (settings : Settings) (m : ℕ) (asked : Eid) (mappings : List Record) (mapping : Record) (p : Parts) (entries : List Entry) → p.now ≤ m → p.count < 2 ^ 62 → mapping.action ≤ 7 → mapping.version ≤ 4095 → length (shortened mapping).locators ≤ 32 → (is_asked_for asked mappings mapping && (not (is_static settings mapping) && has_room p.limits (view_in p m) mapping)) ≡ true → change_of (with_entry (Learned m (shortened mapping) false) p) (entries ++ Learned m (shortened mapping) false ∷ []) [] ≡ taught table settings m asked mappings mapping (change_of p entries [])
 taught-so settings m asked mappings mapping p entries after few action version locators is =
     ap (λ (q : Parts). change_of q (entries ++ entry ∷ []) []) (sym (taken p m entry (refl, λ own steps. refl) after few suit))
     ∙ sym (ap (λ b. cond b (entered table settings m entry (change_of p entries [])) (change_of p entries [])) is)
@@ -95,12 +87,12 @@ taught-so settings m asked mappings mapping p entries after few action version l
     ranges : (a b c : Bool) → a ≡ true → b ≡ true → c ≡ true → (a && (b && c)) ≡ true
     ranges a b c p q r = rw (p, q, r) refl
 
-    suit : suits (view_in p m) entry ≡ true
+    suit : suits p.limits (view_in p m) entry ≡ true
     suit = rw (ranges _ _ _ (small mapping.action 7 action) (small mapping.version 4095 version) (small (length (shortened mapping).locators) 32 locators)) (both _ _ (both (is_asked_for asked mappings mapping) _ is).1).1
 
 -- ### requests
 
-pub asked-change : (settings : Settings) (m : ℕ) (eid : Eid) (source : Option Addr) (invoked : Bool) (p : Parts) (entries : List Entry) (emits : List Emit) → p.now ≤ m → p.count < 2 ^ 62 → length (waiting m p.requests) < 1024 → let nonce = nonce_of settings.seed settings.nonces p.drawn in change_of (with_entry (Asked m eid source invoked nonce) p) (entries ++ Asked m eid source invoked nonce ∷ []) (emits ++ AskFor eid source invoked nonce ∷ []) ≡ asked table settings m eid source invoked (change_of p entries emits)
+pub asked-change : (settings : Settings) (m : ℕ) (eid : Eid) (source : Option Addr) (invoked : Bool) (p : Parts) (entries : List Entry) (emits : List Emit) → p.now ≤ m → p.count < 2 ^ 62 → open_in eid.iid (waiting m p.requests) < requests_in p.limits eid.iid → let nonce = nonce_of settings.seed settings.nonces p.drawn in change_of (with_entry (Asked m eid source invoked nonce) p) (entries ++ Asked m eid source invoked nonce ∷ []) (emits ++ AskFor eid source invoked nonce ∷ []) ≡ asked table settings m eid source invoked (change_of p entries emits)
 asked-change settings m eid source invoked p entries emits after few place =
     ap (λ (q : Parts). change_of q (entries ++ entry ∷ []) (emits ++ AskFor eid source invoked nonce ∷ [])) (sym (taken p m entry (refl, λ own steps. refl) after few suit))
     ∙ ap (λ (n : ℕ). change_of (absorbed p (Asked m eid source invoked n)) (entries ++ Asked m eid source invoked n ∷ []) (emits ++ AskFor eid source invoked n ∷ [])) (ap (nonce_of settings.seed settings.nonces) (sym (drawn-seen p m)))
@@ -111,22 +103,22 @@ asked-change settings m eid source invoked p entries emits after few place =
     entry : Entry
     entry = Asked m eid source invoked nonce
 
-    below : (n : ℕ) → n < 1024 → nat_lt n 1024 ≡ true
-    below n less = grind (arith, nat_tests)
+    below : (n most : ℕ) → n < most → nat_lt n most ≡ true
+    below n most less = grind (arith, nat_tests)
 
-    suit : suits (view_in p m) entry ≡ true
-    suit = ap (λ l. nat_lt (length l) 1024) (requests-now p m after) ∙ below (length (waiting m p.requests)) place
+    suit : suits p.limits (view_in p m) entry ≡ true
+    suit = ap (λ l. nat_lt (open_in eid.iid l) (requests_in p.limits eid.iid)) (requests-now p m after) ∙ below _ _ place
 
 pub answered-change : (settings : Settings) (m nonce : ℕ) (p : Parts) → p.now ≤ m → p.count < 2 ^ 62 → is_some (with_nonce (waiting m p.requests) nonce) ≡ true → change_of (with_entry (Answered m nonce) p) (Answered m nonce ∷ []) [] ≡ entered table settings m (Answered m nonce) (unchanged p)
 answered-change settings m nonce p after few open_now =
     ap (λ (q : Parts). change_of q (Answered m nonce ∷ []) []) (sym (taken p m (Answered m nonce) (refl, λ own steps. refl) after few (ap (λ l. is_some (with_nonce l nonce)) (requests-now p m after) ∙ open_now)))
 
 -- that may be made
-pub may_ask-place : (p : Parts) (m : ℕ) → p.now ≤ m → nat_lt (length (view_in p m).requests) 1024 ≡ true → length (waiting m p.requests) < 1024
-may_ask-place p m after is = less (length (waiting m p.requests)) (ap (λ l. nat_lt (length l) 1024) (sym (requests-now p m after)) ∙ is)
+pub may_ask-place : (p : Parts) (m iid : ℕ) → p.now ≤ m → may_open p.limits (view_in p m) iid ≡ true → open_in iid (waiting m p.requests) < requests_in p.limits iid
+may_ask-place p m iid after is = less _ _ (ap (λ l. nat_lt (open_in iid l) (requests_in p.limits iid)) (sym (requests-now p m after)) ∙ is)
   where
-    less : (n : ℕ) → nat_lt n 1024 ≡ true → n < 1024
-    less n is = grind (arith, nat_tests)
+    less : (n most : ℕ) → nat_lt n most ≡ true → n < most
+    less n most is = grind (arith, nat_tests)
 
 -- a reply's request is found
 pub found-now : (p : Parts) (m nonce : ℕ) → p.now ≤ m → with_nonce (waiting m p.requests) nonce ≡ with_nonce (view_in p m).requests nonce

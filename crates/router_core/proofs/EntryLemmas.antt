@@ -10,6 +10,7 @@ use Rattle.mapping_records.specs.declared.record.Record.{Record}
 use Rattle.map_cache.specs.Cache.{bits_told, fresh, lasting, lasts, learned, lifetime, told_mapping, without_eid}
 use Rattle.map_cache.specs.declared.fault.LearnFault.{LearnFault}
 use Rattle.map_cache.specs.declared.fault.LearnFault.TheVariants as learning
+use Rattle.lisp_settings.specs.declared.settings.LimitItem.{LimitItem}
 use Rattle.lisp_settings.specs.declared.settings.OwnLocator.{OwnLocator}
 use Rattle.map_cache.specs.declared.mapping.Mapping.{Mapping}
 use Rattle.locator_state.specs.Echoes.{come_from, counting_starts, counting_wishes, data_from, echo_heard, echo_started, hear_from, start_counts, wanted, wish_counts}
@@ -37,20 +38,20 @@ use Rattle.router_model.specs.Requests.{request_kind, request_step}
 use Rattle.router_model.specs.Standing.{changing}
 
 -- the parts of a table by what it keeps
-abbrev pub parts_with : List OwnLocator → ℕ → ℕ → ℕ → ℕ → List Mapping → List Request → Observed → Parts
-parts_with own steps count drawn now mappings requests observed =
-    record { count = count; drawn = drawn; now = now; own = own; steps = steps; mappings = mappings; requests = requests; observed = observed }
+abbrev pub parts_with : List LimitItem → List OwnLocator → ℕ → ℕ → ℕ → ℕ → List Mapping → List Request → Observed → Parts
+parts_with limits own steps count drawn now mappings requests observed =
+    record { count = count; drawn = drawn; now = now; own = own; steps = steps; mappings = mappings; requests = requests; observed = observed; limits = limits }
 
 no_more : (n : ℕ) → n ≡ 0 + n
 no_more n = omega arith
 
 -- the same lists, and as many entries and nonces
-same-parts : (own : List OwnLocator) (steps count more drawn used now : ℕ) (ms other_ms : List Mapping) (rs other_rs : List Request) (o other : Observed) → count ≡ more → drawn ≡ used → ms ≡ other_ms → rs ≡ other_rs → o ≡ other → parts_with own steps count drawn now ms rs o ≡ parts_with own (0 + steps) more used now other_ms other_rs other
-same-parts own steps count more drawn used now ms other_ms rs other_rs o other counts draws m r p =
-    ap₂ (λ (n d : ℕ). parts_with own steps n d now ms rs o) counts draws
-    ∙ ap₂ (λ (a : List Mapping) (b : List Request). parts_with own steps more used now a b o) m r
-    ∙ ap (parts_with own steps more used now other_ms other_rs) p
-    ∙ ap (λ (s : ℕ). parts_with own s more used now other_ms other_rs other) (no_more steps)
+same-parts : (limits : List LimitItem) (own : List OwnLocator) (steps count more drawn used now : ℕ) (ms other_ms : List Mapping) (rs other_rs : List Request) (o other : Observed) → count ≡ more → drawn ≡ used → ms ≡ other_ms → rs ≡ other_rs → o ≡ other → parts_with limits own steps count drawn now ms rs o ≡ parts_with limits own (0 + steps) more used now other_ms other_rs other
+same-parts limits own steps count more drawn used now ms other_ms rs other_rs o other counts draws m r p =
+    ap₂ (λ (n d : ℕ). parts_with limits own steps n d now ms rs o) counts draws
+    ∙ ap₂ (λ (a : List Mapping) (b : List Request). parts_with limits own steps more used now a b o) m r
+    ∙ ap (parts_with limits own steps more used now other_ms other_rs) p
+    ∙ ap (λ (s : ℕ). parts_with limits own s more used now other_ms other_rs other) (no_more steps)
 
 -- items that stay as they are
 filter_map-all : {A : Type 0} (items : List A) → filter_map (λ a. Some a) items ≡ items
@@ -145,9 +146,9 @@ absorb-learned m mapping fixed ms = by (fixed || not (mapping.ttl == 0)) refl
     by true is = rw (is, fresh-lasts m mapping fixed is) (ap put others)
     by false is = rw is others
 
-pub learned-parts : (own : List OwnLocator) (steps count drawn now : ℕ) (ms : List Mapping) (rs : List Request) (o : Observed) (m : ℕ) (mapping : Record) (fixed : Bool) → parts_with own steps (count + 1) drawn m (learned m mapping fixed ms) (waiting m rs) (recent m o) ≡ with_entry (Learned m mapping fixed) (parts_with own steps count drawn now ms rs o)
-learned-parts own steps count drawn now ms rs o m mapping fixed =
-    same-parts own steps (count + 1) (suc count) drawn (0 + drawn) m _ (absorb mapping_kind (lasts m) (Learned m mapping fixed) ms) _ (absorb request_kind (is_waiting m) (Learned m mapping fixed) rs) _ (observing m (Learned m mapping fixed) o)
+pub learned-parts : (limits : List LimitItem) (own : List OwnLocator) (steps count drawn now : ℕ) (ms : List Mapping) (rs : List Request) (o : Observed) (m : ℕ) (mapping : Record) (fixed : Bool) → parts_with limits own steps (count + 1) drawn m (learned m mapping fixed ms) (waiting m rs) (recent m o) ≡ with_entry (Learned m mapping fixed) (parts_with limits own steps count drawn now ms rs o)
+learned-parts limits own steps count drawn now ms rs o m mapping fixed =
+    same-parts limits own steps (count + 1) (suc count) drawn (0 + drawn) m _ (absorb mapping_kind (lasts m) (Learned m mapping fixed) ms) _ (absorb request_kind (is_waiting m) (Learned m mapping fixed) rs) _ (observing m (Learned m mapping fixed) o)
     (one_more count) (no_more drawn) (sym (absorb-learned m mapping fixed ms)) (sym (filter_map-all (waiting m rs))) (sym (still m o))
 
 -- a cache that has room and place took it
@@ -162,9 +163,9 @@ was_learned (Err learning.CacheFull) place ok memory full is = apart place (full
 
 -- ### a request that is made
 
-pub asked-parts : (own : List OwnLocator) (steps count drawn now : ℕ) (ms : List Mapping) (rs : List Request) (o : Observed) (m : ℕ) (eid : Eid) (source : Option Addr) (invoked : Bool) (nonce : ℕ) → parts_with own steps (count + 1) (drawn + 1) m (lasting m ms) (asked m eid source invoked nonce rs) (recent m o) ≡ with_entry (Asked m eid source invoked nonce) (parts_with own steps count drawn now ms rs o)
-asked-parts own steps count drawn now ms rs o m eid source invoked nonce =
-    same-parts own steps (count + 1) (suc count) (drawn + 1) (1 + drawn) m _ (absorb mapping_kind (lasts m) (Asked m eid source invoked nonce) ms) _ (absorb request_kind (is_waiting m) (Asked m eid source invoked nonce) rs) _ (observing m (Asked m eid source invoked nonce) o)
+pub asked-parts : (limits : List LimitItem) (own : List OwnLocator) (steps count drawn now : ℕ) (ms : List Mapping) (rs : List Request) (o : Observed) (m : ℕ) (eid : Eid) (source : Option Addr) (invoked : Bool) (nonce : ℕ) → parts_with limits own steps (count + 1) (drawn + 1) m (lasting m ms) (asked m eid source invoked nonce rs) (recent m o) ≡ with_entry (Asked m eid source invoked nonce) (parts_with limits own steps count drawn now ms rs o)
+asked-parts limits own steps count drawn now ms rs o m eid source invoked nonce =
+    same-parts limits own steps (count + 1) (suc count) (drawn + 1) (1 + drawn) m _ (absorb mapping_kind (lasts m) (Asked m eid source invoked nonce) ms) _ (absorb request_kind (is_waiting m) (Asked m eid source invoked nonce) rs) _ (observing m (Asked m eid source invoked nonce) o)
     (one_more count) (first_more drawn) (sym (filter_map-all (lasting m ms))) (sym whole) (sym (still m o))
   where
     r : Request
@@ -180,16 +181,16 @@ asked-parts own steps count drawn now ms rs o m eid source invoked nonce =
     whole = rw (young m) (ap (λ (l : List Request). l ++ r ∷ []) others)
 
 -- a queue that has room and place took it
-pub was_asked : {P : Type 0} (r : Result (Unit {0}) AskFault) (spare waits : ℕ) → OnOk r P → (r ≡ Err asking.Memory → spare ≡ 0) → 0 < spare → ((r ≡ Err asking.QueueFull) ↔ (1024 ≤ waits)) → waits < 1024 → P
-was_asked (Ok u) spare waits ok memory some full few = ok
-was_asked (Err asking.Memory) spare waits ok memory some full few = let none = memory refl in absurd (omega (arith, none, some))
-was_asked (Err asking.QueueFull) spare waits ok memory some full few = let most = full.0 refl in absurd (omega (arith, most, few))
+pub was_asked : {P : Type 0} (r : Result (Unit {0}) AskFault) (spare waits most : ℕ) → OnOk r P → (r ≡ Err asking.Memory → spare ≡ 0) → 0 < spare → ((r ≡ Err asking.QueueFull) ↔ (most ≤ waits)) → waits < most → P
+was_asked (Ok u) spare waits most ok memory some full few = ok
+was_asked (Err asking.Memory) spare waits most ok memory some full few = let none = memory refl in absurd (omega (arith, none, some))
+was_asked (Err asking.QueueFull) spare waits most ok memory some full few = let least = full.0 refl in absurd (omega (arith, least, few))
 
 -- ### a request that was answered
 
-pub answered-parts : (own : List OwnLocator) (steps count drawn now : ℕ) (ms : List Mapping) (rs : List Request) (o : Observed) (m nonce : ℕ) → parts_with own steps (count + 1) drawn m (lasting m ms) (without_nonce nonce (waiting m rs)) (recent m o) ≡ with_entry (Answered m nonce) (parts_with own steps count drawn now ms rs o)
-answered-parts own steps count drawn now ms rs o m nonce =
-    same-parts own steps (count + 1) (suc count) drawn (0 + drawn) m _ (absorb mapping_kind (lasts m) (Answered m nonce) ms) _ (absorb request_kind (is_waiting m) (Answered m nonce) rs) _ (observing m (Answered m nonce) o)
+pub answered-parts : (limits : List LimitItem) (own : List OwnLocator) (steps count drawn now : ℕ) (ms : List Mapping) (rs : List Request) (o : Observed) (m nonce : ℕ) → parts_with limits own steps (count + 1) drawn m (lasting m ms) (without_nonce nonce (waiting m rs)) (recent m o) ≡ with_entry (Answered m nonce) (parts_with limits own steps count drawn now ms rs o)
+answered-parts limits own steps count drawn now ms rs o m nonce =
+    same-parts limits own steps (count + 1) (suc count) drawn (0 + drawn) m _ (absorb mapping_kind (lasts m) (Answered m nonce) ms) _ (absorb request_kind (is_waiting m) (Answered m nonce) rs) _ (observing m (Answered m nonce) o)
     (one_more count) (no_more drawn) (sym (filter_map-all (lasting m ms))) (sym others) (sym (still m o))
   where
     others : filter_map (request_step (Answered m nonce)) (waiting m rs) ≡ without_nonce nonce (waiting m rs)
@@ -201,16 +202,16 @@ answered-parts own steps count drawn now ms rs o m nonce =
 step-told : (m : ℕ) (eid : Eid) (bits width : ℕ) (mapping : Mapping) → mapping_step (Bits m eid bits width) mapping ≡ Some (told_mapping eid bits width mapping)
 step-told m eid bits width mapping = refl
 
-pub told-parts : (own : List OwnLocator) (steps count drawn now : ℕ) (ms : List Mapping) (rs : List Request) (o : Observed) (m : ℕ) (eid : Eid) (bits width : ℕ) → parts_with own steps (count + 1) drawn m (bits_told eid bits width (lasting m ms)) (waiting m rs) (recent m o) ≡ with_entry (Bits m eid bits width) (parts_with own steps count drawn now ms rs o)
-told-parts own steps count drawn now ms rs o m eid bits width =
-    same-parts own steps (count + 1) (suc count) drawn (0 + drawn) m _ (absorb mapping_kind (lasts m) (Bits m eid bits width) ms) _ (absorb request_kind (is_waiting m) (Bits m eid bits width) rs) _ (observing m (Bits m eid bits width) o)
+pub told-parts : (limits : List LimitItem) (own : List OwnLocator) (steps count drawn now : ℕ) (ms : List Mapping) (rs : List Request) (o : Observed) (m : ℕ) (eid : Eid) (bits width : ℕ) → parts_with limits own steps (count + 1) drawn m (bits_told eid bits width (lasting m ms)) (waiting m rs) (recent m o) ≡ with_entry (Bits m eid bits width) (parts_with limits own steps count drawn now ms rs o)
+told-parts limits own steps count drawn now ms rs o m eid bits width =
+    same-parts limits own steps (count + 1) (suc count) drawn (0 + drawn) m _ (absorb mapping_kind (lasts m) (Bits m eid bits width) ms) _ (absorb request_kind (is_waiting m) (Bits m eid bits width) rs) _ (observing m (Bits m eid bits width) o)
     (one_more count) (no_more drawn) (sym (filter_map-map (told_mapping eid bits width) (lasting m ms))) (sym (filter_map-all (waiting m rs))) (sym (still m o))
 
 -- ### a request that was sent again
 
-pub retried-parts : (own : List OwnLocator) (steps count drawn now : ℕ) (ms : List Mapping) (rs : List Request) (o : Observed) (m nonce : ℕ) → parts_with own steps (count + 1) drawn m (lasting m ms) (sent_again nonce (waiting m rs)) (recent m o) ≡ with_entry (Retried m nonce) (parts_with own steps count drawn now ms rs o)
-retried-parts own steps count drawn now ms rs o m nonce =
-    same-parts own steps (count + 1) (suc count) drawn (0 + drawn) m _ (absorb mapping_kind (lasts m) (Retried m nonce) ms) _ (absorb request_kind (is_waiting m) (Retried m nonce) rs) _ (observing m (Retried m nonce) o)
+pub retried-parts : (limits : List LimitItem) (own : List OwnLocator) (steps count drawn now : ℕ) (ms : List Mapping) (rs : List Request) (o : Observed) (m nonce : ℕ) → parts_with limits own steps (count + 1) drawn m (lasting m ms) (sent_again nonce (waiting m rs)) (recent m o) ≡ with_entry (Retried m nonce) (parts_with limits own steps count drawn now ms rs o)
+retried-parts limits own steps count drawn now ms rs o m nonce =
+    same-parts limits own steps (count + 1) (suc count) drawn (0 + drawn) m _ (absorb mapping_kind (lasts m) (Retried m nonce) ms) _ (absorb request_kind (is_waiting m) (Retried m nonce) rs) _ (observing m (Retried m nonce) o)
     (one_more count) (no_more drawn) (sym (filter_map-all (lasting m ms))) (sym (filter_map-map (λ (r : Request). cond (r.nonce == nonce) (once_more r) r) (waiting m rs))) (sym (still m o))
 
 -- ### a probe that was sent, and one that was answered
@@ -218,9 +219,9 @@ retried-parts own steps count drawn now ms rs o m nonce =
 young : (n : ℕ) → nat_lt (n - n) 600000000000 ≡ true
 young n = grind (arith, nat_tests)
 
-pub probed-parts : (own : List OwnLocator) (steps count drawn now : ℕ) (ms : List Mapping) (rs : List Request) (o : Observed) (m : ℕ) (rloc : Addr) (nonce : ℕ) → parts_with own steps (count + 1) (drawn + 1) m (lasting m ms) (waiting m rs) (with_probes m (probed m rloc nonce o.probes) o) ≡ with_entry (Probed m rloc nonce) (parts_with own steps count drawn now ms rs o)
-probed-parts own steps count drawn now ms rs o m rloc nonce =
-    same-parts own steps (count + 1) (suc count) (drawn + 1) (1 + drawn) m _ (absorb mapping_kind (lasts m) (Probed m rloc nonce) ms) _ (absorb request_kind (is_waiting m) (Probed m rloc nonce) rs) _ (observing m (Probed m rloc nonce) o)
+pub probed-parts : (limits : List LimitItem) (own : List OwnLocator) (steps count drawn now : ℕ) (ms : List Mapping) (rs : List Request) (o : Observed) (m : ℕ) (rloc : Addr) (nonce : ℕ) → parts_with limits own steps (count + 1) (drawn + 1) m (lasting m ms) (waiting m rs) (with_probes m (probed m rloc nonce o.probes) o) ≡ with_entry (Probed m rloc nonce) (parts_with limits own steps count drawn now ms rs o)
+probed-parts limits own steps count drawn now ms rs o m rloc nonce =
+    same-parts limits own steps (count + 1) (suc count) (drawn + 1) (1 + drawn) m _ (absorb mapping_kind (lasts m) (Probed m rloc nonce) ms) _ (absorb request_kind (is_waiting m) (Probed m rloc nonce) rs) _ (observing m (Probed m rloc nonce) o)
     (one_more count) (first_more drawn) (sym (filter_map-all (lasting m ms))) (sym (filter_map-all (waiting m rs))) (sym (other_probes m _ _ o whole))
   where
     new : Probe
@@ -229,21 +230,21 @@ probed-parts own steps count drawn now ms rs o m rloc nonce =
     whole : absorb probe_kind (probe_counts m) (Probed m rloc nonce) o.probes ≡ probed m rloc nonce o.probes
     whole = rw (young m) (ap (λ (l : List Probe). l ++ new ∷ []) (filter_map-map (settle_with Lost nonce) (counting_probes m o.probes)))
 
-pub probe_answered-parts : (own : List OwnLocator) (steps count drawn now : ℕ) (ms : List Mapping) (rs : List Request) (o : Observed) (m nonce : ℕ) → parts_with own steps (count + 1) drawn m (lasting m ms) (waiting m rs) (with_probes m (probe_answered m nonce o.probes) o) ≡ with_entry (ProbeAnswered m nonce) (parts_with own steps count drawn now ms rs o)
-probe_answered-parts own steps count drawn now ms rs o m nonce =
-    same-parts own steps (count + 1) (suc count) drawn (0 + drawn) m _ (absorb mapping_kind (lasts m) (ProbeAnswered m nonce) ms) _ (absorb request_kind (is_waiting m) (ProbeAnswered m nonce) rs) _ (observing m (ProbeAnswered m nonce) o)
+pub probe_answered-parts : (limits : List LimitItem) (own : List OwnLocator) (steps count drawn now : ℕ) (ms : List Mapping) (rs : List Request) (o : Observed) (m nonce : ℕ) → parts_with limits own steps (count + 1) drawn m (lasting m ms) (waiting m rs) (with_probes m (probe_answered m nonce o.probes) o) ≡ with_entry (ProbeAnswered m nonce) (parts_with limits own steps count drawn now ms rs o)
+probe_answered-parts limits own steps count drawn now ms rs o m nonce =
+    same-parts limits own steps (count + 1) (suc count) drawn (0 + drawn) m _ (absorb mapping_kind (lasts m) (ProbeAnswered m nonce) ms) _ (absorb request_kind (is_waiting m) (ProbeAnswered m nonce) rs) _ (observing m (ProbeAnswered m nonce) o)
     (one_more count) (no_more drawn) (sym (filter_map-all (lasting m ms))) (sym (filter_map-all (waiting m rs))) (sym (other_probes m _ _ o (filter_map-map (settle_with state.Answered nonce) (counting_probes m o.probes))))
 
 -- ### echoes, and packets that came
 
 -- the parts of a table with one entry more, of which only what is known of locators takes notice
-observed-parts : (own : List OwnLocator) (e : Entry) (steps count drawn more now m : ℕ) (ms : List Mapping) (rs : List Request) (o other : Observed) → with_entry e (parts_with own steps count drawn now ms rs o) ≡ parts_with own (0 + steps) (suc count) more m (unchanged (lasting m ms)) (unchanged (waiting m rs)) (observing m e o) → (used : ℕ) → used ≡ more → other ≡ observing m e o → parts_with own steps (count + 1) used m (lasting m ms) (waiting m rs) other ≡ with_entry e (parts_with own steps count drawn now ms rs o)
-observed-parts own e steps count drawn more now m ms rs o other is used draws same =
-    same-parts own steps (count + 1) (suc count) used more m _ _ _ _ _ _ (one_more count) draws (sym (filter_map-all (lasting m ms))) (sym (filter_map-all (waiting m rs))) same ∙ sym is
+observed-parts : (limits : List LimitItem) (own : List OwnLocator) (e : Entry) (steps count drawn more now m : ℕ) (ms : List Mapping) (rs : List Request) (o other : Observed) → with_entry e (parts_with limits own steps count drawn now ms rs o) ≡ parts_with limits own (0 + steps) (suc count) more m (unchanged (lasting m ms)) (unchanged (waiting m rs)) (observing m e o) → (used : ℕ) → used ≡ more → other ≡ observing m e o → parts_with limits own steps (count + 1) used m (lasting m ms) (waiting m rs) other ≡ with_entry e (parts_with limits own steps count drawn now ms rs o)
+observed-parts limits own e steps count drawn more now m ms rs o other is used draws same =
+    same-parts limits own steps (count + 1) (suc count) used more m _ _ _ _ _ _ (one_more count) draws (sym (filter_map-all (lasting m ms))) (sym (filter_map-all (waiting m rs))) same ∙ sym is
 
-pub started-parts : (own : List OwnLocator) (steps count drawn now : ℕ) (ms : List Mapping) (rs : List Request) (o : Observed) (m : ℕ) (rloc : Addr) (nonce : ℕ) → parts_with own steps (count + 1) (drawn + 1) m (lasting m ms) (waiting m rs) (with_starts m (echo_started m rloc nonce o.starts) o) ≡ with_entry (EchoStarted m rloc nonce) (parts_with own steps count drawn now ms rs o)
-started-parts own steps count drawn now ms rs o m rloc nonce =
-    observed-parts own (EchoStarted m rloc nonce) steps count drawn (1 + drawn) now m ms rs o _ refl (drawn + 1) (first_more drawn) (sym (other_starts m _ _ o whole))
+pub started-parts : (limits : List LimitItem) (own : List OwnLocator) (steps count drawn now : ℕ) (ms : List Mapping) (rs : List Request) (o : Observed) (m : ℕ) (rloc : Addr) (nonce : ℕ) → parts_with limits own steps (count + 1) (drawn + 1) m (lasting m ms) (waiting m rs) (with_starts m (echo_started m rloc nonce o.starts) o) ≡ with_entry (EchoStarted m rloc nonce) (parts_with limits own steps count drawn now ms rs o)
+started-parts limits own steps count drawn now ms rs o m rloc nonce =
+    observed-parts limits own (EchoStarted m rloc nonce) steps count drawn (1 + drawn) now m ms rs o _ refl (drawn + 1) (first_more drawn) (sym (other_starts m _ _ o whole))
   where
     new : EchoStart
     new = record { moment = m; rloc = rloc; nonce = nonce; heard = false; came = false }
@@ -254,17 +255,17 @@ started-parts own steps count drawn now ms rs o m rloc nonce =
     whole : absorb start_kind (start_counts m) (EchoStarted m rloc nonce) o.starts ≡ echo_started m rloc nonce o.starts
     whole = rw (fresh_start m) (ap (λ (l : List EchoStart). l ++ new ∷ []) (filter_map-all (counting_starts m o.starts)))
 
-pub heard-parts : (own : List OwnLocator) (steps count drawn now : ℕ) (ms : List Mapping) (rs : List Request) (o : Observed) (m : ℕ) (rloc : Addr) → parts_with own steps (count + 1) drawn m (lasting m ms) (waiting m rs) (with_starts m (echo_heard m rloc o.starts) o) ≡ with_entry (EchoHeard m rloc) (parts_with own steps count drawn now ms rs o)
-heard-parts own steps count drawn now ms rs o m rloc =
-    observed-parts own (EchoHeard m rloc) steps count drawn (0 + drawn) now m ms rs o _ refl drawn (no_more drawn) (sym (other_starts m _ _ o (filter_map-map (hear_from rloc) (counting_starts m o.starts))))
+pub heard-parts : (limits : List LimitItem) (own : List OwnLocator) (steps count drawn now : ℕ) (ms : List Mapping) (rs : List Request) (o : Observed) (m : ℕ) (rloc : Addr) → parts_with limits own steps (count + 1) drawn m (lasting m ms) (waiting m rs) (with_starts m (echo_heard m rloc o.starts) o) ≡ with_entry (EchoHeard m rloc) (parts_with limits own steps count drawn now ms rs o)
+heard-parts limits own steps count drawn now ms rs o m rloc =
+    observed-parts limits own (EchoHeard m rloc) steps count drawn (0 + drawn) now m ms rs o _ refl drawn (no_more drawn) (sym (other_starts m _ _ o (filter_map-map (hear_from rloc) (counting_starts m o.starts))))
 
-pub data-parts : (own : List OwnLocator) (steps count drawn now : ℕ) (ms : List Mapping) (rs : List Request) (o : Observed) (m : ℕ) (rloc : Addr) → parts_with own steps (count + 1) drawn m (lasting m ms) (waiting m rs) (with_starts m (data_from m rloc o.starts) o) ≡ with_entry (DataFrom m rloc) (parts_with own steps count drawn now ms rs o)
-data-parts own steps count drawn now ms rs o m rloc =
-    observed-parts own (DataFrom m rloc) steps count drawn (0 + drawn) now m ms rs o _ refl drawn (no_more drawn) (sym (other_starts m _ _ o (filter_map-map (come_from rloc) (counting_starts m o.starts))))
+pub data-parts : (limits : List LimitItem) (own : List OwnLocator) (steps count drawn now : ℕ) (ms : List Mapping) (rs : List Request) (o : Observed) (m : ℕ) (rloc : Addr) → parts_with limits own steps (count + 1) drawn m (lasting m ms) (waiting m rs) (with_starts m (data_from m rloc o.starts) o) ≡ with_entry (DataFrom m rloc) (parts_with limits own steps count drawn now ms rs o)
+data-parts limits own steps count drawn now ms rs o m rloc =
+    observed-parts limits own (DataFrom m rloc) steps count drawn (0 + drawn) now m ms rs o _ refl drawn (no_more drawn) (sym (other_starts m _ _ o (filter_map-map (come_from rloc) (counting_starts m o.starts))))
 
-pub wanted-parts : (own : List OwnLocator) (steps count drawn now : ℕ) (ms : List Mapping) (rs : List Request) (o : Observed) (m : ℕ) (rloc : Addr) (nonce : ℕ) → parts_with own steps (count + 1) drawn m (lasting m ms) (waiting m rs) (with_wishes m (wanted m rloc nonce o.wishes) o) ≡ with_entry (EchoWanted m rloc nonce) (parts_with own steps count drawn now ms rs o)
-wanted-parts own steps count drawn now ms rs o m rloc nonce =
-    observed-parts own (EchoWanted m rloc nonce) steps count drawn (0 + drawn) now m ms rs o _ refl drawn (no_more drawn) (sym (other_wishes m _ _ o whole))
+pub wanted-parts : (limits : List LimitItem) (own : List OwnLocator) (steps count drawn now : ℕ) (ms : List Mapping) (rs : List Request) (o : Observed) (m : ℕ) (rloc : Addr) (nonce : ℕ) → parts_with limits own steps (count + 1) drawn m (lasting m ms) (waiting m rs) (with_wishes m (wanted m rloc nonce o.wishes) o) ≡ with_entry (EchoWanted m rloc nonce) (parts_with limits own steps count drawn now ms rs o)
+wanted-parts limits own steps count drawn now ms rs o m rloc nonce =
+    observed-parts limits own (EchoWanted m rloc nonce) steps count drawn (0 + drawn) now m ms rs o _ refl drawn (no_more drawn) (sym (other_wishes m _ _ o whole))
   where
     new : EchoWish
     new = record { moment = m; rloc = rloc; nonce = nonce }
@@ -277,9 +278,9 @@ wanted-parts own steps count drawn now ms rs o m rloc nonce =
 
 -- ### an SMR that was sent
 
-pub solicited-parts : (own : List OwnLocator) (steps count drawn now : ℕ) (ms : List Mapping) (rs : List Request) (o : Observed) (m : ℕ) (rloc : Addr) (eid : Eid) (nonce : ℕ) → parts_with own steps (count + 1) (drawn + 1) m (lasting m ms) (waiting m rs) (with_solicits m (solicited m rloc eid o.solicits) o) ≡ with_entry (Solicited m rloc eid nonce) (parts_with own steps count drawn now ms rs o)
-solicited-parts own steps count drawn now ms rs o m rloc eid nonce =
-    observed-parts own (Solicited m rloc eid nonce) steps count drawn (1 + drawn) now m ms rs o _ refl (drawn + 1) (first_more drawn) (sym (other_solicits m _ _ o whole))
+pub solicited-parts : (limits : List LimitItem) (own : List OwnLocator) (steps count drawn now : ℕ) (ms : List Mapping) (rs : List Request) (o : Observed) (m : ℕ) (rloc : Addr) (eid : Eid) (nonce : ℕ) → parts_with limits own steps (count + 1) (drawn + 1) m (lasting m ms) (waiting m rs) (with_solicits m (solicited m rloc eid o.solicits) o) ≡ with_entry (Solicited m rloc eid nonce) (parts_with limits own steps count drawn now ms rs o)
+solicited-parts limits own steps count drawn now ms rs o m rloc eid nonce =
+    observed-parts limits own (Solicited m rloc eid nonce) steps count drawn (1 + drawn) now m ms rs o _ refl (drawn + 1) (first_more drawn) (sym (other_solicits m _ _ o whole))
   where
     new : Solicitation
     new = record { moment = m; rloc = rloc; eid = eid }
@@ -296,8 +297,8 @@ was_kept (Ok u) spare ok memory some = ok
 was_kept (Err e) spare ok memory some = absurd (omega (arith, memory, some))
 
 -- an own locator goes up or down
-pub changed-parts : (own : List OwnLocator) (steps count drawn now : ℕ) (ms : List Mapping) (rs : List Request) (o : Observed) (m : ℕ) (address : Addr) (up : Bool) → parts_with (changing address up own) (steps + 1) (count + 1) drawn m (lasting m ms) (waiting m rs) (recent m o) ≡ with_entry (Changed m address up) (parts_with own steps count drawn now ms rs o)
-changed-parts own steps count drawn now ms rs o m address up =
-    ap₂ (λ (s n : ℕ). parts_with (changing address up own) s n drawn m (lasting m ms) (waiting m rs) (recent m o)) (first_more steps) (one_more count)
-    ∙ ap₂ (λ (d : ℕ) (a : List Mapping). parts_with (changing address up own) (1 + steps) (suc count) d m a (waiting m rs) (recent m o)) (no_more drawn) (sym (filter_map-all (lasting m ms)))
-    ∙ ap₂ (λ (b : List Request) (p : Observed). parts_with (changing address up own) (1 + steps) (suc count) (0 + drawn) m (filter_map (λ a. Some a) (lasting m ms)) b p) (sym (filter_map-all (waiting m rs))) (sym (still m o))
+pub changed-parts : (limits : List LimitItem) (own : List OwnLocator) (steps count drawn now : ℕ) (ms : List Mapping) (rs : List Request) (o : Observed) (m : ℕ) (address : Addr) (up : Bool) → parts_with limits (changing address up own) (steps + 1) (count + 1) drawn m (lasting m ms) (waiting m rs) (recent m o) ≡ with_entry (Changed m address up) (parts_with limits own steps count drawn now ms rs o)
+changed-parts limits own steps count drawn now ms rs o m address up =
+    ap₂ (λ (s n : ℕ). parts_with limits (changing address up own) s n drawn m (lasting m ms) (waiting m rs) (recent m o)) (first_more steps) (one_more count)
+    ∙ ap₂ (λ (d : ℕ) (a : List Mapping). parts_with limits (changing address up own) (1 + steps) (suc count) d m a (waiting m rs) (recent m o)) (no_more drawn) (sym (filter_map-all (lasting m ms)))
+    ∙ ap₂ (λ (b : List Request) (p : Observed). parts_with limits (changing address up own) (1 + steps) (suc count) (0 + drawn) m (filter_map (λ a. Some a) (lasting m ms)) b p) (sym (filter_map-all (waiting m rs))) (sym (still m o))

@@ -1,15 +1,11 @@
 -- What is found among mappings is found among them as decisions see them.
 use Rattle.std.proofs.Common.{◌≡◌, ℕ, max, ◌==◌, ◌||◌, nat_le, nat_lt, Bool, true, false, cond, List, [], ◌∷◌, length, map, filter, find, fold, Option, Some, None, is_some, option_map, refl, sym, ap, ◌∙◌}
-use Rattle.std.proofs.lemmas.List.{length-map}
 use Rattle.mapping_records.specs.Eids.{covers_prefix, longer, same_eid}
 use Rattle.mapping_records.specs.declared.eid.Eid.{Eid}
-use Rattle.mapping_records.specs.declared.record.Record.{Record}
 use Rattle.map_cache.specs.Cache as cache
 use Rattle.map_cache.specs.Cache.{lasting}
-use Rattle.map_cache.specs.declared.mapping.Mapping.{Mapping}
 use Rattle.request_queue.specs.Queue.{waiting}
 use Rattle.router_model.specs.Cache.{held_of}
-use Rattle.router_model.specs.Changes.{has_room}
 use Rattle.router_model.specs.Mappings.{Held, exact, force}
 use Rattle.router_model.specs.Parts.{Parts, view_in}
 
@@ -57,15 +53,6 @@ exact-seen p m eid = sym (find-map held_of (λ (held : Held). held.eid) (λ key.
 pub some-map : {A B : Type 0} (f : A → B) (o : Option A) → is_some (option_map f o) ≡ is_some o
 some-map f None = refl
 some-map f (Some a) = refl
-
--- the limits of the cache are those of the journal
-pub room-seen : (p : Parts) (m : ℕ) (mapping : Record) → cache.has_room mapping (lasting (max m p.now) p.mappings) ≡ has_room (view_in p m) mapping
-unfolding view_in
-room-seen p m mapping =
-    let ms : List Mapping = lasting (max m p.now) p.mappings in
-    let same : is_some (cache.exact ms mapping.eid) ≡ is_some (exact (map held_of ms) mapping.eid) = sym (ap is_some (find-map held_of (λ (held : Held). held.eid) (λ key. same_eid key mapping.eid) ms) ∙ some-map held_of _) in
-    ap (λ b. (mapping.ttl == 0) || (b || nat_lt (length ms) 65536)) same
-    ∙ ap (λ (n : ℕ). (mapping.ttl == 0) || (is_some (exact (map held_of ms) mapping.eid) || nat_lt n 65536)) (sym (length-map ms held_of))
 
 -- the requests and nonces of a view
 pub requests-seen : (p : Parts) (m : ℕ) → (view_in p m).requests ≡ waiting (max m p.now) p.requests

@@ -9,6 +9,7 @@ pub mod HeldLemmas
 pub mod HostLemmas
 pub mod IdleLemmas
 pub mod LengthLemmas
+pub mod LimitLemmas
 pub mod NotingLemmas
 pub mod OfferLemmas
 pub mod ProbeLemmas

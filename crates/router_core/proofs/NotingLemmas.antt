@@ -39,11 +39,11 @@ quiet-entered p q e entries changed after is quiet = ap (changed_seen q) quiet �
 
 module _ (settings : Settings) (m : ℕ) (p : Parts) (after : p.now ≤ m) (few : p.count < 2 ^ 62) where
   -- an entry that suits is entered
-  entered-so : (e : Entry) → IsOther m e → suits (view_in p m) e ≡ true → change_of (with_entry e p) (e ∷ []) [] ≡ entered table settings m e (unchanged p)
+  entered-so : (e : Entry) → IsOther m e → suits p.limits (view_in p m) e ≡ true → change_of (with_entry e p) (e ∷ []) [] ≡ entered table settings m e (unchanged p)
   entered-so e now suit = ap (λ (q : Parts). change_of q (e ∷ []) []) (sym (taken p m e now after few suit))
 
   -- and so it is where a test holds
-  entered-if : (e : Entry) (test : Bool) → IsOther m e → suits (view_in p m) e ≡ true → test ≡ true → change_of (with_entry e p) (e ∷ []) [] ≡ cond test (entered table settings m e (unchanged p)) (unchanged p)
+  entered-if : (e : Entry) (test : Bool) → IsOther m e → suits p.limits (view_in p m) e ≡ true → test ≡ true → change_of (with_entry e p) (e ∷ []) [] ≡ cond test (entered table settings m e (unchanged p)) (unchanged p)
   entered-if e test now suit is =
       entered-so e now suit ∙ sym (ap (λ b. cond b (entered table settings m e (unchanged p)) (unchanged p)) is)
 
@@ -126,9 +126,9 @@ module _ (settings : Settings) (m : ℕ) where
   pub noted-behind : (n : Notice) (p : Parts) (entries : List Entry) (emits : List Emit) → noted table settings m n (change_of p entries emits) ≡ behind entries emits (noted table settings m n (unchanged p))
   unfolding noted
   noted-behind (notice.Ask eid source) p entries emits =
-      if-behind p entries emits (is_missing settings (table.see p m) eid) _ _ refl
+      if-behind p entries emits (is_missing settings p.limits (table.see p m) eid) _ _ refl
   noted-behind (notice.Refresh eid) p entries emits =
-      if-behind p entries emits (is_learned (exact (table.see p m).mappings eid) && may_ask settings (table.see p m) eid) _ _ refl
+      if-behind p entries emits (is_learned (exact (table.see p m).mappings eid) && may_ask settings p.limits (table.see p m) eid) _ _ refl
   noted-behind (notice.Bits eid rloc bits width) p entries emits =
       if-behind p entries emits (is_news rloc bits width (exact (table.see p m).mappings eid)) _ _ (quiet-behind p entries emits _ _)
   noted-behind (notice.EchoWanted rloc nonce) p entries emits =

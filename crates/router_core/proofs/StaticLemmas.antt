@@ -1,8 +1,9 @@
 -- The table of the static mappings, one mapping after another.
-use Rattle.std.proofs.Common.{◌≡◌, ℕ, suc, ◌<◌, ◌≤◌, ◌==◌, ◌||◌, not, nat_lt, Bool, true, false, cond, IsTrue, List, [], ◌∷◌, ◌++◌, length, ◌+◌, map, filter, is_some, is_lt, refl, sym, ap, subst, ◌∙◌, arith}
+use Rattle.std.proofs.Common.{◌≡◌, ℕ, suc, ◌<◌, ◌≤◌, ◌==◌, ◌||◌, ◌&&◌, not, nat_lt, Bool, true, false, cond, IsTrue, List, [], ◌∷◌, ◌++◌, length, ◌+◌, map, filter, is_some, is_lt, refl, sym, ap, subst, ◌∙◌, arith}
 use Rattle.std.proofs.lemmas.Bool.Decides.{nat_tests}
 use Rattle.std.proofs.lemmas.List.{map-append}
 use Rattle.std.proofs.lemmas.List.Sums.{count_by-le-length, length-filter}
+use Rattle.lisp_settings.specs.declared.settings.LimitItem.{LimitItem}
 use Rattle.lisp_settings.specs.declared.settings.Settings.{Settings}
 use Rattle.mapping_records.specs.Eids.{same_eid}
 use Rattle.mapping_records.specs.Orders.{eid_order, put_in_order}
@@ -66,13 +67,13 @@ static-few mapping p =
     same m = same_eid m.eid mapping.eid
 
 -- below the limit there is place
-pub static-place : (mapping : Record) (ms : List Mapping) → length ms < 65536 → IsTrue (has_room mapping (lasting 0 ms))
-static-place mapping ms few = by (mapping.ttl == 0) (is_some (exact (lasting 0 ms) mapping.eid)) (nat_lt (length (lasting 0 ms)) 65536) (below (length (lasting 0 ms)) (let less = left-few (lasts 0) ms in omega (arith, less, few)))
+pub static-place : (limits : List LimitItem) (mapping : Record) (ms : List Mapping) → length ms < 65536 → IsTrue (has_room limits mapping true (lasting 0 ms))
+static-place limits mapping ms few = by (mapping.ttl == 0) (is_some (exact (lasting 0 ms) mapping.eid)) (nat_lt (length (lasting 0 ms)) 65536) (below (length (lasting 0 ms)) (let less = left-few (lasts 0) ms in omega (arith, less, few)))
   where
     below : (n : ℕ) → n < 65536 → nat_lt n 65536 ≡ true
     below n less = grind (arith, nat_tests)
 
-    by : (a b c : Bool) → c ≡ true → IsTrue (a || (b || c))
+    by : (a b c : Bool) → c ≡ true → IsTrue (a || (b || (c && true)))
     by true b c is = refl
     by false true c is = refl
-    by false false c is = is
+    by false false c is = rw is refl

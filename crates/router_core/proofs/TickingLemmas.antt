@@ -37,7 +37,7 @@ retried-change settings m r p entries emits after few owed =
     ap (λ (q : Parts). change_of q (entries ++ Retried m r.nonce ∷ []) (emits ++ emit.Request r.eid r.source r.invoked r.nonce ∷ []))
     (sym (taken p m (Retried m r.nonce) (refl, λ own steps. refl) after few suit))
   where
-    suit : suits (view_in p m) (Retried m r.nonce) ≡ true
+    suit : suits p.limits (view_in p m) (Retried m r.nonce) ≡ true
     suit = ap (λ l. may_retry (with_nonce l r.nonce)) (requests-now p m after) ∙ ap may_retry owed.found ∙ owed.again
 
 -- it may be handed to the queue

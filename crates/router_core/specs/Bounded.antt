@@ -1,12 +1,14 @@
 -- What a table keeps fits the headers that are made of it, and keeps to a size.
-use Rattle.std.specs.Prelude.{◌≤◌, ◌<◌, ◌+◌, ◌*◌, ◌^◌, ℕ, List, All}
+use Rattle.std.specs.Prelude.{◌≡◌, ◌≤◌, ◌<◌, ◌+◌, ◌*◌, ◌^◌, ℕ, List, All, count_by}
+use Rattle.lisp_settings.specs.Instances.{all_mappings, mappings_in}
+use Rattle.lisp_settings.specs.declared.settings.LimitItem.{LimitItem}
 use Rattle.locator_state.specs.Observed.{Located, Observed, longest}
 use Rattle.locator_state.specs.Limits.{most_probes, most_reserved as most_reserved_probes}
-use Rattle.map_cache.specs.Cache.{Cache}
+use Rattle.map_cache.specs.Cache.{Cache, learned_in}
 use Rattle.map_cache.specs.Limits.{most_locators, most_mappings}
 use Rattle.map_cache.specs.declared.mapping.Mapping.{Mapping}
 use Rattle.request_queue.specs.Queue.{Queue}
-use Rattle.request_queue.specs.Limits.{most_requests, most_reserved as most_reserved_requests}
+use Rattle.request_queue.specs.Limits.{most_open, most_reserved as most_reserved_requests}
 use Rattle.router_model.specs.Limits.{most_message_records}
 use Rattle.router_log.specs.declared.kept.EchoOut.{EchoOut}
 use Rattle.router_log.specs.declared.kept.EchoOut.TheVariants.{Plain, Answer, Ask}
@@ -48,7 +50,20 @@ most_kept = 12000000
 -- and what is reserved at once: all mappings of a reply, requests, probes
 pub record AreBounded (cache : Cache) (queue : Queue) (located : Located) (own_count : ℕ) : Type 0 where
   pub mappings : cache.mapping_places ≤ most_mappings + most_message_records
-  pub requests : queue.places ≤ 2 * (most_requests + most_reserved_requests)
+  pub requests : queue.places ≤ 2 * (most_open + most_reserved_requests)
   pub probes : located.places ≤ 2 * (most_probes + most_reserved_probes)
   pub longest : longest located.observed ≤ most_probes
   pub own : own_count ≤ most_locators
+
+-- ### limits of instances
+
+-- no instance has learned more than its limit, and the fixed mappings and all limits are no more than may live
+pub record KeepLimits (limits : List LimitItem) (mappings : List Mapping) : Type 0 where
+  pub each : (iid : ℕ) → learned_in iid mappings ≤ mappings_in limits iid
+  pub all : count_by (λ mapping. mapping.fixed) mappings + all_mappings limits ≤ most_mappings
+
+-- cache and queue have the limits of the table, and the mappings keep to them
+pub record AreLimited (limits : List LimitItem) (cache : Cache) (queue : Queue) : Type 0 where
+  pub mappings : cache.limits ≡ limits
+  pub requests : queue.limits ≡ limits
+  pub keeps : KeepLimits limits cache.mappings

@@ -3,9 +3,8 @@ ghost use Rattle.router_model.specs.Standing.{may_change};
 ghost use Rattle.std.specs.Prelude.{◌≡◌, ◌<◌, ◌==◌, ◌||◌, ◌&&◌, ◌^◌, nat_le, nat_lt, is_some, length};
 ghost use Rattle.std.specs.Option.{option_copied};
 ghost use Rattle.request_queue.specs.Queue.{with_nonce};
-ghost use Rattle.router_model.specs.Changes.{has_room};
 ghost use Rattle.router_model.specs.Journal.{moment_of};
-ghost use Rattle.router_model.specs.Limits.{most_probes, most_requests};
+ghost use Rattle.router_model.specs.Limits.{most_probes};
 ghost use Rattle.router_model.specs.Mappings.{exact};
 ghost use Rattle.router_model.specs.Parts.{admits, view_in};
 ghost use Rattle.router_model.specs.Proper.{is_in_range, is_short, may_retry, suits};
@@ -54,7 +53,8 @@ impl Table {
 
     // The entry suits what is seen at its moment.
     fn suits(&self, entry: &Entry) -> bool
-        ensures { result ≡ suits (view_in self.now.parts (moment_of entry.now)) entry.now }
+        ensures { result ≡ suits self.now.parts.limits
+            (view_in self.now.parts (moment_of entry.now)) entry.now }
     {
         match entry {
             Entry::Learned {
@@ -62,7 +62,7 @@ impl Table {
                 mapping,
                 fixed,
             } => !*fixed && (is_in_range(mapping) && self.has_room(*moment, mapping)),
-            Entry::Asked { moment, .. } => self.few_requests(*moment),
+            Entry::Asked { moment, eid, .. } => self.may_open(*moment, eid.iid),
             Entry::Retried { moment, nonce } => self.may_retry(*moment, *nonce),
             Entry::Answered { moment, nonce } => self.open_request(*moment, *nonce).is_some(),
             Entry::Bits {

@@ -1,13 +1,15 @@
 // An entry, taken as it is.
 ghost use Rattle.std.specs.Prelude.{◌≡◌, ◌<◌, ◌≤◌, ◌∷◌, ◌^◌, true, false, length, IsTrue, OnErr, OnOk};
 ghost use Rattle.lisp_settings.specs.declared.settings.Settings.{Settings as SettingsValue};
-ghost use Rattle.map_cache.specs.Cache.{has_room, lasting};
-ghost use Rattle.request_queue.specs.Queue.{waiting};
+ghost use Rattle.lisp_settings.specs.Instances.{requests_in};
+ghost use Rattle.map_cache.specs.Cache.{has_room, lasting, learned};
+ghost use Rattle.request_queue.specs.Queue.{open_in, waiting};
 ghost use Rattle.router_log.specs.declared.entry.Entry.TheVariants.{Asked, EchoStarted, EchoWanted, Learned, Probed, Solicited};
 ghost use Rattle.router_model.specs.Journal.{Journal};
-ghost use Rattle.router_model.specs.Limits.{most_locators, most_probes, most_requests};
+ghost use Rattle.router_model.specs.Limits.{most_locators, most_probes};
 ghost use Rattle.router_model.specs.Parts.{Stands, absorbed, admits, view_in, with_entry};
 ghost use Rattle.router_model.specs.Proper.{fits};
+ghost use Rattle.router_core.specs.Bounded.{KeepLimits};
 ghost use Rattle.router_core.specs.Steps.{IsTaken, MayEnter};
 
 use crate::Table;
@@ -29,6 +31,7 @@ impl Table {
             → Stands settings self.new.parts (entry.now ∷ journal)) }
         ensures err { OnErr result (self.new.parts ≡ self.old.parts) }
     {
+        self.keeps_its_limits();
         match entry {
             Entry::Learned {
                 moment,
@@ -108,7 +111,10 @@ impl Table {
         requires may { MayEnter 1 m self.old.parts }
         requires locators { length mapping.now.locators ≤ most_locators }
         requires version { mapping.now.version ≤ 4095 }
-        requires place { IsTrue (has_room mapping.now (lasting m self.old.parts.mappings)) }
+        requires place { IsTrue (has_room self.old.parts.limits mapping.now false
+            (lasting m self.old.parts.mappings)) }
+        requires keeps { KeepLimits self.old.parts.limits
+            (learned m mapping.now false self.old.parts.mappings) }
         ensures taken { IsTaken (Learned m mapping.now false) self.old.parts self.new.parts result }
     {
         let mapping = copied(self.alloc, mapping)?;
@@ -127,7 +133,8 @@ impl Table {
         nonce: u64,
     ) -> Result<(), NoMemory>
         requires may { MayEnter 1 m self.old.parts }
-        requires place { length (waiting m self.old.parts.requests) < most_requests }
+        requires place { open_in eid.iid (waiting m self.old.parts.requests)
+            < requests_in self.old.parts.limits eid.iid }
         ensures taken { IsTaken (Asked m eid source invoked nonce) self.old.parts self.new.parts result }
     {
         self.reserve_requests(1)?;

@@ -1,8 +1,8 @@
 // Requests for mappings: when one may be made, and how.
-ghost use Rattle.std.specs.Prelude.{◌≡◌, ◌<◌, nat_lt, length, is_some, IsTrue, IfOk};
-ghost use Rattle.request_queue.specs.Queue.{waiting};
-ghost use Rattle.router_model.specs.Changes.{asked, may_ask, unchanged};
-ghost use Rattle.router_model.specs.Limits.{most_requests};
+ghost use Rattle.std.specs.Prelude.{◌≡◌, ◌<◌, IfOk};
+ghost use Rattle.lisp_settings.specs.Instances.{requests_in};
+ghost use Rattle.request_queue.specs.Queue.{open_in, waiting};
+ghost use Rattle.router_model.specs.Changes.{asked, may_ask, may_open, unchanged};
 ghost use Rattle.router_model.specs.Parts.{table, view_in};
 ghost use Rattle.router_core.specs.Steps.{AreSent, IsStep, MayStep};
 ghost use Rattle.router_core.specs.Table.{changed_seen};
@@ -14,28 +14,27 @@ use ip_headers::Addr;
 use mapping_records::Eid;
 use node_store::Reads;
 use octets::NoMemory;
-use request_queue::MOST_REQUESTS;
 use router_log::{Emit, Entry};
 
 impl Table {
     /// The resolver is reached, no open request covers the EID, and there is room for one more.
     #[tactic(auto, unfolding(router_model::specs::Parts::view_in))]
     pub(crate) fn may_ask(&self, site: &Site<'_>, m: u64, eid: &Eid) -> bool
-        ensures { result ≡ may_ask site.now (view_in self.now.parts m) eid.now }
+        ensures { result ≡ may_ask site.now self.now.parts.limits (view_in self.now.parts m)
+            eid.now }
     {
         site.reaches_resolver()
             && !self
                 .queue
                 .open_for(self.moment_at(m), eid, &mut Reads::new())
-            && self.few_requests(m)
+            && self.may_open(m, eid.iid)
     }
 
-    /// There is room for one more request.
-    #[tactic(auto, unfolding(router_model::specs::Parts::view_in))]
-    pub(crate) fn few_requests(&self, m: u64) -> bool
-        ensures { result ≡ nat_lt (length (view_in self.now.parts m).requests) most_requests }
+    /// There is room for one more request for an EID of an instance.
+    pub(crate) fn may_open(&self, m: u64, iid: u32) -> bool
+        ensures { result ≡ may_open self.now.parts.limits (view_in self.now.parts m) iid }
     {
-        (self.queue.open_count(self.moment_at(m)) as usize) < MOST_REQUESTS
+        self.queue.has_place_in(self.moment_at(m), iid)
     }
 
     /// Makes a request with the next nonce.
@@ -48,7 +47,8 @@ impl Table {
         invoked: bool,
     ) -> Result<Changed, NoMemory>
         requires may { MayStep m self.old.parts }
-        requires place { length (waiting m self.old.parts.requests) < most_requests }
+        requires place { open_in eid.iid (waiting m self.old.parts.requests)
+            < requests_in self.old.parts.limits eid.iid }
         ensures parts { IfOk result (λ changed. changed_seen self.new.parts changed
             ≡ asked table site.now m eid source invoked (unchanged self.old.parts)) }
         ensures sent { IfOk result (λ changed. AreSent site.now 1 changed.emits) }

@@ -15,11 +15,13 @@ impl Table {
         ensures { IfOk result (λ copy. copy ≡ self.now) }
     {
         let own = copied_own(self.alloc, self.own.as_slice())?;
+        let limits = self.limits.copy(self.alloc)?;
         let (cache, queue, locators) = all_copied(&self.cache, &self.queue, &self.locators)?;
         Ok(Table {
             alloc: self.alloc,
             own,
             steps: self.steps,
+            limits,
             count: self.count,
             drawn: self.drawn,
             cache,

@@ -1,16 +1,16 @@
 // What a Map-Reply teaches.
 ghost use Rattle.std.specs.Prelude.{◌≡◌, ◌<◌, ◌≤◌, ◌+◌, ◌&&◌, ◌||◌, nat_lt, max, is_some, [], Some, not, length, map, IfOk, vec_len, vec_capacity};
-ghost use Rattle.map_cache.specs.Cache.{exact, lasting};
 ghost use Rattle.std.specs.List.{All, list_any};
 ghost use Rattle.std.specs.List.Sorted.{IsStrictlySortedBy};
+ghost use Rattle.lisp_settings.specs.Instances.{mappings_in};
 ghost use Rattle.map_messages.specs.Range.{InRangeReply};
 ghost use Rattle.mapping_records.specs.Record.{InRange};
 ghost use Rattle.request_queue.specs.Queue.{waiting, with_nonce};
-ghost use Rattle.router_model.specs.Changes.{each, has_room, unchanged};
+ghost use Rattle.router_model.specs.Changes.{each, has_room, learned_in, unchanged};
 ghost use Rattle.router_model.specs.Hear.{is_asked_for, is_fit, is_static, replied_to, taught};
 ghost use Rattle.mapping_records.specs.Eids.{same_eid};
 ghost use Rattle.mapping_records.specs.Orders.{eid_order};
-ghost use Rattle.router_model.specs.Limits.{most_heard, most_mappings};
+ghost use Rattle.router_model.specs.Limits.{most_heard};
 ghost use Rattle.router_model.specs.Parts.{table, view_in};
 ghost use Rattle.router_core.specs.Site.{IsSite};
 ghost use Rattle.router_core.specs.Copies.{all_copies, copies_of};
@@ -21,10 +21,8 @@ use crate::copies::{Copies, all_copies};
 use crate::grounds::Grounds;
 use crate::site::Site;
 use crate::{Heard, Table};
-use map_cache::MOST_MAPPINGS;
 use map_messages::MapReply;
 use mapping_records::{Eid, Record};
-use node_store::Reads;
 use octets::{Items, NoMemory};
 use request_queue::Request;
 use router_log::{Done, Entry, Reason, Verdict};
@@ -133,6 +131,7 @@ impl Table {
         if !self.is_taken(grounds, mapping) {
             return;
         }
+        self.keeps_its_limits();
         self.learn(grounds.m, copies.kept, false);
         entries.push_reserved(Entry::Learned {
             moment: grounds.m,
@@ -146,29 +145,31 @@ impl Table {
         requires { IsSite grounds.now.site.now }
         ensures { result ≡ (is_asked_for grounds.now.asked.now grounds.now.mappings.now mapping.now
             && (not (is_static grounds.now.site.now mapping.now)
-            && has_room (view_in self.now.parts grounds.now.m) mapping.now)) }
+            && has_room self.now.parts.limits (view_in self.now.parts grounds.now.m)
+            mapping.now)) }
     {
         is_asked_for(grounds.asked, grounds.mappings, mapping)
             && !is_static(grounds.site, mapping)
             && self.has_room(grounds.m, mapping)
     }
 
-    /// The mapping may be learned: it takes one away, replaces one, or is within the limit.
+    /// The mapping may be learned: in place of one that isn't fixed, or where there is none it takes
+    /// none away, or is within the limit of its instance.
     pub(crate) fn has_room(&self, m: u64, mapping: &Record) -> bool
-        ensures { result ≡ has_room (view_in self.now.parts m) mapping.now }
+        ensures { result ≡ has_room self.now.parts.limits (view_in self.now.parts m) mapping.now }
     {
-        mapping.ttl == 0 || self.has_place(m, &mapping.eid)
+        match self.exact(m, &mapping.eid) {
+            Some(live) => !live.fixed,
+            None => mapping.ttl == 0 || self.may_learn(m, mapping.eid.iid),
+        }
     }
 
-    // A mapping of the EID is live, or there are fewer than the limit. They are counted first: where
-    // there are fewer, no mapping has to be looked up, which learning does again.
-    fn has_place(&self, m: u64, eid: &Eid) -> bool
-        ensures { let mappings = lasting (max m self.now.parts.now) self.now.parts.mappings in
-            result ≡ (is_some (exact mappings eid.now) || nat_lt (length mappings) most_mappings) }
+    // There is room for one more mapping of an instance.
+    fn may_learn(&self, m: u64, iid: u32) -> bool
+        ensures { result ≡ nat_lt (learned_in iid (view_in self.now.parts m).mappings)
+            (mappings_in self.now.parts.limits iid) }
     {
-        let now = self.moment_at(m);
-        (self.cache.live_count(now) as usize) < MOST_MAPPINGS
-            || self.cache.exact(now, eid, &mut Reads::new()).is_some()
+        self.cache.has_place_in(self.moment_at(m), iid)
     }
 }
 

@@ -146,7 +146,8 @@ impl Table {
     // The EID may be asked for, and has no mapping by which packets go. While a request for it waits,
     // which is so for each packet behind the first, its mapping isn't looked up a second time.
     fn is_missing(&self, site: &Site<'_>, m: u64, eid: &Eid) -> bool
-        ensures { result ≡ is_missing site.now (view_in self.now.parts m) eid.now }
+        ensures { result ≡ is_missing site.now self.now.parts.limits (view_in self.now.parts m)
+            eid.now }
     {
         self.may_ask(site, m, eid) && self.is_wanting(m, eid)
     }

@@ -42,7 +42,8 @@ impl Table {
     // The EID has a learned mapping of its own, and may be asked for.
     fn may_renew(&self, site: &Site<'_>, m: u64, eid: &Eid) -> bool
         ensures { result ≡ (is_learned (exact (view_in self.now.parts m).mappings eid.now)
-            && may_ask site.now (view_in self.now.parts m) eid.now) }
+            && may_ask site.now self.now.parts.limits (view_in self.now.parts m)
+            eid.now) }
     {
         self.is_learned(m, eid) && self.may_ask(site, m, eid)
     }

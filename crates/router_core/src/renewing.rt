@@ -152,7 +152,7 @@ impl Table {
 
     // The EID of the mapping in force, if that was learned and may be asked for again.
     fn renewable(&self, site: &Site<'_>, m: u64, eid: &Eid) -> Option<Eid>
-        ensures { result ≡ renewable site.now (view_in self.now.parts m)
+        ensures { result ≡ renewable site.now self.now.parts.limits (view_in self.now.parts m)
             (force (view_in self.now.parts m).mappings eid.now.iid eid.now.prefix.addr
             eid.now.prefix.len) }
     {

@@ -4,7 +4,7 @@ ghost use Rattle.lisp_settings.specs.declared.settings.Settings.{Settings as Set
 ghost use Rattle.request_queue.specs.Queue.{all_due, waiting};
 ghost use Rattle.router_log.specs.declared.entry.Entry.TheVariants.{Retried};
 ghost use Rattle.router_model.specs.Changes.{each};
-ghost use Rattle.router_model.specs.Limits.{most_requests};
+ghost use Rattle.router_model.specs.Limits.{most_open};
 ghost use Rattle.router_model.specs.Parts.{table, with_entry};
 ghost use Rattle.router_model.specs.Tick.{retried, retried_where};
 ghost use Rattle.router_model.specs.Site.{reaches_resolver};
@@ -23,7 +23,7 @@ impl Table {
     /// The requests that are due, in asking order.
     pub(crate) fn due_requests(&self, m: u64) -> Result<Vec<Request>, NoMemory>
         ensures items { IfOk result (λ due. due.items ≡ all_due m self.now.parts.requests) }
-        ensures few { IfOk result (λ due. vec_len due ≤ most_requests) }
+        ensures few { IfOk result (λ due. vec_len due ≤ most_open) }
         ensures owed { IfOk result (λ due.
             AreOwed (waiting m self.now.parts.requests) due.items) }
     {

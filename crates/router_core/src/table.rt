@@ -1,16 +1,17 @@
 // A table: what a router remembers of its journal.
 ghost use Rattle.std.specs.Prelude.{◌≡◌, ◌<◌, ◌≤◌, ◌+◌, true, All, [], length, map, IfOk, OnOk};
+ghost use Rattle.lisp_settings.specs.Instances.{all_mappings, limits_in};
 ghost use Rattle.lisp_settings.specs.Lawful.{IsLawful, IsLawfulMapping};
 ghost use Rattle.lisp_settings.specs.declared.settings.Settings.{Settings as SettingsValue};
 ghost use Rattle.router_log.specs.declared.entry.Entry.TheVariants.{Learned};
 ghost use Rattle.router_model.specs.Journal.{extended, statics};
 ghost use Rattle.router_model.specs.Limits.{most_locators, most_mappings};
 ghost use Rattle.router_model.specs.Parts.{Stands, parts_in, own_of, standing_in};
-ghost use Rattle.router_core.specs.Bounded.{most_kept};
+ghost use Rattle.router_core.specs.Bounded.{KeepLimits, most_kept};
 
 use crate::copies::{copied, copied_own};
 use crate::site::{Site, own_bits};
-use lisp_settings::{OwnLocator, Settings};
+use lisp_settings::{Limits, OwnLocator, Settings, limits_of};
 use locator_state::LocatorState;
 use map_cache::MapCache;
 use mapping_records::Record;
@@ -28,6 +29,8 @@ pub struct Table {
     // Those of the settings that it is for, as they stand, and how often that changed.
     pub(crate) own: Vec<OwnLocator>,
     pub(crate) steps: u32,
+    // Of instances.
+    pub(crate) limits: Limits,
     // The entries of the journal, and those of them that used a nonce.
     pub(crate) count: u64,
     pub(crate) drawn: u64,
@@ -42,7 +45,7 @@ impl Model for Table {
     ghost use Rattle.std.specs.Prelude.{◌≤◌, ◌+◌, length};
     ghost use Rattle.router_core.specs.Resting.{IsAtRest};
     ghost use Rattle.router_core.specs.Table.{TableSeen};
-    ghost use Rattle.router_core.specs.Bounded.{AreBounded, AreShort, AreVersioned};
+    ghost use Rattle.router_core.specs.Bounded.{AreBounded, AreLimited, AreShort, AreVersioned};
 
     ghost Value = { TableSeen };
 
@@ -56,6 +59,7 @@ impl Model for Table {
         mappings = table.cache.mappings;
         requests = table.queue.requests;
         observed = table.locators.observed;
+        limits = table.limits;
       };
       mapping_room = table.cache.spare;
       request_room = table.queue.spare;
@@ -64,7 +68,8 @@ impl Model for Table {
       wish_room = table.locators.wish_room;
       solicit_room = table.locators.solicit_room;
       kept = table.cache.kept
-          + (table.queue.kept + (table.locators.kept + length table.own.items));
+          + (table.queue.kept + (table.locators.kept
+          + (length table.own.items + length table.limits)));
     } };
 
     ghost invariant = { λ table. (table.drawn ≤ table.count)
@@ -72,7 +77,8 @@ impl Model for Table {
         table.cache.mappings
         × AreVersioned table.cache.mappings
         × AreShort table.locators.observed
-        × AreBounded table.cache table.queue table.locators (length table.own.items) };
+        × AreBounded table.cache table.queue table.locators (length table.own.items)
+        × AreLimited table.limits table.cache table.queue };
 }
 
 impl Table {
@@ -94,28 +100,34 @@ impl Table {
             ≡ parts_in settings.now (statics settings.now)) }
     {
         let own = copied_own(alloc, settings.locators.as_slice())?;
-        let mut table = Table::empty(alloc, own);
+        let limits = limits_of(alloc, settings)?;
+        let mut table = Table::empty(alloc, own, limits)?;
         table.begin(settings)?;
         Ok(table)
     }
 
     // For a journal without entries.
-    fn empty(alloc: Global, own: Vec<OwnLocator>) -> Table
+    fn empty(alloc: Global, own: Vec<OwnLocator>, limits: Limits) -> Result<Table, NoMemory>
         requires { length own.items ≤ most_locators }
-        ensures { (settings : SettingsValue) → own.items ≡ settings.locators
-            → result.parts ≡ parts_in settings [] }
+        ensures { IfOk result (λ table. (settings : SettingsValue) → own.items ≡ settings.locators
+            → limits ≡ limits_in settings → table.parts ≡ parts_in settings []) }
     {
-        Table {
+        // Limits say that there are no more in all than may live.
+        let _ = limits.as_slice();
+        let cache = MapCache::new(alloc, &limits)?;
+        let queue = RequestQueue::new(alloc, &limits)?;
+        Ok(Table {
             alloc,
             own,
             steps: 0,
             count: 0,
             drawn: 0,
-            cache: MapCache::new(alloc),
-            queue: RequestQueue::new(alloc),
+            limits,
+            cache,
+            queue,
             locators: LocatorState::new(alloc),
             rest: 0,
-        }
+        })
     }
 
     // Makes room for so many static mappings, where there is none yet.
@@ -140,12 +152,12 @@ impl Table {
         self.learn_statics(mappings)
     }
 
-    // Learns static mappings, for which there is room, where there was no entry yet.
+    // Learns static mappings, for which there is room beside the limits, where there was no entry yet.
     fn learn_statics(&mut self, mappings: &[Record]) -> Result<(), NoMemory>
         requires now { self.old.parts.now ≡ 0 }
         requires count { self.old.parts.count ≡ 0 }
         requires none { self.old.parts.mappings ≡ [] }
-        requires few { length mappings.now ≤ most_mappings }
+        requires few { length mappings.now + all_mappings self.old.parts.limits ≤ most_mappings }
         requires lawful { All IsLawfulMapping mappings.now }
         requires room { length mappings.now ≤ self.old.mapping_room }
         ensures { OnOk result ((settings : SettingsValue) → self.old.parts ≡ parts_in settings []
@@ -154,6 +166,7 @@ impl Table {
     {
         for mapping in mappings {
             let mapping = copied(self.alloc, mapping)?;
+            self.keeps_its_limits();
             self.learn(0, mapping, true);
         }
         Ok(())
@@ -189,6 +202,15 @@ impl Table {
         ensures { result ≡ standing_in settings.now self.now.parts }
     {
         Site::of(settings, self.own())
+    }
+
+    /// Law: no instance has learned more than its limit, and the fixed mappings and all limits are no
+    /// more than may live.
+    pub(crate) fn keeps_its_limits(&self)
+        ensures { KeepLimits self.now.parts.limits self.now.parts.mappings }
+    {
+        // The table says so of its limits.
+        let _ = self.limits.as_slice();
     }
 
     /// Law: however long the capture is, all lists of a table have at most

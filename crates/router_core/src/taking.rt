@@ -2,11 +2,13 @@
 ghost use Rattle.mapping_records.specs.Eids.{same_address};
 ghost use Rattle.router_model.specs.Standing.{changing};
 ghost use Rattle.std.specs.Prelude.{◌≡◌, ◌<◌, ◌≤◌, ◌+◌, ◌^◌, ◌≢◌, IsTrue, length, if◌then◌else◌};
-ghost use Rattle.map_cache.specs.Cache.{has_room, lasting};
-ghost use Rattle.request_queue.specs.Queue.{may_send_again, waiting};
+ghost use Rattle.map_cache.specs.Cache.{has_room, lasting, learned};
+ghost use Rattle.lisp_settings.specs.Instances.{requests_in};
+ghost use Rattle.request_queue.specs.Queue.{may_send_again, open_in, waiting};
 ghost use Rattle.router_log.specs.declared.entry.Entry.TheVariants.{Answered, Asked, Bits, Changed, DataFrom, EchoHeard, EchoStarted, EchoWanted, Learned, ProbeAnswered, Probed, Retried, Solicited};
-ghost use Rattle.router_model.specs.Limits.{most_changes, most_locators, most_probes, most_requests};
+ghost use Rattle.router_model.specs.Limits.{most_changes, most_locators, most_probes};
 ghost use Rattle.router_model.specs.Parts.{view_in, with_entry};
+ghost use Rattle.router_core.specs.Bounded.{KeepLimits};
 ghost use Rattle.router_core.specs.Steps.{MayEnter};
 
 use crate::Table;
@@ -22,7 +24,10 @@ impl Table {
         requires locators { length mapping.locators ≤ most_locators }
         requires version { mapping.version ≤ 4095 }
         requires fixed { IsTrue fixed → mapping.ttl ≢ 0 }
-        requires place { IsTrue (has_room mapping (lasting m self.old.parts.mappings)) }
+        requires place { IsTrue (has_room self.old.parts.limits mapping fixed
+            (lasting m self.old.parts.mappings)) }
+        requires keeps { KeepLimits self.old.parts.limits
+            (learned m mapping fixed self.old.parts.mappings) }
         requires room { 0 < self.old.mapping_room }
         ensures parts { self.new.parts ≡ with_entry (Learned m mapping fixed) self.old.parts }
         ensures mapping_room { self.old.mapping_room ≤ self.new.mapping_room + 1 }
@@ -40,7 +45,8 @@ impl Table {
     /// Takes the entry of a request that was made, for which there is room.
     pub(crate) fn ask(&mut self, m: u64, eid: Eid, source: Option<Addr>, invoked: bool, nonce: u64)
         requires may { MayEnter 1 m self.old.parts }
-        requires place { length (waiting m self.old.parts.requests) < most_requests }
+        requires place { open_in eid.iid (waiting m self.old.parts.requests)
+            < requests_in self.old.parts.limits eid.iid }
         requires room { 0 < self.old.request_room }
         ensures parts { self.new.parts
             ≡ with_entry (Asked m eid source invoked nonce) self.old.parts }

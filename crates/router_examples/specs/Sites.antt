@@ -94,6 +94,7 @@ static_site = record {
   databases = database (eid 0 (V4 0x0a010000) 16 refl refl) ∷ [];
   mappings = mapping 1440 wide_of_0 (locator far ∷ []) ∷ [];
   changes = [];
+  limits = [];
 }
 
 -- that site, its EIDs and its mapping with versions

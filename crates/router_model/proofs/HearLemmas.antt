@@ -3,6 +3,7 @@ use Rattle.std.proofs.Common.{◌≡◌, ℕ, suc, ◌+◌, ◌≤◌, ◌==◌,
 use Rattle.std.specs.List.{list_all}
 use Rattle.std.proofs.lemmas.Bool.Decides.{nat_tests}
 use Rattle.std.proofs.lemmas.List.{length-take}
+use Rattle.std.proofs.lemmas.Option.{same_Some}
 use Rattle.octets.specs.Rules.{first_failing}
 use Rattle.octets.specs.declared.refused.Refused.{Refused}
 use Rattle.ip_headers.specs.Udp.{payload_in, sum_rules}
@@ -15,6 +16,7 @@ use Rattle.map_messages.specs.declared.message.MapReply.{MapReply}
 use Rattle.map_messages.specs.declared.message.MapRequest.{MapRequest}
 use Rattle.map_messages.specs.declared.message.Message.{Message}
 use Rattle.map_messages.specs.declared.message.Message.TheVariants as message
+use Rattle.lisp_settings.specs.Instances.{limits_in}
 use Rattle.lisp_settings.specs.declared.settings.OwnLocator.{OwnLocator}
 use Rattle.lisp_settings.specs.declared.settings.Settings.{Settings}
 use Rattle.request_queue.specs.Queue.{with_nonce}
@@ -24,7 +26,7 @@ use Rattle.router_log.specs.declared.verdict.Done.TheVariants.{ProbeReply}
 use Rattle.router_log.specs.declared.verdict.Reason.{Reason}
 use Rattle.router_log.specs.declared.verdict.Reason.TheVariants as reason
 use Rattle.router_log.specs.declared.verdict.Reason.TheVariants.{Foreign, NotOurs, NotTunnel, Unexpected, Unfit, Unsolicited}
-use Rattle.router_model.specs.Changes.{Change, each, entered, has_room, journal as of_journal, may_ask, seen}
+use Rattle.router_model.specs.Changes.{Change, each, entered, has_room, journal as of_journal, may_ask, may_open, seen}
 use Rattle.router_model.specs.Course.{Course, Control, Datagram, course_of}
 use Rattle.router_model.specs.Hear.{Asker, Heard, Path, Range, Route, answered, answering, asked_again, carried, counted, course_heard, datagram_heard, drops, is_asked_for, is_fit, is_static, payload_heard, probe_replied, ranges_of, read_heard, renewable, renewed, replied, replied_to, reply_heard, reply_of, reply_path, requested, route_of, shortened, takes, tallied, taught, unless_refused}
 use Rattle.router_model.specs.Journal.{Journal}
@@ -70,7 +72,7 @@ module _ (settings : Settings) (locators : List OwnLocator) (steps m : ℕ) wher
 
   taught-alike : (asked : Eid) (mappings : List Record) (more : ℕ) (mapping : Record) (change : Change Journal) → is_bounded mapping ≡ true → Ready settings m (suc more) change.after → Goes settings m more (taught table stands m asked mappings mapping (tabled settings change)) (taught of_journal stands m asked mappings mapping change)
   taught-alike asked mappings more mapping change bounded ready =
-      goes-if settings m more change (λ v. is_asked_for asked mappings mapping && (not (is_static stands mapping) && has_room v mapping)) _ _ ready
+      goes-if settings m more change (λ v. is_asked_for asked mappings mapping && (not (is_static stands mapping) && has_room (limits_in settings) v mapping)) _ _ ready
       (λ is. goes-entered settings m more change (entry.Learned m (shortened mapping) false) ready refl refl
       (rw (bounded-range mapping bounded) (and_both (not (is_static stands mapping)) _ (and_both (is_asked_for asked mappings mapping) _ is).1).1) refl)
 
@@ -122,24 +124,24 @@ module _ (settings : Settings) (locators : List OwnLocator) (steps m : ℕ) wher
 
   -- ### Map-Requests
 
-  renewable-room : (v : View) (o : Option Held) (eid : Eid) → renewable stands v o ≡ Some eid → nat_lt (length v.requests) 1024 ≡ true
+  renewable-room : (v : View) (o : Option Held) (eid : Eid) → renewable stands (limits_in settings) v o ≡ Some eid → may_open (limits_in settings) v eid.iid ≡ true
   renewable-room v None eid is = cc
-  renewable-room v (Some held) eid is = by (not held.fixed && may_ask stands v held.eid) refl is
+  renewable-room v (Some held) eid is = by (not held.fixed && may_ask stands (limits_in settings) v held.eid) refl is
     where
-      by : (b : Bool) → (not held.fixed && may_ask stands v held.eid) ≡ b → cond b (Some held.eid) None ≡ Some eid → nat_lt (length v.requests) 1024 ≡ true
-      by true may is = may_ask-room stands m v held.eid (and_both (not held.fixed) _ may).1
+      by : (b : Bool) → (not held.fixed && may_ask stands (limits_in settings) v held.eid) ≡ b → cond b (Some held.eid) None ≡ Some eid → may_open (limits_in settings) v eid.iid ≡ true
+      by true may is = subst (λ (e : Eid). may_open (limits_in settings) v e.iid ≡ true) (same_Some held.eid eid is) (may_ask-room stands m (limits_in settings) v held.eid (and_both (not held.fixed) _ may).1)
       by false may is = cc
 
   renewed-alike : (more : ℕ) (range : Range) (change : Change Journal) → Ready settings m (suc more) change.after → Goes settings m more (renewed table stands m range (tabled settings change)) (renewed of_journal stands m range change)
   renewed-alike more range change ready =
-      subst (λ v. Goes settings m more (asked_again table stands m (renewable stands v (force v.mappings range.iid range.addr range.len)) (tabled settings change)) (renewed of_journal stands m range change))
+      subst (λ v. Goes settings m more (asked_again table stands m (renewable stands (limits_in settings) v (force v.mappings range.iid range.addr range.len)) (tabled settings change)) (renewed of_journal stands m range change))
       (sym (seen-same settings m (suc more) change ready))
-      (by (renewable stands v (force v.mappings range.iid range.addr range.len)) refl)
+      (by (renewable stands (limits_in settings) v (force v.mappings range.iid range.addr range.len)) refl)
     where
       v : View
       v = seen of_journal stands m change
 
-      by : (o : Option Eid) → renewable stands v (force v.mappings range.iid range.addr range.len) ≡ o → Goes settings m more (asked_again table stands m o (tabled settings change)) (asked_again of_journal stands m o change)
+      by : (o : Option Eid) → renewable stands (limits_in settings) v (force v.mappings range.iid range.addr range.len) ≡ o → Goes settings m more (asked_again table stands m o (tabled settings change)) (asked_again of_journal stands m o change)
       by None is = goes-on settings m more change ready
       by (Some eid) is = goes-asked settings m more change eid None true ready (renewable-room v _ eid is)
 

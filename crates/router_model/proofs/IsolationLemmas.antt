@@ -284,7 +284,7 @@ decision-isolated settings journal i m n frame is same =
     moment-isolated settings journal i (at journal m) frame is ∙ ap (λ now. decide_by (standing settings (of_instance journal i)) (seen_at (of_instance journal i) now) frame) same
 
 -- the journal of an instance ends no later
-mine-before : (i : ℕ) (journal : Journal) → IsRising journal → last_moment (of_instance journal i) ≤ last_moment journal
+pub mine-before : (i : ℕ) (journal : Journal) → IsRising journal → last_moment (of_instance journal i) ≤ last_moment journal
 mine-before i [] rising = omega arith
 mine-before i (entry ∷ older) rising = by (counts_in i (told_of entry older)) (mine-before i older rising.1)
   where

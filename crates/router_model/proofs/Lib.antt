@@ -39,6 +39,7 @@ pub mod StayLemmas
 pub mod StillLemmas
 pub mod StoodLemmas
 pub mod TellLemmas
+pub mod TenantLemmas
 pub mod TickLemmas
 pub mod UpsLemmas
 pub mod ViewLemmas

@@ -4,6 +4,7 @@ use Rattle.std.proofs.lemmas.Bool.{eq-eqb}
 use Rattle.std.proofs.lemmas.Bool.Decides.{nat_tests}
 use Rattle.std.proofs.lemmas.Nat.{pow_pos}
 use Rattle.ip_headers.specs.declared.addr.Addr.{Addr}
+use Rattle.lisp_settings.specs.Instances.{limits_in}
 use Rattle.router_log.specs.declared.emit.Emit.TheVariants as emit
 use Rattle.router_log.specs.declared.entry.Entry.TheVariants as entry
 use Rattle.router_log.specs.declared.notice.Notice.TheVariants as notice
@@ -35,11 +36,11 @@ short n = let less : n % 2 ^ 24 < 2 ^ 24 = mod-lt n (pow_pos 24) in grind (arith
 pub notes-lift : NotesLift
 unfolding noted
 notes-lift settings locators steps m more (notice.Ask eid source) before sound ready =
-    goes-if settings m more before (λ v. is_missing (standing_with settings locators steps) v eid) _ _ ready
-    (λ is. goes-asked settings m more before eid source false ready (may_ask-room (standing_with settings locators steps) m (view before.after m) eid (and_both _ _ is).0))
+    goes-if settings m more before (λ v. is_missing (standing_with settings locators steps) (limits_in settings) v eid) _ _ ready
+    (λ is. goes-asked settings m more before eid source false ready (may_ask-room (standing_with settings locators steps) m (limits_in settings) (view before.after m) eid (and_both _ _ is).0))
 notes-lift settings locators steps m more (notice.Refresh eid) before sound ready =
-    goes-if settings m more before (λ v. is_learned (exact v.mappings eid) && may_ask (standing_with settings locators steps) v eid) _ _ ready
-    (λ is. goes-asked settings m more before eid None false ready (may_ask-room (standing_with settings locators steps) m (view before.after m) eid (and_both _ _ is).1))
+    goes-if settings m more before (λ v. is_learned (exact v.mappings eid) && may_ask (standing_with settings locators steps) (limits_in settings) v eid) _ _ ready
+    (λ is. goes-asked settings m more before eid None false ready (may_ask-room (standing_with settings locators steps) m (limits_in settings) (view before.after m) eid (and_both _ _ is).1))
 notes-lift settings locators steps m more (notice.Bits eid rloc bits width) before sound ready =
     goes-if settings m more before (λ v. is_news rloc bits width (exact v.mappings eid)) _ _ ready
     (λ is. goes-entered settings m more before (entry.Bits m eid bits width) ready refl refl (both _ _ (news-some rloc bits width _ is) sound) refl)

@@ -5,6 +5,7 @@ use Rattle.std.proofs.lemmas.Bool.Decides.{nat_tests}
 use Rattle.std.proofs.lemmas.List.Sums.{length-filter}
 use Rattle.ip_headers.specs.declared.addr.Addr.{Addr}
 use Rattle.mapping_records.specs.declared.eid.Eid.{Eid}
+use Rattle.lisp_settings.specs.Instances.{limits_in}
 use Rattle.lisp_settings.specs.Nonces.{nonce_of}
 use Rattle.lisp_settings.specs.declared.settings.Settings.{Settings}
 use Rattle.router_log.specs.declared.entry.Entry.{Entry}
@@ -42,7 +43,7 @@ use Rattle.router_model.proofs.ViewLemmas.{agrees-equal}
 -- ### a list without what a test refuses, asked by a narrower one
 
 module _ {A : Type 0} (wide narrow : A → Bool) (within : (a : A) → narrow a ≡ true → wide a ≡ true) where
-  any-within : (items : List A) → list_any narrow (filter wide items) ≡ list_any narrow items
+  pub any-within : (items : List A) → list_any narrow (filter wide items) ≡ list_any narrow items
   any-within [] = refl
   any-within (a ∷ items) = by (wide a) (narrow a) refl refl (any-within items)
     where
@@ -51,7 +52,7 @@ module _ {A : Type 0} (wide narrow : A → Bool) (within : (a : A) → narrow a 
       by false true w n h = cc (within a n)
       by false false w n h = h
 
-  count-within : (items : List A) → count_by narrow (filter wide items) ≡ count_by narrow items
+  pub count-within : (items : List A) → count_by narrow (filter wide items) ≡ count_by narrow items
   count-within items =
       sym (length-filter narrow (filter wide items)) ∙ ap length (filter-filter wide narrow within items) ∙ length-filter narrow items
 
@@ -192,6 +193,7 @@ module _ (settings : Settings) (journal : Journal) (entry : Entry) (later : last
     mappings = (ap (absorb mapping_kind (lasts m) entry) (sym (mappings-live before journal)) ∙ absorb-counting mapping_kind (lasts before) (lasts m) (purges mappings-keep before m later) entry journal ∙ mappings-live m (entry ∷ journal)) i;
     requests = (ap (absorb request_kind (is_waiting m) entry) (sym (requests-open before journal)) ∙ absorb-counting request_kind (is_waiting before) (is_waiting m) (purges requests-keep before m later) entry journal ∙ requests-open m (entry ∷ journal)) i;
     observed = observed-with i;
+    limits = limits_in settings;
   }
 
 -- ### an entry that fits
@@ -200,29 +202,29 @@ lowest : (a b : ℕ) → nat_le a b ≡ true → a ≤ b
 lowest a b is = grind (arith, nat_tests)
 
 module _ (settings : Settings) (journal : Journal) (entry : Entry) (fit : fits settings journal entry ≡ true) where
-  admitted : is_admitted (length journal) (last_moment journal) (view journal (moment_of entry)) entry ≡ true
+  admitted : is_admitted (limits_in settings) (length journal) (last_moment journal) (view journal (moment_of entry)) entry ≡ true
   unfolding fits
-  admitted = (and_both (is_admitted (length journal) (last_moment journal) (view journal (moment_of entry)) entry) _ fit).0
+  admitted = (and_both (is_admitted (limits_in settings) (length journal) (last_moment journal) (view journal (moment_of entry)) entry) _ fit).0
 
   -- its moment isn't before the last one
   pub not-before : last_moment journal ≤ moment_of entry
   not-before = lowest (last_moment journal) (moment_of entry) (and_both (nat_lt (length journal) (2 ^ 62)) _ (and_both (nat_lt (length journal) (2 ^ 62) && nat_le (last_moment journal) (moment_of entry)) _ admitted).0).1
 
   -- it suits what is seen
-  pub fits-suits : suits (view journal (moment_of entry)) entry ≡ true
+  pub fits-suits : suits (limits_in settings) (view journal (moment_of entry)) entry ≡ true
   fits-suits = (and_both (nat_lt (length journal) (2 ^ 62) && nat_le (last_moment journal) (moment_of entry)) _ admitted).1
 
   -- of a change it has the next one
   pub fits-change : has_change (slice_get settings.changes (changed journal)) entry ≡ true
   unfolding fits
-  fits-change = (and_both (has_nonce (nonce_of settings.seed settings.nonces (drawn journal)) entry) _ (and_both (is_admitted (length journal) (last_moment journal) (view journal (moment_of entry)) entry) _ fit).1).1
+  fits-change = (and_both (has_nonce (nonce_of settings.seed settings.nonces (drawn journal)) entry) _ (and_both (is_admitted (limits_in settings) (length journal) (last_moment journal) (view journal (moment_of entry)) entry) _ fit).1).1
 
   -- the parts admit it
   pub is-admitted : MayChange settings → IsRising journal → admits (parts_in settings journal) entry ≡ true
   unfolding admits
   is-admitted may rising =
       ap₂ (λ a b. a && b)
-      (ap (λ v. is_admitted (length journal) (last_moment journal) v entry) (answers settings journal (moment_of entry) rising) ∙ admitted)
+      (ap (λ v. is_admitted (limits_in settings) (length journal) (last_moment journal) v entry) (answers settings journal (moment_of entry) rising) ∙ admitted)
       (next-may settings journal entry may fits-change)
 
   -- and so makes of the parts those of the journal with it

@@ -50,11 +50,11 @@ told settings journal lines packets = record {
 }
 
 module _ (settings : Settings) (more : ℕ) (journal : Journal) where
-  tick-replays : (s : ℕ) → Ready settings (seconds s) (more + 8192) journal → Replays settings (seconds s) more (after_event table (router_tabled (router_of settings journal)) (Tick s)) (plain (router_of settings journal) (Tick s))
+  tick-replays : (s : ℕ) → Ready settings (seconds s) (more + 32768) journal → Replays settings (seconds s) more (after_event table (router_tabled (router_of settings journal)) (Tick s)) (plain (router_of settings journal) (Tick s))
   tick-replays s ready =
       let changes = ready.proper.may.few_changes in
       let databases = ready.proper.may.few_databases in
-      let goes = ticks-lift settings (seconds s) more (unchanged journal) (fewer-ready settings (seconds s) (more + 8192) _ journal (omega (arith, changes, databases)) ready) in
+      let goes = ticks-lift settings (seconds s) more (unchanged journal) (fewer-ready settings (seconds s) (more + 32768) _ journal (omega (arith, changes, databases)) ready) in
       let j : Change Journal = ticked of_journal settings (seconds s) (unchanged journal) in
       record {
         same =
@@ -64,9 +64,9 @@ module _ (settings : Settings) (more : ℕ) (journal : Journal) where
         ready = goes.ready;
       }
 
-  message-replays : (frame : Frame) → AreOctets frame.octets → Ready settings frame.moment (more + 8192) journal → Replays settings frame.moment more (after_message table (router_tabled (router_of settings journal)) frame (hear_by table (standing settings journal) frame.moment frame (unchanged (parts_in settings journal)))) (after_message of_journal (router_of settings journal) frame (hear_by of_journal (standing settings journal) frame.moment frame (unchanged journal)))
+  message-replays : (frame : Frame) → AreOctets frame.octets → Ready settings frame.moment (more + 32768) journal → Replays settings frame.moment more (after_message table (router_tabled (router_of settings journal)) frame (hear_by table (standing settings journal) frame.moment frame (unchanged (parts_in settings journal)))) (after_message of_journal (router_of settings journal) frame (hear_by of_journal (standing settings journal) frame.moment frame (unchanged journal)))
   message-replays frame are ready =
-      let hears = frames-lift settings (own_after settings journal) (changed journal) frame.moment more 256 frame (unchanged journal) (frame-sound (standing settings journal) frame are) (fewer-ready settings frame.moment (more + 8192) (more + 256) journal (omega arith) ready) in
+      let hears = frames-lift settings (own_after settings journal) (changed journal) frame.moment more 256 frame (unchanged journal) (frame-sound (standing settings journal) frame are) (fewer-ready settings frame.moment (more + 32768) (more + 256) journal (omega arith) ready) in
       let j : Heard Journal = hear_by of_journal (standing settings journal) frame.moment frame (unchanged journal) in
       record {
         same =
@@ -76,14 +76,14 @@ module _ (settings : Settings) (more : ℕ) (journal : Journal) where
         ready = hears.ready;
       }
 
-  decision-replays : (frame : Frame) → AreOctets frame.octets → Ready settings frame.moment (more + 8192) journal → Replays settings frame.moment more (after_decision table (router_tabled (router_of settings journal)) frame (decide_by (standing settings journal) (table.see (parts_in settings journal) frame.moment) frame)) (after_decision of_journal (router_of settings journal) frame (decide_by (standing settings journal) (view journal frame.moment) frame))
+  decision-replays : (frame : Frame) → AreOctets frame.octets → Ready settings frame.moment (more + 32768) journal → Replays settings frame.moment more (after_decision table (router_tabled (router_of settings journal)) frame (decide_by (standing settings journal) (table.see (parts_in settings journal) frame.moment) frame)) (after_decision of_journal (router_of settings journal) frame (decide_by (standing settings journal) (view journal frame.moment) frame))
   decision-replays frame are ready =
       let decision : Decision = decide_by (standing settings journal) (view journal frame.moment) frame in
       let sound = notices-sound (standing settings journal) (view journal frame.moment) frame are in
       let few = sound.1 in
       let goes =
       goes-each settings frame.moment (noted table (standing settings journal) frame.moment) (noted of_journal (standing settings journal) frame.moment) is_sound (λ more n change pass ready. notes-lift settings (own_after settings journal) (changed journal) frame.moment more n change pass ready) decision.notices sound.0 more (unchanged (parts_in settings journal)) (unchanged journal)
-      (record { same = refl; ready = fewer-ready settings frame.moment (more + 8192) (more + length decision.notices) journal (omega (arith, few)) ready }) in
+      (record { same = refl; ready = fewer-ready settings frame.moment (more + 32768) (more + length decision.notices) journal (omega (arith, few)) ready }) in
       let j : Change Journal = each (noted of_journal (standing settings journal) frame.moment) decision.notices (unchanged journal) in
       subst (λ v. Replays settings frame.moment more (after_decision table (router_tabled (router_of settings journal)) frame (decide_by (standing settings journal) v frame)) (after_decision of_journal (router_of settings journal) frame decision))
       (sym (answers settings journal frame.moment (proper-rises settings journal ready.proper)))
@@ -96,7 +96,7 @@ module _ (settings : Settings) (more : ℕ) (journal : Journal) where
         ready = goes.ready;
       })
 
-  frame-replays : (frame : Frame) → AreOctets frame.octets → Ready settings frame.moment (more + 8192) journal → Replays settings frame.moment more (after_event table (router_tabled (router_of settings journal)) (Arrival frame)) (plain (router_of settings journal) (Arrival frame))
+  frame-replays : (frame : Frame) → AreOctets frame.octets → Ready settings frame.moment (more + 32768) journal → Replays settings frame.moment more (after_event table (router_tabled (router_of settings journal)) (Arrival frame)) (plain (router_of settings journal) (Arrival frame))
   frame-replays frame are ready =
       subst (λ (stand : Settings). Replays settings frame.moment more (cond (control settings frame) (after_message table (router_tabled (router_of settings journal)) frame (hear_by table stand frame.moment frame (unchanged (parts_in settings journal)))) (after_decision table (router_tabled (router_of settings journal)) frame (decide_by stand (table.see (parts_in settings journal) frame.moment) frame))) (plain (router_of settings journal) (Arrival frame)))
       (sym (stands-in settings journal)) (by (control settings frame))
@@ -105,7 +105,7 @@ module _ (settings : Settings) (more : ℕ) (journal : Journal) where
       by true = message-replays frame are ready
       by false = decision-replays frame are ready
 
-  event-replays : (event : Event) → HasOctets event → Ready settings (event_moment event) (more + 8192) journal → Replays settings (event_moment event) more (after_event table (router_tabled (router_of settings journal)) event) (plain (router_of settings journal) event)
+  event-replays : (event : Event) → HasOctets event → Ready settings (event_moment event) (more + 32768) journal → Replays settings (event_moment event) more (after_event table (router_tabled (router_of settings journal)) event) (plain (router_of settings journal) event)
   event-replays (Tick s) are ready = tick-replays s ready
   event-replays (Arrival frame) are ready = frame-replays frame are ready
 
@@ -113,11 +113,11 @@ module _ (settings : Settings) (more : ℕ) (journal : Journal) where
 abbrev AllReplay : Settings → Router Journal → List Event → Type 0
 AllReplay settings router events = (played (after_event table) (router_tabled router) events ≡ outcome_tabled (played plain router events)) × IsProper settings (played plain router events).after.memory
 
-all-replay : (settings : Settings) (m : ℕ) (events : List Event) (router : Router Journal) → settings ≡ router.settings → AreInOrder m events → Ready settings m (8192 * length events) router.memory → AllReplay settings router events
+all-replay : (settings : Settings) (m : ℕ) (events : List Event) (router : Router Journal) → settings ≡ router.settings → AreInOrder m events → Ready settings m (32768 * length events) router.memory → AllReplay settings router events
 all-replay settings m [] router same order ready = (refl, ready.proper)
 all-replay settings m (event ∷ events) router same order ready =
-    let start : Replays settings (event_moment event) (8192 * length events) (after_event table (router_tabled router) event) (plain router event) = subst (λ s. Replays settings (event_moment event) (8192 * length events) (after_event table (router_tabled (router_of s router.memory)) event) (plain (router_of s router.memory) event)) same
-    (event-replays settings (8192 * length events) router.memory event order.1.0 (record { proper = ready.proper; last = (let last = ready.last in let later = order.0 in omega (arith, last, later)); room = (let room = ready.room in omega (arith, room)) })) in
+    let start : Replays settings (event_moment event) (32768 * length events) (after_event table (router_tabled router) event) (plain router event) = subst (λ s. Replays settings (event_moment event) (32768 * length events) (after_event table (router_tabled (router_of s router.memory)) event) (plain (router_of s router.memory) event)) same
+    (event-replays settings (32768 * length events) router.memory event order.1.0 (record { proper = ready.proper; last = (let last = ready.last in let later = order.0 in omega (arith, last, later)); room = (let room = ready.room in omega (arith, room)) })) in
     let rest = all-replay settings (event_moment event) events (plain router event).after (sym start.settings_stay) order.1.1 start.ready in (
       ap (λ (t : Outcome (Router Parts)). followed t (played (after_event table) t.after events)) start.same
           ∙ ap (followed (outcome_tabled (plain router event))) rest.0,

@@ -89,11 +89,11 @@ one_written settings journal item entries = record {
 }
 
 module _ (settings : Settings) (more : ℕ) (journal : Journal) where
-  second-writes : (s : ℕ) → Ready settings (seconds s) (more + 8192) journal → Writes settings (seconds s) more (event_written table settings (parts_in settings journal) (Tick s)) (event_written of_journal settings journal (Tick s))
+  second-writes : (s : ℕ) → Ready settings (seconds s) (more + 32768) journal → Writes settings (seconds s) more (event_written table settings (parts_in settings journal) (Tick s)) (event_written of_journal settings journal (Tick s))
   second-writes s ready =
       let changes = ready.proper.may.few_changes in
       let databases = ready.proper.may.few_databases in
-      let goes = ticks-lift settings (seconds s) more (unchanged journal) (fewer-ready settings (seconds s) (more + 8192) _ journal (omega (arith, changes, databases)) ready) in
+      let goes = ticks-lift settings (seconds s) more (unchanged journal) (fewer-ready settings (seconds s) (more + 32768) _ journal (omega (arith, changes, databases)) ready) in
       let j : Change Journal = ticked of_journal settings (seconds s) (unchanged journal) in
       record {
         same =
@@ -103,14 +103,14 @@ module _ (settings : Settings) (more : ℕ) (journal : Journal) where
         octets = tt;
       }
 
-  frame-writes : (frame : Frame) → AreOctets frame.octets → Ready settings frame.moment (more + 8192) journal → Writes settings frame.moment more (event_written table settings (parts_in settings journal) (Arrival frame)) (event_written of_journal settings journal (Arrival frame))
+  frame-writes : (frame : Frame) → AreOctets frame.octets → Ready settings frame.moment (more + 32768) journal → Writes settings frame.moment more (event_written table settings (parts_in settings journal) (Arrival frame)) (event_written of_journal settings journal (Arrival frame))
   frame-writes frame are ready =
       subst (λ (stand : Settings). Writes settings frame.moment more (cond (control settings frame) (message_written table settings (length journal) frame (hear_by table stand frame.moment frame (unchanged (parts_in settings journal)))) (left_for_later (parts_in settings journal) frame)) (event_written of_journal settings journal (Arrival frame)))
       (sym (stands-in settings journal)) (by (control settings frame))
     where
       by : (b : Bool) → Writes settings frame.moment more (cond b (message_written table settings (length journal) frame (hear_by table (standing settings journal) frame.moment frame (unchanged (parts_in settings journal)))) (left_for_later (parts_in settings journal) frame)) (cond b (message_written of_journal settings (length journal) frame (hear_by of_journal (standing settings journal) frame.moment frame (unchanged journal))) (left_for_later journal frame))
       by true =
-          let hears = frames-lift settings (own_after settings journal) (changed journal) frame.moment more 256 frame (unchanged journal) (frame-sound (standing settings journal) frame are) (fewer-ready settings frame.moment (more + 8192) (more + 256) journal (omega arith) ready) in
+          let hears = frames-lift settings (own_after settings journal) (changed journal) frame.moment more 256 frame (unchanged journal) (frame-sound (standing settings journal) frame are) (fewer-ready settings frame.moment (more + 32768) (more + 256) journal (omega arith) ready) in
           let j : Heard Journal = hear_by of_journal (standing settings journal) frame.moment frame (unchanged journal) in
           record {
             same =
@@ -119,9 +119,9 @@ module _ (settings : Settings) (more : ℕ) (journal : Journal) where
             ready = fewer-ready settings frame.moment more (more + 5 * 0) _ (omega arith) hears.ready;
             octets = tt;
           }
-      by false = record { same = refl; ready = fewer-ready settings frame.moment (more + 8192) (more + 5 * 1) journal (omega arith) ready; octets = (are, tt) }
+      by false = record { same = refl; ready = fewer-ready settings frame.moment (more + 32768) (more + 5 * 1) journal (omega arith) ready; octets = (are, tt) }
 
-  event-writes : (event : Event) → HasOctets event → Ready settings (event_moment event) (more + 8192) journal → Writes settings (event_moment event) more (event_written table settings (parts_in settings journal) event) (event_written of_journal settings journal event)
+  event-writes : (event : Event) → HasOctets event → Ready settings (event_moment event) (more + 32768) journal → Writes settings (event_moment event) more (event_written table settings (parts_in settings journal) event) (event_written of_journal settings journal event)
   event-writes (Tick s) are ready = second-writes s ready
   event-writes (Arrival frame) are ready = frame-writes frame are ready
 
@@ -138,14 +138,14 @@ later-ready settings m later more fewer journal less few ready = record {
   room = (let room = ready.room in omega (arith, room, few));
 }
 
-all-writes : (settings : Settings) (more m : ℕ) (events : List Event) (journal : Journal) → AreInOrder m events → Ready settings m (more + 8192 * length events) journal → Writes settings (latest m events) more (writing table settings (parts_in settings journal) events) (writing of_journal settings journal events)
+all-writes : (settings : Settings) (more m : ℕ) (events : List Event) (journal : Journal) → AreInOrder m events → Ready settings m (more + 32768 * length events) journal → Writes settings (latest m events) more (writing table settings (parts_in settings journal) events) (writing of_journal settings journal events)
 all-writes settings more m [] journal order ready = record { same = refl; ready = ready; octets = tt }
 all-writes settings more m (event ∷ events) journal order ready =
-    let one = event-writes settings (more + 8192 * length events) journal event order.1.0 (later-ready settings m (event_moment event) (more + 8192 * suc (length events)) ((more + 8192 * length events) + 8192) journal order.0 (omega arith) ready) in
+    let one = event-writes settings (more + 32768 * length events) journal event order.1.0 (later-ready settings m (event_moment event) (more + 32768 * suc (length events)) ((more + 32768 * length events) + 32768) journal order.0 (omega arith) ready) in
     let j : Writing Journal = event_written of_journal settings journal event in
     let next : Writing Journal = writing of_journal settings j.after events in
     let left : ℕ = length (data_in j.items) in
-    let rest = all-writes settings (more + 5 * left) (event_moment event) events j.after order.1.1 (fewer-ready settings (event_moment event) ((more + 8192 * length events) + 5 * left) ((more + 5 * left) + 8192 * length events) j.after (omega arith) one.ready) in
+    let rest = all-writes settings (more + 5 * left) (event_moment event) events j.after order.1.1 (fewer-ready settings (event_moment event) ((more + 32768 * length events) + 5 * left) ((more + 5 * left) + 32768 * length events) j.after (omega arith) one.ready) in
     let long = ap (λ (l : List Frame). length l) (data-append j.items next.items) ∙ length-append (data_in j.items) (data_in next.items) in
     record {
       same =
@@ -155,7 +155,7 @@ all-writes settings more m (event ∷ events) journal order ready =
       octets = subst AllOctets (sym (data-append j.items next.items)) (octets-append (data_in j.items) (data_in next.items) one.octets rest.octets);
     }
 
-may-write : (settings : Settings) (m : ℕ) (journal : Journal) (events : List Event) → MayBegin settings m journal events → Ready settings m (0 + 8192 * length events) journal
+may-write : (settings : Settings) (m : ℕ) (journal : Journal) (events : List Event) → MayBegin settings m journal events → Ready settings m (0 + 32768 * length events) journal
 may-write settings m journal events may = record { proper = may.proper; last = may.last; room = (let room = may.room in omega (arith, room)) }
 
 pub table-writes : TableWrites
@@ -189,29 +189,29 @@ module _ (settings : Settings) where
   absorbed-by journal t j same grown =
       ap (λ (c : Change Parts). with_entries table (parts_in settings journal) c.entries) (sym same) ∙ sym grown ∙ ap (λ (c : Change Parts). c.after) same
 
-  batches-stood : (m k : ℕ) (events : List Event) (journal : Journal) → AreInOrder m events → Ready settings m (0 + 8192 * length events) journal → Stood settings journal (take k (writing of_journal settings journal events).batches)
+  batches-stood : (m k : ℕ) (events : List Event) (journal : Journal) → AreInOrder m events → Ready settings m (0 + 32768 * length events) journal → Stood settings journal (take k (writing of_journal settings journal events).batches)
   batches-stood m zero events journal order ready = record { same = refl; proper = ready.proper }
   batches-stood m (suc k) [] journal order ready = record { same = refl; proper = ready.proper }
   batches-stood m (suc k) (Tick s ∷ events) journal order ready =
-      let now = later-ready settings m (seconds s) (0 + 8192 * suc (length events)) ((0 + 8192 * length events) + 8192) journal order.0 (omega arith) ready in
+      let now = later-ready settings m (seconds s) (0 + 32768 * suc (length events)) ((0 + 32768 * length events) + 32768) journal order.0 (omega arith) ready in
       let changes = now.proper.may.few_changes in
       let databases = now.proper.may.few_databases in
-      let goes = ticks-lift settings (seconds s) (0 + 8192 * length events) (unchanged journal) (fewer-ready settings (seconds s) ((0 + 8192 * length events) + 8192) _ journal (omega (arith, changes, databases)) now) in
+      let goes = ticks-lift settings (seconds s) (0 + 32768 * length events) (unchanged journal) (fewer-ready settings (seconds s) ((0 + 32768 * length events) + 32768) _ journal (omega (arith, changes, databases)) now) in
       let change : Change Journal = ticked of_journal settings (seconds s) (unchanged journal) in
       stood-on settings journal change.after change.entries (take k (writing of_journal settings change.after events).batches)
       (absorbed-by journal (ticked table settings (seconds s) (unchanged (parts_in settings journal))) change goes.same (grown-ticked table settings (seconds s) (parts_in settings journal) (unchanged (parts_in settings journal)) refl))
       (tick-grows settings journal s)
       (batches-stood (seconds s) k events change.after order.1.1 goes.ready)
   batches-stood m (suc k) (Arrival frame ∷ events) journal order ready =
-      let now = later-ready settings m frame.moment (0 + 8192 * suc (length events)) ((0 + 8192 * length events) + 256) journal order.0 (omega arith) ready in
+      let now = later-ready settings m frame.moment (0 + 32768 * suc (length events)) ((0 + 32768 * length events) + 256) journal order.0 (omega arith) ready in
       let change : Change Journal = (hear_by of_journal (standing settings journal) frame.moment frame (unchanged journal)).change in
-      let hears = frames-lift settings (own_after settings journal) (changed journal) frame.moment (0 + 8192 * length events) 256 frame (unchanged journal) (frame-sound (standing settings journal) frame order.1.0) now in
+      let hears = frames-lift settings (own_after settings journal) (changed journal) frame.moment (0 + 32768 * length events) 256 frame (unchanged journal) (frame-sound (standing settings journal) frame order.1.0) now in
       by (control settings frame)
       (stood-on settings journal change.after change.entries (take k (writing of_journal settings change.after events).batches)
       (absorbed-by journal (hear_by table (standing settings journal) frame.moment frame (unchanged (parts_in settings journal))).change change (ap (λ (h : Heard Parts). h.change) hears.same) (grown-heard table (standing settings journal) frame.moment (parts_in settings journal) frame (unchanged (parts_in settings journal)) refl))
       (message-grows settings journal frame)
       (batches-stood frame.moment k events change.after order.1.1 hears.ready))
-      (batches-stood frame.moment (suc k) events journal order.1.1 (fewer-ready settings frame.moment ((0 + 8192 * length events) + 256) (0 + 8192 * length events) journal (omega arith) now))
+      (batches-stood frame.moment (suc k) events journal order.1.1 (fewer-ready settings frame.moment ((0 + 32768 * length events) + 256) (0 + 32768 * length events) journal (omega arith) now))
     where
       by : (b : Bool) → Stood settings journal ((hear_by of_journal (standing settings journal) frame.moment frame (unchanged journal)).change.entries ∷ take k (writing of_journal settings (hear_by of_journal (standing settings journal) frame.moment frame (unchanged journal)).change.after events).batches) → Stood settings journal (take (suc k) (writing of_journal settings journal events).batches) → let written = cond b (message_written of_journal settings (length journal) frame (hear_by of_journal (standing settings journal) frame.moment frame (unchanged journal))) (left_for_later journal frame) in Stood settings journal (take (suc k) (written.batches ++ (writing of_journal settings written.after events).batches))
       by true heard left = heard
@@ -294,13 +294,13 @@ module _ (settings : Settings) (journal : Journal) (events : List Event) (ns : L
     same : by_table (latest m events) ≡ worked_tabled settings (by_journal (latest m events))
     proper : IsProper settings (by_journal (latest m events)).after
     last : last_moment (by_journal (latest m events)).after ≤ latest m events
-    few : length (by_journal (latest m events)).after ≤ length journal + 8192 * length events
+    few : length (by_journal (latest m events)).after ≤ length journal + 32768 * length events
 
   events-share : (m : ℕ) → MayBegin settings m journal events → EventsShare m
   events-share m may =
       let room = may.room in
-      let more : ℕ = 2 ^ 62 - (length journal + 8192 * length events) in
-      let begins : Ready settings m (more + 8192 * length events) journal = record { proper = may.proper; last = may.last; room = omega (arith, room) } in
+      let more : ℕ = 2 ^ 62 - (length journal + 32768 * length events) in
+      let begins : Ready settings m (more + 32768 * length events) journal = record { proper = may.proper; last = may.last; room = omega (arith, room) } in
       let writes = all-writes settings more m events journal may.order begins in
       let written : Writing Journal = writing of_journal settings journal events in
       let ruled : List Ruling = rulings settings written.after ns (data_in written.items) in
@@ -370,7 +370,7 @@ round-stays settings previous (frame ∷ frames) journal ns m may =
       subst (IsProper settings) after share.proper,
       (
         subst (λ (j : Journal). last_moment j ≤ max m closing) after (omega (arith, last, same)),
-        subst (λ (j : Journal). length j ≤ length journal + 8192 * length events) after share.few,
+        subst (λ (j : Journal). length j ≤ length journal + 32768 * length events) after share.few,
       ),
     )
 

@@ -14,6 +14,7 @@ use Rattle.capture_io.specs.Link.{link_vlan}
 use Rattle.mapping_records.specs.Eids.{same_address}
 use Rattle.map_cache.proofs.ExactLemmas.{equal-address}
 use Rattle.lisp_header.specs.Versions.{successor}
+use Rattle.lisp_settings.proofs.InstanceLemmas.{limits_in-limits, limits_in-room}
 use Rattle.lisp_settings.specs.Changes.{change_key, change_order}
 use Rattle.lisp_settings.specs.declared.settings.Change.{Change}
 use Rattle.lisp_settings.specs.declared.settings.OwnLocator.{OwnLocator}
@@ -125,6 +126,8 @@ lawful-may settings lawful = record {
   turns = in-turn settings.changes lawful.moments;
   own = lawful.changes;
   few_databases = lawful.few_databases;
+  limits = limits_in-limits settings lawful;
+  room = limits_in-room settings lawful;
 }
 
 -- ### versions

@@ -1,6 +1,7 @@
 -- What stands for a journal is seen as the journal, and goes on to do so.
 use Rattle.std.proofs.Common.{◌≡◌, ◌≤◌, ◌&&◌, true, List, [], ◌∷◌, ◌++◌, length, map, refl, sym, ap, subst, ◌∙◌, arith}
 use Rattle.mapping_records.specs.declared.record.Record.{Record}
+use Rattle.lisp_settings.specs.Instances.{limits_in}
 use Rattle.lisp_settings.specs.declared.settings.Settings.{Settings}
 use Rattle.router_log.specs.declared.entry.Entry.{Entry}
 use Rattle.router_log.specs.declared.entry.Entry.TheVariants.{Learned}
@@ -58,8 +59,8 @@ standing-sees settings parts journal m stands =
 pub standing-admits : StandingAdmits
 unfolding admits
 standing-admits settings parts journal entry stands =
-    ap (λ p. is_admitted p.count p.now (view_in p (moment_of entry)) entry && may_change p.own p.steps entry) stands.whole
-    ∙ ap (λ v. is_admitted (length journal) (last_moment journal) v entry && may_change (own_after settings journal) (changed journal) entry) (answers settings journal (moment_of entry) (proper-rises settings journal stands.proper))
+    ap (λ p. is_admitted p.limits p.count p.now (view_in p (moment_of entry)) entry && may_change p.own p.steps entry) stands.whole
+    ∙ ap (λ v. is_admitted (limits_in settings) (length journal) (last_moment journal) v entry && may_change (own_after settings journal) (changed journal) entry) (answers settings journal (moment_of entry) (proper-rises settings journal stands.proper))
 
 pub standing-absorbs : StandingAbsorbs
 standing-absorbs settings parts journal entry stands fit =

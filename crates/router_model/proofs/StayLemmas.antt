@@ -25,7 +25,7 @@ use Rattle.router_log.specs.declared.entry.Entry.TheVariants as entry
 use Rattle.router_log.specs.declared.notice.Notice.{Notice}
 use Rattle.router_log.specs.declared.notice.Notice.TheVariants as notice
 use Rattle.router_log.specs.declared.verdict.Reason.TheVariants.{Foreign, NotOurs, Unfit}
-use Rattle.router_model.specs.Changes.{Change, Ledger, asked, each, emitted, entered, has_room, may_ask, next_nonce, seen}
+use Rattle.router_model.specs.Changes.{Change, Ledger, asked, each, emitted, entered, has_room, limits_of, may_ask, next_nonce, seen}
 use Rattle.router_model.specs.Course.{Course, Settled, Data, Control, Leaving, Datagram, course_of}
 use Rattle.router_model.specs.Hear.{Asker, Heard, Path, Range, Route, answered, answering, asked_again, carried, counted, course_heard, datagram_heard, drops, hear_by, is_asked_for, is_fit, is_static, message_heard, payload_heard, probe_replied, ranges_of, read_heard, renewable, renewed, replied, replied_to, reply_heard, reply_of, reply_path, requested, shortened, tallied, taught, unless_refused}
 use Rattle.router_model.specs.Journal.{is_changed}
@@ -59,9 +59,9 @@ module _ {S : Type 0} (ledger : Ledger S) (settings : Settings) (m : ℕ) (P : C
   pub stays-noted : (one : Notice) (change : Change S) → P change → P (noted ledger settings m one change)
   unfolding noted
   stays-noted (notice.Ask eid source) change grown =
-      stays-if (is_missing settings (seen ledger settings m change) eid) _ change (stays-asked eid source false change grown) grown
+      stays-if (is_missing settings (limits_of ledger settings m change) (seen ledger settings m change) eid) _ change (stays-asked eid source false change grown) grown
   stays-noted (notice.Refresh eid) change grown =
-      stays-if (is_learned (exact (seen ledger settings m change).mappings eid) && may_ask settings (seen ledger settings m change) eid) _ change
+      stays-if (is_learned (exact (seen ledger settings m change).mappings eid) && may_ask settings (limits_of ledger settings m change) (seen ledger settings m change) eid) _ change
       (stays-asked eid None false change grown) grown
   stays-noted (notice.Bits eid rloc bits width) change grown =
       stays-if (is_news rloc bits width (exact (seen ledger settings m change).mappings eid)) _ change
@@ -136,7 +136,7 @@ module _ {S : Type 0} (ledger : Ledger S) (settings : Settings) (m : ℕ) (P : C
 
   stays-renewed : (range : Range) (change : Change S) → P change → P (renewed ledger settings m range change)
   stays-renewed range change grown =
-      stays-asked_again (renewable settings (seen ledger settings m change) (force (seen ledger settings m change).mappings range.iid range.addr range.len)) change grown
+      stays-asked_again (renewable settings (limits_of ledger settings m change) (seen ledger settings m change) (force (seen ledger settings m change).mappings range.iid range.addr range.len)) change grown
 
   stays-replied : (asker : Asker) (reply : MapReply) (path : Option Path) (change : Change S) → P change → P (replied asker reply path change).change
   stays-replied asker reply None change grown = grown
@@ -156,7 +156,7 @@ module _ {S : Type 0} (ledger : Ledger S) (settings : Settings) (m : ℕ) (P : C
 
   stays-taught : (eid : Eid) (mappings : List Record) (mapping : Record) (change : Change S) → P change → P (taught ledger settings m eid mappings mapping change)
   stays-taught eid mappings mapping change grown =
-      stays-if (is_asked_for eid mappings mapping && (not (is_static settings mapping) && has_room (seen ledger settings m change) mapping)) _ change
+      stays-if (is_asked_for eid mappings mapping && (not (is_static settings mapping) && has_room (limits_of ledger settings m change) (seen ledger settings m change) mapping)) _ change
       (adds (entry.Learned m (shortened mapping) false) refl change grown) grown
 
   stays-replied_to : (reply : MapReply) (o : Option Request) (change : Change S) → P change → P (replied_to ledger settings m reply o change).change

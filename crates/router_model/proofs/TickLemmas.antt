@@ -171,11 +171,11 @@ module _ (settings : Settings) (locators : List OwnLocator) (steps m : ℕ) wher
           (record { same = refl; ready = fewer-ready settings m (more + 16) (more + length (next_targets stands v)) change.after (omega (arith, count)) ready })
       by false = record { same = refl; ready = fewer-ready settings m (more + 16) more change.after (omega arith) ready }
 
-  goes-retried_where : (reaches : Bool) (more : ℕ) (change : Change Journal) → Ready settings m (more + 1024) change.after → Goes settings m more (retried_where table stands m reaches (tabled settings change)) (retried_where of_journal stands m reaches change)
+  goes-retried_where : (reaches : Bool) (more : ℕ) (change : Change Journal) → Ready settings m (more + 16384) change.after → Goes settings m more (retried_where table stands m reaches (tabled settings change)) (retried_where of_journal stands m reaches change)
   goes-retried_where true more change ready =
       let few = requests-few settings change.after m ready.proper ready.last in
-      goes-retried_first settings m more change (fewer-ready settings m (more + 1024) _ change.after (omega (arith, few)) ready)
-  goes-retried_where false more change ready = record { same = refl; ready = fewer-ready settings m (more + 1024) more change.after (omega arith) ready }
+      goes-retried_first settings m more change (fewer-ready settings m (more + 16384) _ change.after (omega (arith, few)) ready)
+  goes-retried_where false more change ready = record { same = refl; ready = fewer-ready settings m (more + 16384) more change.after (omega arith) ready }
 
   -- one locator is told of one prefix
   goes-told : (address : Addr) (more : ℕ) (database : Database) (change : Change Journal) → Ready settings m (suc more) change.after → Goes settings m more (told table stands m address database (tabled settings change)) (told of_journal stands m address database change)
@@ -221,12 +221,12 @@ module _ (settings : Settings) (locators : List OwnLocator) (steps m : ℕ) wher
   goes-all_told false more change ready = record { same = refl; ready = fewer-ready settings m (more + 64 * length stands.databases) more change.after (omega arith) ready }
 
   -- all that follows
-  goes-after : (came : Bool) (more : ℕ) (change : Change Journal) → Ready settings m (more + (64 * length stands.databases + 1040)) change.after → Goes settings m more (after_changes table stands m came (tabled settings change)) (after_changes of_journal stands m came change)
+  goes-after : (came : Bool) (more : ℕ) (change : Change Journal) → Ready settings m (more + (64 * length stands.databases + 16400)) change.after → Goes settings m more (after_changes table stands m came (tabled settings change)) (after_changes of_journal stands m came change)
   unfolding after_changes
   goes-after came more change ready =
       let j : Change Journal = all_told of_journal stands m came change in
       let reaches : Bool = reaches_resolver stands in
-      let told = goes-all_told came ((more + 16) + 1024) change (fewer-ready settings m (more + (64 * length stands.databases + 1040)) (((more + 16) + 1024) + 64 * length stands.databases) change.after (omega arith) ready) in
+      let told = goes-all_told came ((more + 16) + 16384) change (fewer-ready settings m (more + (64 * length stands.databases + 16400)) (((more + 16) + 16384) + 64 * length stands.databases) change.after (omega arith) ready) in
       let sent = goes-retried_where reaches (more + 16) j told.ready in
       subst (λ t. Goes settings m more (all_probed table stands m (retried_where table stands m reaches t)) (all_probed of_journal stands m (retried_where of_journal stands m reaches j))) (sym told.same)
       (subst (λ t. Goes settings m more (all_probed table stands m t) (all_probed of_journal stands m (retried_where of_journal stands m reaches j))) (sym sent.same)
@@ -295,7 +295,7 @@ ticks-lift settings m more before ready =
     let left : List OwnChange = drop (changed before.after) settings.changes in
     let due : List OwnChange = due_changes m left in
     let came : Bool = some_came due in
-    let few : ℕ = 64 * length settings.databases + 1040 in
+    let few : ℕ = 64 * length settings.databases + 16400 in
     let short = length-drop (changed before.after) settings.changes in
     let j : Change Journal = all_changed of_journal settings m due before in
     let goes =

@@ -1,30 +1,32 @@
 -- Entries and packets that come one after another, each judged by what stands before it.
-use Rattle.std.specs.Prelude.{ℕ, ◌==◌, ◌||◌, ◌&&◌, nat_lt, not, Bool, List, [], ◌∷◌, ◌++◌, fold, length, Option, is_some}
+use Rattle.std.specs.Prelude.{ℕ, ◌==◌, ◌||◌, ◌&&◌, nat_lt, not, Bool, List, [], ◌∷◌, ◌++◌, count_by, fold, length, Option, Some, None}
 use Rattle.ip_headers.specs.declared.addr.Addr.{Addr}
 use Rattle.mapping_records.specs.declared.eid.Eid.{Eid}
 use Rattle.mapping_records.specs.declared.record.Record.{Record}
+use Rattle.lisp_settings.specs.Instances.{limits_in, mappings_in, requests_in}
 use Rattle.lisp_settings.specs.Nonces.{nonce_of}
+use Rattle.lisp_settings.specs.declared.settings.LimitItem.{LimitItem}
 use Rattle.lisp_settings.specs.declared.settings.Settings.{Settings}
 use Rattle.router_log.specs.declared.emit.Emit.{Emit}
 use Rattle.router_log.specs.declared.emit.Emit.TheVariants as emit
 use Rattle.router_log.specs.declared.entry.Entry.{Entry}
 use Rattle.router_log.specs.declared.entry.Entry.TheVariants as entry
 use Rattle.router_model.specs.Journal.{Journal, changed}
-use Rattle.router_model.specs.Limits.{most_mappings, most_requests}
-use Rattle.router_model.specs.Mappings.{exact}
-use Rattle.request_queue.specs.Queue.{covered}
+use Rattle.router_model.specs.Mappings.{Held, exact}
+use Rattle.request_queue.specs.Queue.{covered, open_in}
 use Rattle.router_model.specs.Site.{reaches_resolver}
 use Rattle.router_model.specs.Standing.{standing}
 use Rattle.router_model.specs.View.{View, view}
 
 -- what keeps entries: it is seen at a moment, takes one entry more, counts them, and those of changes of own locators, after
--- which settings stand
+-- which settings stand; it knows the limits of instances, or takes them from the settings
 pub record Ledger (S : Type 0) : Type 0 where
   pub see : S → ℕ → View
   pub add : S → Entry → S
   pub count : S → ℕ
   pub steps : S → ℕ
   pub stands : Settings → S → Settings
+  pub limits : Settings → S → List LimitItem
 
 -- the journal itself
 abbrev pub journal : Ledger Journal
@@ -34,6 +36,7 @@ journal = record {
   count = length;
   steps = changed;
   stands = standing;
+  limits = λ settings before. limits_in settings;
 }
 
 -- what stands now, and the entries and packets that came so far, in order
@@ -54,16 +57,34 @@ each step items change = fold (λ so_far item. step item so_far) change items
 abbrev pub emitted : {S : Type 0} → Emit → Change S → Change S
 emitted packet change = record change { emits = change.emits ++ packet ∷ [] }
 
--- an EID may be asked for: there is a resolver, and ours of its family, no open request covers it, and there is room
-abbrev pub may_ask : Settings → View → Eid → Bool
-may_ask settings v eid = reaches_resolver settings && (not (covered v.requests eid) && nat_lt (length v.requests) most_requests)
+-- by these limits there is room for one more request for an EID of the instance
+abbrev pub may_open : List LimitItem → View → ℕ → Bool
+may_open limits v iid = nat_lt (open_in iid v.requests) (requests_in limits iid)
 
--- a mapping may be learned: it takes one away, or replaces one, or there is room
-abbrev pub has_room : View → Record → Bool
-has_room v mapping =
-    (mapping.ttl == 0) || (is_some (exact v.mappings mapping.eid) || nat_lt (length v.mappings) most_mappings)
+-- an EID may be asked for: there is a resolver, and ours of its family, no open request covers it, and there is room
+abbrev pub may_ask : Settings → List LimitItem → View → Eid → Bool
+may_ask settings limits v eid =
+    reaches_resolver settings && (not (covered v.requests eid) && may_open limits v eid.iid)
+
+-- how many of these mappings, which aren't fixed, are of an instance
+abbrev pub learned_in : ℕ → List Held → ℕ
+learned_in iid mappings = count_by (λ held. (held.eid.iid == iid) && not held.fixed) mappings
+
+-- a mapping may be learned in place of one, which isn't fixed; where there is none it takes none away, or there is room
+abbrev pub may_replace : List LimitItem → View → Record → Option Held → Bool
+may_replace limits v mapping (Some held) = not held.fixed
+may_replace limits v mapping None =
+    (mapping.ttl == 0) || nat_lt (learned_in mapping.eid.iid v.mappings) (mappings_in limits mapping.eid.iid)
+
+-- a mapping may be learned
+abbrev pub has_room : List LimitItem → View → Record → Bool
+has_room limits v mapping = may_replace limits v mapping (exact v.mappings mapping.eid)
 
 module _ {S : Type 0} (ledger : Ledger S) (settings : Settings) (m : ℕ) where
+  -- the limits by now
+  abbrev pub limits_of : Change S → List LimitItem
+  limits_of change = ledger.limits settings change.after
+
   -- what is seen by now
   abbrev pub seen : Change S → View
   seen change = ledger.see change.after m

@@ -18,6 +18,7 @@ use Rattle.map_messages.specs.declared.message.MapRequest.{MapRequest}
 use Rattle.map_messages.specs.declared.message.Message.{Message}
 use Rattle.map_messages.specs.declared.message.Message.TheVariants as message
 use Rattle.lisp_settings.specs.declared.settings.Database.{Database}
+use Rattle.lisp_settings.specs.declared.settings.LimitItem.{LimitItem}
 use Rattle.lisp_settings.specs.declared.settings.OwnLocator.{OwnLocator}
 use Rattle.lisp_settings.specs.declared.settings.Settings.{Settings}
 use Rattle.router_log.specs.declared.emit.Emit.TheVariants as emit
@@ -32,7 +33,7 @@ use Rattle.router_log.specs.declared.verdict.Verdict.TheVariants as outcome
 use Rattle.router_log.specs.declared.verdict.Verdict.TheVariants.{Drop}
 use Rattle.request_queue.specs.Queue.{with_nonce}
 use Rattle.request_queue.specs.declared.request.Request.{Request}
-use Rattle.router_model.specs.Changes.{Change, Ledger, asked, each, emitted, entered, has_room, journal, may_ask, seen, unchanged}
+use Rattle.router_model.specs.Changes.{Change, Ledger, asked, each, emitted, entered, has_room, journal, limits_of, may_ask, seen, unchanged}
 use Rattle.router_model.specs.Course.{Course, Control, Datagram, course_of}
 use Rattle.router_model.specs.Journal.{Journal}
 use Rattle.router_model.specs.Limits.{most_locators}
@@ -169,10 +170,10 @@ ranges_of request =
     ++ map (λ eid. record { iid = eid.iid; addr = eid.prefix.addr; len = eid.prefix.len }) request.eids
 
 -- the EID of a mapping that was learned and may be asked for again
-abbrev pub renewable : Settings → View → Option Held → Option Eid
-renewable settings v None = None
-renewable settings v (Some held) =
-    if not held.fixed && may_ask settings v held.eid then Some held.eid else None
+abbrev pub renewable : Settings → List LimitItem → View → Option Held → Option Eid
+renewable settings limits v None = None
+renewable settings limits v (Some held) =
+    if not held.fixed && may_ask settings limits v held.eid then Some held.eid else None
 
 -- ### what a Map-Reply teaches
 
@@ -203,7 +204,7 @@ module _ {S : Type 0} (ledger : Ledger S) (settings : Settings) (m : ℕ) where
   abbrev pub renewed : Range → Change S → Change S
   renewed range change =
       asked_again
-      (renewable settings (seen ledger settings m change)
+      (renewable settings (limits_of ledger settings m change) (seen ledger settings m change)
       (force (seen ledger settings m change).mappings range.iid range.addr range.len)) change
 
   -- how many requests came of it
@@ -219,7 +220,9 @@ module _ {S : Type 0} (ledger : Ledger S) (settings : Settings) (m : ℕ) where
   -- a record is learned, or passed over
   abbrev pub taught : Eid → List Record → Record → Change S → Change S
   taught asked mappings mapping change =
-      if is_asked_for asked mappings mapping && (not (is_static settings mapping) && has_room (seen ledger settings m change) mapping)
+      if is_asked_for asked mappings mapping
+      && (not (is_static settings mapping)
+      && has_room (limits_of ledger settings m change) (seen ledger settings m change) mapping)
       then entered ledger settings m (entry.Learned m (shortened mapping) false) change else change
 
   -- how many records were learned, beside the entry Answered, and how many weren't

@@ -25,5 +25,6 @@ pub mod Sharing
 pub mod Sides
 pub mod Site
 pub mod Standing
+pub mod Tenants
 pub mod Tick
 pub mod View

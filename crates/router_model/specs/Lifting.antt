@@ -9,6 +9,7 @@ use Rattle.mapping_records.specs.declared.record.Record.{Record}
 use Rattle.map_messages.specs.declared.message.MapRequest.{MapRequest}
 use Rattle.map_messages.specs.declared.message.Message.{Message}
 use Rattle.map_messages.specs.declared.message.Message.TheVariants as message
+use Rattle.lisp_settings.specs.Instances.{limits_in}
 use Rattle.lisp_settings.specs.Lawful.{IsLawful}
 use Rattle.lisp_settings.specs.declared.settings.Change.{Change as OwnChange}
 use Rattle.lisp_settings.specs.declared.settings.OwnLocator.{OwnLocator}
@@ -26,7 +27,7 @@ use Rattle.router_model.specs.Course.{Control, Datagram, course_of}
 use Rattle.router_model.specs.Decide.{decide, decide_by}
 use Rattle.router_model.specs.Hear.{Heard, Route, hear, hear_by, message_heard, ranges_of}
 use Rattle.router_model.specs.Journal.{Journal, IsRising, changed, last_moment, moment_of, statics}
-use Rattle.router_model.specs.Limits.{most_entries, most_notices, most_requests, most_targets, most_told}
+use Rattle.router_model.specs.Limits.{most_entries, most_notices, most_open, most_targets, most_told}
 use Rattle.router_model.specs.Mappings.{bit, bit_told, exact, held, live, live_mappings}
 use Rattle.router_model.specs.Note.{note, noted}
 use Rattle.router_model.specs.Parts.{Parts, Stands, absorbed, admits, parts_in, parts_of, standing_in, table, view_in}
@@ -59,7 +60,7 @@ StandingSees = (settings : Settings) (parts : Parts) (journal : Journal) (m : �
 
 -- it admits what may follow the journal, the next nonce and the next change apart
 abbrev pub StandingAdmits : Type 0
-StandingAdmits = (settings : Settings) (parts : Parts) (journal : Journal) (entry : Entry) → Stands settings parts journal → admits parts entry ≡ (is_admitted (length journal) (last_moment journal) (view journal (moment_of entry)) entry && may_change (own_after settings journal) (changed journal) entry)
+StandingAdmits = (settings : Settings) (parts : Parts) (journal : Journal) (entry : Entry) → Stands settings parts journal → admits parts entry ≡ (is_admitted (limits_in settings) (length journal) (last_moment journal) (view journal (moment_of entry)) entry && may_change (own_after settings journal) (changed journal) entry)
 
 -- and goes on to stand for it after an entry that fits
 abbrev pub StandingAbsorbs : Type 0
@@ -114,7 +115,7 @@ NotesLift = (settings : Settings) (locators : List OwnLocator) (steps m more : �
 -- a second is for a table what it is for the journal: the same entries, which fit, and the same emits; at most one for each
 -- change, for each prefix of each locator that is told, for each request that may be open, and 16
 abbrev pub TicksLift : Type 0
-TicksLift = (settings : Settings) (m more : ℕ) (before : Change Journal) → Ready settings m (more + (length settings.changes + (most_told * length settings.databases + (most_requests + most_targets)))) before.after → Goes settings m more (ticked table settings m (tabled settings before)) (ticked of_journal settings m before)
+TicksLift = (settings : Settings) (m more : ℕ) (before : Change Journal) → Ready settings m (more + (length settings.changes + (most_told * length settings.databases + (most_open + most_targets)))) before.after → Goes settings m more (ticked table settings m (tabled settings before)) (ticked of_journal settings m before)
 
 -- a table answered a message as the journal
 pub record Hears (settings : Settings) (m more : ℕ) (by_table : Heard Parts) (by_journal : Heard Journal) : Type 0 where

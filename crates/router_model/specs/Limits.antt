@@ -1,8 +1,8 @@
 -- The limits of a router, what follows from them, and the ports of LISP.
 use Rattle.std.specs.Prelude.{ℕ, ◌+◌, ◌*◌}
-pub use Rattle.lisp_settings.specs.Limits.{most_changes, most_databases}
+pub use Rattle.lisp_settings.specs.Limits.{most_changes, most_databases, most_open}
 pub use Rattle.map_cache.specs.Limits.{most_locators, most_mappings}
-pub use Rattle.request_queue.specs.Limits.{most_requests, most_retries}
+pub use Rattle.request_queue.specs.Limits.{most_retries}
 pub use Rattle.locator_state.specs.Limits.{most_probes, most_solicits, most_starts, most_targets, most_wishes}
 
 -- the UDP port of packets in tunnels (RFC 9300, section 4.1)
@@ -28,7 +28,7 @@ most_told = 64
 -- entries that come of a second, at most: each change is made, each of these locators is told of each database prefix, each
 -- request is sent again, and each target is probed
 abbrev pub most_ticked : ℕ
-most_ticked = most_changes + (most_told * most_databases + (most_requests + most_targets))
+most_ticked = most_changes + (most_told * most_databases + (most_open + most_targets))
 
 -- what a decision notices, at most
 abbrev pub most_notices : ℕ
@@ -36,7 +36,7 @@ most_notices = 5
 
 -- entries that come of an event, at most, which is no sharp bound
 abbrev pub most_entries : ℕ
-most_entries = 8192
+most_entries = 32768
 
 -- octets of a round's frames past which it is closed, by the frame that brings it there
 abbrev pub most_round_octets : ℕ
@@ -44,4 +44,4 @@ most_round_octets = 16777216
 
 -- packets that are sent for an event, at most, which is no sharp bound; so they are counted in 64 bits
 abbrev pub most_event_packets : ℕ
-most_event_packets = 8192
+most_event_packets = 32768

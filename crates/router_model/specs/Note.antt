@@ -4,12 +4,13 @@ use Rattle.std.specs.List.{list_any}
 use Rattle.ip_headers.specs.declared.addr.Addr.{Addr}
 use Rattle.mapping_records.specs.Eids.{same_address}
 use Rattle.mapping_records.specs.declared.eid.Eid.{Eid}
+use Rattle.lisp_settings.specs.declared.settings.LimitItem.{LimitItem}
 use Rattle.lisp_settings.specs.declared.settings.Settings.{Settings}
 use Rattle.router_log.specs.declared.notice.Notice.{Notice}
 use Rattle.router_log.specs.declared.emit.Emit.TheVariants as emit
 use Rattle.router_log.specs.declared.entry.Entry.TheVariants as entry
 use Rattle.router_log.specs.declared.notice.Notice.TheVariants as notice
-use Rattle.router_model.specs.Changes.{Change, Ledger, asked, emitted, entered, journal, may_ask, next_nonce, seen, unchanged}
+use Rattle.router_model.specs.Changes.{Change, Ledger, asked, emitted, entered, journal, limits_of, may_ask, next_nonce, seen, unchanged}
 use Rattle.router_model.specs.Journal.{Journal}
 use Rattle.router_model.specs.Mappings.{Held, bit, exact, force}
 use Rattle.router_model.specs.Site.{ours}
@@ -22,9 +23,9 @@ is_wanting None = true
 is_wanting (Some held) = (length held.mapping.locators == 0) && (held.mapping.action == 2)
 
 -- an EID is to be asked for
-abbrev pub is_missing : Settings → View → Eid → Bool
-is_missing settings v eid =
-    may_ask settings v eid && is_wanting (force v.mappings eid.iid eid.prefix.addr eid.prefix.len)
+abbrev pub is_missing : Settings → List LimitItem → View → Eid → Bool
+is_missing settings limits v eid =
+    may_ask settings limits v eid && is_wanting (force v.mappings eid.iid eid.prefix.addr eid.prefix.len)
 
 -- a live mapping was learned
 abbrev pub is_learned : Option Held → Bool
@@ -57,9 +58,11 @@ module _ {S : Type 0} (ledger : Ledger S) (settings : Settings) (m : ℕ) where
   -- one notice
   unfoldable pub noted : Notice → Change S → Change S
   noted (notice.Ask eid source) change =
-      if is_missing settings (seen ledger settings m change) eid then asked ledger settings m eid source false change else change
+      if is_missing settings (limits_of ledger settings m change) (seen ledger settings m change) eid
+      then asked ledger settings m eid source false change else change
   noted (notice.Refresh eid) change =
-      if is_learned (exact (seen ledger settings m change).mappings eid) && may_ask settings (seen ledger settings m change) eid
+      if is_learned (exact (seen ledger settings m change).mappings eid)
+      && may_ask settings (limits_of ledger settings m change) (seen ledger settings m change) eid
       then asked ledger settings m eid None false change else change
   noted (notice.Bits eid rloc bits width) change =
       if is_news rloc bits width (exact (seen ledger settings m change).mappings eid)

@@ -1,5 +1,7 @@
 -- What a table keeps of a journal: only what still counts, and so no journal.
 use Rattle.std.specs.Prelude.{◌≡◌, ℕ, suc, ◌+◌, ◌&&◌, max, Bool, List, [], ◌∷◌, filter, length, map, if◌then◌else◌}
+use Rattle.lisp_settings.specs.Instances.{limits_in}
+use Rattle.lisp_settings.specs.declared.settings.LimitItem.{LimitItem}
 use Rattle.lisp_settings.specs.declared.settings.OwnLocator.{OwnLocator}
 use Rattle.lisp_settings.specs.declared.settings.Settings.{Settings}
 use Rattle.router_log.specs.declared.entry.Entry.{Entry}
@@ -33,6 +35,8 @@ pub record Parts : Type 0 where
   -- in asking order
   pub requests : List Request
   pub observed : Observed
+  -- of instances
+  pub limits : List LimitItem
 
 -- ### the parts of a journal, by its whole list
 
@@ -47,6 +51,7 @@ parts_at settings journal now = record {
   mappings = kept_mappings now journal;
   requests = open_requests now journal;
   observed = recent now (observed journal);
+  limits = limits_in settings;
 }
 
 -- the parts of a journal
@@ -72,7 +77,7 @@ view_in parts m = view_at parts (max m parts.now)
 -- the entry may follow what the parts are of, its nonce apart, and which change comes next
 unfoldable pub admits : Parts → Entry → Bool
 admits parts entry =
-    is_admitted parts.count parts.now (view_in parts (moment_of entry)) entry && may_change parts.own parts.steps entry
+    is_admitted parts.limits parts.count parts.now (view_in parts (moment_of entry)) entry && may_change parts.own parts.steps entry
 
 -- which own locators are up, and how many changes were made
 abbrev pub own_of : Parts → Own
@@ -95,6 +100,7 @@ with_entry entry parts = record {
   mappings = absorb mapping_kind (lasts (moment_of entry)) entry parts.mappings;
   requests = absorb request_kind (is_waiting (moment_of entry)) entry parts.requests;
   observed = observing (moment_of entry) entry parts.observed;
+  limits = parts.limits;
 }
 
 -- the parts with an entry more, which an entry that isn't admitted leaves
@@ -114,4 +120,5 @@ table = record {
   count = λ parts. parts.count;
   steps = λ parts. parts.steps;
   stands = standing_in;
+  limits = λ settings parts. parts.limits;
 }

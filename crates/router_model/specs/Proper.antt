@@ -1,15 +1,17 @@
 -- Journals that a router can have.
-use Rattle.std.specs.Prelude.{◌≡◌, ◌≤◌, ℕ, ◌%◌, ◌^◌, ◌==◌, ◌||◌, ◌&&◌, nat_le, nat_lt, not, Bool, false, true, IsTrue, List, [], ◌∷◌, ◌++◌, length, slice_get, Option, Some, None, is_some}
+use Rattle.std.specs.Prelude.{◌≡◌, ◌≤◌, ◌+◌, ℕ, ◌%◌, ◌^◌, ◌==◌, ◌||◌, ◌&&◌, nat_le, nat_lt, not, Bool, false, true, IsTrue, List, [], ◌∷◌, ◌++◌, length, slice_get, Option, Some, None, is_some}
 use Rattle.std.specs.List.{All, AllByRecursion}
 use Rattle.mapping_records.specs.declared.record.Record.{Record}
+use Rattle.lisp_settings.specs.Instances.{AreLimits, all_mappings, limits_in}
 use Rattle.lisp_settings.specs.Nonces.{nonce_of}
 use Rattle.lisp_settings.specs.declared.settings.Change.{Change}
+use Rattle.lisp_settings.specs.declared.settings.LimitItem.{LimitItem}
 use Rattle.lisp_settings.specs.declared.settings.Settings.{Settings}
 use Rattle.router_log.specs.declared.entry.Entry.{Entry}
 use Rattle.router_log.specs.declared.entry.Entry.TheVariants.{Learned, Asked, Retried, Answered, Probed, ProbeAnswered, Bits, EchoStarted, EchoHeard, DataFrom, EchoWanted, Solicited, Changed}
-use Rattle.router_model.specs.Changes.{has_room}
+use Rattle.router_model.specs.Changes.{has_room, may_open}
 use Rattle.router_model.specs.Journal.{Journal, changed, drawn, last_moment, moment_of, statics}
-use Rattle.router_model.specs.Limits.{most_changes, most_databases, most_locators, most_probes, most_requests, most_retries}
+use Rattle.router_model.specs.Limits.{most_changes, most_databases, most_locators, most_mappings, most_probes, most_retries}
 use Rattle.router_model.specs.Mappings.{exact}
 use Rattle.request_queue.specs.Queue.{with_nonce}
 use Rattle.request_queue.specs.declared.request.Request.{Request}
@@ -30,25 +32,26 @@ may_retry (Some request) = nat_lt request.sent_again most_retries
 abbrev pub is_short : ℕ → Bool
 is_short nonce = nat_lt nonce (2 ^ 24)
 
--- the entry may follow what is seen at its moment
-abbrev pub suits : View → Entry → Bool
-suits v (Learned moment mapping fixed) = not fixed && (is_in_range mapping && has_room v mapping)
-suits v (Asked moment eid source invoked nonce) = nat_lt (length v.requests) most_requests
-suits v (Retried moment nonce) = may_retry (with_nonce v.requests nonce)
-suits v (Answered moment nonce) = is_some (with_nonce v.requests nonce)
-suits v (Bits moment eid bits width) = is_some (exact v.mappings eid) && ((width == 8) || (width == 32))
-suits v (Probed moment rloc nonce) = nat_lt v.probe_count most_probes
-suits v (ProbeAnswered moment nonce) = is_some (v.probe_open nonce)
-suits v (EchoStarted moment rloc nonce) = v.may_start rloc && is_short nonce
-suits v (EchoHeard moment rloc) = is_some (v.echo_on rloc)
-suits v (DataFrom moment rloc) = v.data_due rloc
-suits v (EchoWanted moment rloc nonce) = v.may_want rloc nonce && is_short nonce
-suits v (Solicited moment rloc eid nonce) = v.may_solicit rloc eid
-suits v (Changed moment address up) = true
+-- by these limits the entry may follow what is seen at its moment
+abbrev pub suits : List LimitItem → View → Entry → Bool
+suits limits v (Learned moment mapping fixed) = not fixed && (is_in_range mapping && has_room limits v mapping)
+suits limits v (Asked moment eid source invoked nonce) = may_open limits v eid.iid
+suits limits v (Retried moment nonce) = may_retry (with_nonce v.requests nonce)
+suits limits v (Answered moment nonce) = is_some (with_nonce v.requests nonce)
+suits limits v (Bits moment eid bits width) = is_some (exact v.mappings eid) && ((width == 8) || (width == 32))
+suits limits v (Probed moment rloc nonce) = nat_lt v.probe_count most_probes
+suits limits v (ProbeAnswered moment nonce) = is_some (v.probe_open nonce)
+suits limits v (EchoStarted moment rloc nonce) = v.may_start rloc && is_short nonce
+suits limits v (EchoHeard moment rloc) = is_some (v.echo_on rloc)
+suits limits v (DataFrom moment rloc) = v.data_due rloc
+suits limits v (EchoWanted moment rloc nonce) = v.may_want rloc nonce && is_short nonce
+suits limits v (Solicited moment rloc eid nonce) = v.may_solicit rloc eid
+suits limits v (Changed moment address up) = true
 
 -- the entry may follow so many entries, of which the last has that moment, seen so at its own; its nonce apart
-abbrev pub is_admitted : ℕ → ℕ → View → Entry → Bool
-is_admitted count last v entry = (nat_lt count (2 ^ 62) && nat_le last (moment_of entry)) && suits v entry
+abbrev pub is_admitted : List LimitItem → ℕ → ℕ → View → Entry → Bool
+is_admitted limits count last v entry =
+    (nat_lt count (2 ^ 62) && nat_le last (moment_of entry)) && suits limits v entry
 
 -- an entry that uses a nonce has this one, of which an echo has the low 24 bits
 abbrev pub has_nonce : ℕ → Entry → Bool
@@ -61,7 +64,7 @@ has_nonce next _ = true
 -- the entry may follow the journal; one of a change is the settings' next one
 unfoldable pub fits : Settings → Journal → Entry → Bool
 fits settings journal entry =
-    is_admitted (length journal) (last_moment journal) (view journal (moment_of entry)) entry
+    is_admitted (limits_in settings) (length journal) (last_moment journal) (view journal (moment_of entry)) entry
     && (has_nonce (nonce_of settings.seed settings.nonces (drawn journal)) entry
     && has_change (slice_get settings.changes (changed journal)) entry)
 
@@ -76,12 +79,15 @@ abbrev pub AreInTurn : List Change → Type 0
 AreInTurn [] = Unit {0}
 AreInTurn (change ∷ changes) = AllByRecursion (λ (next : Change). change.at ≤ next.at) changes × AreInTurn changes
 
--- what journals ask of settings, and lawful ones have: few changes, in turn, of own locators, and few databases
+-- what journals ask of settings, and lawful ones have: few changes, in turn, of own locators, few databases, and limits
+-- that a router can have beside the static mappings
 pub record MayChange (settings : Settings) : Type 0 where
   pub few_changes : length settings.changes ≤ most_changes
   pub turns : AreInTurn settings.changes
   pub own : All (λ change. is_own settings.locators change.address ≡ true) settings.changes
   pub few_databases : length settings.databases ≤ most_databases
+  pub limits : AreLimits (limits_in settings)
+  pub room : length settings.mappings + all_mappings (limits_in settings) ≤ most_mappings
 
 -- the static mappings, and further entries of which each fits
 pub record IsProper (settings : Settings) (journal : Journal) : Type 0 where

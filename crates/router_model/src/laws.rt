@@ -17,6 +17,7 @@ ghost use Rattle.router_model.specs.Hear.{drops, hear, reply_heard};
 ghost use Rattle.router_model.specs.Isolation.{AgreesDecides, DecisionIsolated, MomentIsolated, NoneAsks, RisingIsolated, TableIsolated, TablesAlike};
 ghost use Rattle.router_model.specs.Journal.{Journal, statics};
 ghost use Rattle.router_model.specs.Lifting.{AllAbsorbed, BitsKept, CameFits, CameInOrder, CaptureReplays, ChangesComeOnce, CourseStands, EntryAbsorbed, EventsInOrder, HearsStill, LawfulMayChange, LiveIsExact, NotesStill, NoticesSound, OwnTells, PartsAnswer, ProperRises, StandingAbsorbs, StandingAdmits, StandingSees, StaticsStand, TableDecides, TableHears, TableNotes, TableReplays, TableTicks, VersionsStep};
+ghost use Rattle.router_model.specs.Tenants.{AskingIsolated, RequestsIsolated, TablesAsk, TablesLearn};
 ghost use Rattle.router_model.specs.Received.{message_in};
 ghost use Rattle.router_model.specs.View.{Agrees, View, view};
 
@@ -166,4 +167,18 @@ pub fn decisions_are_isolated()
 pub fn tables_are_isolated()
     ensures one { TableIsolated }
     ensures two { TablesAlike }
+{}
+
+/// With limits of its own, an instance asks by its own journal, where no two young requests share a nonce: its open
+/// requests are those of that journal.
+pub fn limits_are_isolated()
+    ensures requests { RequestsIsolated }
+    ensures asking { AskingIsolated }
+{}
+
+/// Two tables that stand for journals that are one to an instance, by which no two young requests share a nonce, ask
+/// alike for its EIDs, and learn the same of a reply to its request.
+pub fn tables_ask_and_learn_apart()
+    ensures ask { TablesAsk }
+    ensures learn { TablesLearn }
 {}

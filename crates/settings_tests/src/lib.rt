@@ -3,6 +3,8 @@
 #![tactic(auto)]
 
 #[cfg(test)]
+mod instances;
+#[cfg(test)]
 mod limits;
 #[cfg(test)]
 mod sameness;

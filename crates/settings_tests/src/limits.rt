@@ -23,6 +23,8 @@ fn a_list_has_so_many_items_at_most(rt: HostRuntime) -> Result<(), Fail> {
         ("mapping", "{},", 65_537, "too-many", "mapping"),
         ("change", "{},", 256, "missing", "change.0.at"),
         ("change", "{},", 257, "too-many", "change"),
+        ("limit", "{},", 4096, "missing", "limit.0.iid"),
+        ("limit", "{},", 4097, "too-many", "limit"),
     ] {
         let items = repeated(alloc, item, times)?;
         let text = format!(in alloc; "{list} = [{items}]\n{LOCATOR}")?;

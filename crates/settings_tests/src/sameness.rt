@@ -18,6 +18,7 @@ pub fn assert_same(rt: &impl Abort, again: &Settings, first: &Settings) {
         assert_same_mapping(rt, again, first);
     }
     assert_eq!(rt; again.changes.as_slice(), first.changes.as_slice());
+    assert_eq!(rt; again.limits.as_slice(), first.limits.as_slice());
 }
 
 fn assert_same_mapping(rt: &impl Abort, again: &Record, first: &Record) {

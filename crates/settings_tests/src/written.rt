@@ -4,7 +4,8 @@ ghost use Rattle.lisp_settings.specs.Lawful.{IsLawful};
 use crate::sameness::assert_same;
 use crate::texts::{LOCATOR, SITE};
 use lisp_settings::{
-    Addr, Attachment, Change, Locator, OwnLocator, Record, Settings, read_settings, write_settings,
+    Addr, Attachment, Change, LimitItem, Locator, OwnLocator, Record, Settings, read_settings,
+    write_settings,
 };
 use std::alloc::Global;
 use std::process::Abort;
@@ -101,6 +102,11 @@ change = [
     {at = 0, address = "::1", up = false},
     {at = 4294967295, address = "192.0.2.9", up = false},
 ]
+limit = [
+    {iid = 16777215, mappings = 0, requests = 0},
+    {iid = 0, mappings = 65532, requests = 1024},
+    {iid = 1, mappings = 0, requests = 1024},
+]
 "#,
         ),
         // Addresses and prefixes of each form.
@@ -167,6 +173,10 @@ change = [
     {at = 7, address = "::1", up = true},
     {at = 7, address = "192.0.2.1", up = true},
 ]
+limit = [
+    {iid = 16777215, mappings = 65535, requests = 1024},
+    {iid = 1, mappings = 0, requests = 7},
+]
 [[mapping]]
 iid = 16777215
 prefix = "10.2.0.0/16"
@@ -186,6 +196,7 @@ locator = [{address = "198.51.100.7", priority = 2, weight = 3, up = false}]
         assert_mapping(&rt, mapping);
     }
     assert_changes(&rt, settings.changes.as_slice());
+    assert_limits(&rt, settings.limits.as_slice());
     Ok(())
 }
 
@@ -207,6 +218,21 @@ fn assert_changes(rt: &impl Abort, changes: &[Change]) {
         up: false,
     };
     assert_eq!(rt; changes, [v4, v6, last].as_slice());
+}
+
+// The limits stand in order of instance.
+fn assert_limits(rt: &impl Abort, limits: &[LimitItem]) {
+    let first = LimitItem {
+        iid: 1,
+        mappings: 0,
+        requests: 7,
+    };
+    let last = LimitItem {
+        iid: 16_777_215,
+        mappings: 65_535,
+        requests: 1024,
+    };
+    assert_eq!(rt; limits, [first, last].as_slice());
 }
 
 // The values of the keys of the top, of the own locators and of the attachments.

@@ -1,7 +1,7 @@
 // Copies of tables: what was put in is there, and a change of the copy leaves the original.
 ghost use Rattle.std.specs.Prelude.{◌≡◌, length};
 
-use crate::rows::{eid, locator, on_locators, record, record_to};
+use crate::rows::{ATTACHED, cache, eid, locator, on_locators, queue, record, record_to};
 use ip_headers::Addr;
 use locator_state::LocatorState;
 use map_cache::{LearnFault, MapCache};
@@ -33,7 +33,7 @@ fn own_pairs(rt: &impl Abort, net: Eid, table: &mut PrefixTable<u32>) -> Result<
 
 #[test]
 fn a_copied_cache_has_its_own_mappings(rt: HostRuntime) -> Result<(), LearnFault> {
-    let mut cache = MapCache::new(rt.alloc());
+    let mut cache = cache(&rt, rt.alloc(), ATTACHED)?;
     own_mappings(&rt, rt.alloc(), &mut cache)
 }
 
@@ -66,7 +66,7 @@ fn unlearn_in_copy(
 
 #[test]
 fn a_copied_queue_has_its_own_requests(rt: HostRuntime) -> Result<(), AskFault> {
-    let mut queue = RequestQueue::new(rt.alloc());
+    let mut queue = queue(&rt, rt.alloc(), ATTACHED)?;
     own_requests(&rt, &mut queue)
 }
 

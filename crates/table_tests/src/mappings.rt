@@ -1,11 +1,11 @@
 // Times and limits of mappings, by hand.
 ghost use Rattle.std.specs.Prelude.{◌≡◌, ◌≤◌};
 
-use crate::rows::{SECOND, eid, locator, record, record_to};
+use crate::rows::{ATTACHED, SECOND, cache, eid, locator, record, record_to};
 use ip_headers::{Addr, Prefix};
 use map_cache::{LearnFault, MapCache};
 use mapping_records::Eid;
-use node_store::Reads;
+use node_store::{NoMemory, Reads};
 use std::alloc::Global;
 use std::process::Abort;
 
@@ -24,7 +24,7 @@ fn bits(cache: &MapCache, moment: u64, eid: &Eid) -> Option<(u32, u32)>
 fn status_bits_are_known_until_the_mapping_is_replaced_or_ends(
     rt: HostRuntime,
 ) -> Result<(), LearnFault> {
-    let mut cache = MapCache::new(rt.alloc());
+    let mut cache = cache(&rt, rt.alloc(), ATTACHED)?;
     bits_until_it_is_replaced_or_ends(&rt, rt.alloc(), &mut cache)
 }
 
@@ -58,7 +58,7 @@ fn bits_until_it_is_replaced_or_ends(
 fn a_fixed_mapping_has_no_end_and_a_ttl_of_0_takes_it_away(
     rt: HostRuntime,
 ) -> Result<(), LearnFault> {
-    let mut cache = MapCache::new(rt.alloc());
+    let mut cache = cache(&rt, rt.alloc(), ATTACHED)?;
     fixed_without_end(&rt, rt.alloc(), &mut cache)
 }
 
@@ -87,7 +87,7 @@ fn next(cache: &MapCache, moment: u64, after: Option<Addr>) -> Option<(Addr, Eid
 fn locators_come_in_order_of_address_and_of_one_the_least_eid(
     rt: HostRuntime,
 ) -> Result<(), LearnFault> {
-    let mut cache = MapCache::new(rt.alloc());
+    let mut cache = cache(&rt, rt.alloc(), ATTACHED)?;
     locators_in_order(&rt, rt.alloc(), &mut cache)
 }
 
@@ -132,7 +132,7 @@ fn fill(alloc: Global, cache: &mut MapCache, moment: u64, hosts: u32) -> Result<
 fn a_full_cache_takes_no_other_eid_until_time_has_emptied_it(
     rt: HostRuntime,
 ) -> Result<(), LearnFault> {
-    let mut cache = MapCache::new(rt.alloc());
+    let mut cache = cache(&rt, rt.alloc(), ATTACHED)?;
     full_twice(&rt, rt.alloc(), &mut cache)
 }
 
@@ -160,6 +160,16 @@ fn full_at(
     Ok(())
 }
 
+// Each instance below a number is attached.
+fn attached(alloc: Global, instances: u32) -> Result<String, NoMemory> {
+    let mut tables = String::new(alloc);
+    for iid in 0..instances {
+        let table = format!(in alloc; "[[attachment]]\nvlan = {iid}\niid = {iid}\n")?;
+        tables.push_str(table.as_str())?;
+    }
+    Ok(tables)
+}
+
 // Learns all prefixes of the last IPv6 address but the shortest, in each of 512 instances: those of
 // even length for a minute, the others for two.
 fn nest(alloc: Global, cache: &mut MapCache) -> Result<(), LearnFault>
@@ -179,7 +189,8 @@ fn nest(alloc: Global, cache: &mut MapCache) -> Result<(), LearnFault>
 
 #[test]
 fn among_65_536_nested_mappings_the_longest_is_found(rt: HostRuntime) -> Result<(), LearnFault> {
-    let mut cache = MapCache::new(rt.alloc());
+    let attached = attached(rt.alloc(), 512)?;
+    let mut cache = cache(&rt, rt.alloc(), attached.as_str())?;
     longest_of_nested(&rt, rt.alloc(), &mut cache)
 }
 
@@ -206,5 +217,67 @@ fn longest_of_nested(rt: &impl Abort, alloc: Global, cache: &mut MapCache) -> Re
         assert_eq!(rt; found.map(|mapping| mapping.eid.prefix.len), len);
         assert!(rt; reads.count() <= 129);
     }
+    Ok(())
+}
+
+const LIMITED: &str = r#"
+[[attachment]]
+vlan = 0
+iid = 100
+[[attachment]]
+vlan = 5
+iid = 200
+[[limit]]
+iid = 100
+mappings = 1
+requests = 1
+[[limit]]
+iid = 200
+mappings = 2
+requests = 1
+"#;
+
+#[test]
+fn each_instance_learns_within_its_own_limit(rt: HostRuntime) -> Result<(), LearnFault> {
+    let mut cache = cache(&rt, rt.alloc(), LIMITED)?;
+    within_limits(&rt, rt.alloc(), &mut cache)?;
+    place_again(&rt, rt.alloc(), &mut cache)
+}
+
+fn within_limits(rt: &impl Abort, alloc: Global, cache: &mut MapCache) -> Result<(), LearnFault>
+    requires { cache.old.now ≡ 0 }
+    ensures { cache.new.now ≡ 0 }
+{
+    let (first, second) = (eid(rt, 0x0a02_0000, 16), eid(rt, 0x0a03_0000, 16));
+    let prefix = first.prefix;
+    cache.learn(0, record(alloc, first, 1), false)?;
+    let full = cache.learn(0, record(alloc, second, 1), false);
+    assert_eq!(rt; full, Err(LearnFault::CacheFull));
+    cache.learn(0, record(alloc, Eid { iid: 200, prefix }, 1), false)?;
+    cache.learn(0, record(alloc, first, 1), false)?;
+    cache.learn(0, record(alloc, second, 0), false)?;
+    cache.learn(0, record(alloc, second, 1), true)?;
+    let unlimited = cache.learn(0, record(alloc, Eid { iid: 300, prefix }, 1), false);
+    assert_eq!(rt; unlimited, Err(LearnFault::CacheFull));
+    Ok(())
+}
+
+// The first mapping of instance 100 has ended, and another takes its place. A fixed one has none.
+fn place_again(rt: &impl Abort, alloc: Global, cache: &mut MapCache) -> Result<(), LearnFault>
+    requires { cache.old.now ≡ 0 }
+{
+    for (moment, iid, learned, has_place) in [
+        (0, 100, 1, false),
+        (0, 200, 1, true),
+        (0, 300, 0, false),
+        (MINUTE, 100, 0, true),
+    ] {
+        assert_eq!(rt; cache.learned_in(moment, iid), learned);
+        assert_eq!(rt; cache.has_place_in(moment, iid), has_place);
+    }
+    let third = eid(rt, 0x0a04_0000, 16);
+    cache.learn(MINUTE, record(alloc, third, 1), false)?;
+    assert_eq!(rt; cache.live_count(MINUTE), 2);
+    assert_eq!(rt; cache.learned_in(MINUTE, 100), 1);
     Ok(())
 }

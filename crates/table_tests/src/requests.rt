@@ -1,5 +1,5 @@
 // Times and limits of requests, by hand.
-use crate::rows::{SECOND, eid};
+use crate::rows::{ATTACHED, SECOND, eid, queue};
 use ip_headers::Addr;
 use mapping_records::Eid;
 use node_store::Reads;
@@ -17,7 +17,7 @@ fn is_open(queue: &RequestQueue, moment: u64, eid: &Eid) -> bool {
 fn a_request_waits_for_seven_seconds_or_until_it_is_answered(
     rt: HostRuntime,
 ) -> Result<(), AskFault> {
-    let mut queue = RequestQueue::new(rt.alloc());
+    let mut queue = queue(&rt, rt.alloc(), ATTACHED)?;
     waits_until_it_is_answered(&rt, &mut queue)
 }
 
@@ -55,7 +55,7 @@ fn next_due(queue: &RequestQueue, moment: u64, after: Option<u64>) -> Option<u64
 
 #[test]
 fn requests_are_sent_again_in_asking_order(rt: HostRuntime) -> Result<(), AskFault> {
-    let mut queue = RequestQueue::new(rt.alloc());
+    let mut queue = queue(&rt, rt.alloc(), ATTACHED)?;
     again_in_asking_order(&rt, &mut queue)
 }
 
@@ -107,7 +107,7 @@ fn fill(
 fn a_full_queue_takes_no_request_until_time_has_emptied_it(
     rt: HostRuntime,
 ) -> Result<(), AskFault> {
-    let mut queue = RequestQueue::new(rt.alloc());
+    let mut queue = queue(&rt, rt.alloc(), ATTACHED)?;
     full_twice(&rt, &mut queue)
 }
 
@@ -132,4 +132,61 @@ fn full_twice(rt: &impl Abort, queue: &mut RequestQueue) -> Result<(), AskFault>
     assert_eq!(rt; queue.open_count(2 * LATE), 1);
     assert!(rt; !is_open(queue, 2 * LATE, &eid(rt, 0x0000_0001, 32)));
     Ok(())
+}
+
+const LIMITED: &str = r#"
+[[attachment]]
+vlan = 0
+iid = 100
+[[attachment]]
+vlan = 5
+iid = 200
+[[limit]]
+iid = 100
+mappings = 1
+requests = 1
+[[limit]]
+iid = 200
+mappings = 1
+requests = 2
+"#;
+
+#[test]
+fn each_instance_asks_within_its_own_limit(rt: HostRuntime) -> Result<(), AskFault> {
+    let mut queue = queue(&rt, rt.alloc(), LIMITED)?;
+    within_limits(&rt, &mut queue);
+    Ok(())
+}
+
+// A prefix of an address, of an instance.
+fn eid_of(rt: &impl Abort, iid: u16, address: u32) -> Eid {
+    let prefix = eid(rt, address, 16).prefix;
+    let iid = u32::from(iid);
+    Eid { iid, prefix }
+}
+
+// Asks for one EID after another. Each row has a nonce, a moment and an instance, how it went, how
+// many requests of the instance wait then, and whether one more may.
+fn within_limits(rt: &impl Abort, queue: &mut RequestQueue) {
+    let full = Err(AskFault::QueueFull);
+    for (nonce, moment, iid, asked, open, has_place) in [
+        (1, 0, 100, Ok(()), 1, false),
+        (2, 1, 100, full, 1, false),
+        (3, 1, 200, Ok(()), 1, true),
+        (4, 1, 200, Ok(()), 2, false),
+        (5, 1, 200, full, 2, false),
+        (6, 1, 300, full, 0, false),
+        (7, LATE - 1, 100, full, 1, false),
+        (8, LATE, 200, full, 2, false),
+        (9, LATE, 100, Ok(()), 1, false),
+        (10, LATE + 1, 200, Ok(()), 1, true),
+    ] {
+        let eid = eid_of(rt, iid, nonce << 16);
+        assert_eq!(rt;
+            queue.ask(moment, eid, None, false, u64::from(nonce)),
+            asked
+        );
+        assert_eq!(rt; queue.open_in(moment, eid.iid), open);
+        assert_eq!(rt; queue.has_place_in(moment, eid.iid), has_place);
+    }
 }

@@ -2,18 +2,37 @@
 ghost use Rattle.std.specs.Prelude.{◌≡◌, IfOk, length};
 
 use ip_headers::{Addr, Prefix};
+use lisp_settings::{Limits, limits_of, read_settings};
 use locator_state::LocatorState;
+use map_cache::MapCache;
 use mapping_records::{Eid, Locator, Locators, NoMemory, Record};
+use request_queue::RequestQueue;
 use std::alloc::Global;
 use std::process::Abort;
 
 /// In nanoseconds.
 pub const SECOND: u64 = 1_000_000_000;
 
+/// Instance 100 alone is attached, so that it may have all.
+pub const ATTACHED: &str = "[[attachment]]\nvlan = 0\niid = 100\n";
+
 /// A prefix of an IPv4 address, of instance 100.
 pub fn eid(rt: &impl Abort, address: u32, len: u8) -> Eid {
     let prefix = Prefix::new(Addr::V4(address), len).expect(rt, "at most 32 bits");
     Eid { iid: 100, prefix }
+}
+
+/// The limits of instances, of settings that have these tables.
+pub fn limits(rt: &impl Abort, alloc: Global, tables: &str) -> Result<Limits, NoMemory> {
+    let text = format!(in alloc; "[[locator]]\naddress = '192.0.2.1'\n{tables}")?;
+    let settings = read_settings(alloc, text.as_bytes()).expect(rt, "settings without a fault");
+    limits_of(alloc, &settings)
+}
+
+/// A queue with no requests, with the limits of settings that have these tables.
+pub fn queue(rt: &impl Abort, alloc: Global, tables: &str) -> Result<RequestQueue, NoMemory> {
+    let limits = limits(rt, alloc, tables)?;
+    RequestQueue::new(alloc, &limits)
 }
 
 /// The record of a mapping of so many minutes, without locators.
@@ -74,4 +93,12 @@ where
 {
     let mut state = LocatorState::new(alloc);
     test(&mut state)
+}
+
+/// A cache with no mappings, with the limits of settings that have these tables.
+pub fn cache(rt: &impl Abort, alloc: Global, tables: &str) -> Result<MapCache, NoMemory>
+    ensures { IfOk result (λ cache. cache.now ≡ 0) }
+{
+    let limits = limits(rt, alloc, tables)?;
+    MapCache::new(alloc, &limits)
 }

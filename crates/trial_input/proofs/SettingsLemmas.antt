@@ -1,5 +1,5 @@
 -- The settings of a trial are lawful.
-use Rattle.std.proofs.Common.{◌≡◌, ◌≤◌, ◌<◌, ◌+◌, [], ℕ, zero, suc, map, Less, refl, arith}
+use Rattle.std.proofs.Common.{◌≡◌, ◌≤◌, ◌<◌, ◌+◌, [], ℕ, zero, suc, length, map, IsTrue, Less, refl, arith, le-leb}
 use Rattle.std.proofs.lemmas.Bool.{lt-ltb}
 use Rattle.std.proofs.lemmas.List.Elements.{All-cons, All-map, All-nil}
 use Rattle.std.proofs.lemmas.List.FromFn.{length-map-range_with_len}
@@ -8,6 +8,7 @@ use Rattle.std.specs.List.Sorted.{IsStrictlySortedBy}
 use Rattle.mapping_records.specs.Limits.{most_mappings}
 use Rattle.mapping_records.specs.Orders.{eid_order}
 use Rattle.mapping_records.specs.declared.eid.Eid.{Eid}
+use Rattle.lisp_settings.specs.Instances.{is_within}
 use Rattle.lisp_settings.specs.Lawful.{IsLawful, IsLawfulAttachment, IsLawfulDatabase, IsLawfulLocator, IsLawfulMapping}
 use Rattle.lisp_settings.specs.declared.settings.Database.{Database}
 use Rattle.trial_input.specs.Trial.{eid_v4, prefix_addr, trial_mapping, trial_settings}
@@ -48,6 +49,10 @@ unfolding IsStrictlySortedBy
 eids-sorted a zero = tt
 eids-sorted a (suc n) = (eid_at-below a (a + 1) n (omega arith), eids-sorted (a + 1) n)
 
+-- no limits are stated, so that the mappings alone are within theirs
+within-none : (n : ℕ) → n ≤ most_mappings → IsTrue (is_within (length (map trial_mapping (range_with_len 0 n))) [])
+within-none n few = rw (le-leb (length (map trial_mapping (range_with_len 0 n)) + 0) most_mappings (omega (arith, length-map-range_with_len trial_mapping 0 n, few))) refl
+
 -- the settings of n mappings keep to the ranges, limits and orders
 pub settings-lawful : (n : ℕ) → n ≤ most_mappings → IsLawful (trial_settings n)
 unfolding IsStrictlySortedBy
@@ -69,4 +74,8 @@ settings-lawful n few = record {
   few_changes = omega arith;
   changes = All-nil _;
   moments = tt;
+  few_limits = omega arith;
+  limits = All-nil _;
+  instances = tt;
+  within = within-none n few;
 }

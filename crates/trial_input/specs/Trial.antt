@@ -64,6 +64,7 @@ trial_settings n = record {
   databases = record { eid = eid_v4 0xc0a80000 16 refl; version = 0 } ∷ [];
   mappings = map trial_mapping (range_with_len 0 n);
   changes = [];
+  limits = [];
 }
 
 -- a datagram without payload from 192.168.0.1 to an address: port 1000 to 2000, TTL 64, no checksum of UDP

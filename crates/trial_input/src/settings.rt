@@ -51,6 +51,7 @@ pub fn trial_settings(alloc: Global, n: u32) -> Result<Settings, NoMemory>
         databases,
         mappings,
         changes: Items::new(alloc),
+        limits: Items::new(alloc),
     })
 }
 

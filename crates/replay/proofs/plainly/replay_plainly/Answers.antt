@@ -22,7 +22,10 @@ returns-in_err-ending-clause-steady g c =
     let old = g.D.Desk.given c.args.desk.now in
     let made = c.in_ok-file.ensures in
     let file = given-new c.in_ok-file.file.number to_write old (g.D.Desk.given c.make_output.new.desk) made.given_fresh made.given in
-    search (rules, file, made.given, given-kept (g.R.FrameReader.id c.args.reader) to_read old ((c.in_ok-file.file.number, to_write) ∷ []))
+    record {
+      stays = λ was. c.play-ended.ensures.steady.stays (made.steady.stays was);
+      done = λ was given failed. search (rules, was, given, failed, made.steady.stays was, c.play-ended.ensures.steady.done (made.steady.stays was), file, made.given, given-kept (g.R.FrameReader.id c.args.reader) to_read old ((c.in_ok-file.file.number, to_write) ∷ []));
+    }
 
 pub returns-in_err-file-clause-front : goal.returns-in_err-file-clause-front
 returns-in_err-file-clause-front g c =

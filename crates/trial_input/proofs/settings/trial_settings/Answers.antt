@@ -12,7 +12,7 @@ returns-clause-settings c =
     let databases : c.push-3.new.self ≡ site ∷ [] =
     (rw c.new-databases.ensures at c.in_ok-push-3.ensures.ok)
     ∙ ap (λ (eid : Eid). record { eid = eid; version = 0 } ∷ []) (equal_eid _ site.eid refl (equal_prefix _ site.eid.prefix refl refl)) in
-    rw (c.new.ensures, c.new-2.ensures, locators, attachments, databases, c.in_ok-mappings.ensures) refl
+    rw (c.new.ensures, c.new-2.ensures, c.new-3.ensures, locators, attachments, databases, c.in_ok-mappings.ensures) refl
 
 pub returns-clause-lawful : goal.returns-clause-lawful
 returns-clause-lawful c = subst IsLawful (sym (returns-clause-settings c)) (settings-lawful c.args.n c.requires)

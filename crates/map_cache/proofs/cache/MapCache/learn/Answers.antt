@@ -7,7 +7,7 @@ use Rattle.map_cache.specs.Lists.{AllFew, AllLast, IsFew}
 use Rattle.map_cache.specs.Limits.{most_mappings}
 use Rattle.map_cache.specs.declared.mapping.Mapping.{Mapping}
 use Rattle.map_cache.proofs.FewLemmas.{AllFew-filter, AllFew-put}
-use Rattle.map_cache.proofs.FullLemmas.{few-filter, few-put, learned-put, length-lasting}
+use Rattle.map_cache.proofs.FullLemmas.{few-filter, few-put, learned-put, length-lasting, within_all}
 use Rattle.map_cache.proofs.LastingLemmas.{AllLast-filter, AllLast-put, fresh-lasts}
 use Rattle.map_cache.proofs.cache.MapCache.learn.Goals as goal
 
@@ -40,7 +40,7 @@ invariant_of-self-2 c =
     let all_few : AllFew items = subst AllFew (sym kept) c.self.invariant.1.1 in
     let purged : List Mapping = c.purge.new.self.mappings in
     let now_kept : items ≡ purged = kept ∙ ap (λ (cache : Cache). cache.mappings) c.self.view_is in
-    let here : (is_some (exact purged c.args.mapping.eid) || nat_lt (length purged) most_mappings) ≡ true = sym c.has_place.ensures ∙ c.if-not-has_place.false in
+    let here : (is_some (exact purged c.args.mapping.eid) || nat_lt (length purged) most_mappings) ≡ true = within_all (is_some (exact purged c.args.mapping.eid)) (nat_lt (length purged) most_mappings) _ (sym c.has_place.ensures ∙ c.if-not-has_place.false) in
     let eid : x.eid ≡ c.args.mapping.eid = ap (λ (i : Mapping). i.eid) c.fresh-mapping.ensures in
     let place : (is_some (exact items x.eid) || nat_lt (length items) most_mappings) ≡ true =
     ap (λ (l : List Mapping). is_some (exact l x.eid) || nat_lt (length l) most_mappings) now_kept

@@ -9,6 +9,7 @@ invariant-loop-eid l =
     × (l.initial.self.spare ≤ l.self.spare)
     × (length l.self.mappings + l.self.spare ≤ length l.initial.self.mappings + l.initial.self.spare)
     × (l.self.mapping_places ≤ l.initial.self.mapping_places)
+    × (l.self.limits ≡ l.initial.self.limits)
 
 abbrev pub decreases-loop-eid : goal.decreases-loop-eid
 decreases-loop-eid l = length l.self.mappings

@@ -3,15 +3,20 @@ use Rattle.std.proofs.lemmas.List.Edits.{length-insert}
 use Rattle.prefix_table.specs.Pairs.{value_in}
 use Rattle.map_cache.proofs.EndingLemmas.{insert-absent}
 use Rattle.map_cache.proofs.StayLemmas.{value-absent}
-use Rattle.map_cache.proofs.IndexedLemmas.{indexed-entered}
+use Rattle.map_cache.proofs.IndexedLemmas.{counted-few, indexed-entered}
 use Rattle.map_cache.proofs.PlaceOfLemmas.{absent-if}
 use Rattle.map_cache.proofs.indexed.Indexed.enter.Goals as goal
+
+pub add-requires : goal.add-requires
+add-requires c =
+    let few = rw (← c.self.view_is) at c.requires.few in
+    counted-few c.self.inside.mappings c.self.inside.by_eid.pairs c.self.inside.endings.keys c.self.inside.counts c.self.invariant 4294967295 (omega (arith, few))
 
 pub invariant_of-self : goal.invariant_of-self
 invariant_of-self c =
     let s = c.self.inside.mappings in
     let absent = absent-if c.args.mapping.eid s.items c.args.place c.self.invariant.ascending (rw (← c.self.view_is) at c.requires.place) (rw (← c.self.view_is) at c.requires.new) in
-    indexed-entered s c.insert-name.new.self c.self.inside.by_eid.pairs c.insert.new.self.pairs c.self.inside.endings.keys c.add_ending.new.endings.keys c.self.invariant (sym c.len.ensures.names ∙ c.len.ensures.len) c.args.place c.args.mapping c.insert-name.result absent c.insert-name.ensures.items c.insert-name.ensures.names (rw c.stay_until.ensures at c.insert.ensures.pairs) c.add_ending.ensures.members
+    indexed-entered s c.insert-name.new.self c.self.inside.by_eid.pairs c.insert.new.self.pairs c.self.inside.endings.keys c.add_ending.new.endings.keys c.self.inside.counts c.add.new.self c.self.invariant c.add.ensures.limits (sym c.len.ensures.names ∙ c.len.ensures.len) c.args.place c.args.mapping c.insert-name.result absent c.insert-name.ensures.items c.insert-name.ensures.names (rw c.stay_until.ensures at c.insert.ensures.pairs) c.add_ending.ensures.members c.add.ensures.learned
 
 pub returns-clause-mappings : goal.returns-clause-mappings
 returns-clause-mappings c =

@@ -13,7 +13,7 @@ invariant_of-self c =
     let items = c.self.inside.mappings.items in
     let place = c.place_of-place.result in
     let there = there-if c.args.eid.now items place c.self.invariant.ascending c.place_of-place.ensures.place (sym c.is_at.ensures.is ∙ c.if-is_at.true) in
-    indexed-told c.args.eid.now c.args.bits c.args.width c.self.inside.mappings c.self.inside.by_eid.pairs c.self.inside.endings.keys _
+    indexed-told c.args.eid.now c.args.bits c.args.width c.self.inside.mappings c.self.inside.by_eid.pairs c.self.inside.endings.keys c.self.inside.counts _
     (ap (slice_set items place) c.tell.ensures ∙ told-there c.args.eid.now c.args.bits c.args.width items place c.edit.result.now there c.edit.ensures.item) c.self.invariant
 
 pub returns-then-is_at-clause-mappings : goal.returns-then-is_at-clause-mappings

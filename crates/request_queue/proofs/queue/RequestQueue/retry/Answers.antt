@@ -1,9 +1,9 @@
-use Rattle.std.proofs.Common.{◌==◌, if◌then◌else◌, ap, ◌∙◌, arith}
-use Rattle.std.proofs.lemmas.List.{length-map}
-use Rattle.request_queue.specs.Queue.{Queue, behind, may_send_again, once_more}
+use Rattle.std.proofs.Common.{ap, ◌∙◌}
+use Rattle.request_queue.specs.Queue.{Queue, behind, may_send_again}
 use Rattle.request_queue.proofs.AgainLemmas.{all_may, behind-sent_again}
 use Rattle.request_queue.proofs.DistinctLemmas.{distinct-sent_again}
-use Rattle.request_queue.proofs.EidLemmas.{are-again}
+use Rattle.request_queue.proofs.IndexLemmas.{found-again}
+use Rattle.request_queue.proofs.OpenLemmas.{keeps-again}
 use Rattle.request_queue.proofs.RestLemmas.{all_rest-sent_again}
 use Rattle.request_queue.proofs.queue.RequestQueue.retry.Goals as goal
 
@@ -16,10 +16,10 @@ pub invariant_of-self : goal.invariant_of-self
 invariant_of-self c =
     let before = c.self.inside.requests.items in
     rw (c.send_each_again.ensures.items) (
-      omega (arith, length-map before (λ request. if request.nonce == c.args.nonce then once_more request else request), c.self.invariant.0),
+      keeps-again c.args.nonce c.self.inside.limits before c.self.invariant.0,
       (
         all_rest-sent_again c.args.nonce c.self.inside.wake before c.self.invariant.1.0,
-        (distinct-sent_again c.args.nonce before ∙ c.self.invariant.1.1.0, are-again c.self.inside.eids.pairs before c.self.invariant.1.1.1 c.args.nonce),
+        (distinct-sent_again c.args.nonce before ∙ c.self.invariant.1.1.0, found-again c.args.nonce c.self.inside.index before c.self.invariant.1.1.1),
       ),
     )
 

@@ -7,9 +7,10 @@ use Rattle.router_log.specs.declared.entry.Entry.TheVariants.{Answered}
 use Rattle.locator_state.specs.Observed.{Observed, longest}
 use Rattle.router_model.specs.Parts.{with_entry}
 use Rattle.router_core.specs.Table.{TableSeen}
-use Rattle.router_core.specs.Bounded.{AreShort, AreVersioned}
+use Rattle.router_core.specs.Bounded.{AreShort, AreVersioned, KeepLimits}
 use Rattle.router_core.proofs.BoundLemmas.{lasting-versioned, recent-short}
 use Rattle.router_core.proofs.EntryLemmas.{answered-parts, parts_with}
+use Rattle.router_core.proofs.LimitLemmas.{lasting-keeps}
 use Rattle.router_core.proofs.LengthLemmas.{recent-few}
 use Rattle.router_core.proofs.table.Table.answer.Goals as goal
 
@@ -17,9 +18,9 @@ pub returns-clause-parts : goal.returns-clause-parts
 returns-clause-parts c =
     let m = c.args.m in
     let inside = c.self.inside in
-    ap₂ (λ (now : ℕ) (l : List Mapping). parts_with inside.own.items inside.steps (inside.count + 1) inside.drawn now l c.answer.new.self.requests c.purge-3.new.self.observed) c.purge.ensures.now c.purge.ensures.mappings
-    ∙ ap₂ (λ (l : List Request) (p : Observed). parts_with inside.own.items inside.steps (inside.count + 1) inside.drawn m (lasting m inside.cache.mappings) l p) (c.answer.ensures.requests ∙ ap (without_nonce c.args.nonce) c.purge-2.ensures.requests) c.purge-3.ensures.observed
-    ∙ answered-parts inside.own.items inside.steps inside.count inside.drawn inside.cache.now inside.cache.mappings inside.queue.requests inside.locators.observed m c.args.nonce
+    ap₂ (λ (now : ℕ) (l : List Mapping). parts_with inside.limits inside.own.items inside.steps (inside.count + 1) inside.drawn now l c.answer.new.self.requests c.purge-3.new.self.observed) c.purge.ensures.now c.purge.ensures.mappings
+    ∙ ap₂ (λ (l : List Request) (p : Observed). parts_with inside.limits inside.own.items inside.steps (inside.count + 1) inside.drawn m (lasting m inside.cache.mappings) l p) (c.answer.ensures.requests ∙ ap (without_nonce c.args.nonce) c.purge-2.ensures.requests) c.purge-3.ensures.observed
+    ∙ answered-parts inside.limits inside.own.items inside.steps inside.count inside.drawn inside.cache.now inside.cache.mappings inside.queue.requests inside.locators.observed m c.args.nonce
     ∙ ap (λ (t : TableSeen). with_entry (Answered m c.args.nonce) t.parts) c.self.view_is
 
 pub invariant_of-self : goal.invariant_of-self
@@ -27,6 +28,7 @@ invariant_of-self c =
     let m = c.args.m in
     let inside = c.self.inside in
     let few = c.self.invariant.0 in
+    let limited = c.self.invariant.5 in
     let are = c.self.invariant.4 in (
       omega (arith, few),
       refl,
@@ -39,4 +41,5 @@ invariant_of-self c =
         longest = subst (λ (o : Observed). longest o ≤ 9600) (sym c.purge-3.ensures.observed) (recent-few m inside.locators.observed are.longest);
         own = are.own;
       },
+      record { mappings = c.purge.ensures.limits ∙ limited.mappings; requests = c.answer.ensures.limits ∙ c.purge-2.ensures.limits ∙ limited.requests; keeps = subst (KeepLimits inside.limits) (sym c.purge.ensures.mappings) (lasting-keeps m inside.limits inside.cache.mappings limited.keeps) },
     )

@@ -7,9 +7,10 @@ use Rattle.locator_state.specs.Observed.{Observed, longest}
 use Rattle.locator_state.specs.Probes.{probe_answered}
 use Rattle.router_model.specs.Parts.{with_entry}
 use Rattle.router_core.specs.Table.{TableSeen}
-use Rattle.router_core.specs.Bounded.{AreShort, AreVersioned}
+use Rattle.router_core.specs.Bounded.{AreShort, AreVersioned, KeepLimits}
 use Rattle.router_core.proofs.BoundLemmas.{lasting-versioned, probes-short}
 use Rattle.router_core.proofs.EntryLemmas.{parts_with, probe_answered-parts}
+use Rattle.router_core.proofs.LimitLemmas.{lasting-keeps}
 use Rattle.router_core.proofs.LengthLemmas.{probe_answered-few}
 use Rattle.router_core.proofs.table.Table.answer_probe.Goals as goal
 
@@ -19,9 +20,9 @@ returns c =
     let inside = c.self.inside in
     record {
       parts =
-          ap₂ (λ (now : ℕ) (l : List Mapping). parts_with inside.own.items inside.steps (inside.count + 1) inside.drawn now l c.purge-2.new.self.requests c.probe_answered.new.self.observed) c.purge.ensures.now c.purge.ensures.mappings
-          ∙ ap₂ (λ (l : List Request) (p : Observed). parts_with inside.own.items inside.steps (inside.count + 1) inside.drawn m (lasting m inside.cache.mappings) l p) c.purge-2.ensures.requests c.probe_answered.ensures.observed
-          ∙ probe_answered-parts inside.own.items inside.steps inside.count inside.drawn inside.cache.now inside.cache.mappings inside.queue.requests inside.locators.observed m c.args.nonce
+          ap₂ (λ (now : ℕ) (l : List Mapping). parts_with inside.limits inside.own.items inside.steps (inside.count + 1) inside.drawn now l c.purge-2.new.self.requests c.probe_answered.new.self.observed) c.purge.ensures.now c.purge.ensures.mappings
+          ∙ ap₂ (λ (l : List Request) (p : Observed). parts_with inside.limits inside.own.items inside.steps (inside.count + 1) inside.drawn m (lasting m inside.cache.mappings) l p) c.purge-2.ensures.requests c.probe_answered.ensures.observed
+          ∙ probe_answered-parts inside.limits inside.own.items inside.steps inside.count inside.drawn inside.cache.now inside.cache.mappings inside.queue.requests inside.locators.observed m c.args.nonce
           ∙ ap (λ (t : TableSeen). with_entry (ProbeAnswered m c.args.nonce) t.parts) c.self.view_is;
     }
 
@@ -30,6 +31,7 @@ invariant_of-self c =
     let m = c.args.m in
     let inside = c.self.inside in
     let few = c.self.invariant.0 in
+    let limited = c.self.invariant.5 in
     let are = c.self.invariant.4 in (
       omega (arith, few),
       refl,
@@ -42,4 +44,5 @@ invariant_of-self c =
         longest = subst (λ (o : Observed). longest o ≤ 9600) (sym c.probe_answered.ensures.observed) (probe_answered-few m c.args.nonce inside.locators.observed are.longest);
         own = are.own;
       },
+      record { mappings = c.purge.ensures.limits ∙ limited.mappings; requests = c.purge-2.ensures.limits ∙ limited.requests; keeps = subst (KeepLimits inside.limits) (sym c.purge.ensures.mappings) (lasting-keeps m inside.limits inside.cache.mappings limited.keeps) },
     )

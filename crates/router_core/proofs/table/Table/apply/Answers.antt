@@ -6,7 +6,12 @@ use Rattle.router_core.proofs.table.Table.apply.Goals as goal
 pub apply_learned-requires-clause-place : goal.apply_learned-requires-clause-place
 apply_learned-requires-clause-place c =
     let p = c.args.self.now.parts in
-    (may-learn p c.in-Learned.moment c.in-Learned.mapping c.in-Learned.fixed (rw c.in-Learned.is at c.requires)).place
+    (may-learn p c.in-Learned.moment c.in-Learned.mapping c.in-Learned.fixed c.keeps_its_limits.ensures (rw c.in-Learned.is at c.requires)).place
+
+pub apply_learned-requires-clause-keeps : goal.apply_learned-requires-clause-keeps
+apply_learned-requires-clause-keeps c =
+    let p = c.args.self.now.parts in
+    (may-learn p c.in-Learned.moment c.in-Learned.mapping c.in-Learned.fixed c.keeps_its_limits.ensures (rw c.in-Learned.is at c.requires)).keeps
 
 pub apply_asked-requires-clause-place : goal.apply_asked-requires-clause-place
 apply_asked-requires-clause-place c =
@@ -16,7 +21,7 @@ apply_asked-requires-clause-place c =
 pub returns-in-Learned-clause-parts : goal.returns-in-Learned-clause-parts
 returns-in-Learned-clause-parts c =
     let entry = c.in-Learned in
-    on_ok_weaker c.apply_learned.result (λ is. is ∙ absorbed-learned c.args.self.now.parts entry.moment entry.mapping entry.fixed c.args.entry.now entry.is c.requires) c.apply_learned.ensures.taken.ok
+    on_ok_weaker c.apply_learned.result (λ is. is ∙ absorbed-learned c.args.self.now.parts entry.moment entry.mapping entry.fixed c.args.entry.now c.keeps_its_limits.ensures entry.is c.requires) c.apply_learned.ensures.taken.ok
 
 pub returns-in-Learned-clause-journal : goal.returns-in-Learned-clause-journal
 returns-in-Learned-clause-journal c =

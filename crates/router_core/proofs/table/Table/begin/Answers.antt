@@ -1,6 +1,8 @@
-use Rattle.std.proofs.Common.{List, ap, ◌∙◌}
+use Rattle.std.proofs.Common.{List, length, ap, ◌∙◌, arith}
 use Rattle.std.proofs.lemmas.Result.{on_ok_weaker}
 use Rattle.mapping_records.specs.declared.record.Record.{Record}
+use Rattle.lisp_settings.specs.Instances.{all_mappings}
+use Rattle.lisp_settings.proofs.InstanceLemmas.{limits_in-room}
 use Rattle.router_model.specs.Parts.{Parts, parts_in}
 use Rattle.router_core.proofs.StaticLemmas.{journal_of}
 use Rattle.router_core.proofs.table.Table.begin.Goals as goal
@@ -16,6 +18,14 @@ learn_statics-requires-clause-count c =
 pub learn_statics-requires-clause-none : goal.learn_statics-requires-clause-none
 learn_statics-requires-clause-none c =
     ap (λ (parts : Parts). parts.mappings) (c.reserve_statics.ensures.parts ∙ c.requires.begins)
+
+pub learn_statics-requires-clause-few : goal.learn_statics-requires-clause-few
+learn_statics-requires-clause-few c =
+    let settings = c.args.settings.now in
+    let limits = ap (λ (parts : Parts). all_mappings parts.limits) (c.reserve_statics.ensures.parts ∙ c.requires.begins) in
+    let mappings = ap (λ (l : List Record). length l) c.as_slice-mappings.ensures in
+    let room = limits_in-room settings c.requires.lawful in
+    omega (arith, limits, mappings, room)
 
 pub returns : goal.returns
 returns c =

@@ -11,9 +11,10 @@ use Rattle.router_log.specs.declared.entry.Entry.TheVariants.{Changed}
 use Rattle.router_model.specs.Parts.{with_entry}
 use Rattle.router_model.specs.Standing.{changing}
 use Rattle.router_core.specs.Table.{TableSeen}
-use Rattle.router_core.specs.Bounded.{AreShort, AreVersioned}
+use Rattle.router_core.specs.Bounded.{AreShort, AreVersioned, KeepLimits}
 use Rattle.router_core.proofs.BoundLemmas.{lasting-versioned, recent-short}
 use Rattle.router_core.proofs.EntryLemmas.{changed-parts, parts_with}
+use Rattle.router_core.proofs.LimitLemmas.{lasting-keeps}
 use Rattle.router_core.proofs.LengthLemmas.{recent-few}
 use Rattle.router_core.proofs.SecondLemmas.{changed_one}
 use Rattle.router_core.proofs.table.Table.change.Goals as goal
@@ -27,10 +28,10 @@ returns-clause-parts c =
     let made : c.set_up.new.locators ≡ changing address up inside.own.items = c.set_up.ensures ∙ ap (changing address up) c.as_mut_slice.ensures.value in
     let size : length c.set_up.new.locators ≡ inside.own.len = ap (λ (l : List OwnLocator). length l) made ∙ length-map inside.own.items (changed_one address up) ∙ sym inside.own.ok.0 in
     let own : (with_items inside.own c.set_up.new.locators).items ≡ changing address up inside.own.items = with_items_is inside.own c.set_up.new.locators size ∙ made in
-    ap₂ (λ (now : ℕ) (l : List Mapping). parts_with (with_items inside.own c.set_up.new.locators).items (inside.steps + 1) (inside.count + 1) inside.drawn now l c.purge-2.new.self.requests c.purge-3.new.self.observed) c.purge.ensures.now c.purge.ensures.mappings
-    ∙ ap₂ (λ (l : List Request) (p : Observed). parts_with (with_items inside.own c.set_up.new.locators).items (inside.steps + 1) (inside.count + 1) inside.drawn m (lasting m inside.cache.mappings) l p) c.purge-2.ensures.requests c.purge-3.ensures.observed
-    ∙ ap (λ (l : List OwnLocator). parts_with l (inside.steps + 1) (inside.count + 1) inside.drawn m (lasting m inside.cache.mappings) (waiting m inside.queue.requests) (recent m inside.locators.observed)) own
-    ∙ changed-parts inside.own.items inside.steps inside.count inside.drawn inside.cache.now inside.cache.mappings inside.queue.requests inside.locators.observed m address up
+    ap₂ (λ (now : ℕ) (l : List Mapping). parts_with inside.limits (with_items inside.own c.set_up.new.locators).items (inside.steps + 1) (inside.count + 1) inside.drawn now l c.purge-2.new.self.requests c.purge-3.new.self.observed) c.purge.ensures.now c.purge.ensures.mappings
+    ∙ ap₂ (λ (l : List Request) (p : Observed). parts_with inside.limits (with_items inside.own c.set_up.new.locators).items (inside.steps + 1) (inside.count + 1) inside.drawn m (lasting m inside.cache.mappings) l p) c.purge-2.ensures.requests c.purge-3.ensures.observed
+    ∙ ap (λ (l : List OwnLocator). parts_with inside.limits l (inside.steps + 1) (inside.count + 1) inside.drawn m (lasting m inside.cache.mappings) (waiting m inside.queue.requests) (recent m inside.locators.observed)) own
+    ∙ changed-parts inside.limits inside.own.items inside.steps inside.count inside.drawn inside.cache.now inside.cache.mappings inside.queue.requests inside.locators.observed m address up
     ∙ ap (λ (t : TableSeen). with_entry (Changed m address up) t.parts) c.self.view_is
 
 pub invariant_of-self : goal.invariant_of-self
@@ -44,6 +45,7 @@ invariant_of-self c =
     let size : length c.set_up.new.locators ≡ inside.own.len = ap (λ (l : List OwnLocator). length l) made ∙ length-map inside.own.items (changed_one address up) ∙ sym inside.own.ok.0 in
     let own : length (with_items inside.own c.set_up.new.locators).items ≡ length inside.own.items =
     ap (λ (l : List OwnLocator). length l) (with_items_is inside.own c.set_up.new.locators size ∙ made) ∙ length-map inside.own.items (changed_one address up) in
+    let limited = c.self.invariant.5 in
     let are = c.self.invariant.4 in (
       omega (arith, few),
       refl,
@@ -56,4 +58,5 @@ invariant_of-self c =
         longest = subst (λ (o : Observed). longest o ≤ 9600) (sym c.purge-3.ensures.observed) (recent-few m inside.locators.observed are.longest);
         own = omega (arith, are.own, own);
       },
+      record { mappings = c.purge.ensures.limits ∙ limited.mappings; requests = c.purge-2.ensures.limits ∙ limited.requests; keeps = subst (KeepLimits inside.limits) (sym c.purge.ensures.mappings) (lasting-keeps m inside.limits inside.cache.mappings limited.keeps) },
     )

@@ -18,7 +18,7 @@ pub change_and_tell-requires-clause-may : goal.change_and_tell-requires-clause-m
 change_and_tell-requires-clause-may c =
     let due = c.as_slice.result.now in
     let same = c.in_ok-reserve_second.ensures.parts in
-    let few : length due ≤ 1024 = omega (arith, c.as_slice.ensures.len, c.in_ok-due.ensures.few) in
+    let few : length due ≤ 16384 = omega (arith, c.as_slice.ensures.len, c.in_ok-due.ensures.few) in
     subst (λ (p : Parts). MayEnter (length c.args.left.now + most_sent (length due)) c.args.m p) (sym same)
     (record { later = c.requires.may.later; count = omega (arith, few, c.requires.few, c.requires.may.count) })
 
@@ -58,7 +58,7 @@ returns-clause-parts c =
 
 pub returns-clause-sent : goal.returns-clause-sent
 returns-clause-sent c =
-    let few : length c.as_slice.result.now ≤ 1024 = omega (arith, c.as_slice.ensures.len, c.in_ok-due.ensures.few) in
+    let few : length c.as_slice.result.now ≤ 16384 = omega (arith, c.as_slice.ensures.len, c.in_ok-due.ensures.few) in
     let all = ap (λ (l : List Emit). length l) c.from_vec-2.ensures in
     record {
       sendable = subst (All (IsSendable (standing_in c.args.settings.now c.change_and_tell.new.self.parts))) (sym c.from_vec-2.ensures) c.change_and_tell.ensures.sendable;
@@ -67,7 +67,7 @@ returns-clause-sent c =
 
 pub returns-clause-step : goal.returns-clause-step
 returns-clause-step c =
-    let few : length c.as_slice.result.now ≤ 1024 = omega (arith, c.as_slice.ensures.len, c.in_ok-due.ensures.few) in
+    let few : length c.as_slice.result.now ≤ 16384 = omega (arith, c.as_slice.ensures.len, c.in_ok-due.ensures.few) in
     let same = ap (λ (p : Parts). p.count) c.in_ok-reserve_second.ensures.parts in
     let entered = c.change_and_tell.ensures.entered in
     record {

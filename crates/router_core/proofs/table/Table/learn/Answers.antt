@@ -6,7 +6,7 @@ use Rattle.router_log.specs.declared.entry.Entry.TheVariants.{Learned}
 use Rattle.locator_state.specs.Observed.{Observed, longest}
 use Rattle.router_model.specs.Parts.{with_entry}
 use Rattle.router_core.specs.Table.{TableSeen}
-use Rattle.router_core.specs.Bounded.{AreShort, AreVersioned}
+use Rattle.router_core.specs.Bounded.{AreShort, AreVersioned, KeepLimits}
 use Rattle.router_core.proofs.BoundLemmas.{learned-versioned, recent-short}
 use Rattle.router_core.proofs.EntryLemmas.{learned-parts, parts_with, was_learned}
 use Rattle.router_core.proofs.LengthLemmas.{recent-few}
@@ -17,13 +17,14 @@ returns-clause-parts c =
     let m = c.args.m in
     let mapping = c.args.mapping in
     let inside = c.self.inside in
-    let place = subst (λ (t : TableSeen). IsTrue (has_room mapping (lasting m t.parts.mappings))) (sym c.self.view_is) c.requires.place in
+    let place = subst (λ (t : TableSeen). IsTrue (has_room t.parts.limits mapping c.args.fixed (lasting m t.parts.mappings))) (sym c.self.view_is) c.requires.place in
+    let place = subst (λ l. IsTrue (has_room l mapping c.args.fixed (lasting m inside.cache.mappings))) (sym c.self.invariant.5.mappings) place in
     let room = subst (λ (t : TableSeen). 0 < t.mapping_room) (sym c.self.view_is) c.requires.room in
     let ms : c.learn.new.self.mappings ≡ learned m mapping c.args.fixed inside.cache.mappings =
-    was_learned c.learn.result (has_room mapping (lasting m inside.cache.mappings)) c.learn.ensures.ok (c.learn.ensures.memory room) c.learn.ensures.full place in
-    ap₂ (λ (now : ℕ) (l : List Mapping). parts_with inside.own.items inside.steps (inside.count + 1) inside.drawn now l c.purge.new.self.requests c.purge-2.new.self.observed) c.learn.ensures.now ms
-    ∙ ap₂ (λ (r : List Request) (p : Observed). parts_with inside.own.items inside.steps (inside.count + 1) inside.drawn m (learned m mapping c.args.fixed inside.cache.mappings) r p) c.purge.ensures.requests c.purge-2.ensures.observed
-    ∙ learned-parts inside.own.items inside.steps inside.count inside.drawn inside.cache.now inside.cache.mappings inside.queue.requests inside.locators.observed m mapping c.args.fixed
+    was_learned c.learn.result (has_room inside.cache.limits mapping c.args.fixed (lasting m inside.cache.mappings)) c.learn.ensures.ok (c.learn.ensures.memory room) c.learn.ensures.full place in
+    ap₂ (λ (now : ℕ) (l : List Mapping). parts_with inside.limits inside.own.items inside.steps (inside.count + 1) inside.drawn now l c.purge.new.self.requests c.purge-2.new.self.observed) c.learn.ensures.now ms
+    ∙ ap₂ (λ (r : List Request) (p : Observed). parts_with inside.limits inside.own.items inside.steps (inside.count + 1) inside.drawn m (learned m mapping c.args.fixed inside.cache.mappings) r p) c.purge.ensures.requests c.purge-2.ensures.observed
+    ∙ learned-parts inside.limits inside.own.items inside.steps inside.count inside.drawn inside.cache.now inside.cache.mappings inside.queue.requests inside.locators.observed m mapping c.args.fixed
     ∙ ap (λ (t : TableSeen). with_entry (Learned m mapping c.args.fixed) t.parts) c.self.view_is
 
 pub invariant_of-self : goal.invariant_of-self
@@ -31,15 +32,17 @@ invariant_of-self c =
     let m = c.args.m in
     let inside = c.self.inside in
     let few = c.self.invariant.0 in
-    let are = c.self.invariant.4 in (
+    let limited = c.self.invariant.5 in
+    let are = c.self.invariant.4 in
+    let place = subst (λ (t : TableSeen). IsTrue (has_room t.parts.limits c.args.mapping c.args.fixed (lasting m t.parts.mappings))) (sym c.self.view_is) c.requires.place in
+    let place = subst (λ l. IsTrue (has_room l c.args.mapping c.args.fixed (lasting m inside.cache.mappings))) (sym limited.mappings) place in
+    let room = subst (λ (t : TableSeen). 0 < t.mapping_room) (sym c.self.view_is) c.requires.room in
+    let ms : c.learn.new.self.mappings ≡ learned m c.args.mapping c.args.fixed inside.cache.mappings =
+    was_learned c.learn.result (has_room inside.cache.limits c.args.mapping c.args.fixed (lasting m inside.cache.mappings)) c.learn.ensures.ok (c.learn.ensures.memory room) c.learn.ensures.full place in
+    let keeps = subst (λ (t : TableSeen). KeepLimits t.parts.limits (learned m c.args.mapping c.args.fixed t.parts.mappings)) (sym c.self.view_is) c.requires.keeps in (
       omega (arith, few),
       refl,
-      (
-          let place = subst (λ (t : TableSeen). IsTrue (has_room c.args.mapping (lasting m t.parts.mappings))) (sym c.self.view_is) c.requires.place in
-          let room = subst (λ (t : TableSeen). 0 < t.mapping_room) (sym c.self.view_is) c.requires.room in
-          let ms : c.learn.new.self.mappings ≡ learned m c.args.mapping c.args.fixed inside.cache.mappings =
-          was_learned c.learn.result (has_room c.args.mapping (lasting m inside.cache.mappings)) c.learn.ensures.ok (c.learn.ensures.memory room) c.learn.ensures.full place in
-          subst AreVersioned (sym ms) (learned-versioned m c.args.mapping c.args.fixed inside.cache.mappings c.requires.version c.self.invariant.2)),
+      subst AreVersioned (sym ms) (learned-versioned m c.args.mapping c.args.fixed inside.cache.mappings c.requires.version c.self.invariant.2),
       subst AreShort (sym c.purge-2.ensures.observed) (recent-short m inside.locators.observed c.self.invariant.3),
       record {
         mappings = omega (arith, are.mappings, c.learn.ensures.mapping_places, c.len.ensures.len, c.len.ensures.most);
@@ -48,4 +51,5 @@ invariant_of-self c =
         longest = subst (λ (o : Observed). longest o ≤ 9600) (sym c.purge-2.ensures.observed) (recent-few m inside.locators.observed are.longest);
         own = are.own;
       },
+      record { mappings = c.learn.ensures.limits ∙ limited.mappings; requests = c.purge.ensures.limits ∙ limited.requests; keeps = subst (KeepLimits inside.limits) (sym ms) keeps },
     )

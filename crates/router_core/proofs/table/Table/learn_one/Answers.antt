@@ -9,7 +9,8 @@ use Rattle.router_model.specs.Parts.{Parts, view_in, with_entry}
 use Rattle.router_core.specs.Copies.{copies_of}
 use Rattle.router_core.specs.Table.{change_of}
 use Rattle.router_core.specs.declared.copies.Copies.{Copies}
-use Rattle.router_core.proofs.ChangeLemmas.{both, learned-place, taught-so}
+use Rattle.router_core.proofs.ChangeLemmas.{both, taught-so}
+use Rattle.router_core.proofs.LimitLemmas.{learned-limits, learned-place}
 use Rattle.router_core.proofs.table.Table.learn_one.Goals as goal
 
 few : (mapping : Record) → length (shortened mapping).locators ≤ 32
@@ -25,9 +26,17 @@ pub learn-requires-clause-place : goal.learn-requires-clause-place
 learn-requires-clause-place c =
     let mapping = c.args.mapping.now in
     let p = c.args.self.now.parts in
-    let is : (is_asked_for c.args.grounds.now.asked.now c.args.grounds.now.mappings.now mapping && (not (is_static c.args.grounds.now.site.now mapping) && has_room (view_in p c.args.grounds.now.m) mapping)) ≡ true = sym c.is_taken.ensures ∙ c.if-not-is_taken.false in
+    let is : (is_asked_for c.args.grounds.now.asked.now c.args.grounds.now.mappings.now mapping && (not (is_static c.args.grounds.now.site.now mapping) && has_room p.limits (view_in p c.args.grounds.now.m) mapping)) ≡ true = sym c.is_taken.ensures ∙ c.if-not-is_taken.false in
     rw (ap (λ (copy : Copies). copy.kept) c.requires.copies)
-    (learned-place p c.args.grounds.now.m (shortened mapping) c.requires.may.later (both _ _ (both (is_asked_for c.args.grounds.now.asked.now c.args.grounds.now.mappings.now mapping) _ is).1).1)
+    (learned-place p c.args.grounds.now.m (shortened mapping) c.requires.may.later c.keeps_its_limits.ensures (both _ _ (both (is_asked_for c.args.grounds.now.asked.now c.args.grounds.now.mappings.now mapping) _ is).1).1)
+
+pub learn-requires-clause-keeps : goal.learn-requires-clause-keeps
+learn-requires-clause-keeps c =
+    let mapping = c.args.mapping.now in
+    let p = c.args.self.now.parts in
+    let is : (is_asked_for c.args.grounds.now.asked.now c.args.grounds.now.mappings.now mapping && (not (is_static c.args.grounds.now.site.now mapping) && has_room p.limits (view_in p c.args.grounds.now.m) mapping)) ≡ true = sym c.is_taken.ensures ∙ c.if-not-is_taken.false in
+    rw (ap (λ (copy : Copies). copy.kept) c.requires.copies)
+    (learned-limits p c.args.grounds.now.m (shortened mapping) c.requires.may.later c.keeps_its_limits.ensures (both _ _ (both (is_asked_for c.args.grounds.now.asked.now c.args.grounds.now.mappings.now mapping) _ is).1).1)
 
 pub returns-clause-change : goal.returns-clause-change
 returns-clause-change c =

@@ -14,4 +14,4 @@ make_request-requires-clause-place c =
     let v = view_in p c.args.m in
     let missing = sym c.is_missing.ensures ∙ c.if-not-is_missing.false in
     let may = (both _ (is_wanting (force v.mappings eid.iid eid.prefix.addr eid.prefix.len)) missing).0 in
-    may_ask-place p c.args.m c.requires.may.later (both (not (covered v.requests eid)) _ (both (reaches_resolver c.args.site.now) _ may).1).1
+    may_ask-place p c.args.m eid.iid c.requires.may.later (both (not (covered v.requests eid)) _ (both (reaches_resolver c.args.site.now) _ may).1).1

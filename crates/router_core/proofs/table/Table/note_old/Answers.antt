@@ -14,4 +14,4 @@ make_request-requires-clause-place c =
     let v = view_in p c.args.m in
     let old = sym c.may_renew.ensures ∙ c.if-not-may_renew.false in
     let may = (both (is_learned (exact v.mappings eid)) _ old).1 in
-    may_ask-place p c.args.m c.requires.may.later (both (not (covered v.requests eid)) _ (both (reaches_resolver c.args.site.now) _ may).1).1
+    may_ask-place p c.args.m eid.iid c.requires.may.later (both (not (covered v.requests eid)) _ (both (reaches_resolver c.args.site.now) _ may).1).1

@@ -6,9 +6,10 @@ use Rattle.router_log.specs.declared.entry.Entry.TheVariants.{Bits}
 use Rattle.locator_state.specs.Observed.{Observed, longest}
 use Rattle.router_model.specs.Parts.{with_entry}
 use Rattle.router_core.specs.Table.{TableSeen}
-use Rattle.router_core.specs.Bounded.{AreShort, AreVersioned}
+use Rattle.router_core.specs.Bounded.{AreShort, AreVersioned, KeepLimits}
 use Rattle.router_core.proofs.BoundLemmas.{lasting-versioned, recent-short, told-versioned}
 use Rattle.router_core.proofs.EntryLemmas.{parts_with, told-parts}
+use Rattle.router_core.proofs.LimitLemmas.{lasting-keeps, told-keeps}
 use Rattle.router_core.proofs.LengthLemmas.{recent-few}
 use Rattle.router_core.proofs.table.Table.tell.Goals as goal
 
@@ -20,9 +21,9 @@ returns c =
     let inside = c.self.inside in
     record {
       parts =
-          ap₂ (λ (now : ℕ) (l : List Mapping). parts_with inside.own.items inside.steps (inside.count + 1) inside.drawn now l c.purge-2.new.self.requests c.purge-3.new.self.observed) (c.set_bits.ensures.now ∙ c.purge.ensures.now) (c.set_bits.ensures.mappings ∙ ap told c.purge.ensures.mappings)
-          ∙ ap₂ (λ (l : List Request) (p : Observed). parts_with inside.own.items inside.steps (inside.count + 1) inside.drawn m (told (lasting m inside.cache.mappings)) l p) c.purge-2.ensures.requests c.purge-3.ensures.observed
-          ∙ told-parts inside.own.items inside.steps inside.count inside.drawn inside.cache.now inside.cache.mappings inside.queue.requests inside.locators.observed m eid c.args.bits c.args.width
+          ap₂ (λ (now : ℕ) (l : List Mapping). parts_with inside.limits inside.own.items inside.steps (inside.count + 1) inside.drawn now l c.purge-2.new.self.requests c.purge-3.new.self.observed) (c.set_bits.ensures.now ∙ c.purge.ensures.now) (c.set_bits.ensures.mappings ∙ ap told c.purge.ensures.mappings)
+          ∙ ap₂ (λ (l : List Request) (p : Observed). parts_with inside.limits inside.own.items inside.steps (inside.count + 1) inside.drawn m (told (lasting m inside.cache.mappings)) l p) c.purge-2.ensures.requests c.purge-3.ensures.observed
+          ∙ told-parts inside.limits inside.own.items inside.steps inside.count inside.drawn inside.cache.now inside.cache.mappings inside.queue.requests inside.locators.observed m eid c.args.bits c.args.width
           ∙ ap (λ (t : TableSeen). with_entry (Bits m eid c.args.bits c.args.width) t.parts) c.self.view_is;
     }
 
@@ -31,6 +32,7 @@ invariant_of-self c =
     let m = c.args.m in
     let inside = c.self.inside in
     let few = c.self.invariant.0 in
+    let limited = c.self.invariant.5 in
     let are = c.self.invariant.4 in (
       omega (arith, few),
       refl,
@@ -43,4 +45,5 @@ invariant_of-self c =
         longest = subst (λ (o : Observed). longest o ≤ 9600) (sym c.purge-3.ensures.observed) (recent-few m inside.locators.observed are.longest);
         own = are.own;
       },
+      record { mappings = c.set_bits.ensures.limits ∙ c.purge.ensures.limits ∙ limited.mappings; requests = c.purge-2.ensures.limits ∙ limited.requests; keeps = subst (KeepLimits inside.limits) (sym (c.set_bits.ensures.mappings ∙ ap (bits_told c.args.eid.now c.args.bits c.args.width) c.purge.ensures.mappings)) (told-keeps inside.limits c.args.eid.now c.args.bits c.args.width (lasting m inside.cache.mappings) (lasting-keeps m inside.limits inside.cache.mappings limited.keeps)) },
     )

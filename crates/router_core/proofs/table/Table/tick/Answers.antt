@@ -27,4 +27,4 @@ returns-clause-journal c =
 
 pub returns-clause-step : goal.returns-clause-step
 returns-clause-step c =
-    subst (λ (n : ℕ). IsSecond 5392 (seconds n) c.args.self.now.parts c.tick_at.new.self.parts c.tick_at.result) c.from.ensures c.tick_at.ensures.step
+    subst (λ (n : ℕ). IsSecond 20752 (seconds n) c.args.self.now.parts c.tick_at.new.self.parts c.tick_at.result) c.from.ensures c.tick_at.ensures.step

@@ -29,8 +29,8 @@ returns-clause-parts c =
 pub returns-clause-sent : goal.returns-clause-sent
 returns-clause-sent c =
     let settings = c.args.settings.now in
-    if_ok-with c.send_at.result _ _ (λ (entered : HasEntered 5392 c.args.m c.args.self.now.parts c.send_at.new.self.parts) changed sent.
-    subst (λ (s : Settings). AreSent s 5392 changed.emits) (c.site-site.ensures ∙ stands-on settings c.args.self.now.parts c.send_at.new.self.parts entered.own entered.steps) sent) c.send_at.ensures.step.entered c.send_at.ensures.sent
+    if_ok-with c.send_at.result _ _ (λ (entered : HasEntered 20752 c.args.m c.args.self.now.parts c.send_at.new.self.parts) changed sent.
+    subst (λ (s : Settings). AreSent s 20752 changed.emits) (c.site-site.ensures ∙ stands-on settings c.args.self.now.parts c.send_at.new.self.parts entered.own entered.steps) sent) c.send_at.ensures.step.entered c.send_at.ensures.sent
 
 pub returns-clause-step : goal.returns-clause-step
-returns-clause-step c = second-of 5392 c.args.m c.args.self.now.parts c.send_at.new.self.parts c.send_at.result c.send_at.ensures.step
+returns-clause-step c = second-of 20752 c.args.m c.args.self.now.parts c.send_at.new.self.parts c.send_at.result c.send_at.ensures.step

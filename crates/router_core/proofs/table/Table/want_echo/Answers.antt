@@ -7,9 +7,10 @@ use Rattle.request_queue.specs.declared.request.Request.{Request}
 use Rattle.router_log.specs.declared.entry.Entry.TheVariants.{EchoWanted}
 use Rattle.router_model.specs.Parts.{with_entry}
 use Rattle.router_core.specs.Table.{TableSeen}
-use Rattle.router_core.specs.Bounded.{AreShort, AreVersioned}
+use Rattle.router_core.specs.Bounded.{AreShort, AreVersioned, KeepLimits}
 use Rattle.router_core.proofs.BoundLemmas.{lasting-versioned, wanted-short}
 use Rattle.router_core.proofs.EntryLemmas.{parts_with, wanted-parts, was_kept}
+use Rattle.router_core.proofs.LimitLemmas.{lasting-keeps}
 use Rattle.router_core.proofs.LengthLemmas.{few-wishes, wanted-few}
 use Rattle.router_core.proofs.table.Table.want_echo.Goals as goal
 
@@ -22,9 +23,9 @@ returns c =
     was_kept c.echo_wanted.result inside.locators.wish_room c.echo_wanted.ensures.ok c.echo_wanted.ensures.memory room in
     record {
       parts =
-          ap₂ (λ (now : ℕ) (l : List Mapping). parts_with inside.own.items inside.steps (inside.count + 1) inside.drawn now l c.purge-2.new.self.requests c.echo_wanted.new.self.observed) c.purge.ensures.now c.purge.ensures.mappings
-          ∙ ap₂ (λ (l : List Request) (p : Observed). parts_with inside.own.items inside.steps (inside.count + 1) inside.drawn m (lasting m inside.cache.mappings) l p) c.purge-2.ensures.requests os
-          ∙ wanted-parts inside.own.items inside.steps inside.count inside.drawn inside.cache.now inside.cache.mappings inside.queue.requests inside.locators.observed m c.args.rloc c.args.nonce
+          ap₂ (λ (now : ℕ) (l : List Mapping). parts_with inside.limits inside.own.items inside.steps (inside.count + 1) inside.drawn now l c.purge-2.new.self.requests c.echo_wanted.new.self.observed) c.purge.ensures.now c.purge.ensures.mappings
+          ∙ ap₂ (λ (l : List Request) (p : Observed). parts_with inside.limits inside.own.items inside.steps (inside.count + 1) inside.drawn m (lasting m inside.cache.mappings) l p) c.purge-2.ensures.requests os
+          ∙ wanted-parts inside.limits inside.own.items inside.steps inside.count inside.drawn inside.cache.now inside.cache.mappings inside.queue.requests inside.locators.observed m c.args.rloc c.args.nonce
           ∙ ap (λ (t : TableSeen). with_entry (EchoWanted m c.args.rloc c.args.nonce) t.parts) c.self.view_is;
     }
 
@@ -33,6 +34,7 @@ invariant_of-self c =
     let m = c.args.m in
     let inside = c.self.inside in
     let few = c.self.invariant.0 in
+    let limited = c.self.invariant.5 in
     let are = c.self.invariant.4 in
     let room = subst (λ (t : TableSeen). 0 < t.wish_room) (sym c.self.view_is) c.requires.room in
     let os : c.echo_wanted.new.self.observed ≡ with_wishes m (wanted m c.args.rloc c.args.nonce inside.locators.observed.wishes) inside.locators.observed =
@@ -49,4 +51,5 @@ invariant_of-self c =
         longest = subst (λ (o : Observed). longest o ≤ 9600) (sym os) (wanted-few m c.args.rloc c.args.nonce inside.locators.observed are.longest place);
         own = are.own;
       },
+      record { mappings = c.purge.ensures.limits ∙ limited.mappings; requests = c.purge-2.ensures.limits ∙ limited.requests; keeps = subst (KeepLimits inside.limits) (sym c.purge.ensures.mappings) (lasting-keeps m inside.limits inside.cache.mappings limited.keeps) },
     )

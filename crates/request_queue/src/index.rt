@@ -1,0 +1,118 @@
+// What finds requests, and counts them.
+ghost use Rattle.std.specs.Prelude.{◌≡◌, ◌≤◌, ◌<◌, ◌+◌, ◌^◌, ◌++◌, ◌∷◌, [], true, length, max, IfOk, IsOk, OnOk};
+ghost use Rattle.std.specs.List.{remove};
+ghost use Rattle.prefix_table.specs.Limits.{most_pairs};
+ghost use Rattle.request_queue.specs.Found.{AreFound, places_of, spare_of};
+ghost use Rattle.request_queue.specs.Lists.{are_distinct};
+
+use crate::eids::{add_eid, tell_latest};
+use crate::term::Term;
+use crate::terms::{add_term, drop_term};
+use crate::{NoMemory, Request};
+use keyed_list::{Key, KeyedList};
+use ordered_set::OrderedSet;
+use prefix_table::PrefixTable;
+use std::alloc::Global;
+
+/// What finds requests by EID, and counts those of an instance.
+#[derive(Drop)]
+pub(crate) struct Index {
+    // Those that requests are for, each with the latest start of its requests.
+    pub(crate) eids: PrefixTable<u64>,
+    // One for each request.
+    pub(crate) terms: OrderedSet<Term>,
+}
+
+impl Index {
+    /// That of no requests. Takes no memory.
+    pub(crate) fn new(alloc: Global) -> Index
+        ensures eids { result.eids.pairs ≡ [] }
+        ensures terms { result.terms.keys ≡ [] }
+        ensures spare { spare_of result ≡ 0 }
+        ensures places { places_of result ≡ 0 }
+    {
+        Index {
+            eids: PrefixTable::new(alloc),
+            terms: OrderedSet::new(alloc),
+        }
+    }
+
+    /// The same of its own, with as much room.
+    pub(crate) fn copy(&self) -> Result<Index, NoMemory>
+        ensures { IfOk result (λ copy. copy ≡ self.now) }
+    {
+        let eids = self.eids.copy(|start| Ok(*start))?;
+        let terms = self.terms.copy()?;
+        Ok(Index { eids, terms })
+    }
+
+    /// Makes room for `n` further requests.
+    pub(crate) fn reserve(&mut self, n: u32) -> Result<(), NoMemory>
+        requires eids { length self.old.eids.pairs + n ≤ most_pairs }
+        requires terms { length self.old.terms.keys + n < 2 ^ 32 }
+        ensures eids { self.new.eids.pairs ≡ self.old.eids.pairs }
+        ensures terms { self.new.terms.keys ≡ self.old.terms.keys }
+        ensures spare { spare_of self.old ≤ spare_of self.new }
+        ensures at_most { spare_of self.new ≤ max (spare_of self.old) n }
+        ensures places { places_of self.new ≤ max (places_of self.old)
+            (max (length self.old.eids.pairs) (length self.old.terms.keys) + n) }
+        ensures ok { OnOk result (n ≤ spare_of self.new) }
+        ensures enough { n ≤ spare_of self.old → IsOk result }
+    {
+        self.eids.reserve(n)?;
+        self.terms.reserve(n)
+    }
+}
+
+/// There are no more EIDs than requests, and no more terms.
+pub(crate) fn count_found(requests: &KeyedList<Request>, index: &Index) -> usize
+    requires { AreFound index.now requests.now.items }
+    ensures len { result ≡ length requests.now.items }
+    ensures eids { length index.now.eids.pairs ≤ result }
+    ensures terms { length index.now.terms.keys ≤ result }
+{
+    // The lengths say that EIDs ascend, and terms.
+    let _ = (index.eids.len(), index.terms.len());
+    requests.len()
+}
+
+/// Adds a request at the end. Takes no memory.
+pub(crate) fn add_request(request: Request, requests: &mut KeyedList<Request>, index: &mut Index)
+    requires room { 0 < requests.old.room }
+    requires spare { 0 < spare_of index.old }
+    requires found { AreFound index.old requests.old.items }
+    ensures requests { requests.new.items ≡ requests.old.items ++ request ∷ [] }
+    ensures room { requests.old.room ≤ requests.new.room + 1 }
+    ensures found { AreFound index.new requests.new.items }
+    ensures places { requests.new.places ≡ requests.old.places }
+    ensures spare { spare_of index.old ≤ spare_of index.new + 1 }
+    ensures total { places_of index.new ≡ places_of index.old }
+{
+    add_eid(&request, &mut index.eids);
+    add_term(&request, &mut index.terms);
+    requests.push(request);
+}
+
+/// Takes the request at a place away. Takes no memory.
+pub(crate) fn drop_request(place: usize, requests: &mut KeyedList<Request>, index: &mut Index)
+    requires place { place < length requests.old.items }
+    requires distinct { are_distinct requests.old.items ≡ true }
+    requires found { AreFound index.old requests.old.items }
+    ensures requests { requests.new.items ≡ remove requests.old.items place }
+    ensures room { requests.old.room ≤ requests.new.room }
+    ensures found { AreFound index.new requests.new.items }
+    ensures places { requests.new.places ≡ requests.old.places }
+    ensures spare { spare_of index.old ≤ spare_of index.new }
+    ensures rooms { length requests.new.items + requests.new.room
+        ≤ length requests.old.items + requests.old.room }
+    ensures spares { length requests.new.items + spare_of index.new
+        ≤ length requests.old.items + spare_of index.old }
+    ensures total { places_of index.new ≡ places_of index.old }
+{
+    let request = requests.remove(place);
+    let latest = requests.latest(&Key::eid(&request.eid));
+    tell_latest(&request.eid, latest, &mut index.eids);
+    // The length says that EIDs ascend.
+    let _ = index.eids.len();
+    drop_term(&request, &mut index.terms);
+}

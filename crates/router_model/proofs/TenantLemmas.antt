@@ -1,0 +1,578 @@
+-- Requests of an instance, and what is asked and learned for it.
+use Rattle.std.proofs.Common.{◌≡◌, ℕ, suc, ◌+◌, ◌^◌, max, ◌≤◌, ◌<◌, ◌==◌, ◌||◌, ◌&&◌, not, nat_lt, nat_eq, Bool, true, false, cond, List, [], ◌∷◌, ◌++◌, Option, Some, None, count_by, filter, filter_map, find, is_some, length, refl, sym, ap, ap₂, subst, ◌∙◌, arith}
+use Rattle.std.specs.List.{cons_option}
+use Rattle.std.proofs.lemmas.Bool.{eq-eqb, eqb-true}
+use Rattle.std.proofs.lemmas.Bool.Decides.{nat_tests}
+use Rattle.std.proofs.lemmas.Cmp.{nat_eq_equiv}
+use Rattle.std.proofs.lemmas.Option.{same_Some}
+use Rattle.ip_headers.specs.declared.addr.Addr.{Addr}
+use Rattle.mapping_records.specs.declared.eid.Eid.{Eid}
+use Rattle.mapping_records.specs.declared.record.Record.{Record}
+use Rattle.mapping_records.specs.Eids.{covers_eid, same_eid}
+use Rattle.map_messages.specs.declared.message.MapReply.{MapReply}
+use Rattle.lisp_settings.specs.Instances.{limits_in, mappings_in, requests_in}
+use Rattle.lisp_settings.specs.declared.settings.LimitItem.{LimitItem}
+use Rattle.lisp_settings.specs.declared.settings.Settings.{Settings}
+use Rattle.request_queue.specs.Queue.{covered, is_waiting, once_more, open_in, with_nonce}
+use Rattle.request_queue.specs.declared.request.Request.{Request}
+use Rattle.router_log.specs.Moments.{younger}
+use Rattle.router_log.specs.declared.entry.Entry.{Entry}
+use Rattle.router_log.specs.declared.entry.Entry.TheVariants.{Learned, Asked, Retried, Answered}
+use Rattle.router_log.specs.declared.notice.Notice.{Notice}
+use Rattle.router_log.specs.declared.notice.Notice.TheVariants as notice
+use Rattle.router_model.specs.Changes.{Change, asked, each, entered, has_room, journal as of_journal, learned_in, may_ask, may_replace, unchanged}
+use Rattle.router_log.specs.declared.verdict.Reason.TheVariants.{Unfit}
+use Rattle.router_model.specs.Hear.{Heard, drops, is_asked_for, is_fit, is_static, probe_replied, replied_to, reply_heard, shortened, tallied, taught}
+use Rattle.router_model.specs.Isolation.{asked_in, counts_in, of_instance, told_of}
+use Rattle.router_model.specs.Journal.{Journal, IsRising, changed, last_moment, moment_of}
+use Rattle.router_model.specs.Kept.{counting, last_put, placed}
+use Rattle.router_model.specs.Lifting.{MayGo, Ready}
+use Rattle.router_model.specs.Mappings.{Held, exact, force, live_mappings}
+use Rattle.router_model.specs.Note.{is_learned, is_missing, is_wanting, noted}
+use Rattle.router_model.specs.Parts.{Parts, Stands, parts_in, standing_in, table, view_in}
+use Rattle.router_model.specs.Requests.{begun_request, open_requests, request_kind, request_step}
+use Rattle.router_model.specs.Site.{reaches_resolver}
+use Rattle.router_model.specs.Standing.{own_after, standing}
+use Rattle.router_model.specs.Tenants.{AreAlike, AreOneTo, AskingIsolated, IsRead, NoncesDiffer, RequestsIsolated, TablesAsk, TablesLearn, asked_since, asks, notice_eid}
+use Rattle.router_model.specs.View.{View, seen_at, view}
+use Rattle.router_model.proofs.FewLemmas.{step-keeps}
+use Rattle.router_model.proofs.HearLemmas.{reply_heard-alike}
+use Rattle.router_model.proofs.IsolationLemmas.{all-standing, mine-before, mine-force, mine-live}
+use Rattle.router_model.proofs.KeptLemmas.{filter-last_put, filter-step}
+use Rattle.router_model.proofs.KeyLemmas.{dropped-apart}
+use Rattle.router_model.proofs.PartsLemmas.{and_both, answers, any-within, count-within}
+use Rattle.router_model.proofs.RequestLemmas.{nonce_of, requests-open}
+use Rattle.router_model.proofs.StandsLemmas.{proper-rises, standing-sees}
+use Rattle.router_model.proofs.UpsLemmas.{stands-in}
+
+-- ### what is known of open requests
+
+younger-later : (t a b : ℕ) → a ≤ b → younger t 7 a ≡ true → younger t 7 b ≡ true
+younger-later t a b later young = grind (arith, nat_tests)
+
+-- where a young request is, the last entry is young
+young-last : (t n : ℕ) (journal : Journal) → IsRising journal → asked_since t n journal ≡ true → younger t 7 (last_moment journal) ≡ true
+young-last t n [] rising is = cc
+young-last t n (entry ∷ older) rising is = by entry rising.0 is (young-last t n older rising.1)
+  where
+    by : (entry : Entry) → last_moment older ≤ moment_of entry → asked_since t n (entry ∷ older) ≡ true → (asked_since t n older ≡ true → younger t 7 (last_moment older) ≡ true) → younger t 7 (moment_of entry) ≡ true
+    by (Asked moment eid source invoked k) later is h = one (k == n) (younger t 7 moment) refl is
+      where
+        one : (b c : Bool) → younger t 7 moment ≡ c → (b && c || asked_since t n older) ≡ true → younger t 7 moment ≡ true
+        one b true young is = young
+        one true false young is = younger-later t (last_moment older) moment later (h is)
+        one false false young is = younger-later t (last_moment older) moment later (h is)
+    by entry later is h = younger-later t (last_moment older) (moment_of entry) later (h is)
+
+-- each of them
+abbrev Each : (Request → Type 0) → List Request → Type 0
+Each P [] = Unit {0}
+Each P (r ∷ l) = P r × Each P l
+
+each-step : (P Q : Request → Type 0) (step : Request → Option Request) → ((r s : Request) → step r ≡ Some s → P r → Q s) → (l : List Request) → Each P l → Each Q (filter_map step l)
+each-step P Q step goes [] each = tt
+each-step P Q step goes (r ∷ l) each = by (step r) refl (each-step P Q step goes l each.1)
+  where
+    by : (o : Option Request) → step r ≡ o → Each Q (filter_map step l) → Each Q (cons_option o (filter_map step l))
+    by None is h = h
+    by (Some s) is h = (goes r s is each.0, h)
+
+each-put : (Q : Request → Type 0) (x : Request) (l : List Request) → Each Q l → Q x → Each Q (last_put x l)
+each-put Q x [] each one = (one, tt)
+each-put Q x (r ∷ l) each one = (each.0, each-put Q x l each.1 one)
+
+same-number : (n : ℕ) → (n == n) ≡ true
+same-number n = grind (arith, nat_tests)
+
+module _ (t : ℕ) where
+  -- it is the last one with its nonce, and young
+  abbrev Known : Journal → Request → Type 0
+  Known journal r = (asked_in r.nonce journal ≡ Some r.eid.iid) × (asked_since t r.nonce journal ≡ true)
+
+  known-kept : (journal : Journal) (r s : Request) → s.nonce ≡ r.nonce → s.eid ≡ r.eid → Known journal r → Known journal s
+  known-kept journal r s nonce eid known = (
+    ap (λ n. asked_in n journal) nonce ∙ known.0 ∙ ap (λ (e : Eid). Some e.iid) (sym eid),
+    ap (λ n. asked_since t n journal) nonce ∙ known.1,
+  )
+
+  known-step : (entry : Entry) (older : Journal) (r s : Request) → request_step entry r ≡ Some s → Known older r → Known (entry ∷ older) s
+  known-step entry older r s is known = by entry is (known-kept older r s (step-keeps nonce_of (λ r. refl) entry r s is) (step-keeps (λ (r : Request). r.eid) (λ r. refl) entry r s is) known)
+    where
+      by : (entry : Entry) → request_step entry r ≡ Some s → Known older s → Known (entry ∷ older) s
+      by (Asked moment eid source invoked k) is h =
+          let other = nat_eq_equiv.symm k s.nonce ∙ dropped-apart nonce_of nat_eq k r s is in
+          (rw other h.0, rw other h.1)
+      by _ is h = h
+
+  all-known : (journal : Journal) → Each (Known journal) (counting request_kind (is_waiting t) journal)
+  all-known [] = tt
+  all-known (entry ∷ older) = by entry (each-step (Known older) (Known (entry ∷ older)) (request_step entry) (known-step entry older) (counting request_kind (is_waiting t) older) (all-known older))
+    where
+      all : List Request
+      all = counting request_kind (is_waiting t) older
+
+      by : (entry : Entry) → Each (Known (entry ∷ older)) (filter_map (request_step entry) all) → Each (Known (entry ∷ older)) (placed (is_waiting t) last_put (begun_request entry) (filter_map (request_step entry) all))
+      by (Asked moment eid source invoked k) h = put (is_waiting t x) refl
+        where
+          e : Entry
+          e = Asked moment eid source invoked k
+
+          x : Request
+          x = record { eid = eid; source = source; invoked = invoked; nonce = k; start = moment; sent_again = 0 }
+
+          put : (b : Bool) → is_waiting t x ≡ b → Each (Known (e ∷ older)) (cond b (last_put x (filter_map (request_step e) all)) (filter_map (request_step e) all))
+          put true young = each-put (Known (e ∷ older)) x (filter_map (request_step e) all) h (rw (same-number k) refl, rw (same-number k, young) refl)
+          put false young = h
+      by _ h = h
+
+module _ (i t : ℕ) where
+  abbrev is_mine : Request → Bool
+  is_mine r = r.eid.iid == i
+
+  stays : (entry : Entry) (r s : Request) → request_step entry r ≡ Some s → is_mine s ≡ is_mine r
+  stays entry r s is = step-keeps is_mine (λ r. refl) entry r s is
+
+  begun-mine : (entry : Entry) (older : Journal) (x : Request) → begun_request entry ≡ Some x → counts_in i (told_of entry older) ≡ is_mine x
+  begun-mine (Asked moment eid source invoked k) older x is = ap is_mine (same_Some _ x is)
+  begun-mine _ older x is = cc
+
+  -- an entry of another instance leaves a request of this one
+  others-leave : (entry : Entry) (older : Journal) (r : Request) → IsRising (entry ∷ older) → NoncesDiffer t (entry ∷ older) → counts_in i (told_of entry older) ≡ false → is_mine r ≡ true → Known t older r → request_step entry r ≡ Some r
+  others-leave (Asked moment eid source invoked k) older r rising differ other is known = by (r.nonce == k) refl
+    where
+      by : (b : Bool) → (r.nonce == k) ≡ b → cond b None (Some r) ≡ Some r
+      by false apart = refl
+      by true same =
+          let since = ap (λ n. asked_since t n older) (sym (eqb-true r.nonce k same)) ∙ known.1 in
+          let young = younger-later t (last_moment older) moment rising.0 (young-last t k older rising.1 since) in
+          let both = ap₂ (λ a b. a && b) young since in
+          cc (both, differ.0)
+  others-leave (Answered moment k) older r rising differ other is known = by (r.nonce == k) refl
+    where
+      by : (b : Bool) → (r.nonce == k) ≡ b → cond b None (Some r) ≡ Some r
+      by false apart = refl
+      by true same =
+          let mine = ap (counts_in i) (ap (λ n. asked_in n older) (sym (eqb-true r.nonce k same)) ∙ known.0) ∙ is in
+          cc (mine, other)
+  others-leave (Retried moment k) older r rising differ other is known = by (r.nonce == k) refl
+    where
+      by : (b : Bool) → (r.nonce == k) ≡ b → Some (cond b (once_more r) r) ≡ Some r
+      by false apart = refl
+      by true same =
+          let mine = ap (counts_in i) (ap (λ n. asked_in n older) (sym (eqb-true r.nonce k same)) ∙ known.0) ∙ is in
+          cc (mine, other)
+  others-leave _ older r rising differ other is known = refl
+
+  differ-before : (entry : Entry) (older : Journal) → NoncesDiffer t (entry ∷ older) → NoncesDiffer t older
+  differ-before (Asked moment eid source invoked k) older differ = differ.1
+  differ-before _ older differ = differ
+
+  mine-counting : (journal : Journal) → IsRising journal → NoncesDiffer t journal → filter is_mine (counting request_kind (is_waiting t) journal) ≡ counting request_kind (is_waiting t) (of_instance journal i)
+  mine-counting [] rising differ = refl
+  mine-counting (entry ∷ older) rising differ = by (counts_in i (told_of entry older)) refl (mine-counting older rising.1 (differ-before entry older differ))
+    where
+      all : List Request
+      all = counting request_kind (is_waiting t) older
+
+      theirs : List Request
+      theirs = counting request_kind (is_waiting t) (of_instance older i)
+
+      items : List Request
+      items = filter_map (request_step entry) all
+
+      left : filter is_mine items ≡ filter_map (request_step entry) (filter is_mine all)
+      left = filter-step is_mine (request_step entry) (stays entry) all
+
+      still : counts_in i (told_of entry older) ≡ false → (l : List Request) → Each (Known t older) l → filter_map (request_step entry) (filter is_mine l) ≡ filter is_mine l
+      still other [] each = refl
+      still other (r ∷ l) each = one (is_mine r) refl (still other l each.1)
+        where
+          one : (b : Bool) → is_mine r ≡ b → filter_map (request_step entry) (filter is_mine l) ≡ filter is_mine l → filter_map (request_step entry) (cond b (r ∷ filter is_mine l) (filter is_mine l)) ≡ cond b (r ∷ filter is_mine l) (filter is_mine l)
+          one true is h = rw (others-leave entry older r rising differ other is each.0) (ap (λ l. r ∷ l) h)
+          one false is h = h
+
+      begun : (x : Request) (b d : Bool) → is_mine x ≡ b → filter is_mine (cond d (last_put x items) items) ≡ cond d (cond b (last_put x (filter is_mine items)) (filter is_mine items)) (filter is_mine items)
+      begun x b true is = filter-last_put is_mine x items ∙ ap (λ b. cond b (last_put x (filter is_mine items)) (filter is_mine items)) is
+      begun x b false is = refl
+
+      kept : (o : Option Request) → begun_request entry ≡ o → counts_in i (told_of entry older) ≡ true → filter is_mine items ≡ filter_map (request_step entry) theirs → filter is_mine (placed (is_waiting t) last_put o items) ≡ placed (is_waiting t) last_put o (filter_map (request_step entry) theirs)
+      kept None made is h = h
+      kept (Some x) made is h = begun x true (is_waiting t x) (sym (begun-mine entry older x made) ∙ is) ∙ ap (λ l. cond (is_waiting t x) (last_put x l) l) h
+
+      gone : (o : Option Request) → begun_request entry ≡ o → counts_in i (told_of entry older) ≡ false → filter is_mine (placed (is_waiting t) last_put o items) ≡ filter is_mine items
+      gone None made is = refl
+      gone (Some x) made is = begun x false (is_waiting t x) (sym (begun-mine entry older x made) ∙ is) ∙ same (is_waiting t x)
+        where
+          same : (d : Bool) → cond d (filter is_mine items) (filter is_mine items) ≡ filter is_mine items
+          same true = refl
+          same false = refl
+
+      by : (b : Bool) → counts_in i (told_of entry older) ≡ b → filter is_mine all ≡ theirs → filter is_mine (placed (is_waiting t) last_put (begun_request entry) items) ≡ counting request_kind (is_waiting t) (cond b (entry ∷ of_instance older i) (of_instance older i))
+      by true is h = kept (begun_request entry) refl is (left ∙ ap (filter_map (request_step entry)) h)
+      by false is h = gone (begun_request entry) refl is ∙ left ∙ still is all (all-known t older) ∙ h
+
+pub requests-isolated : RequestsIsolated
+requests-isolated journal i now rising differ =
+    ap (filter (is_mine i now)) (sym (requests-open now journal)) ∙ mine-counting i now journal rising differ ∙ requests-open now (of_instance journal i)
+
+-- ### under a nonce
+
+module _ {A : Type 0} (test mine : A → Bool) where
+  -- what is found and stays is found among those that stay
+  find-staying : (l : List A) (a : A) → find test l ≡ Some a → mine a ≡ true → find test (filter mine l) ≡ Some a
+  find-staying [] a is stay = is
+  find-staying (x ∷ l) a is stay = by (test x) (mine x) refl refl is (find-staying l a)
+    where
+      by : (b c : Bool) → test x ≡ b → mine x ≡ c → cond b (Some x) (find test l) ≡ Some a → (find test l ≡ Some a → mine a ≡ true → find test (filter mine l) ≡ Some a) → find test (cond c (x ∷ filter mine l) (filter mine l)) ≡ Some a
+      by true true here stays is h = rw here is
+      by true false here stays is h = cc (stay, stays, ap mine (same_Some x a is))
+      by false true here stays is h = rw here (h is stay)
+      by false false here stays is h = h is stay
+
+  -- a narrower test finds the same
+  find-within : ((a : A) → test a ≡ true → mine a ≡ true) → (l : List A) → find test (filter mine l) ≡ find test l
+  find-within within [] = refl
+  find-within within (x ∷ l) = by (test x) (mine x) refl refl (find-within within l)
+    where
+      by : (b c : Bool) → test x ≡ b → mine x ≡ c → find test (filter mine l) ≡ find test l → find test (cond c (x ∷ filter mine l) (filter mine l)) ≡ cond b (Some x) (find test l)
+      by true true here stays h = rw here refl
+      by true false here stays h = cc (within x here)
+      by false true here stays h = rw here h
+      by false false here stays h = h
+
+-- what is found is one of them
+find-each : (P : Request → Type 0) (test : Request → Bool) (l : List Request) (r : Request) → Each P l → find test l ≡ Some r → P r × (test r ≡ true)
+find-each P test [] r each is = cc
+find-each P test (x ∷ l) r each is = by (test x) refl is (find-each P test l r each.1)
+  where
+    by : (b : Bool) → test x ≡ b → cond b (Some x) (find test l) ≡ Some r → (find test l ≡ Some r → P r × (test r ≡ true)) → P r × (test r ≡ true)
+    by true here is h = subst (λ r. P r × (test r ≡ true)) (same_Some x r is) (each.0, here)
+    by false here is h = h is
+
+-- what is found among some of them is found among all, perhaps another
+find-more : (test mine : Request → Bool) (l : List Request) (r : Request) → find test (filter mine l) ≡ Some r → is_some (find test l) ≡ true
+find-more test mine [] r is = cc
+find-more test mine (x ∷ l) r is = by (test x) (mine x) refl is (find-more test mine l r)
+  where
+    by : (b c : Bool) → test x ≡ b → find test (cond c (x ∷ filter mine l) (filter mine l)) ≡ Some r → (find test (filter mine l) ≡ Some r → is_some (find test l) ≡ true) → is_some (cond b (Some x) (find test l)) ≡ true
+    by true c here is h = refl
+    by false true here is h = h (let tested = is in rw here at tested)
+    by false false here is h = h is
+
+each-staying : (P : Request → Type 0) (mine : Request → Bool) (l : List Request) → Each P l → Each (λ r. P r × (mine r ≡ true)) (filter mine l)
+each-staying P mine [] each = tt
+each-staying P mine (r ∷ l) each = by (mine r) refl (each-staying P mine l each.1)
+  where
+    by : (b : Bool) → mine r ≡ b → Each (λ r. P r × (mine r ≡ true)) (filter mine l) → Each (λ r. P r × (mine r ≡ true)) (cond b (r ∷ filter mine l) (filter mine l))
+    by true is h = ((each.0, is), h)
+    by false is h = h
+
+-- a request of an instance is open under a nonce exactly if it is so in the journal of the instance
+abbrev NoncesIsolated : Type 0
+NoncesIsolated = (journal : Journal) (i now nonce : ℕ) (request : Request) → IsRising journal → NoncesDiffer now journal → ((with_nonce (open_requests now journal) nonce ≡ Some request) → (request.eid.iid ≡ i) → with_nonce (open_requests now (of_instance journal i)) nonce ≡ Some request) × (with_nonce (open_requests now (of_instance journal i)) nonce ≡ Some request → with_nonce (open_requests now journal) nonce ≡ Some request)
+
+nonces-isolated : NoncesIsolated
+nonces-isolated journal i now nonce request rising differ = (here, there (find test all) refl)
+  where
+    all : List Request
+    all = open_requests now journal
+
+    test : Request → Bool
+    test r = r.nonce == nonce
+
+    mine : filter (is_mine i now) all ≡ open_requests now (of_instance journal i)
+    mine = requests-isolated journal i now rising differ
+
+    known : Each (Known now journal) all
+    known = subst (Each (Known now journal)) (requests-open now journal) (all-known now journal)
+
+    here : with_nonce all nonce ≡ Some request → request.eid.iid ≡ i → with_nonce (open_requests now (of_instance journal i)) nonce ≡ Some request
+    here found is = ap (λ l. with_nonce l nonce) (sym mine) ∙ find-staying test (is_mine i now) all request found (eq-eqb request.eid.iid i is)
+
+    there : (o : Option Request) → find test all ≡ o → with_nonce (open_requests now (of_instance journal i)) nonce ≡ Some request → o ≡ Some request
+    there None none found =
+        let more = find-more test (is_mine i now) all request (ap (find test) mine ∙ found) in
+        cc (more, ap is_some none)
+    there (Some r) one found =
+        let left = ap (find test) mine ∙ found in
+        let mine' = find-each (λ r. Known now journal r × (is_mine i now r ≡ true)) test (filter (is_mine i now) all) request (each-staying (Known now journal) (is_mine i now) all known) left in
+        let its = find-each (Known now journal) test all r known one in
+        let nonces : r.nonce ≡ request.nonce = eqb-true r.nonce nonce its.1 ∙ sym (eqb-true request.nonce nonce mine'.1) in
+        let iids = same_Some r.eid.iid request.eid.iid (sym its.0.0 ∙ ap (λ n. asked_in n journal) nonces ∙ mine'.0.0.0) in
+        sym (find-staying test (is_mine i now) all r one (ap (λ k. k == i) iids ∙ mine'.0.1)) ∙ left
+
+-- ### what is asked
+
+module _ (journal : Journal) (i now : ℕ) where
+  abbrev all : View
+  all = seen_at journal now
+
+  abbrev mine : View
+  mine = seen_at (of_instance journal i) now
+
+  same-iid : (k n : ℕ) → n ≡ i → (k == n) ≡ true → (k == i) ≡ true
+  same-iid k n is same = ap (λ n. k == n) (sym is) ∙ same
+
+  exact-mine : (eid : Eid) → eid.iid ≡ i → exact all.mappings eid ≡ exact mine.mappings eid
+  exact-mine eid is =
+      sym (find-within (λ (held : Held). same_eid held.eid eid) (λ held. held.eid.iid == i) (λ held same. same-iid held.eid.iid eid.iid is (and_both (held.eid.iid == eid.iid) _ same).0) (live_mappings now journal))
+      ∙ ap (λ l. exact l eid) (mine-live i now journal)
+
+  learned-mine : (n : ℕ) → n ≡ i → learned_in n all.mappings ≡ learned_in n mine.mappings
+  learned-mine n is =
+      sym (count-within (λ (held : Held). held.eid.iid == i) (λ held. (held.eid.iid == n) && not held.fixed) (λ held same. same-iid held.eid.iid n is (and_both (held.eid.iid == n) _ same).0) (live_mappings now journal))
+      ∙ ap (learned_in n) (mine-live i now journal)
+
+  force-mine : (eid : Eid) → eid.iid ≡ i → force all.mappings eid.iid eid.prefix.addr eid.prefix.len ≡ force mine.mappings eid.iid eid.prefix.addr eid.prefix.len
+  force-mine eid is =
+      subst (λ k. force all.mappings k eid.prefix.addr eid.prefix.len ≡ force mine.mappings k eid.prefix.addr eid.prefix.len) (sym is)
+      (mine-force i now journal eid.prefix.addr eid.prefix.len)
+
+  -- whether there is room is the same
+  room-mine : (limits : List LimitItem) (mapping : Record) → mapping.eid.iid ≡ i → has_room limits all mapping ≡ has_room limits mine mapping
+  room-mine limits mapping is =
+      ap (may_replace limits all mapping) (exact-mine mapping.eid is) ∙ by (exact mine.mappings mapping.eid)
+    where
+      by : (o : Option Held) → may_replace limits all mapping o ≡ may_replace limits mine mapping o
+      by (Some held) = refl
+      by None = ap (λ n. (mapping.ttl == 0) || nat_lt n (mappings_in limits mapping.eid.iid)) (learned-mine mapping.eid.iid is)
+
+  module _ (rising : IsRising journal) (differ : NoncesDiffer now journal) where
+    covered-mine : (eid : Eid) → eid.iid ≡ i → covered all.requests eid ≡ covered mine.requests eid
+    covered-mine eid is =
+        sym (any-within (is_mine i now) (λ r. covers_eid r.eid eid) (λ r covers. same-iid r.eid.iid eid.iid is (and_both (r.eid.iid == eid.iid) _ covers).0) (open_requests now journal))
+        ∙ ap (λ l. covered l eid) (requests-isolated journal i now rising differ)
+
+    open-mine : (n : ℕ) → n ≡ i → open_in n all.requests ≡ open_in n mine.requests
+    open-mine n is =
+        sym (count-within (is_mine i now) (λ r. r.eid.iid == n) (λ r same. same-iid r.eid.iid n is same) (open_requests now journal))
+        ∙ ap (open_in n) (requests-isolated journal i now rising differ)
+
+    may_ask-mine : (settings : Settings) (limits : List LimitItem) (eid : Eid) → eid.iid ≡ i → may_ask settings limits all eid ≡ may_ask settings limits mine eid
+    may_ask-mine settings limits eid is =
+        ap₂ (λ a n. reaches_resolver settings && (not a && nat_lt n (requests_in limits eid.iid))) (covered-mine eid is) (open-mine eid.iid is)
+
+    asks-mine : (settings : Settings) (limits : List LimitItem) (told : Notice) (eid : Eid) → notice_eid told ≡ Some eid → eid.iid ≡ i → asks settings limits all told ≡ asks settings limits mine told
+    asks-mine settings limits (notice.Ask k source) eid names is =
+        let its = ap (λ (e : Eid). e.iid) (same_Some k eid names) ∙ is in
+        ap₂ (λ b o. b && is_wanting o) (may_ask-mine settings limits k its) (force-mine k its)
+    asks-mine settings limits (notice.Refresh k) eid names is =
+        let its = ap (λ (e : Eid). e.iid) (same_Some k eid names) ∙ is in
+        ap₂ (λ o b. is_learned o && b) (exact-mine k its) (may_ask-mine settings limits k its)
+    asks-mine settings limits _ eid names is = refl
+
+pub asking-isolated : AskingIsolated
+asking-isolated settings limits journal i now told eid rising differ names is = asks-mine journal i now rising differ settings limits told eid names is
+
+-- ### what is learned
+
+-- a record that was asked for is of the instance of the EID
+asked-iid : (asked : Eid) (mapping : Record) (mappings : List Record) → is_asked_for asked mappings mapping ≡ true → mapping.eid.iid ≡ asked.iid
+asked-iid asked mapping [] is = cc
+asked-iid asked mapping (wider ∷ mappings) is = by (covers_eid wider.eid asked && covers_eid wider.eid mapping.eid) refl is (asked-iid asked mapping mappings)
+  where
+    by : (b : Bool) → (covers_eid wider.eid asked && covers_eid wider.eid mapping.eid) ≡ b → (b || is_asked_for asked mappings mapping) ≡ true → (is_asked_for asked mappings mapping ≡ true → mapping.eid.iid ≡ asked.iid) → mapping.eid.iid ≡ asked.iid
+    by true both is h =
+        let covers = and_both (covers_eid wider.eid asked) (covers_eid wider.eid mapping.eid) both in
+        sym (eqb-true wider.eid.iid mapping.eid.iid (and_both (wider.eid.iid == mapping.eid.iid) _ covers.1).0)
+        ∙ eqb-true wider.eid.iid asked.iid (and_both (wider.eid.iid == asked.iid) _ covers.0).0
+    by false both is h = h is
+
+-- seen at a moment that isn't before the last entry's
+seen-then : (journal : Journal) (m : ℕ) → last_moment journal ≤ m → view journal m ≡ seen_at journal m
+unfolding view
+seen-then journal m last = ap (seen_at journal) (at-then (last_moment journal) last)
+  where
+    at-then : (n : ℕ) → n ≤ m → max m n ≡ m
+    at-then n less = omega (arith, less)
+
+module _ (settings : Settings) (i m : ℕ) where
+  -- changes of a journal and of that of the instance, which came so far alike
+  record Apart (all mine : Change Journal) : Type 0 where
+    entries : all.entries ≡ mine.entries
+    after : of_instance all.after i ≡ mine.after
+    last : last_moment all.after ≤ m
+    mine_last : last_moment mine.after ≤ m
+
+  module _ (asked : Eid) (mappings : List Record) (is : asked.iid ≡ i) where
+    -- a record is learned of both
+    entered-apart : (mapping : Record) (all mine : Change Journal) → mapping.eid.iid ≡ i → Apart all mine → Apart (entered of_journal settings m (Learned m (shortened mapping) false) all) (entered of_journal settings m (Learned m (shortened mapping) false) mine)
+    entered-apart mapping all mine its apart = record {
+      entries = ap (λ l. l ++ Learned m (shortened mapping) false ∷ []) apart.entries;
+      after =
+          ap (λ b. cond b (Learned m (shortened mapping) false ∷ of_instance all.after i) (of_instance all.after i)) (eq-eqb mapping.eid.iid i its)
+          ∙ ap (λ j. Learned m (shortened mapping) false ∷ j) apart.after;
+      last = omega arith;
+      mine_last = omega arith;
+    }
+
+    taught-apart : (mapping : Record) (all mine : Change Journal) → Apart all mine → Apart (taught of_journal settings m asked mappings mapping all) (taught of_journal settings m asked mappings mapping mine)
+    taught-apart mapping all mine apart = by (is_asked_for asked mappings mapping) refl
+      where
+        told : Change Journal → Change Journal
+        told = entered of_journal settings m (Learned m (shortened mapping) false)
+
+        passes : Change Journal → Bool
+        passes change = not (is_static settings mapping) && has_room (limits_in settings) (view change.after m) mapping
+
+        alike : mapping.eid.iid ≡ i → passes all ≡ passes mine
+        alike its =
+            ap (λ b. not (is_static settings mapping) && b)
+            (ap (λ v. has_room (limits_in settings) v mapping) (seen-then all.after m apart.last)
+            ∙ room-mine all.after i m (limits_in settings) mapping its
+            ∙ ap (λ j. has_room (limits_in settings) (seen_at j m) mapping) apart.after
+            ∙ ap (λ v. has_room (limits_in settings) v mapping) (sym (seen-then mine.after m apart.mine_last)))
+
+        both : (b c : Bool) → b ≡ c → mapping.eid.iid ≡ i → Apart (cond b (told all) all) (cond c (told mine) mine)
+        both true true same its = entered-apart mapping all mine its apart
+        both false false same its = apart
+        both true false same its = cc
+        both false true same its = cc
+
+        by : (b : Bool) → is_asked_for asked mappings mapping ≡ b → Apart (cond (b && passes all) (told all) all) (cond (b && passes mine) (told mine) mine)
+        by false fit = apart
+        by true fit =
+            let its = asked-iid asked mapping mappings fit ∙ is in
+            both (passes all) (passes mine) (alike its) its
+
+    each-apart : (records : List Record) (all mine : Change Journal) → Apart all mine → Apart (each (taught of_journal settings m asked mappings) records all) (each (taught of_journal settings m asked mappings) records mine)
+    each-apart [] all mine apart = apart
+    each-apart (mapping ∷ records) all mine apart = each-apart records _ _ (taught-apart mapping all mine apart)
+
+  -- a reply to an open request of the instance
+  replied-apart : (reply : MapReply) (request : Request) (journal : Journal) → request.eid.iid ≡ i → asked_in reply.nonce journal ≡ Some request.eid.iid → last_moment journal ≤ m → last_moment (of_instance journal i) ≤ m → AreAlike (replied_to of_journal settings m reply (Some request) (unchanged journal)) (replied_to of_journal settings m reply (Some request) (unchanged (of_instance journal i)))
+  replied-apart reply request journal its asked last mine_last = by (is_fit request.eid reply.mappings)
+    where
+      told : Journal → Change Journal
+      told j = entered of_journal settings m (Answered m reply.nonce) (unchanged j)
+
+      answered : Apart (told journal) (told (of_instance journal i))
+      answered = record {
+        entries = refl;
+        after =
+            ap (λ b. cond b (Answered m reply.nonce ∷ of_instance journal i) (of_instance journal i))
+            (ap (counts_in i) asked ∙ eq-eqb request.eid.iid i its);
+        last = omega arith;
+        mine_last = omega arith;
+      }
+
+      learned : Apart (each (taught of_journal settings m request.eid reply.mappings) reply.mappings (told journal)) (each (taught of_journal settings m request.eid reply.mappings) reply.mappings (told (of_instance journal i)))
+      learned = each-apart request.eid reply.mappings its reply.mappings _ _ answered
+
+      tallied-alike : (all mine : Change Journal) → all.entries ≡ mine.entries → AreAlike (tallied of_journal settings m reply all) (tallied of_journal settings m reply mine)
+      tallied-alike all mine same = record {
+        verdict = ap (λ (l : List Entry). (tallied of_journal settings m reply (record { after = journal; entries = l; emits = [] })).verdict) same;
+        entries = same;
+      }
+
+      by : (b : Bool) → AreAlike (cond b (tallied of_journal settings m reply (each (taught of_journal settings m request.eid reply.mappings) reply.mappings (told journal))) (drops Unfit (unchanged journal))) (cond b (tallied of_journal settings m reply (each (taught of_journal settings m request.eid reply.mappings) reply.mappings (told (of_instance journal i)))) (drops Unfit (unchanged (of_instance journal i))))
+      by true = tallied-alike _ _ learned.entries
+      by false = record { verdict = refl; entries = refl }
+
+-- ### tables
+
+-- two that are alike to one another, and on
+alike-then : {S T U : Type 0} (a : Heard S) (b : Heard T) (c : Heard U) → AreAlike a b → AreAlike b c → AreAlike a c
+alike-then a b c one other = record { verdict = one.verdict ∙ other.verdict; entries = one.entries ∙ other.entries }
+
+alike-back : {S T : Type 0} (a : Heard S) (b : Heard T) → AreAlike a b → AreAlike b a
+alike-back a b one = record { verdict = sym one.verdict; entries = sym one.entries }
+
+-- the moment of a table that may be asked
+seen-now : (settings : Settings) (p : Parts) (journal : Journal) (m : ℕ) → Stands settings p journal → MayGo journal m → view_in p m ≡ seen_at journal m
+seen-now settings p journal m stands may = standing-sees settings p journal m stands ∙ seen-then journal m may.0
+
+-- whether a notice makes a table ask
+asked-if : (settings : Settings) (p : Parts) (m : ℕ) (told : Notice) (eid : Eid) → notice_eid told ≡ Some eid → length (noted table settings m told (unchanged p)).entries ≡ cond (asks settings p.limits (view_in p m) told) 1 0
+unfolding noted
+asked-if settings p m (notice.Ask k source) eid names = by (is_missing settings p.limits (view_in p m) k)
+  where
+    by : (b : Bool) → length (cond b (asked table settings m k source false (unchanged p)) (unchanged p)).entries ≡ cond b 1 0
+    by true = refl
+    by false = refl
+asked-if settings p m (notice.Refresh k) eid names = by (is_learned (exact (view_in p m).mappings k) && may_ask settings p.limits (view_in p m) k)
+  where
+    by : (b : Bool) → length (cond b (asked table settings m k None false (unchanged p)) (unchanged p)).entries ≡ cond b 1 0
+    by true = refl
+    by false = refl
+asked-if settings p m _ eid names = cc
+
+-- a reply that answers no probe
+reply-plain : (settings : Settings) (m : ℕ) (from : Addr) (reply : MapReply) (journal : Journal) → reply.probe ≡ false → reply_heard of_journal settings m from reply (unchanged journal) ≡ replied_to of_journal settings m reply (with_nonce (view journal m).requests reply.nonce) (unchanged journal)
+unfolding reply_heard
+reply-plain settings m from reply journal plain =
+    ap (λ b. cond b (probe_replied of_journal settings m from reply ((view journal m).probe_open reply.nonce) (unchanged journal)) (replied_to of_journal settings m reply (with_nonce (view journal m).requests reply.nonce) (unchanged journal))) plain
+
+module _ (settings : Settings) (i m : ℕ) where
+  -- a table asks as the journal of the instance would
+  asks-as : (p : Parts) (journal : Journal) (told : Notice) (eid : Eid) → Stands settings p journal → MayGo journal m → NoncesDiffer m journal → notice_eid told ≡ Some eid → eid.iid ≡ i → asks (standing_in settings p) p.limits (view_in p m) told ≡ asks (standing settings (of_instance journal i)) (limits_in settings) (seen_at (of_instance journal i) m) told
+  asks-as p journal told eid stands may differ names is =
+      ap (λ q. asks (standing_in settings q) q.limits (view_in p m) told) stands.whole
+      ∙ ap₂ (λ s v. asks s (limits_in settings) v told) (stands-in settings journal ∙ sym (all-standing settings i journal)) (seen-now settings p journal m stands may)
+      ∙ asking-isolated (standing settings (of_instance journal i)) (limits_in settings) journal i m told eid (proper-rises settings journal stands.proper) differ names is
+
+  -- what is known of an open request
+  known-now : (journal : Journal) (nonce : ℕ) (request : Request) → with_nonce (open_requests m journal) nonce ≡ Some request → asked_in nonce journal ≡ Some request.eid.iid
+  known-now journal nonce request found =
+      let known = find-each (Known m journal) (λ r. r.nonce == nonce) (open_requests m journal) request (subst (Each (Known m journal)) (requests-open m journal) (all-known m journal)) found in
+      ap (λ n. asked_in n journal) (sym (eqb-true request.nonce nonce known.1)) ∙ known.0.0
+
+  module _ (from : Addr) (reply : MapReply) (request : Request) (read : IsRead reply) (plain : reply.probe ≡ false) (is : request.eid.iid ≡ i) where
+    -- what the journal of the instance would make of the reply
+    abbrev by_instance : Journal → Heard Journal
+    by_instance journal = replied_to of_journal (standing settings (of_instance journal i)) m reply (Some request) (unchanged (of_instance journal i))
+
+    -- a table hears it so
+    hears-as : (p : Parts) (journal : Journal) → Stands settings p journal → MayGo journal m → with_nonce (open_requests m journal) reply.nonce ≡ Some request → AreAlike (reply_heard table (standing_in settings p) m from reply (unchanged p)) (by_instance journal)
+    hears-as p journal stands may found =
+        let rising = proper-rises settings journal stands.proper in
+        let last = may.0 in
+        let mine_last = mine-before i journal rising in
+        let asked = known-now journal reply.nonce request found in
+        let own : standing settings (of_instance journal i) ≡ standing settings journal = all-standing settings i journal in
+        alike-then _ _ _
+        (subst (λ q. AreAlike (reply_heard table (standing_in settings q) m from reply (unchanged q)) (reply_heard of_journal (standing settings journal) m from reply (unchanged journal))) (sym stands.whole)
+        (subst (λ s. AreAlike (reply_heard table s m from reply (unchanged (parts_in settings journal))) (reply_heard of_journal (standing settings journal) m from reply (unchanged journal))) (sym (stands-in settings journal)) tabled-so))
+        (subst (λ s. AreAlike (reply_heard of_journal (standing settings journal) m from reply (unchanged journal)) (replied_to of_journal s m reply (Some request) (unchanged (of_instance journal i)))) (sym own)
+        (subst (λ h. AreAlike h (replied_to of_journal (standing settings journal) m reply (Some request) (unchanged (of_instance journal i)))) (sym replied)
+        (replied-apart (standing settings journal) i m reply request journal is asked last (omega (arith, mine_last, last)))))
+      where
+        ready : Ready settings m (suc (0 + length reply.mappings)) journal
+        ready = record { proper = stands.proper; last = may.0; room = (let room = may.1 in let few = read.few in omega (arith, room, few)) }
+
+        tabled-so : AreAlike (reply_heard table (standing settings journal) m from reply (unchanged (parts_in settings journal))) (reply_heard of_journal (standing settings journal) m from reply (unchanged journal))
+        tabled-so =
+            let hears = reply_heard-alike settings (own_after settings journal) (changed journal) m 0 from reply (unchanged journal) read.bounded ready in
+            record { verdict = ap (λ (h : Heard Parts). h.verdict) hears.same; entries = ap (λ (h : Heard Parts). h.change.entries) hears.same }
+
+        replied : reply_heard of_journal (standing settings journal) m from reply (unchanged journal) ≡ replied_to of_journal (standing settings journal) m reply (Some request) (unchanged journal)
+        replied =
+            reply-plain (standing settings journal) m from reply journal plain
+            ∙ ap (λ o. replied_to of_journal (standing settings journal) m reply o (unchanged journal)) (ap (λ (v : View). with_nonce v.requests reply.nonce) (seen-then journal m may.0) ∙ found)
+
+pub tables-ask : TablesAsk
+tables-ask settings i m one other mine theirs told eid both names is =
+    asked-if (standing_in settings one) one m told eid names
+    ∙ ap (λ b. cond b 1 0)
+    (asks-as settings i m one mine told eid both.stand.0 both.may.0 both.differ.0 names is
+    ∙ ap (λ j. asks (standing settings j) (limits_in settings) (seen_at j m) told) both.same
+    ∙ sym (asks-as settings i m other theirs told eid both.stand.1 both.may.1 both.differ.1 names is))
+    ∙ sym (asked-if (standing_in settings other) other m told eid names)
+
+pub tables-learn : TablesLearn
+tables-learn settings i m one other mine theirs from reply request both read plain found is =
+    alike-then _ _ _
+    (subst (λ j. AreAlike (reply_heard table (standing_in settings one) m from reply (unchanged one)) (replied_to of_journal (standing settings j) m reply (Some request) (unchanged j))) both.same
+    (hears-as settings i m from reply request read plain is one mine both.stand.0 both.may.0 here))
+    (alike-back _ _ (hears-as settings i m from reply request read plain is other theirs both.stand.1 both.may.1 there))
+  where
+    here : with_nonce (open_requests m mine) reply.nonce ≡ Some request
+    here = ap (λ (v : View). with_nonce v.requests reply.nonce) (sym (seen-now settings one mine m both.stand.0 both.may.0)) ∙ found
+
+    own : with_nonce (open_requests m (of_instance mine i)) reply.nonce ≡ Some request
+    own = (nonces-isolated mine i m reply.nonce request (proper-rises settings mine both.stand.0.proper) both.differ.0).0 here is
+
+    there : with_nonce (open_requests m theirs) reply.nonce ≡ Some request
+    there =
+        (nonces-isolated theirs i m reply.nonce request (proper-rises settings theirs both.stand.1.proper) both.differ.1).1
+        (ap (λ j. with_nonce (open_requests m j) reply.nonce) (sym both.same) ∙ own)
