@@ -33,7 +33,7 @@ use Rattle.router_log.specs.declared.verdict.Verdict.{Verdict}
 use Rattle.router_log.specs.declared.verdict.Verdict.TheVariants.{Control, Delivered, Drop, Encapsulated, Local, Native, Own}
 use Rattle.router_model.specs.Choice.{chosen}
 use Rattle.router_model.specs.Course as course
-use Rattle.router_model.specs.Course.{Course, Data, Datagram, FramePacket, Leaving, Settled, arriving, by_port, by_udp, course_of, datagram_cases, datagram_read, frame_packet, frame_refusal, leaving, packet_course, unless_refused, unless_settled}
+use Rattle.router_model.specs.Course.{Course, Data, Datagram, FramePacket, Leaving, Settled, arriving, by_port, by_udp, datagram_cases, datagram_read, frame_packet, frame_refusal, leaving, packet_course, unless_refused, unless_settled}
 use Rattle.router_model.specs.Decide.{by_action, decide_by, decide_course, for_home, force_for, from_ours, hash_of, home_version, iid_of, leaves, lisp_header, mapped, natively, opened, routed, sent, site_cases, towards, tunnelled, unless_decided, version_cases}
 use Rattle.router_model.specs.Mappings.{Held}
 use Rattle.router_model.specs.Plain.{packet_of}

@@ -6,7 +6,7 @@ use Rattle.std.proofs.lemmas.List.Elements.{All-cons}
 use Rattle.capture_io.specs.Frame.{Frame}
 use Rattle.lisp_settings.specs.declared.settings.Settings.{Settings}
 use Rattle.capture_events.specs.Events as events
-use Rattle.capture_events.specs.Events.{Event, Tick, Arrival, arrivals, events_after, events_of, second_of, ticks}
+use Rattle.capture_events.specs.Events.{Event, Tick, Arrival, events_after}
 use Rattle.capture_events.proofs.EventLemmas.{arrivals-events}
 use Rattle.router_log.specs.declared.entry.Entry.{Entry}
 use Rattle.router_model.specs.Changes.{Change, journal as of_journal, unchanged}

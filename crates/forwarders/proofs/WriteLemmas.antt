@@ -18,7 +18,6 @@ use Rattle.router_model.specs.Limits.{most_ticked}
 use Rattle.router_model.specs.Parts.{Parts, standing_in, table}
 use Rattle.router_model.specs.Plain.{emit_packets}
 use Rattle.router_model.specs.Rounds as rounds
-use Rattle.router_model.specs.Rounds.{closing_moment}
 use Rattle.router_model.specs.Sharing.{filled}
 use Rattle.router_model.specs.Sides.{Item, Writing, data_in, joined, left_for_later, message_written, second_written, then_written, unwritten, writing}
 use Rattle.router_model.specs.Standing.{without_ups}

@@ -1,5 +1,5 @@
 -- The last item that passes a test.
-use Rattle.std.proofs.Common.{◌≡◌, ◌⊎◌, ℕ, zero, suc, Bool, true, false, cond, List, [], ◌∷◌, drop, fold, slice_get, Option, None, Some, AllPairs, inl, inr, refl, sym, ap, subst, ◌∙◌}
+use Rattle.std.proofs.Common.{◌≡◌, ◌⊎◌, ℕ, zero, suc, Bool, true, false, cond, List, [], ◌∷◌, drop, fold, length, slice_get, Option, None, Some, AllPairs, inl, inr, refl, sym, ap, subst, ◌∙◌}
 use Rattle.std.proofs.lemmas.Option.{same_Some}
 use Rattle.keyed_list.specs.Lists.{last_where, later}
 use Rattle.keyed_list.proofs.AmongLemmas.{Among, pairs-behind_first, pairs-tail}
@@ -13,6 +13,11 @@ module _ {A : Type 0} (test : A → Bool) where
   -- where none passes, there is none
   pub last-none : (items : List A) → ((x : A) → Among x items → test x ≡ false) → last_where test items ≡ None
   last-none items fails = none-from items None fails
+
+  -- where there is no item, none passes
+  pub last-empty : (items : List A) → length items ≡ 0 → None ≡ last_where test items
+  last-empty [] none = refl
+  last-empty (x ∷ items) none = absurd (cc none)
 
   last-from : (items : List A) (n : ℕ) (x : A) (before : Option A) → slice_get items n ≡ Some x → test x ≡ true → ((y : A) → Among y (drop (suc n) items) → test y ≡ false) → fold (later test) before items ≡ Some x
   last-from [] n x before is passes fails = absurd (cc is)

@@ -1,8 +1,8 @@
 -- Where the item of a number stands, as numbers ascend.
-use Rattle.std.proofs.Common.{◌≡◌, ℕ, zero, suc, ◌+◌, ◌-◌, ◌<◌, ◌≤◌, nat_lt, true, false, List, [], ◌∷◌, length, get_or, take, drop, All, Some, IfSome, slice_get, inl, inr, sym, ap, subst, arith, ltb-true, ltb-false}
-use Rattle.std.proofs.lemmas.Bool.{cases_eq}
+use Rattle.std.proofs.Common.{◌≡◌, ℕ, zero, suc, ◌+◌, ◌-◌, ◌<◌, ◌≤◌, nat_lt, true, false, List, [], ◌∷◌, length, get_or, take, drop, All, Some, IfSome, slice_get, inl, inr, sym, ap, subst, arith, lt-ltb, ltb-true, ltb-false, ◌∙◌}
+use Rattle.std.proofs.lemmas.Bool.{cases_eq, le-ltb}
 use Rattle.std.proofs.lemmas.List.{get_or-drop, get_or-take, length-drop, length-take-le}
-use Rattle.std.proofs.lemmas.Option.{slice_get-get_or}
+use Rattle.std.proofs.lemmas.Option.{get_or_from_slice_get, slice_get-get_or, slice_get_within}
 use Rattle.keyed_list.specs.Keyed.{Ascends, IsPlace}
 use Rattle.keyed_list.specs.declared.keyed.Numbered.{Numbered}
 use Rattle.keyed_list.proofs.AmongLemmas.{Among, pairs-behind_first, pairs-tail}
@@ -34,6 +34,17 @@ module _ {T : Type 0} (number : ℕ) where
     -- the item before the place and that at it tell of all
     pub is_place : (0 < p → IfSome (slice_get items (p - 1)) (λ x. nat_lt x.number number ≡ true)) → IfSome (slice_get items p) (λ x. nat_lt x.number number ≡ false) → IsPlace number items p
     is_place before behind = record { within = within; before = all-before before; behind = all-behind behind }
+
+  -- the item at the place has the number
+  pub place-of : (items : List (Numbered T)) (p : ℕ) (x : Numbered T) → Ascends items → slice_get items p ≡ Some x → x.number ≡ number → IsPlace number items p
+  place-of items p x ascends at is =
+      let inside : p < length items = slice_get_within items p x at in
+      is_place items p ascends (omega (arith, inside))
+      (λ some.
+      let lower : (get_or items (p - 1) x).number < (get_or items p x).number = ascends (p - 1) p x (omega (arith, some)) inside in
+      let same : (get_or items p x).number ≡ number = ap (λ (y : Numbered T). y.number) (get_or_from_slice_get items p x x at) ∙ is in
+      subst (λ o. IfSome o (λ (y : Numbered T). nat_lt y.number number ≡ true)) (sym (slice_get-get_or items (p - 1) x (omega (arith, inside)))) (lt-ltb _ _ (omega (arith, lower, same))))
+      (subst (λ o. IfSome o (λ (y : Numbered T). nat_lt y.number number ≡ false)) (sym at) (le-ltb _ _ (omega (arith, is))))
 
   -- the item of the number stands at its place
   pub at-place : (items : List (Numbered T)) (p : ℕ) (x : Numbered T) → Ascends items → IsPlace number items p → Among x items → x.number ≡ number → slice_get items p ≡ Some x

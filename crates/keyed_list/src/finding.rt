@@ -18,7 +18,25 @@ fn place_of<T>(number: u64, list: &NamedList<Numbered<T>>) -> usize
     requires { Ascends list.now.items }
     ensures { IsPlace number list.now.items result }
 {
-    list.place(|numbered| numbered.number < number)
+    match place_behind_first(number, list) {
+        Some(place) => place,
+        None => list.place(|numbered| numbered.number < number),
+    }
+}
+
+// The place of the item of a number, where none went that stood between it and the first, so that its
+// number says how far behind the first it is.
+fn place_behind_first<T>(number: u64, list: &NamedList<Numbered<T>>) -> Option<usize>
+    requires { Ascends list.now.items }
+    ensures { IfSome result (IsPlace number list.now.items) }
+{
+    let first = list.get(0)?;
+    let place = number.checked_sub(first.number)? as usize;
+    let numbered = list.get(place)?;
+    if numbered.number != number {
+        return None;
+    }
+    Some(place)
 }
 
 // The greatest mark below one.
@@ -48,6 +66,10 @@ pub(crate) fn place_below<T: Keyed>(
         ≡ last_where (is_below T.marks_of key.now bound) list.now.items }
     ensures within { IfSome result (λ place. place < length list.now.items) }
 {
+    // Mostly nothing is kept of echoes, and they are asked about at each packet.
+    if list.len() == 0 {
+        return None;
+    }
     let mark = mark_below(
         Mark {
             key: *key,

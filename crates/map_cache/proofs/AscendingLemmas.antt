@@ -1,14 +1,13 @@
 -- Mappings in ascending order of EID.
-use Rattle.std.proofs.Common.{◌≡◌, ℕ, ◌-◌, suc, Bool, true, false, cond, not, List, [], ◌∷◌, ◌++◌, filter, map, length, Some, None, slice_get, Ordering, Less, Equal, Greater, is_lt, is_eq, refl, sym, ap, subst, ◌∙◌, arith}
+use Rattle.std.proofs.Common.{◌≡◌, ℕ, Bool, true, false, cond, not, List, [], ◌∷◌, filter, map, Ordering, Less, Equal, Greater, is_lt, is_eq, refl, sym, ap, subst, ◌∙◌}
 use Rattle.std.specs.Ordering.{ordering_reverse}
 use Rattle.std.proofs.lemmas.Cmp.{tied_back}
-use Rattle.std.proofs.lemmas.Option.{same_Some}
 use Rattle.mapping_records.proofs.OrderLemmas.{eid_order-total}
 use Rattle.mapping_records.specs.Eids.{same_eid}
 use Rattle.mapping_records.specs.Orders.{eid_order, put_in_order}
 use Rattle.mapping_records.specs.declared.eid.Eid.{Eid}
-use Rattle.map_cache.specs.Lists.{IsAbove, IsAscending, IsBelow}
-use Rattle.map_cache.specs.Cache.{exact, told_mapping, with_bits, without_eid}
+use Rattle.map_cache.specs.Lists.{IsAscending, IsBelow}
+use Rattle.map_cache.specs.Cache.{told_mapping, with_bits, without_eid}
 use Rattle.map_cache.specs.declared.mapping.Mapping.{Mapping}
 use Rattle.map_cache.proofs.EidLemmas.{is_eq-eid}
 
@@ -81,35 +80,8 @@ IsAscending-put x (i ∷ items) ascending = by (same_eid i.eid x.eid) refl (IsAs
     by true same h = h
     by false apart h = placed (eid_order x.eid i.eid) refl apart h
 
--- what is above the last is above all
-pub IsAbove-last : (eid : Eid) (items : List Mapping) (last : Mapping) → IsAscending items → slice_get items (length items - 1) ≡ Some last → eid_order last.eid eid ≡ Less → IsAbove eid items
-IsAbove-last eid [] last ascending is less = tt
-IsAbove-last eid (x ∷ []) last ascending is less = (ap (λ (y : Mapping). eid_order y.eid eid) (same_Some x last is) ∙ less, tt)
-IsAbove-last eid (x ∷ y ∷ items) last ascending is less =
-    let next : length (x ∷ y ∷ items) - 1 ≡ suc (length (y ∷ items) - 1) = omega arith in
-    let above = IsAbove-last eid (y ∷ items) last ascending.1 (ap (slice_get (x ∷ y ∷ items)) (sym next) ∙ is) less in (
-      eid_order-total.trans x.eid y.eid eid ascending.0.0 above.0,
-      above,
-    )
-
 apart : (eid : Eid) (x : Mapping) → eid_order x.eid eid ≡ Less → same_eid x.eid eid ≡ false
 apart eid x less = sym (is_eq-eid x.eid eid) ∙ ap is_eq less
-
--- where an EID is above all, nothing has it
-pub exact-above : (eid : Eid) (items : List Mapping) → IsAbove eid items → exact items eid ≡ None
-exact-above eid [] above = refl
-exact-above eid (x ∷ items) above = ap (λ b. cond b (Some x) (exact items eid)) (apart eid x above.0) ∙ exact-above eid items above.1
-
--- and it comes last
-pub put-above : (x : Mapping) (items : List Mapping) → IsAbove x.eid items → put_in_order (λ i. i.eid) eid_order x (without_eid x.eid items) ≡ items ++ x ∷ []
-put-above x [] above = refl
-put-above x (i ∷ items) above =
-    ap (λ b. put_in_order (λ y. y.eid) eid_order x (cond (not b) (i ∷ without_eid x.eid items) (without_eid x.eid items))) (apart x.eid i above.0)
-    ∙ ap (λ b. cond b (x ∷ i ∷ without_eid x.eid items) (i ∷ put_in_order (λ y. y.eid) eid_order x (without_eid x.eid items))) behind
-    ∙ ap (λ l. i ∷ l) (put-above x items above.1)
-  where
-    behind : is_lt (eid_order x.eid i.eid) ≡ false
-    behind = ap is_lt (eid_order-total.antisymm x.eid i.eid ∙ ap ordering_reverse above.0)
 
 pub Less-is_lt : (r : Ordering) → is_lt r ≡ true → r ≡ Less
 Less-is_lt Less is = refl

@@ -1,19 +1,20 @@
 -- How many mappings an instance has learned, and the numbers that are kept for each limit.
-use Rattle.std.proofs.Common.{◌≡◌, ◌≢◌, ℕ, zero, suc, ◌+◌, ◌-◌, ◌<◌, ◌≤◌, ◌==◌, ◌&&◌, Bool, true, false, cond, not, List, [], ◌∷◌, ◌++◌, length, map, insert, remove, replicate, slice_get, slice_index_or, slice_set, take, option_map, Option, Some, None, Less, nat_cmp, refl, sym, ap, ap₂, ◌∙◌, arith, eq-eqb, ne_eqb}
+use Rattle.std.proofs.Common.{◌≡◌, ◌≢◌, ℕ, zero, suc, ◌+◌, ◌-◌, ◌<◌, ◌≤◌, ◌==◌, ◌&&◌, Bool, true, false, cond, not, List, [], ◌∷◌, length, map, insert, remove, replicate, slice_get, slice_index_or, slice_set, option_map, Option, Some, None, Less, nat_cmp, refl, sym, ap, ap₂, ◌∙◌, arith, eq-eqb, ne_eqb}
 use Rattle.std.specs.List.{AllByRecursion}
 use Rattle.std.specs.List.Sorted.{IsStrictlySortedBy}
 use Rattle.std.proofs.lemmas.Bool.{eqb-true}
 use Rattle.std.proofs.lemmas.Cmp.{ranked}
-use Rattle.std.proofs.lemmas.List.Elements.{filter_more}
-use Rattle.std.proofs.lemmas.List.Sums.{count_by-le-length, sum_by-append, sum_by-cons, sum_by-insert, sum_by-remove}
+use Rattle.std.proofs.lemmas.List.Sums.{count_by-le-length, sum_by-cons, sum_by-insert, sum_by-remove}
 use Rattle.std.proofs.lemmas.Option.{get_or_from_slice_get, same_Some, slice_get-get_or, slice_get-map, slice_get_within}
 use Rattle.lisp_settings.specs.Instances.{stated}
 use Rattle.lisp_settings.specs.declared.settings.LimitItem.{LimitItem}
 use Rattle.mapping_records.specs.Eids.{same_eid}
+use Rattle.mapping_records.specs.Orders.{eid_order, put_in_order}
 use Rattle.mapping_records.specs.declared.eid.Eid.{Eid}
-use Rattle.map_cache.specs.Cache.{bits_told, lasting, lasts, learned_in, told_mapping, with_bits}
+use Rattle.map_cache.specs.Cache.{bits_told, learned_in, told_mapping, with_bits}
 use Rattle.map_cache.specs.Indexed.{for_each, is_learned, with_one}
 use Rattle.map_cache.specs.declared.mapping.Mapping.{Mapping}
+use Rattle.map_cache.proofs.PlaceLemmas.{insert-position}
 
 -- ### what an instance has learned
 
@@ -25,6 +26,10 @@ learned_in-few iid items = count_by-le-length (is_learned iid) items
 
 pub learned_in-insert : (iid : ℕ) (items : List Mapping) (n : ℕ) (x : Mapping) → learned_in iid (insert items n x) ≡ with_one x (λ iid. learned_in iid items) iid
 learned_in-insert iid items n x = sum_by-insert (one_if iid) items n x
+
+pub learned_in-put : (iid : ℕ) (x : Mapping) (items : List Mapping) → learned_in iid (put_in_order (λ i. i.eid) eid_order x items) ≡ with_one x (λ iid. learned_in iid items) iid
+learned_in-put iid x items =
+    ap (learned_in iid) (sym (insert-position (λ (i : Mapping). i.eid) eid_order x items)) ∙ learned_in-insert iid items _ x
 
 pub learned_in-remove : (iid : ℕ) (items : List Mapping) (n : ℕ) (x : Mapping) → slice_get items n ≡ Some x → learned_in iid items ≡ with_one x (λ iid. learned_in iid (remove items n)) iid
 learned_in-remove iid items n x at =
@@ -41,18 +46,6 @@ learned_in-told eid bits width iid (x ∷ items) =
     by : (b : Bool) → one_if iid (cond b (with_bits bits width x) x) ≡ one_if iid x
     by true = refl
     by false = refl
-
--- one more of a list, of which so many last
-pub learned_in-next : (m iid : ℕ) (items : List Mapping) (i : ℕ) (x : Mapping) → slice_get items i ≡ Some x → learned_in iid (lasting m (take (i + 1) items)) ≡ learned_in iid (lasting m (take i items)) + cond (lasts m x && is_learned iid x) 1 0
-learned_in-next m iid items i x at =
-    ap (learned_in iid) (filter_more (lasts m) items i x (slice_get_within items i x at) ∙ ap (λ (y : Mapping). lasting m (take i items) ++ cond (lasts m y) (y ∷ []) []) (get_or_from_slice_get items i x x at))
-    ∙ sum_by-append (one_if iid) (lasting m (take i items)) (cond (lasts m x) (x ∷ []) [])
-    ∙ ap (λ n. learned_in iid (lasting m (take i items)) + n) (by (lasts m x) (is_learned iid x) refl)
-  where
-    by : (b c : Bool) → is_learned iid x ≡ c → learned_in iid (cond b (x ∷ []) []) ≡ cond (b && c) 1 0
-    by true true is = ap (λ t. 0 + cond {A = ℕ} t 1 0) is ∙ omega arith
-    by true false is = ap (λ t. 0 + cond {A = ℕ} t 1 0) is ∙ omega arith
-    by false c is = refl
 
 -- ### numbers for each limit
 

@@ -1,5 +1,5 @@
 -- The mapping of just one EID, among mappings in order.
-use Rattle.std.proofs.Common.{◌≡◌, ◌<◌, ◌^◌, ℕ, suc, Bool, true, false, cond, List, [], ◌∷◌, length, slice_get, Option, None, Some, is_some, Ordering, Less, Equal, Greater, is_lt, is_eq, inl, inr, refl, sym, ap, ◌∙◌, arith}
+use Rattle.std.proofs.Common.{◌≡◌, ◌<◌, ◌^◌, ℕ, suc, Bool, true, false, cond, List, [], ◌∷◌, length, slice_get, Option, None, Some, Ordering, Less, Equal, Greater, is_lt, is_eq, inl, inr, refl, sym, ap, ◌∙◌, arith}
 use Rattle.std.specs.Ordering.{ordering_reverse}
 use Rattle.std.proofs.lemmas.Bool.{cases_Bool, and_parts, eqb-true, false≢true}
 use Rattle.std.proofs.lemmas.Cmp.{tied_itself}
@@ -14,7 +14,7 @@ use Rattle.mapping_records.specs.Eids.{same_address, same_eid}
 use Rattle.mapping_records.specs.Orders.{eid_order}
 use Rattle.mapping_records.specs.declared.eid.Eid.{Eid}
 use Rattle.map_cache.specs.Cache.{exact, lasting, lasts}
-use Rattle.map_cache.specs.Indexed.{all_stays, stay_lasts, stay_of, some_lasts}
+use Rattle.map_cache.specs.Indexed.{all_stays, stay_lasts, stay_of}
 use Rattle.map_cache.specs.Lists.{IsAscending, IsBelow}
 use Rattle.map_cache.specs.declared.stay.Stay.{Stay}
 use Rattle.map_cache.specs.declared.mapping.Mapping.{Mapping}
@@ -193,15 +193,3 @@ value-none (name ∷ names) (x ∷ items) eid ascending len is =
     by Less order is rest = apart Less order refl ∙ rest is
     by Equal order is rest = absurd (cc is)
     by Greater order is rest = apart Greater order refl ∙ none_above eid x items (eid_order-total.antisymm eid x.eid ∙ ap ordering_reverse order) ascending.0
-
--- what the trie tells of an EID lasts exactly where a mapping of it is among those that last
-pub some-lasts : (m : ℕ) (names : List ℕ) (items : List Mapping) (eid : Eid) → m < 2 ^ 64 → IsAscending items → length names ≡ length items → some_lasts m (value_in eid (all_stays names items)) ≡ is_some (exact (lasting m items) eid)
-some-lasts m names items eid within ascending len = by (value_in eid (all_stays names items)) refl
-  where
-    ended_or : (stay : Stay) (t : IsTold names items eid stay) (b : Bool) → b ≡ stay_lasts m stay → b ≡ is_some (exact (lasting m items) eid)
-    ended_or stay t true is = ap is_some (sym (lasting-some m eid items t.item ascending t.found (told-lasts m names items eid stay t true within is)))
-    ended_or stay t false is = ap is_some (sym (lasting-ended m eid items t.item ascending t.found (told-lasts m names items eid stay t false within is)))
-
-    by : (o : Option Stay) → value_in eid (all_stays names items) ≡ o → some_lasts m o ≡ is_some (exact (lasting m items) eid)
-    by None is = ap is_some (sym (lasting-none m eid items (value-none names items eid ascending len is)))
-    by (Some stay) is = ended_or stay (value-some names items eid stay is) (stay_lasts m stay) refl

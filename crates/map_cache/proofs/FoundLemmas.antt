@@ -1,9 +1,6 @@
 -- What a trie tells of mappings in a list.
-use Rattle.std.proofs.Common.{◌≡◌, ℕ, zero, suc, ◌<◌, ◌==◌, true, List, [], ◌∷◌, length, get_or, slice_get, All, Contains, Option, Some, is_some, inl, inr, refl, sym, ap, ◌∙◌, arith, eq-eqb}
-use Rattle.std.proofs.lemmas.Bool.{cases_Bool}
+use Rattle.std.proofs.Common.{◌≡◌, ℕ, zero, suc, ◌<◌, List, [], ◌∷◌, length, get_or, slice_get, All, Contains, Some, inl, inr, refl, sym, ap, ◌∙◌, arith}
 use Rattle.std.proofs.lemmas.List.Elements.{All-head, All-tail}
-use Rattle.std.proofs.lemmas.Option.{same_Some}
-use Rattle.named_list.specs.Named.{item_named}
 use Rattle.mapping_records.specs.declared.eid.Eid.{Eid}
 use Rattle.map_cache.specs.Indexed.{all_stays, stay_of}
 use Rattle.map_cache.specs.declared.stay.Stay.{Stay}
@@ -32,16 +29,6 @@ stay-index (name ∷ names) (x ∷ items) (suc k) pair within is =
 pub stay-at : (names : List ℕ) (items : List Mapping) (pair : Eid × Stay) → Contains (all_stays names items) pair → StayAt names items pair
 stay-at names items pair there = stay-index names items there.0 pair there.1 there.2
 
--- what stands where a name does is named
-pub named-at : (names : List ℕ) (items : List Mapping) (index name : ℕ) (x : Mapping) → slice_get names index ≡ Some name → slice_get items index ≡ Some x → is_some (item_named names items name) ≡ true
-named-at [] items index name x named there = absurd (cc named)
-named-at (first ∷ names) [] index name x named there = absurd (cc there)
-named-at (first ∷ names) (y ∷ items) zero name x named there = rw (eq-eqb first name (same_Some first name named)) refl
-named-at (first ∷ names) (y ∷ items) (suc index) name x named there = elim (cases_Bool (first == name)) [
-  | inl here ↦ rw here refl
-  | inr later ↦ rw later (named-at names items index name x named there)
-]
-
 -- what holds of all that is told holds of what is told of each mapping
 pub stay-each : (P : Eid × Stay → Type 0) (names : List ℕ) (items : List Mapping) (x : Mapping) → length names ≡ length items → All P (all_stays names items) → Among x items → (name : ℕ) × P (stay_of name x)
 stay-each P names [] x len all among = absurd among
@@ -50,7 +37,3 @@ stay-each P (name ∷ names) (y ∷ items) x len all among = elim among [
   | inl same ↦ (name, rw (← same) (All-head P (stay_of name y) (all_stays names items) all))
   | inr later ↦ stay-each P names items x (omega (arith, len)) (All-tail P (stay_of name y) (all_stays names items) all) later
 ]
-
--- what stands at a place, and what else is said of it
-pub at-place : {A : Type 0} (items : List A) (index : ℕ) (x y : A) (o : Option A) → slice_get items index ≡ Some x → slice_get items index ≡ Some y → o ≡ Some y → Some x ≡ o
-at-place items index x y o first second third = sym first ∙ second ∙ sym third

@@ -1,8 +1,6 @@
 -- A cache with a place for a mapping isn't over its limit with it.
-use Rattle.std.proofs.Common.{◌≡◌, ◌≤◌, ◌+◌, ◌<◌, ◌&&◌, ◌||◌, ◌==◌, ℕ, suc, true, false, Bool, cond, List, [], ◌∷◌, length, filter, is_some, nat_lt, not, take, slice_get, Some, ◌∙◌, refl, ap, arith}
+use Rattle.std.proofs.Common.{◌≡◌, ◌≤◌, ◌+◌, ◌<◌, ◌&&◌, ◌||◌, ◌==◌, ℕ, suc, true, false, Bool, cond, List, [], ◌∷◌, length, filter, is_some, nat_lt, not, refl, ap, arith}
 use Rattle.std.proofs.lemmas.Bool.{ltb-true}
-use Rattle.std.proofs.lemmas.List.Filters.{length-filter_more}
-use Rattle.std.proofs.lemmas.Option.{get_or_from_slice_get, slice_get_within}
 use Rattle.std.proofs.lemmas.List.Sums.{count_by-le-length, length-filter}
 use Rattle.std.specs.Ordering.{is_lt}
 use Rattle.std.specs.declared.cmp.Ordering.{Ordering}
@@ -57,8 +55,3 @@ learned-put m mapping fixed items stays =
     by true z put h = refl
     by false true put h = absurd (cc h)
     by false false put h = refl
-
--- one more of a list, of which so many pass a test
-pub count-next : (test : Mapping → Bool) (items : List Mapping) (i : ℕ) (x : Mapping) → slice_get items i ≡ Some x → length (filter test (take (i + 1) items)) ≡ length (filter test (take i items)) + cond (test x) 1 0
-count-next test items i x is =
-    length-filter_more test items i x (slice_get_within items i x is) ∙ ap (λ y. length (filter test (take i items)) + cond (test y) 1 0) (get_or_from_slice_get items i x x is)

@@ -14,9 +14,9 @@ pub mod FullLemmas
 pub mod IndexedLemmas
 pub mod LastingLemmas
 pub mod NamedLemmas
-pub mod NamingLemmas
 pub mod PlaceLemmas
 pub mod PlaceOfLemmas
 pub mod RoomLemmas
 pub mod StayLemmas
 pub mod ToldLemmas
+pub mod FiledLemmas

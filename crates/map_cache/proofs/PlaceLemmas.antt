@@ -1,5 +1,5 @@
 -- Where an item is put in order, and how many mappings are left once one is taken away.
-use Rattle.std.proofs.Common.{◌≡◌, ◌≤◌, suc, ◌+◌, ◌&&◌, Bool, true, false, cond, not, List, [], ◌∷◌, length, filter, insert, Some, is_some, Ordering, is_lt, refl, ap, ap₂, ◌∙◌, arith}
+use Rattle.std.proofs.Common.{◌≡◌, ◌≤◌, suc, ◌+◌, Bool, true, false, cond, not, List, [], ◌∷◌, length, filter, insert, None, Some, is_some, Ordering, is_lt, refl, ap, ap₂, ◌∙◌, arith}
 use Rattle.std.specs.List.{position_or_len}
 use Rattle.mapping_records.specs.Eids.{same_eid}
 use Rattle.mapping_records.specs.Orders.{put_in_order}
@@ -27,15 +27,6 @@ length-without_eid eid (x ∷ others) = by (same_eid x.eid eid) (length-without_
     by true h = omega (arith, h)
     by false h = omega (arith, h)
 
--- those that pass both of two tests
-pub filter_twice : {A : Type 0} (p q : A → Bool) (items : List A) → filter q (filter p items) ≡ filter (λ item. p item && q item) items
-filter_twice p q [] = refl
-filter_twice {A} p q (x ∷ items) = by (p x) (filter_twice p q items)
-  where
-    by : (b : Bool) → filter q (filter p items) ≡ filter (λ item. p item && q item) items → filter q (cond b (x ∷ filter p items) (filter p items)) ≡ cond (b && q x) (x ∷ filter (λ item. p item && q item) items) (filter (λ item. p item && q item) items)
-    by true h = ap (λ l. cond (q x) (x ∷ l) l) h
-    by false h = h
-
 -- what is left goes once
 pub filter_again : {A : Type 0} (p : A → Bool) (items : List A) → filter p (filter p items) ≡ filter p items
 filter_again p [] = refl
@@ -44,3 +35,21 @@ filter_again {A} p (x ∷ items) = by (p x) refl (filter_again p items)
     by : (b : Bool) → p x ≡ b → filter p (filter p items) ≡ filter p items → filter p (cond b (x ∷ filter p items) (filter p items)) ≡ cond b (x ∷ filter p items) (filter p items)
     by true is h = ap₂ (λ c l. cond c (x ∷ l) l) is h
     by false is h = h
+
+-- of an EID whose mapping went there is none
+pub none-left : (eid : Eid) (mappings : List Mapping) → exact (without_eid eid mappings) eid ≡ None
+none-left eid [] = refl
+none-left eid (x ∷ others) = by (same_eid x.eid eid) refl (none-left eid others)
+  where
+    by : (b : Bool) → same_eid x.eid eid ≡ b → exact (without_eid eid others) eid ≡ None → exact (cond (not b) (x ∷ without_eid eid others) (without_eid eid others)) eid ≡ None
+    by true is h = h
+    by false is h = ap (λ b. cond b (Some x) (exact (without_eid eid others) eid)) is ∙ h
+
+-- where there is none, none goes
+pub without-none : (eid : Eid) (mappings : List Mapping) → exact mappings eid ≡ None → without_eid eid mappings ≡ mappings
+without-none eid [] none = refl
+without-none eid (x ∷ others) none = by (same_eid x.eid eid) none (without-none eid others)
+  where
+    by : (b : Bool) → cond b (Some x) (exact others eid) ≡ None → (exact others eid ≡ None → without_eid eid others ≡ others) → cond (not b) (x ∷ without_eid eid others) (without_eid eid others) ≡ x ∷ others
+    by true none h = absurd (cc none)
+    by false none h = ap (λ l. x ∷ l) (h none)

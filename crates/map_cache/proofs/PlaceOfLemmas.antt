@@ -1,5 +1,5 @@
 -- Where the mapping of an EID is, and where it would go.
-use Rattle.std.proofs.Common.{◌≡◌, ℕ, zero, suc, ◌-◌, ◌<◌, ◌≤◌, Bool, true, false, cond, not, List, [], ◌∷◌, length, take, drop, All, IsFalse, Option, Some, None, IfSome, is_some, remove, slice_get, Ordering, Less, Equal, Greater, is_lt, is_eq, refl, sym, ap, subst, ◌∙◌, arith, inl, inr, true≢false, ◌⊎◌}
+use Rattle.std.proofs.Common.{◌≡◌, ℕ, zero, suc, ◌-◌, ◌<◌, ◌≤◌, Bool, true, false, cond, if◌then◌else◌, not, List, [], ◌∷◌, length, take, drop, All, IsFalse, Option, Some, None, IfSome, is_some, slice_get, Ordering, Less, Equal, Greater, is_lt, is_eq, refl, sym, ap, subst, ◌∙◌, arith, inl, inr, true≢false, ◌⊎◌}
 use Rattle.std.specs.Ordering.{ordering_reverse}
 use Rattle.std.proofs.lemmas.Cmp.{tied_itself}
 use Rattle.std.proofs.lemmas.List.Elements.{All-cons, All-head, All-nil}
@@ -142,11 +142,6 @@ some-there eid [] n there = elim there [ ]
 some-there eid (x ∷ items) zero there = refl
 some-there eid (x ∷ items) (suc n) there = some-there eid items n there.1
 
-pub within-there : (eid : Eid) (items : List Mapping) (n : ℕ) → IsThere eid items n → n < length items
-within-there eid [] n there = elim there [ ]
-within-there eid (x ∷ items) zero there = omega arith
-within-there eid (x ∷ items) (suc n) there = let rest = within-there eid items n there.1 in omega (arith, rest)
-
 -- a mapping is there, and is that of the EID
 abbrev at_eid : Eid → Option Mapping → Bool
 at_eid eid None = false
@@ -160,26 +155,7 @@ at_eid-there eid (x ∷ items) (suc n) there = at_eid-there eid items n there.1
 pub same-there : (eid : Eid) (items : List Mapping) (n : ℕ) (x : Mapping) → IsThere eid items n → slice_get items n ≡ Some x → same_eid x.eid eid ≡ true
 same-there eid items n x there is = ap (at_eid eid) (sym is) ∙ at_eid-there eid items n there
 
-at_eid-absent : (eid : Eid) (items : List Mapping) (n : ℕ) → IsAbsent eid items n → at_eid eid (slice_get items n) ≡ false
-at_eid-absent eid [] n absent = refl
-at_eid-absent eid (x ∷ items) zero absent = greater-apart eid x absent.0
-at_eid-absent eid (x ∷ items) (suc n) absent = at_eid-absent eid items n absent.1
-
 module _ (eid : Eid) (items : List Mapping) (n : ℕ) (ascending : IsAscending items) (place : IsPlace eid items n) where
-  -- the mapping at the place is that of the EID where there is one
-  at-exact : at_eid eid (slice_get items n) ≡ is_some (exact items eid)
-  at-exact = elim (there_or_absent eid items n ascending place) [
-    | inl there ↦
-        at_eid-there eid items n there ∙ sym (ap is_some (sym (exact-there eid items n there)) ∙ some-there eid items n there)
-    | inr absent ↦ at_eid-absent eid items n absent ∙ sym (ap is_some (exact-absent eid items n absent))
-  ]
-
-  pub found-none : None ≡ slice_get items n → false ≡ is_some (exact items eid)
-  found-none is = ap (at_eid eid) is ∙ at-exact
-
-  pub found-some : (x : Mapping) → Some x ≡ slice_get items n → same_eid x.eid eid ≡ is_some (exact items eid)
-  found-some x is = ap (at_eid eid) is ∙ at-exact
-
   pub there-if : is_some (exact items eid) ≡ true → IsThere eid items n
   there-if is = elim (there_or_absent eid items n ascending place) [
     | inl there ↦ there
@@ -203,33 +179,55 @@ there-itself (y ∷ items) zero x ascending at =
 there-itself (y ∷ items) (suc n) x ascending at =
     (below-among y.eid items x ascending.0 (among-place items n x at), there-itself items n x ascending.1 at)
 
--- none of its EID is left, and one would go there
-pub absent-left : (eid : Eid) (items : List Mapping) (n : ℕ) → IsThere eid items n → IsAbsent eid (remove items n) n
-absent-left eid [] n there = elim there [ ]
-absent-left eid (x ∷ []) zero there = tt
-absent-left eid (x ∷ y ∷ items) zero there = there.1
-absent-left eid (x ∷ items) (suc n) there = (there.0, absent-left eid items n there.1)
+-- ### the place of an EID
 
-below-behind : (eid : Eid) (items : List Mapping) → IsBelow eid items → All (λ mapping. IsFalse (is_lt (eid_order mapping.eid eid))) items
-below-behind eid [] below = All-nil (λ (mapping : Mapping). IsFalse (is_lt (eid_order mapping.eid eid)))
-below-behind eid (x ∷ items) below =
-    All-cons (λ (mapping : Mapping). IsFalse (is_lt (eid_order mapping.eid eid))) x items (ap is_lt (eid_order-total.antisymm x.eid eid ∙ ap ordering_reverse below.0)) (below-behind eid items below.1)
+-- those of lesser EIDs are so many
+abbrev pub place_in : Eid → List Mapping → ℕ
+place_in eid [] = 0
+place_in eid (x ∷ items) = if is_lt (eid_order x.eid eid) then suc (place_in eid items) else 0
 
-pub place-absent : (eid : Eid) (items : List Mapping) (n : ℕ) → IsAbsent eid items n → IsPlace eid items n
-place-absent eid [] zero absent = record {
-  within = omega arith;
-  before = tt;
-  behind = All-nil (λ (mapping : Mapping). IsFalse (is_lt (eid_order mapping.eid eid)));
-}
-place-absent eid [] (suc n) absent = elim absent [ ]
-place-absent eid (x ∷ items) zero absent = record {
-  within = omega arith;
-  before = tt;
-  behind = below-behind eid (x ∷ items) absent;
-}
-place-absent eid (x ∷ items) (suc n) absent =
-    let rest = place-absent eid items n absent.1 in record {
-      within = omega (arith, rest.within);
-      before = (absent.0, rest.before);
-      behind = rest.behind;
-    }
+place-within : (eid : Eid) (items : List Mapping) → place_in eid items ≤ length items
+place-within eid [] = omega arith
+place-within eid (x ∷ items) = by (is_lt (eid_order x.eid eid)) (place-within eid items)
+  where
+    by : (b : Bool) → place_in eid items ≤ length items → cond b (suc (place_in eid items)) 0 ≤ length (x ∷ items)
+    by true rest = omega (arith, rest)
+    by false rest = omega arith
+
+-- the one before a place is below the EID
+abbrev IsLastBelow : Eid → List Mapping → ℕ → Type 0
+IsLastBelow eid items n = 0 < n → IfSome (slice_get items (n - 1)) (λ mapping. is_lt (eid_order mapping.eid eid) ≡ true)
+
+place-before : (eid : Eid) (items : List Mapping) → IsLastBelow eid items (place_in eid items)
+place-before eid [] some = absurd (omega (arith, some))
+place-before eid (x ∷ items) some = by (is_lt (eid_order x.eid eid)) refl (place-before eid items) some
+  where
+    from : (n : ℕ) → IsLastBelow eid items n → is_lt (eid_order x.eid eid) ≡ true → IfSome (slice_get (x ∷ items) n) (λ mapping. is_lt (eid_order mapping.eid eid) ≡ true)
+    from zero rest is = is
+    from (suc n) rest is =
+        let back : suc n - 1 ≡ n = omega arith in
+        subst (λ (k : ℕ). IfSome (slice_get items k) (λ mapping. is_lt (eid_order mapping.eid eid) ≡ true)) back (rest (omega arith))
+
+    by : (b : Bool) → is_lt (eid_order x.eid eid) ≡ b → IsLastBelow eid items (place_in eid items) → IsLastBelow eid (x ∷ items) (cond b (suc (place_in eid items)) 0)
+    by true is rest some =
+        let back : place_in eid items ≡ suc (place_in eid items) - 1 = omega arith in
+        subst (λ (k : ℕ). IfSome (slice_get (x ∷ items) k) (λ mapping. is_lt (eid_order mapping.eid eid) ≡ true)) back (from (place_in eid items) rest is)
+    by false is rest some = absurd (omega (arith, some))
+
+place-behind : (eid : Eid) (items : List Mapping) → IfSome (slice_get items (place_in eid items)) (λ mapping. is_lt (eid_order mapping.eid eid) ≡ false)
+place-behind eid [] = tt
+place-behind eid (x ∷ items) = by (is_lt (eid_order x.eid eid)) refl (place-behind eid items)
+  where
+    by : (b : Bool) → is_lt (eid_order x.eid eid) ≡ b → IfSome (slice_get items (place_in eid items)) (λ mapping. is_lt (eid_order mapping.eid eid) ≡ false) → IfSome (slice_get (x ∷ items) (cond b (suc (place_in eid items)) 0)) (λ mapping. is_lt (eid_order mapping.eid eid) ≡ false)
+    by true is rest = rest
+    by false is rest = is
+
+pub is-place : (eid : Eid) (items : List Mapping) → IsAscending items → IsPlace eid items (place_in eid items)
+is-place eid items ascending =
+    is_place eid items (place_in eid items) ascending (place-within eid items) (place-before eid items) (place-behind eid items)
+
+-- a mapping that is found is at that place
+pub exact-at : (eid : Eid) (items : List Mapping) (x : Mapping) → IsAscending items → exact items eid ≡ Some x → (slice_get items (place_in eid items) ≡ Some x) × IsThere eid items (place_in eid items)
+exact-at eid items x ascending found =
+    let there = there-if eid items (place_in eid items) ascending (is-place eid items ascending) (ap is_some found) in
+    (exact-there eid items (place_in eid items) there ∙ found, there)

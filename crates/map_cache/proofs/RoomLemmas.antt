@@ -1,5 +1,5 @@
 -- How many keys find mappings: no more than there are mappings.
-use Rattle.std.proofs.Common.{◌≡◌, ℕ, suc, ◌*◌, ◌≤◌, ◌&&◌, ◌||◌, Bool, true, false, cond, not, List, [], ◌∷◌, length, map, Ordering, Less, is_eq, Result, Ok, Err, OnOk, OnErr, max, refl, sym, ap, ap₂, ◌∙◌, arith, true≢false}
+use Rattle.std.proofs.Common.{◌≡◌, ℕ, suc, ◌*◌, ◌≤◌, ◌&&◌, ◌||◌, Bool, true, false, not, List, [], ◌∷◌, length, map, Ordering, Less, is_eq, Result, Ok, Err, OnOk, OnErr, max, refl, sym, ap, ap₂, ◌∙◌, arith, true≢false}
 use Rattle.std.specs.Cmp.{IsTotalOrder}
 use Rattle.std.specs.List.{list_any, sum_by}
 use Rattle.std.specs.List.Sorted.{IsStrictlySortedBy}
@@ -11,12 +11,9 @@ use Rattle.std.proofs.lemmas.List.Elements.{recursion_from_All}
 use Rattle.std.proofs.lemmas.List.Sums.{sum_by-cons}
 use Rattle.std.proofs.lemmas.Map.Keys.{IsDistinct-from_sorted}
 use Rattle.std.proofs.lemmas.Map.Made.{length-le_from_is_member}
-use Rattle.mapping_records.specs.declared.eid.Eid.{Eid}
-use Rattle.named_list.specs.Named.{Named}
 use Rattle.ordered_set.specs.Keys.{has, Ascends}
-use Rattle.map_cache.specs.Indexed.{all_stays, ending_order, ending_order-total, ends_as, Counted, IsIndexed}
+use Rattle.map_cache.specs.Indexed.{ending_order, ending_order-total, ends_as, Counted, IsIndexed}
 use Rattle.map_cache.specs.Lists.{AllFew}
-use Rattle.map_cache.specs.declared.stay.Stay.{Stay}
 use Rattle.map_cache.specs.declared.keys.Ending.{Ending}
 use Rattle.map_cache.specs.declared.mapping.Mapping.{Mapping}
 use Rattle.map_cache.proofs.EidLemmas.{is_eq-eid, is_eq-nat, is_eq-then}
@@ -66,18 +63,10 @@ ends-among key (x ∷ items) is = either_way (ends_as key x) (list_any (ends_as 
         ∙ right_of (not x.fixed) _ passes
 
 -- there are no more ends than mappings
-pub endings-few : (list : Named Mapping) (pairs : List (Eid × Stay)) (endings : List Ending) (counts : Counted) → IsIndexed list pairs endings counts → Ascends ending_order endings → length endings ≤ length list.items
-endings-few list pairs endings counts is ascends =
-    let few = at_most ending_order ending_order-total endings (map ending_of list.items) ascends (λ key among. ends-among key list.items (sym (is.ends key) ∙ among)) in
-    omega (arith, few, length-map list.items ending_of)
-
--- ### by EID
-
--- there are no more pairs than mappings
-pub stay-few : (names : List ℕ) (items : List Mapping) → length (all_stays names items) ≤ length items
-stay-few [] items = omega arith
-stay-few (name ∷ names) [] = omega arith
-stay-few (name ∷ names) (x ∷ items) = let rest = stay-few names items in omega (arith, rest)
+pub endings-few : (mappings : List Mapping) (endings : List Ending) (counts : Counted) → IsIndexed mappings endings counts → Ascends ending_order endings → length endings ≤ length mappings
+endings-few mappings endings counts is ascends =
+    let few = at_most ending_order ending_order-total endings (map ending_of mappings) ascends (λ key among. ends-among key mappings (sym (is.ends key) ∙ among)) in
+    omega (arith, few, length-map mappings ending_of)
 
 -- ### all locators
 
@@ -94,7 +83,3 @@ locators-few (x ∷ items) few =
 pub room-after : {T E : Type 0} (result : Result T E) (old new n : ℕ) → OnOk result (new ≡ max old n) → OnErr result (new ≡ old) → new ≤ max old n
 room-after (Ok done) old new n ok err = omega (arith, ok)
 room-after (Err fault) old new n ok err = omega (arith, err)
-
-pub one-at-most : (b : Bool) → cond {A = ℕ} b 1 0 ≤ 1
-one-at-most true = omega arith
-one-at-most false = omega arith

@@ -55,3 +55,11 @@ value-absent eid (name ∷ names) [] n absent = refl
 value-absent eid (name ∷ names) (x ∷ items) zero absent = rw (not-back eid x.eid absent.0, ap is_lt absent.0) refl
 value-absent eid (name ∷ names) (x ∷ items) (suc n) absent =
     rw (ap is_lt absent.0) (value-absent eid names items n absent.1)
+
+-- and nothing goes of it
+pub without-absent-pair : (eid : Eid) (names : List ℕ) (items : List Mapping) (n : ℕ) → IsAbsent eid items n → without_pair eid (all_stays names items) ≡ all_stays names items
+without-absent-pair eid [] items n absent = refl
+without-absent-pair eid (name ∷ names) [] n absent = refl
+without-absent-pair eid (name ∷ names) (x ∷ items) zero absent = rw (not-back eid x.eid absent.0, ap is_lt absent.0) refl
+without-absent-pair eid (name ∷ names) (x ∷ items) (suc n) absent =
+    rw (ap is_lt absent.0) (ap (λ l. stay_of name x ∷ l) (without-absent-pair eid names items n absent.1))

@@ -4,14 +4,11 @@ use Rattle.std.specs.List.{list_any}
 use Rattle.std.proofs.lemmas.Option.{same_Some}
 use Rattle.mapping_records.specs.Eids.{same_eid}
 use Rattle.mapping_records.specs.declared.eid.Eid.{Eid}
-use Rattle.named_list.specs.Named.{Named}
 use Rattle.map_cache.specs.Cache.{bits_told, learned_in, told_mapping, with_bits}
 use Rattle.map_cache.specs.Indexed.{all_stays, ends_as, stay_of, Counted, IsIndexed}
 use Rattle.map_cache.specs.Lists.{IsBelow}
-use Rattle.map_cache.specs.declared.stay.Stay.{Stay}
 use Rattle.map_cache.specs.declared.keys.Ending.{Ending}
 use Rattle.map_cache.specs.declared.mapping.Mapping.{Mapping}
-use Rattle.map_cache.proofs.AscendingLemmas.{IsAscending-told}
 use Rattle.map_cache.proofs.CountLemmas.{for_each-same, learned_in-told}
 use Rattle.map_cache.proofs.PlaceOfLemmas.{greater-apart, lesser-apart, there-same, IsAbsent, IsThere}
 
@@ -47,7 +44,7 @@ module _ (eid : Eid) (bits width : ℕ) where
       by true = refl
       by false = refl
 
-  all_stays-told : (names : List ℕ) (items : List Mapping) → all_stays names (bits_told eid bits width items) ≡ all_stays names items
+  pub all_stays-told : (names : List ℕ) (items : List Mapping) → all_stays names (bits_told eid bits width items) ≡ all_stays names items
   all_stays-told [] items = refl
   all_stays-told (name ∷ names) [] = refl
   all_stays-told (name ∷ names) (x ∷ items) = ap₂ (λ h l. h ∷ l) (told-stay name x) (all_stays-told names items)
@@ -60,13 +57,11 @@ module _ (eid : Eid) (bits width : ℕ) where
       by true = same x
       by false = refl
 
-  -- what is told leaves what finds the mappings
-  pub indexed-told : (list : Named Mapping) (pairs : List (Eid × Stay)) (endings : List Ending) (counts : Counted) (items : List Mapping) → items ≡ bits_told eid bits width list.items → IsIndexed list pairs endings counts → IsIndexed (record list { items = items }) pairs endings counts
-  indexed-told list pairs endings counts items told is = rw told (record {
-    ascending = IsAscending-told eid bits width list.items is.ascending;
-    stay = is.stay ∙ sym (all_stays-told list.names list.items);
-    ends = λ key. is.ends key ∙ sym (any-told (ends_as key) (λ x. refl) list.items);
+  -- what is told leaves the ends and the numbers
+  pub indexed-told : (mappings now : List Mapping) (endings : List Ending) (counts : Counted) → now ≡ bits_told eid bits width mappings → IsIndexed mappings endings counts → IsIndexed now endings counts
+  indexed-told mappings now endings counts told is = rw told (record {
+    ends = λ key. is.ends key ∙ sym (any-told (ends_as key) (λ x. refl) mappings);
     counted =
         is.counted
-        ∙ for_each-same (λ iid. learned_in iid list.items) (λ iid. learned_in iid (bits_told eid bits width list.items)) (λ iid. sym (learned_in-told eid bits width iid list.items)) counts.limits;
+        ∙ for_each-same (λ iid. learned_in iid mappings) (λ iid. learned_in iid (bits_told eid bits width mappings)) (λ iid. sym (learned_in-told eid bits width iid mappings)) counts.limits;
   })

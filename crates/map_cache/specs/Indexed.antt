@@ -1,5 +1,5 @@
 -- How a cache finds its mappings. No public clause cites this file.
-use Rattle.std.specs.Prelude.{◌≡◌, ◌+◌, ◌-◌, ◌^◌, ◌==◌, ◌&&◌, ◌||◌, ℕ, nat_lt, not, false, Bool, List, [], ◌∷◌, map, Option, None, Some, if◌then◌else◌}
+use Rattle.std.specs.Prelude.{◌≡◌, ◌+◌, ◌-◌, ◌^◌, ◌==◌, ◌&&◌, ◌||◌, ℕ, nat_lt, not, Bool, List, [], ◌∷◌, map, if◌then◌else◌}
 use Rattle.std.specs.List.{list_any}
 use Rattle.std.specs.Cmp.{IsTotalOrder}
 use Rattle.std.proofs.lemmas.Cmp.{nat_cmp_total, on_total, then_total}
@@ -10,10 +10,8 @@ use Rattle.lisp_settings.specs.declared.settings.LimitItem.{LimitItem}
 use Rattle.mapping_records.specs.Eids.{same_eid}
 use Rattle.mapping_records.specs.Orders.{eid_order}
 use Rattle.mapping_records.specs.declared.eid.Eid.{Eid}
-use Rattle.named_list.specs.Named.{Named}
 use Rattle.ordered_set.specs.Keys.{has}
 use Rattle.map_cache.specs.Cache.{learned_in}
-use Rattle.map_cache.specs.Lists.{IsAscending}
 use Rattle.map_cache.specs.declared.stay.Stay.{Stay}
 use Rattle.map_cache.specs.declared.keys.Ending.{Ending}
 use Rattle.map_cache.specs.declared.mapping.Mapping.{Mapping}
@@ -45,11 +43,6 @@ all_stays (name ∷ names) (mapping ∷ mappings) = stay_of name mapping ∷ all
 -- a mapping of which this is told hasn't ended
 abbrev pub stay_lasts : ℕ → Stay → Bool
 stay_lasts now stay = stay.endless || nat_lt now stay.end
-
--- a mapping is told of, and hasn't ended
-abbrev pub some_lasts : ℕ → Option Stay → Bool
-some_lasts now None = false
-some_lasts now (Some stay) = stay_lasts now stay
 
 -- ### by end
 
@@ -89,12 +82,10 @@ pub record Counted : Type 0 where
 
 -- ### all of it
 
--- the mappings are in order of EID, the trie tells of each of them, the keys are theirs, and they are counted
-pub record IsIndexed (mappings : Named Mapping) (pairs : List (Eid × Stay)) (endings : List Ending) (counts : Counted) : Type 0 where
-  pub ascending : IsAscending mappings.items
-  pub stay : pairs ≡ all_stays mappings.names mappings.items
-  pub ends : (key : Ending) → has ending_order key endings ≡ list_any (ends_as key) mappings.items
-  pub counted : counts.learned ≡ for_each (λ iid. learned_in iid mappings.items) counts.limits
+-- the keys are those of the mappings, and they are counted
+pub record IsIndexed (mappings : List Mapping) (endings : List Ending) (counts : Counted) : Type 0 where
+  pub ends : (key : Ending) → has ending_order key endings ≡ list_any (ends_as key) mappings
+  pub counted : counts.learned ≡ for_each (λ iid. learned_in iid mappings) counts.limits
 
 -- what is seen of mappings that are found so: they, for how many more there is room, for how many some list has place, how
 -- many items the lists have, and the limits of instances

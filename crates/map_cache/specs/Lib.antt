@@ -1,4 +1,5 @@
 pub mod Cache
+pub mod Filed
 pub mod Indexed
 pub mod Limits
 pub mod Lists

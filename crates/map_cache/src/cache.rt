@@ -13,7 +13,7 @@ ghost use Rattle.map_cache.specs.declared.fault.LearnFault.TheVariants.{CacheFul
 use crate::indexed::Indexed;
 use crate::learning::fresh;
 use crate::searching::lasts;
-use crate::{LearnFault, Limits, MOST_MAPPINGS, Mapping, NoMemory, Reads};
+use crate::{Iter, LearnFault, Limits, MOST_MAPPINGS, Mapping, NoMemory, Reads};
 use ip_headers::Addr;
 use mapping_records::{Eid, Record};
 use std::alloc::Global;
@@ -88,19 +88,18 @@ impl MapCache {
         ensures tied { result + self.entry.now.spare ≤ self.entry.now.mapping_places }
         ensures kept { self.entry.now.kept
             ≤ 43 * self.entry.now.mapping_places
-            + 2 * self.entry.now.mapping_places / ring_names
+            + self.entry.now.mapping_places / ring_names
             + 2 * length self.entry.now.limits }
         ensures limits { AreLimits self.entry.now.limits }
     {
         self.indexed.len_kept()
     }
 
-    /// The mapping at a place of those that are kept, in order of EID.
-    pub fn mapping(&self, index: usize) -> &Mapping
-        requires { index < length self.now.mappings }
-        ensures { slice_get self.entry.now.mappings index ≡ Some result.now }
+    /// The mappings that are kept, in order of EID.
+    pub fn iter(&self) -> Iter<'_>
+        ensures { result ≡ self.entry.now.mappings }
     {
-        self.indexed.mapping(index)
+        self.indexed.iter()
     }
 
     /// Makes room for `n` further mappings, with those that there is room for already. Their locators
@@ -247,8 +246,8 @@ impl MapCache {
             return self.indexed.len() as u32;
         }
         let mut count = 0;
-        for index in 0..self.indexed.len() {
-            if lasts(m, self.indexed.mapping(index)) {
+        for mapping in self.indexed.iter() {
+            if lasts(m, mapping) {
                 count += 1;
             }
         }

@@ -39,8 +39,8 @@ impl Indexed {
         ensures { result + learned_in iid (lasting m self.now.mappings)
             ≡ learned_in iid self.now.mappings }
     {
-        // The length says that no key is there twice.
-        let _ = self.endings.len();
+        // The lengths say that no key is there twice, and that mappings are in order.
+        let _ = (self.endings.len(), self.by_eid.len());
         ended_in(m, iid, &self.endings)
     }
 
@@ -50,8 +50,8 @@ impl Indexed {
         ensures { result ≡ learned_in iid (lasting m self.now.mappings) }
     {
         let mut count = 0;
-        for index in 0..self.len() {
-            if lasts_in(m, iid, self.mapping(index)) {
+        for mapping in self.iter() {
+            if lasts_in(m, iid, mapping) {
                 count += 1;
             }
         }

@@ -1,4 +1,4 @@
-// Mappings, found by EID, by end and by locator.
+// Mappings, found by end and by locator.
 ghost use Rattle.std.specs.Prelude.{◌≡◌, ◌≤◌, ◌<◌, ◌+◌, ◌/◌, ◌^◌, false, length, Some, is_some, IfSome};
 ghost use Rattle.std.specs.Option.{option_copied};
 ghost use Rattle.prefix_table.specs.Limits.{most_nodes};
@@ -8,7 +8,6 @@ ghost use Rattle.map_cache.specs.Named.{least_named, named_above};
 use crate::indexed::Indexed;
 use crate::naming::lesser_of;
 use crate::searching::lasts;
-use crate::stay::stay_lasts;
 use crate::{Mapping, Reads};
 use ip_headers::Addr;
 use mapping_records::Eid;
@@ -22,13 +21,20 @@ impl Indexed {
             length (without_eid eid self.now.mappings) < length self.now.mappings) }
         ensures none { is_some result ≡ false → lasting m self.now.mappings ≡ self.now.mappings }
     {
-        // The set says that its keys are in order.
-        let _ = self.endings.len();
+        // The lengths say that keys and mappings are in order.
+        let _ = (self.endings.len(), self.by_eid.len());
         let ending = self.endings.get(0)?;
         if u128::from(m) < ending.end {
             return None;
         }
         Some(ending.eid)
+    }
+
+    /// There is a mapping of that EID.
+    pub(crate) fn has(&self, eid: &Eid) -> bool
+        ensures { result ≡ is_some (exact self.now.mappings eid.now) }
+    {
+        self.by_eid.has(eid)
     }
 
     /// The longest of the mappings that haven't ended at a moment and cover an EID.
@@ -38,15 +44,7 @@ impl Indexed {
         ensures counted { reads.old ≤ reads.new }
         ensures bound { reads.new ≤ reads.old + most_nodes }
     {
-        // The list says that each mapping has a name.
-        let _ = self.mappings.len();
-        match self
-            .by_eid
-            .longest_where(eid, |stay| stay_lasts(m, stay), reads)
-        {
-            None => None,
-            Some((_, stay)) => Some(self.mappings.named(stay.name)),
-        }
+        self.by_eid.in_force(m, eid, reads)
     }
 
     /// The mapping of just that EID, unless it has ended at a moment.
@@ -56,13 +54,7 @@ impl Indexed {
         ensures counted { reads.old ≤ reads.new }
         ensures bound { reads.new ≤ reads.old + most_nodes }
     {
-        // The list says that each mapping has a name.
-        let _ = self.mappings.len();
-        let stay = self.by_eid.get(eid, reads)?;
-        if !stay_lasts(m, stay) {
-            return None;
-        }
-        Some(self.mappings.named(stay.name))
+        self.by_eid.exact(m, eid, reads)
     }
 
     /// The least address above `after` that a mapping names which hasn't ended at a moment, and the
@@ -72,8 +64,7 @@ impl Indexed {
             (named_above (option_copied after.entry) (lasting m self.now.mappings)) }
     {
         let mut best = None;
-        for index in 0..self.len() {
-            let mapping = self.mapping(index);
+        for mapping in self.iter() {
             if lasts(m, mapping) {
                 best = lesser_of(
                     best,

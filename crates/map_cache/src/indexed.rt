@@ -1,33 +1,26 @@
 // Mappings in order of EID, and what finds them.
-ghost use Rattle.std.specs.Prelude.{◌≡◌, ◌≤◌, ◌<◌, ◌+◌, ◌*◌, ◌/◌, [], false, length, max, remove, slice_get, Some, is_some, IfOk, OnOk, IsOk};
+ghost use Rattle.std.specs.Prelude.{◌≡◌, ◌≤◌, ◌<◌, ◌+◌, ◌*◌, ◌/◌, [], false, length, max, is_some, IfOk, OnOk, IsOk};
 ghost use Rattle.mapping_records.specs.Orders.{eid_order, put_in_order};
 ghost use Rattle.lisp_settings.specs.Instances.{AreLimits};
 ghost use Rattle.named_list.specs.Rings.{ring_names};
 ghost use Rattle.map_cache.specs.Cache.{bits_told, exact, lasting, without_eid};
 ghost use Rattle.map_cache.specs.Limits.{most_mappings};
-ghost use Rattle.map_cache.specs.Lists.{AllFew, IsAscending, IsPlace};
+ghost use Rattle.map_cache.specs.Lists.{AllFew, IsAscending};
 
-use crate::bits::tell;
-use crate::copies::copied;
+use crate::by_eid::ByEid;
 use crate::counts::Counts;
 use crate::endings::{add_ending, drop_ending};
 use crate::keys::Ending;
-use crate::searching::{is_below, same_eid};
-use crate::stay::{Stay, stay_until};
-use crate::{Limits, Mapping, NoMemory};
+use crate::{Iter, Limits, Mapping, NoMemory};
 use mapping_records::Eid;
-use named_list::NamedList;
 use ordered_set::OrderedSet;
-use prefix_table::PrefixTable;
 use std::alloc::Global;
 use std::marker::Model;
 
 /// Mappings, each EID once, what finds them by EID and by end, and how many each instance has.
 #[derive(Drop)]
 pub(crate) struct Indexed {
-    // In order of EID.
-    pub(crate) mappings: NamedList<Mapping>,
-    pub(crate) by_eid: PrefixTable<Stay>,
+    pub(crate) by_eid: ByEid,
     // Of those that end.
     pub(crate) endings: OrderedSet<Ending>,
     // Of those that aren't fixed.
@@ -37,24 +30,22 @@ pub(crate) struct Indexed {
 }
 
 impl Model for Indexed {
-    ghost use Rattle.std.specs.Prelude.{◌+◌, length, max, min, sum_by};
+    ghost use Rattle.std.specs.Prelude.{◌+◌, length, max, min};
     ghost use Rattle.map_cache.specs.Indexed.{IsIndexed, Listed};
 
     ghost Value = { Listed };
 
     ghost view = { λ indexed. record {
-      mappings = indexed.mappings.items;
-      spare = min indexed.mappings.spare (min indexed.by_eid.spare indexed.endings.spare);
-      mapping_places = max (length indexed.mappings.items + indexed.mappings.spare)
-          (max (length indexed.mappings.items + indexed.by_eid.spare)
-          (length indexed.endings.keys + indexed.endings.spare));
-      kept = indexed.mappings.kept + (indexed.by_eid.kept + (indexed.endings.kept
-          + (sum_by (λ mapping. length mapping.details.locators) indexed.mappings.items
-          + (length indexed.counts.limits + length indexed.counts.learned))));
+      mappings = indexed.by_eid.mappings;
+      spare = min indexed.by_eid.spare indexed.endings.spare;
+      mapping_places = max (length indexed.by_eid.mappings + indexed.by_eid.room)
+          (length indexed.endings.keys + indexed.endings.spare);
+      kept = indexed.by_eid.kept + (indexed.endings.kept
+          + (length indexed.counts.limits + length indexed.counts.learned));
       limits = indexed.counts.limits;
     } };
 
-    ghost invariant = { λ indexed. IsIndexed indexed.mappings indexed.by_eid.pairs
+    ghost invariant = { λ indexed. IsIndexed indexed.by_eid.mappings
         indexed.endings.keys indexed.counts };
 }
 
@@ -68,8 +59,7 @@ impl Indexed {
     {
         let counts = Counts::new(alloc, limits)?;
         Ok(Indexed {
-            mappings: NamedList::new(alloc),
-            by_eid: PrefixTable::new(alloc),
+            by_eid: ByEid::new(alloc),
             endings: OrderedSet::new(alloc),
             counts,
             alloc,
@@ -81,12 +71,10 @@ impl Indexed {
         ensures { IfOk result (λ copy. copy ≡ self.now) }
     {
         let alloc = self.alloc;
-        let mappings = self.mappings.copy(|mapping| copied(alloc, mapping))?;
-        let by_eid = self.by_eid.copy(|stay| Ok(*stay))?;
+        let by_eid = self.by_eid.copy(alloc)?;
         let endings = self.endings.copy()?;
         let counts = self.counts.copy(alloc)?;
         Ok(Indexed {
-            mappings,
             by_eid,
             endings,
             counts,
@@ -109,7 +97,6 @@ impl Indexed {
     {
         // The length says that no key is there twice, so that they are few.
         let _ = self.endings.len();
-        self.mappings.reserve(n)?;
         self.by_eid.reserve(n)?;
         self.endings.reserve(n)
     }
@@ -119,7 +106,7 @@ impl Indexed {
         ensures len { result ≡ length self.now.mappings }
         ensures ascending { IsAscending self.now.mappings }
     {
-        self.mappings.len()
+        self.by_eid.len()
     }
 
     /// The number of mappings, of which each has at most 32 locators.
@@ -128,31 +115,20 @@ impl Indexed {
         ensures len { result ≡ length self.now.mappings }
         ensures tied { result + self.now.spare ≤ self.now.mapping_places }
         ensures kept { self.now.kept
-            ≤ 43 * self.now.mapping_places + 2 * self.now.mapping_places / ring_names
+            ≤ 43 * self.now.mapping_places + self.now.mapping_places / ring_names
             + 2 * length self.now.limits }
         ensures limits { AreLimits self.now.limits }
     {
         // The lengths say how much is kept.
-        let _ = (self.by_eid.len(), self.endings.len(), self.counts.len());
-        self.mappings.len()
+        let _ = (self.endings.len(), self.counts.len());
+        self.by_eid.len()
     }
 
-    /// The mapping at a place, in order of EID.
-    pub(crate) fn mapping(&self, index: usize) -> &Mapping
-        requires { index < length self.now.mappings }
-        ensures { slice_get self.now.mappings index ≡ Some result.now }
+    /// The mappings in order of EID.
+    pub(crate) fn iter(&self) -> Iter<'_>
+        ensures { result ≡ self.now.mappings }
     {
-        match self.mappings.get(index) {
-            Some(mapping) => mapping,
-            None => unreachable!(),
-        }
-    }
-
-    /// There is a mapping of that EID.
-    pub(crate) fn has(&self, eid: &Eid) -> bool
-        ensures { result ≡ is_some (exact self.now.mappings eid.now) }
-    {
-        is_at(place_of(eid, &self.mappings), eid, &self.mappings)
+        self.by_eid.iter()
     }
 
     /// Puts a mapping in place of that of its EID. Takes no memory.
@@ -165,18 +141,14 @@ impl Indexed {
         ensures mapping_places { self.new.mapping_places ≤ self.old.mapping_places }
         ensures limits { self.new.limits ≡ self.old.limits }
     {
-        let place = place_of(&mapping.eid, &self.mappings);
-        if is_at(place, &mapping.eid, &self.mappings) {
-            self.take(place);
-        }
-        self.enter(place, mapping);
+        self.drop_eid(&mapping.eid);
+        self.enter(mapping);
     }
 
-    // Puts in a mapping of an EID of which there is none, at its place.
-    fn enter(&mut self, place: usize, mapping: Mapping)
+    // Puts in a mapping of an EID of which there is none.
+    fn enter(&mut self, mapping: Mapping)
         requires few { length self.old.mappings ≤ most_mappings }
         requires spare { 0 < self.old.spare }
-        requires place { IsPlace mapping.eid self.old.mappings place }
         requires new { is_some (exact self.old.mappings mapping.eid) ≡ false }
         ensures mappings { self.new.mappings ≡ put_in_order (λ item. item.eid) eid_order mapping
             self.old.mappings }
@@ -184,31 +156,9 @@ impl Indexed {
         ensures mapping_places { self.new.mapping_places ≤ self.old.mapping_places }
         ensures limits { self.new.limits ≡ self.old.limits }
     {
-        // The length says that there are as many names as mappings.
-        let _ = self.mappings.len();
         self.counts.add(&mapping);
         add_ending(&mapping, &mut self.endings);
-        let (eid, fixed, end) = (mapping.eid, mapping.fixed, mapping.end);
-        let name = self.mappings.insert(place, mapping);
-        self.by_eid.insert(eid, stay_until(fixed, end, name));
-    }
-
-    // Takes the mapping at a place away.
-    fn take(&mut self, place: usize)
-        requires { place < length self.old.mappings }
-        ensures mappings { self.new.mappings ≡ remove self.old.mappings place }
-        ensures spare { self.old.spare ≤ self.new.spare }
-        ensures total { length self.new.mappings + self.new.spare
-            ≤ length self.old.mappings + self.old.spare }
-        ensures mapping_places { self.new.mapping_places ≤ self.old.mapping_places }
-        ensures limits { self.new.limits ≡ self.old.limits }
-    {
-        // The length says that there are as many names as mappings.
-        let _ = self.mappings.len();
-        let mapping = self.mappings.remove(place);
-        self.by_eid.remove(&mapping.eid);
-        self.counts.drop(&mapping);
-        drop_ending(&mapping, &mut self.endings);
+        self.by_eid.put(mapping);
     }
 
     /// Takes the mapping of that EID away. Takes no memory.
@@ -220,9 +170,11 @@ impl Indexed {
         ensures mapping_places { self.new.mapping_places ≤ self.old.mapping_places }
         ensures limits { self.new.limits ≡ self.old.limits }
     {
-        let place = place_of(eid, &self.mappings);
-        if is_at(place, eid, &self.mappings) {
-            self.take(place);
+        // The length says that mappings are in order.
+        let _ = self.by_eid.len();
+        if let Some(mapping) = self.by_eid.take(eid) {
+            self.counts.drop(&mapping);
+            drop_ending(&mapping, &mut self.endings);
         }
     }
 
@@ -245,35 +197,9 @@ impl Indexed {
         requires { width ≤ 32 }
         ensures mappings { self.new.mappings ≡ bits_told eid.now bits width self.old.mappings }
         ensures spare { self.new.spare ≡ self.old.spare }
-        ensures mapping_places { self.new.mapping_places ≤ self.old.mapping_places }
+        ensures mapping_places { self.new.mapping_places ≡ self.old.mapping_places }
         ensures limits { self.new.limits ≡ self.old.limits }
     {
-        let place = place_of(eid, &self.mappings);
-        if is_at(place, eid, &self.mappings) {
-            tell(bits, width, self.mappings.edit(place));
-        }
-    }
-}
-
-// Where the mapping of an EID is, or where it would go.
-fn place_of(eid: &Eid, mappings: &NamedList<Mapping>) -> usize
-    requires { IsAscending mappings.now.items }
-    ensures place { IsPlace eid.now mappings.now.items result }
-    ensures names { length mappings.now.names ≡ length mappings.now.items }
-{
-    // The length says that there are as many names as items.
-    let _ = mappings.len();
-    mappings.place(|mapping| is_below(&mapping.eid, eid))
-}
-
-// The mapping at that place is that of the EID.
-fn is_at(place: usize, eid: &Eid, mappings: &NamedList<Mapping>) -> bool
-    requires ascending { IsAscending mappings.now.items }
-    requires place { IsPlace eid.now mappings.now.items place }
-    ensures is { result ≡ is_some (exact mappings.now.items eid.now) }
-{
-    match mappings.get(place) {
-        None => false,
-        Some(mapping) => same_eid(&mapping.eid, eid),
+        self.by_eid.tell(eid, bits, width);
     }
 }

@@ -3,6 +3,7 @@
 #![tactic(auto)]
 
 mod bits;
+mod by_eid;
 mod cache;
 mod copies;
 mod counting;
@@ -11,6 +12,7 @@ mod endings;
 mod fault;
 mod finding;
 mod indexed;
+mod iter;
 mod keys;
 mod laws;
 mod learning;
@@ -23,6 +25,7 @@ pub use cache::MapCache;
 pub use copies::copied_record;
 pub use fault::LearnFault;
 pub use ip_headers::Addr;
+pub use iter::Iter;
 pub use laws::{no_lesser_address_is_named, no_lesser_eid_names_it};
 pub use lisp_settings::Limits;
 pub use mapping::Mapping;

@@ -201,3 +201,24 @@ module _ {K : Type 0} (order : K → K → Ordering) (total : IsTotalOrder order
   -- nor by the lack of one that wasn't
   pub has-still : (keys : List K) → has order key keys ≡ false → (other : K) → has order other keys ≡ (not (is_eq (order key other)) && has order other keys)
   has-still keys was other = has-still_if keys other (is_eq (order key other)) refl was
+
+-- ### the first place
+
+not-below : (r : Ordering) → is_eq r ≡ true → is_lt r ≡ false
+not-below Less e = absurd (true≢false (sym e))
+not-below Equal e = refl
+not-below Greater e = refl
+
+module _ {K : Type 0} (order : K → K → Ordering) (key : K) where
+  -- the first key is the key, so that it stands there
+  pub place-first : (keys : List K) → Ascends order keys → ties order key (slice_get keys 0) ≡ true → IsPlace order key keys 0
+  place-first keys ascends first = record {
+    ascends = ascends;
+    within = omega arith;
+    before = λ some. absurd (omega (arith, some));
+    behind = behind keys first;
+  }
+    where
+      behind : (keys : List K) → ties order key (slice_get keys 0) ≡ true → IfSome (slice_get keys 0) (λ other. is_lt (order other key) ≡ false)
+      behind [] first = tt
+      behind (k ∷ ks) first = not-below (order k key) first

@@ -2,7 +2,7 @@
 ghost use Rattle.std.specs.Prelude.{◌≡◌, ◌≤◌, ◌<◌, ◌+◌, ◌-◌, ◌*◌, ◌/◌, ◌^◌, ◌&&◌, ◌||◌, not, [], true, false, length, max, slice_get, IfOk, IfSome, IsOk, OnOk, OnErr, if◌then◌else◌};
 ghost use Rattle.std.specs.Fn.{FnReturnsAt};
 ghost use Rattle.std.specs.Option.{option_copied};
-ghost use Rattle.std.specs.Ordering.{is_eq};
+ghost use Rattle.std.specs.Ordering.{is_eq, is_lt};
 ghost use Rattle.named_list.specs.Rings.{ring_names};
 ghost use Rattle.ordered_set.specs.Keys.{Ascends, IsPlace, has, ties};
 
@@ -110,7 +110,7 @@ impl<K: Ordered> OrderedSet<K> {
         ensures spare { self.new.spare ≡ self.old.spare - (if result then 1 else 0) }
         ensures places { self.new.places ≡ self.old.places }
     {
-        let place = self.place_of(&key);
+        let place = self.place_to_put(&key);
         if self.is_at(place, &key) {
             return false;
         }
@@ -128,7 +128,7 @@ impl<K: Ordered> OrderedSet<K> {
         ensures spare { self.new.spare ≡ self.old.spare + (if result then 1 else 0) }
         ensures places { self.new.places ≡ self.old.places }
     {
-        let place = self.place_of(key);
+        let place = self.place_to_take(key);
         if !self.is_at(place, key) {
             return false;
         }
@@ -141,6 +141,41 @@ impl<K: Ordered> OrderedSet<K> {
         ensures { IsPlace K.order key.now self.now.keys result }
     {
         self.list.place(|other| other.compare(key).is_lt())
+    }
+
+    // The same, for a key that comes. It is mostly the greatest.
+    fn place_to_put(&self, key: &K) -> usize
+        ensures { IsPlace K.order key.now self.now.keys result }
+    {
+        let len = self.list.len();
+        if len > 0 && self.is_below(len - 1, key) {
+            return len;
+        }
+        self.place_of(key)
+    }
+
+    // The same, for a key that goes. It is mostly the least.
+    fn place_to_take(&self, key: &K) -> usize
+        ensures { IsPlace K.order key.now self.now.keys result }
+    {
+        // The set says that its keys ascend.
+        let _ = &self.list;
+        if self.is_at(0, key) {
+            return 0;
+        }
+        self.place_of(key)
+    }
+
+    // The key at that place is below another.
+    fn is_below(&self, place: usize, key: &K) -> bool
+        requires { place < length self.now.keys }
+        ensures { IfSome (slice_get self.now.keys place)
+            (λ other. result ≡ is_lt (K.order other key.now)) }
+    {
+        match self.list.get(place) {
+            None => false,
+            Some(other) => other.compare(key).is_lt(),
+        }
     }
 
     // The key stands at that place.

@@ -20,3 +20,4 @@ pub mod RootedLemmas
 pub mod FieldLemmas
 pub mod AscendLemmas
 pub mod NodesLemmas
+pub mod StackedLemmas

@@ -11,3 +11,4 @@ pub mod Shrunk
 pub mod Roots
 pub mod Table
 pub mod Under
+pub mod Stacked

@@ -6,6 +6,7 @@ ghost use Rattle.prefix_table.specs.Keys.{key_bits, key_len, key_width};
 ghost use Rattle.prefix_table.specs.Grown.{Puts, Takes};
 
 use crate::common::common;
+use crate::key::Key;
 use crate::node::Node;
 use crate::nodes::Nodes;
 use crate::place::{link_one, link_zero, set_value};
@@ -18,36 +19,39 @@ use node_store::Reads;
 pub(crate) fn put_below<V>(
     store: &mut Nodes<V>,
     at: Option<u32>,
-    eid: Eid,
+    eid: &Eid,
     value: V,
     least: u8,
 ) -> (u32, Option<V>)
-    requires { Takes store.old at least eid }
-    ensures { Puts store.old store.new at least eid value result.0 result.1 }
+    requires { Takes store.old at least eid.now }
+    ensures { Puts store.old store.new at least eid.now value result.0 result.1 }
 {
     let Some(at) = at else {
-        return (put_leaf(store, eid, value), None);
+        return (put_leaf(store, *eid, value), None);
     };
+    let sought = Key::of(eid);
     let mut reads = Reads::new();
     let (key, node) = store.read(at, &mut reads);
-    let key = *key;
+    let len = node.key.len;
     let zero = node.zero;
     let one = node.one;
-    if !key.covers(&eid) {
+    if !node.key.covers(&sought) {
+        // The node's EID lies apart, and is read here alone.
+        let key = *key;
         if eid.covers(&key) {
-            return (put_above(store, at, key, eid, value), None);
+            return (put_above(store, at, key, *eid, value), None);
         }
-        return (put_beside(store, at, key, eid, value, least), None);
+        return (put_beside(store, at, key, *eid, value, least), None);
     }
-    if key.prefix.len == eid.prefix.len {
+    if len == sought.len {
         return (at, set_value(store, at, value));
     }
-    if next_bit(eid.prefix.addr, key.prefix.len) {
-        let (name, was) = put_below(store, one, eid, value, key.prefix.len + 1);
+    if sought.next_bit(len) {
+        let (name, was) = put_below(store, one, eid, value, len + 1);
         link_one(store, at, Some(name));
         return (at, was);
     }
-    let (name, was) = put_below(store, zero, eid, value, key.prefix.len + 1);
+    let (name, was) = put_below(store, zero, eid, value, len + 1);
     link_zero(store, at, Some(name));
     (at, was)
 }

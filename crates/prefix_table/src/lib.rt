@@ -3,6 +3,7 @@
 
 mod common;
 mod insert;
+mod iter;
 mod key;
 mod limits;
 mod node;
@@ -12,8 +13,10 @@ mod removal;
 mod rooted;
 mod roots;
 mod search;
+mod stack;
 mod table;
 
+pub use iter::Iter;
 pub use limits::{MOST_NODES, MOST_PAIRS, limits_are};
 pub use node_store::{NoMemory, Reads};
 pub use table::PrefixTable;

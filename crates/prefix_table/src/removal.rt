@@ -3,9 +3,9 @@ ghost use Rattle.std.specs.Prelude.{◌≡◌, length, Some, is_some};
 ghost use Rattle.node_store.specs.Store.{node_at, IsLive};
 ghost use Rattle.prefix_table.specs.Shrunk.{Holds, Shrinks, StaysWhere, GoesWhere};
 
+use crate::key::Key;
 use crate::nodes::Nodes;
 use crate::place::{clear_value, drop_value, link_one, link_zero};
-use crate::search::next_bit;
 use mapping_records::Eid;
 use node_store::Reads;
 
@@ -14,35 +14,36 @@ use node_store::Reads;
 pub(crate) fn take_below<V>(
     store: &mut Nodes<V>,
     at: Option<u32>,
-    eid: Eid,
+    eid: &Eid,
     least: u8,
 ) -> (Option<u32>, Option<V>)
-    requires { Holds store.old at least eid }
-    ensures { Shrinks store.old store.new at least eid result.0 result.1 }
+    requires { Holds store.old at least eid.now }
+    ensures { Shrinks store.old store.new at least eid.now result.0 result.1 }
 {
     let Some(at) = at else {
         return (None, None);
     };
+    let sought = Key::of(eid);
     let mut reads = Reads::new();
-    let (key, node) = store.read(at, &mut reads);
-    let key = *key;
+    let (_, node) = store.read(at, &mut reads);
+    let len = node.key.len;
     let valued = node.value.is_some();
     let zero = node.zero;
     let one = node.one;
-    if !key.covers(&eid) {
+    if !node.key.covers(&sought) {
         return (Some(at), None);
     }
-    if key.prefix.len == eid.prefix.len {
+    if len == sought.len {
         if zero.is_some() && one.is_some() {
             return (Some(at), clear_value(store, at));
         }
         return (zero.or(one), drop_value(store, at));
     }
-    if next_bit(eid.prefix.addr, key.prefix.len) {
-        let (below, was) = take_below(store, one, eid, key.prefix.len + 1);
+    if sought.next_bit(len) {
+        let (below, was) = take_below(store, one, eid, len + 1);
         return (relink_one(store, at, valued, zero, below), was);
     }
-    let (below, was) = take_below(store, zero, eid, key.prefix.len + 1);
+    let (below, was) = take_below(store, zero, eid, len + 1);
     (relink_zero(store, at, valued, one, below), was)
 }
 

@@ -67,7 +67,7 @@ pub(crate) fn put_at<V>(
 {
     no_more_bits(eid.prefix.addr);
     let root = roots[at];
-    let (name, was) = put_below(store, Some(root.name), eid, value, 0);
+    let (name, was) = put_below(store, Some(root.name), &eid, value, 0);
     roots[at] = Root {
         key: root.key,
         name,
@@ -93,7 +93,7 @@ pub(crate) fn put_new<V>(
     ensures capacity { vec_capacity roots.new ≡ vec_capacity roots.old }
 {
     no_more_bits(eid.prefix.addr);
-    let (name, was) = put_below(store, None, eid, value, 0);
+    let (name, was) = put_below(store, None, &eid, value, 0);
     if roots.insert(at, Root { key, name }).is_err() {
         unreachable!();
     }
@@ -127,7 +127,7 @@ pub(crate) fn take_at<V>(
 {
     no_more_bits(eid.prefix.addr);
     let root = roots[at];
-    let (name, was) = take_below(store, Some(root.name), eid, 0);
+    let (name, was) = take_below(store, Some(root.name), &eid, 0);
     match name {
         Some(name) => {
             roots[at] = Root {

@@ -11,7 +11,7 @@ use crate::node::Root;
 use crate::nodes::Nodes;
 use crate::rooted::{put, take};
 use crate::roots::find_root;
-use crate::search;
+use crate::{Iter, search};
 use mapping_records::Eid;
 use node_store::{NoMemory, Reads, copied};
 use std::alloc::Global;
@@ -153,6 +153,13 @@ impl<V> PrefixTable<V> {
             self.len -= 1;
         }
         was
+    }
+
+    /// The pairs, in ascending order of the EIDs.
+    pub fn iter(&self) -> Iter<'_, V>
+        ensures { result ≡ self.now.pairs }
+    {
+        Iter::new(&self.store, &self.roots)
     }
 
     /// The number of pairs.

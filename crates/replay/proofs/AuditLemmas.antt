@@ -1,5 +1,5 @@
 -- What an audit reads of its two captures, and what it finds.
-use Rattle.std.proofs.Common.{◌≡◌, ◌≢◌, ℕ, Bool, true, false, eqb, List, [], ◌∷◌, ◌++◌, drop, Option, Some, None, Result, Ok, Err, refl, sym, ap, subst, ◌∙◌, inl, inr, arith, if◌then◌else◌}
+use Rattle.std.proofs.Common.{◌≡◌, ◌≢◌, ℕ, true, false, eqb, List, [], ◌∷◌, ◌++◌, drop, Option, Some, None, Result, Ok, Err, refl, sym, ap, subst, ◌∙◌, inl, inr, arith, if◌then◌else◌}
 use Rattle.std.specs.Option.{option_map, unwrap_or, IfSome, IsSomeAnd}
 use Rattle.std.specs.Result.{IfOk}
 use Rattle.std.proofs.lemmas.Bool.{cases_Bool}
@@ -15,7 +15,7 @@ use Rattle.capture_io.specs.Run.{Run}
 use Rattle.capture_io.specs.declared.fault.CaptureFault.{CaptureFault}
 use Rattle.command_words.specs.declared.nonce_source.NonceSource.TheVariants.{Settings as FromSettings, Sent as FromSent}
 use Rattle.command_words.specs.declared.intake.InputFormat.TheVariants.{Classic}
-use Rattle.desk.specs.World.{World, Direction, Shown, after_open, after_read, changed_at, content, found_at, left_of, shown, shown_of, to_read, IsGiven, IsThere}
+use Rattle.desk.specs.World.{World, Direction, after_open, after_read, changed_at, content, found_at, left_of, to_read, IsGiven, IsThere}
 use Rattle.lisp_settings.specs.Lawful.{IsLawful}
 use Rattle.lisp_settings.specs.declared.settings.Settings.{Settings}
 use Rattle.playback.proofs.DeterminedLemmas.{determined-played}

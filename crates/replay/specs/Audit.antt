@@ -1,5 +1,5 @@
 -- What an audit finds: what a router sent, held against the packets of the plain router.
-use Rattle.std.specs.Prelude.{◌≡◌, ℕ, Bool, false, List, ◌∷◌, codes, Option, Some, None, Result, Ok, Err, if◌then◌else◌}
+use Rattle.std.specs.Prelude.{◌≡◌, ℕ, Bool, false, List, codes, Option, Some, None, Result, Ok, Err, if◌then◌else◌}
 use Rattle.audit.specs.Compared.{compared}
 use Rattle.audit.specs.Lifted.{lifted}
 use Rattle.audit.specs.declared.outcome.Outcome.{Outcome as Comparison}

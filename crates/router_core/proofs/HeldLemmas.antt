@@ -1,5 +1,5 @@
 -- What is found among mappings is found among them as decisions see them.
-use Rattle.std.proofs.Common.{◌≡◌, ℕ, max, ◌==◌, ◌||◌, nat_le, nat_lt, Bool, true, false, cond, List, [], ◌∷◌, length, map, filter, find, fold, Option, Some, None, is_some, option_map, refl, sym, ap, ◌∙◌}
+use Rattle.std.proofs.Common.{◌≡◌, ℕ, max, nat_le, Bool, true, false, cond, List, [], ◌∷◌, map, filter, find, fold, Option, Some, None, is_some, option_map, refl, sym, ap, ◌∙◌}
 use Rattle.mapping_records.specs.Eids.{covers_prefix, longer, same_eid}
 use Rattle.mapping_records.specs.declared.eid.Eid.{Eid}
 use Rattle.map_cache.specs.Cache as cache

@@ -1,6 +1,6 @@
 -- The limits of instances among the mappings of a table.
-use Rattle.std.proofs.Common.{◌≡◌, ℕ, suc, max, ◌+◌, ◌≤◌, ◌<◌, ◌==◌, ◌||◌, ◌&&◌, not, nat_lt, Bool, true, false, cond, IsTrue, List, [], ◌∷◌, Option, Some, None, count_by, filter, find, length, map, is_lt, is_some, option_map, sum_by, refl, sym, ap, ap₂, subst, ◌∙◌, arith}
-use Rattle.std.proofs.lemmas.Bool.{eq-eqb, eqb-true}
+use Rattle.std.proofs.Common.{◌≡◌, ℕ, suc, max, ◌+◌, ◌≤◌, ◌==◌, ◌||◌, ◌&&◌, not, nat_lt, Bool, true, false, cond, IsTrue, List, [], ◌∷◌, Option, Some, None, count_by, filter, find, length, map, is_lt, is_some, option_map, refl, sym, ap, ap₂, subst, ◌∙◌, arith}
+use Rattle.std.proofs.lemmas.Bool.{eqb-true}
 use Rattle.std.proofs.lemmas.Bool.Decides.{nat_tests}
 use Rattle.std.proofs.lemmas.List.Sums.{count_by-le-length}
 use Rattle.std.proofs.lemmas.Option.{same_Some}
@@ -19,7 +19,6 @@ use Rattle.router_model.specs.Changes as model
 use Rattle.router_model.specs.Changes.{has_room, may_replace}
 use Rattle.router_model.specs.Mappings.{Held, exact}
 use Rattle.router_model.specs.Parts.{Parts, view_in}
-use Rattle.router_model.specs.View.{View}
 use Rattle.router_model.proofs.FewLemmas.{left-few}
 use Rattle.router_core.specs.Bounded.{KeepLimits}
 use Rattle.router_core.proofs.HeldLemmas.{exact-seen}

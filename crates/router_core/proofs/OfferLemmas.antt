@@ -1,5 +1,5 @@
 -- The first in order of the locators that are offered, a few at a time.
-use Rattle.std.proofs.Common.{◌≡◌, ◌<◌, ◌≤◌, ◌+◌, ◌-◌, ℕ, zero, suc, Bool, true, false, cond, List, [], ◌∷◌, ◌++◌, drop, drop-cons, filter, flat_map, fold, get_or, length, map, take, Option, refl, sym, ap, ◌∙◌, arith}
+use Rattle.std.proofs.Common.{◌≡◌, ◌≤◌, ◌-◌, ℕ, zero, suc, Bool, true, false, cond, List, [], ◌∷◌, ◌++◌, drop, filter, flat_map, fold, get_or, length, map, take, Option, refl, sym, ap, ◌∙◌, arith}
 use Rattle.std.proofs.lemmas.Bool.{and_parts}
 use Rattle.std.proofs.lemmas.List.{map-append, take-take, take_all}
 use Rattle.std.proofs.lemmas.List.Elements.{All-cons, All-head, All-nil, All-tail, All-take, All-weaker, filter-append, filter_passes}
@@ -126,19 +126,6 @@ offered-lasting settings m v mapping others first is =
     (ap (λ b. offered (filter (is_probed settings m) (flat_map (targets_of v) (map held_of (cond b (mapping ∷ filter (lasts m) others) (filter (lasts m) others))))) first) is
     ∙ ap (λ targets. offered targets first) (filter-append (is_probed settings m) (targets_of v (held_of mapping)) (flat_map (targets_of v) (map held_of (filter (lasts m) others))))
     ∙ offered-append (chosen settings m v mapping.eid mapping.details.locators) (to_come settings m v others) first)
-
--- one that has ended has none
-pub offered-ended : (settings : Settings) (m : ℕ) (v : View) (mapping : Mapping) (others : List Mapping) (first : List Target) → lasts m mapping ≡ false → offered (to_come settings m v others) first ≡ offered (to_come settings m v (mapping ∷ others)) first
-offered-ended settings m v mapping others first isn't =
-    sym (ap (λ b. offered (filter (is_probed settings m) (flat_map (targets_of v) (map held_of (cond b (mapping ∷ filter (lasts m) others) (filter (lasts m) others))))) first) isn't)
-
--- the next mapping, and those behind it
-pub next-split : {A : Type 0} (items : List A) (i : ℕ) (item : A) → i < length items → item ≡ get_or items i item → item ∷ drop (i + 1) items ≡ drop i items
-next-split items i item within is =
-    let next : i + 1 ≡ suc i = omega arith in
-    ap (λ (a : _). a ∷ drop (i + 1) items) is
-    ∙ ap (λ (n : ℕ). get_or items i item ∷ drop n items) next
-    ∙ sym (drop-cons items i item within)
 
 -- none is left to be offered
 pub offered-none : (settings : Settings) (m : ℕ) (v : View) (mappings : List Mapping) (first next : List Target) → mappings ≡ [] → length first ≤ 16 → offered (to_come settings m v mappings) first ≡ next → first ≡ next

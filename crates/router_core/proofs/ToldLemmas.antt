@@ -146,11 +146,6 @@ told-lasting settings m mapping others told is =
     ∙ ap (λ addresses. told_with addresses told) (filter-append (is_told settings) (named_in (held_of mapping)) (flat_map named_in (map held_of (filter (lasts m) others))))
     ∙ told-append (named_by settings mapping.details.locators) (to_tell settings m others) told)
 
--- one that has ended has none
-pub told-ended : (settings : Settings) (m : ℕ) (mapping : Mapping) (others : List Mapping) (told : List Addr) → lasts m mapping ≡ false → told_with (to_tell settings m others) told ≡ told_with (to_tell settings m (mapping ∷ others)) told
-told-ended settings m mapping others told isn't =
-    sym (ap (λ b. told_with (filter (is_told settings) (flat_map named_in (map held_of (cond b (mapping ∷ filter (lasts m) others) (filter (lasts m) others))))) told) isn't)
-
 -- none is left
 pub told-all : (settings : Settings) (m : ℕ) (mappings : List Mapping) (told first : List Addr) → mappings ≡ [] → length told ≤ 64 → told_with (to_tell settings m mappings) told ≡ first → told ≡ first
 told-all settings m mappings told first none few is =

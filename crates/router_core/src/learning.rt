@@ -27,6 +27,7 @@ use octets::{Items, NoMemory};
 use request_queue::Request;
 use router_log::{Done, Entry, Reason, Verdict};
 use std::cmp::Ordering;
+use std::collections::VecDeque;
 
 impl Table {
     /// Takes a Map-Reply to a request that is open at a moment.
@@ -54,7 +55,7 @@ impl Table {
         }
         let mut entries = Vec::new(self.alloc);
         entries.reserve(1 + mappings.len())?;
-        let mut copies = all_copies(self.alloc, mappings)?;
+        let mut copies = VecDeque::from_vec(all_copies(self.alloc, mappings)?);
         self.reserve_mappings(mappings.len() as u32)?;
         self.answer(m, reply.nonce);
         entries.push_reserved(Entry::Answered {
@@ -82,7 +83,7 @@ impl Table {
         &mut self,
         grounds: &Grounds<'_>,
         records: &[Record],
-        copies: &mut Vec<Copies>,
+        copies: &mut VecDeque<Copies>,
         entries: &mut Vec<Entry>,
     )
         requires lawful { IsSite grounds.now.site.now }
@@ -101,7 +102,9 @@ impl Table {
         let [mapping, others @ ..] = records else {
             return;
         };
-        let copy = copies.remove(0);
+        let Some(copy) = copies.pop_front() else {
+            unreachable!()
+        };
         self.learn_one(grounds, mapping, copy, entries);
         self.learn_each(grounds, others, copies, entries);
     }

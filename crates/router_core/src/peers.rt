@@ -28,8 +28,7 @@ impl Table {
         ensures few { vec_len told.new ≤ most_told }
         ensures reached { All (λ address. IsTrue (is_told site.now address)) told.new.items }
     {
-        for index in 0..self.cache.len() {
-            let mapping = self.cache.mapping(index);
+        for mapping in self.cache.iter() {
             if lasts(m, mapping) {
                 offer_named(site, mapping.details.locators.as_slice(), told);
             }

@@ -56,8 +56,7 @@ impl Table {
         ensures few { vec_len first.new ≤ most_targets }
         ensures senders { All (HasSender site.now) first.new.items }
     {
-        for index in 0..self.cache.len() {
-            let mapping = self.cache.mapping(index);
+        for mapping in self.cache.iter() {
             if lasts(m, mapping) {
                 let locators = mapping.details.locators.as_slice();
                 self.offer_each(site, m, &mapping.eid, locators, first);

@@ -40,8 +40,7 @@ pub(crate) fn rest_until(own: &[OwnLocator], m: u64, state: &LocatorState, cache
         mapping.details.locators) cache.entry.now.mappings ≡ true }
 {
     let mut until = u64::MAX;
-    for index in 0..cache.len() {
-        let mapping = cache.mapping(index);
+    for mapping in cache.iter() {
         until = until.min(rest_of_all(own, m, state, mapping.details.locators.as_slice()));
     }
     until

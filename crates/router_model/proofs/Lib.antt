@@ -40,6 +40,7 @@ pub mod StillLemmas
 pub mod StoodLemmas
 pub mod TellLemmas
 pub mod TenantLemmas
+pub mod TenantTableLemmas
 pub mod TickLemmas
 pub mod UpsLemmas
 pub mod ViewLemmas

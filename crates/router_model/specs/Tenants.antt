@@ -5,18 +5,16 @@ use Rattle.std.specs.List.{list_all}
 use Rattle.ip_headers.specs.declared.addr.Addr.{Addr}
 use Rattle.mapping_records.specs.declared.eid.Eid.{Eid}
 use Rattle.map_messages.specs.declared.message.MapReply.{MapReply}
-use Rattle.lisp_settings.specs.Instances.{limits_in}
 use Rattle.lisp_settings.specs.declared.settings.LimitItem.{LimitItem}
 use Rattle.lisp_settings.specs.declared.settings.Settings.{Settings}
 use Rattle.request_queue.specs.Limits.{request_seconds}
 use Rattle.request_queue.specs.Queue.{with_nonce}
 use Rattle.request_queue.specs.declared.request.Request.{Request}
 use Rattle.router_log.specs.Moments.{younger}
-use Rattle.router_log.specs.declared.entry.Entry.{Entry}
 use Rattle.router_log.specs.declared.entry.Entry.TheVariants.{Asked}
 use Rattle.router_log.specs.declared.notice.Notice.{Notice}
 use Rattle.router_log.specs.declared.notice.Notice.TheVariants as notice
-use Rattle.router_model.specs.Changes.{journal as of_journal, may_ask, unchanged}
+use Rattle.router_model.specs.Changes.{may_ask, unchanged}
 use Rattle.router_model.specs.Hear.{Heard, reply_heard}
 use Rattle.router_model.specs.Isolation.{of_instance}
 use Rattle.router_model.specs.Journal.{Journal, IsRising}

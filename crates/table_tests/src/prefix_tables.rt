@@ -74,6 +74,32 @@ fn put_replaced_and_taken_out(
 }
 
 #[test]
+fn pairs_come_in_order_of_eid(rt: HostRuntime) -> Result<(), NoMemory> {
+    let mut table = PrefixTable::new(rt.alloc());
+    in_order(&rt, &mut table)
+}
+
+fn in_order(rt: &impl Abort, table: &mut PrefixTable<u32>) -> Result<(), NoMemory> {
+    let net = v4(rt, TEN, 8);
+    let below = v4(rt, TEN, 16);
+    let beside = v4(rt, TEN + 0x0080_0000, 9);
+    let longer = eid(rt, Addr::V6(0), 128);
+    let other = Eid {
+        iid: 1,
+        prefix: net.prefix,
+    };
+    for (key, value) in [(other, 5), (beside, 3), (longer, 4), (below, 2), (net, 1)] {
+        put(table, key, value)?;
+    }
+    let mut pairs = table.iter();
+    for (key, value) in [(net, 1), (below, 2), (beside, 3), (longer, 4), (other, 5)] {
+        assert_eq!(rt; pairs.next(), Some((&key, &value)));
+    }
+    assert_eq!(rt; pairs.next(), None);
+    Ok(())
+}
+
+#[test]
 fn the_longest_that_covers_and_passes_is_found(rt: HostRuntime) -> Result<(), NoMemory> {
     let mut table = PrefixTable::new(rt.alloc());
     longest_that_passes(&rt, &mut table)

@@ -1,7 +1,12 @@
 use Rattle.std.proofs.Common.{sym, ap, ◌∙◌}
-use Rattle.keyed_list.specs.Keyed.{item_at}
+use Rattle.keyed_list.specs.Keyed.{is_below, item_at}
 use Rattle.keyed_list.proofs.BelowLemmas.{found-last, found-within, none-has, other-key}
+use Rattle.keyed_list.proofs.LastLemmas.{last-empty}
 use Rattle.keyed_list.proofs.finding.place_below.Goals as goal
+
+pub returns-then-len-eq0-clause-last : goal.returns-then-len-eq0-clause-last
+returns-then-len-eq0-clause-last g c =
+    last-empty (is_below g.T.Keyed.marks_of c.args.key.now c.args.bound) c.args.list.now.items (sym c.len.ensures.len ∙ c.if-len-eq0.true)
 
 pub returns-in_err-mark-clause-last : goal.returns-in_err-mark-clause-last
 returns-in_err-mark-clause-last g c =

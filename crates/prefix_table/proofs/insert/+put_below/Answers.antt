@@ -1,59 +1,63 @@
-use Rattle.std.proofs.Common.{rules, ◌<◌, ◌+◌, ◌-◌, arith, sym, ◌∙◌, subst}
-use Rattle.prefix_table.specs.Grown.{Puts}
+use Rattle.std.proofs.Common.{rules, ◌<◌, ◌+◌, ◌-◌, arith, sym, ap, ◌∙◌, subst}
+use Rattle.prefix_table.specs.Grown.{Puts, Takes}
 use Rattle.prefix_table.specs.Nodes.{with_eid}
+use Rattle.prefix_table.specs.declared.key.Key.{Key}
+use Rattle.prefix_table.proofs.KeyLemmas.{same_len, other_len, bit_behind}
 use Rattle.prefix_table.proofs.PutLemmas.{puts_same, takes_low, takes_high, puts_low, puts_high, live_low, live_high, len_bounds, room_leaf, room_missed}
 use Rattle.prefix_table.proofs.insert.+put_below.Goals as goal
 
-pub returns-then-key-eid : goal.returns-then-key-eid
-returns-then-key-eid g t c =
+pub returns-then-len-sought : goal.returns-then-len-sought
+returns-then-len-sought g t c =
     let top = with_eid c.read.result.0.now c.read.result.1.now in
     let made = c.set_value.ensures in
-    subst (λ w. Puts c.args.store.now c.set_value.new.store c.args.at c.args.least c.args.eid c.args.value c.in-Some.at w) (sym (made.was top c.read.ensures.node))
-    (puts_same _ _ c.args.at c.in-Some.at top c.args.eid c.args.value c.args.least c.in-Some.is c.read.ensures.node (sym c.covers.ensures ∙ c.if-not-covers.false) c.if-key-eid.true (made.changes top c.read.ensures.node) made.rooms made.slots)
+    subst (λ w. Puts c.args.store.now c.set_value.new.store c.args.at c.args.least c.args.eid.now c.args.value c.in-Some.at w) (sym (made.was top c.read.ensures.node))
+    (puts_same _ _ c.args.at c.in-Some.at top c.args.eid.now c.args.value c.args.least c.in-Some.is c.read.ensures.node (sym (c.covers.ensures top.eid c.args.eid.now c.read.ensures.key c.of-sought.ensures) ∙ c.if-not-covers.false) (same_len _ _ top.eid c.args.eid.now c.read.ensures.key c.of-sought.ensures c.if-len-sought.true) (made.changes top c.read.ensures.node) made.rooms made.slots)
 
 pub put_below-name-requires : goal.put_below-name-requires
 put_below-name-requires g t c κs within =
     let top = with_eid c.read.result.0.now c.read.result.1.now in
-    let bounds = len_bounds _ c.args.at c.in-Some.at top c.args.eid c.args.least c.requires c.in-Some.is c.read.ensures.node in
-    let smaller : 129 - (top.eid.prefix.len + 1) < 129 - c.args.least = omega (arith, bounds.0, bounds.1) in
-    (search (rules, smaller), (search rules, takes_high _ c.args.at c.in-Some.at top c.args.eid c.args.least c.requires c.in-Some.is c.read.ensures.node (sym c.covers.ensures ∙ c.if-not-covers.false) c.if-key-eid.false (sym c.next_bit.ensures ∙ c.if-next_bit.true)))
+    let bounds = len_bounds _ c.args.at c.in-Some.at top c.args.eid.now c.args.least c.requires c.in-Some.is c.read.ensures.node in
+    let len = ap (λ (k : Key). k.len) c.read.ensures.key in
+    let smaller : 129 - (c.read.result.1.now.key.len + 1) < 129 - c.args.least = omega (arith, bounds.0, bounds.1, len) in
+    (search (rules, smaller), (search rules, subst (λ n. Takes c.args.store.now top.one (n + 1) c.args.eid.now) (sym len) (takes_high _ c.args.at c.in-Some.at top c.args.eid.now c.args.least c.requires c.in-Some.is c.read.ensures.node (sym (c.covers.ensures top.eid c.args.eid.now c.read.ensures.key c.of-sought.ensures) ∙ c.if-not-covers.false) (other_len _ _ top.eid c.args.eid.now c.read.ensures.key c.of-sought.ensures c.if-len-sought.false) (bit_behind _ _ top.eid c.args.eid.now c.read.ensures.key c.of-sought.ensures _ (c.next_bit.ensures c.args.eid.now c.of-sought.ensures) ∙ c.if-next_bit.true))))
 
 pub link_one-requires : goal.link_one-requires
 link_one-requires g t c =
     let top = with_eid c.read.result.0.now c.read.result.1.now in
-    live_high _ _ c.args.at c.in-Some.at top c.args.eid c.args.value c.args.least c.put_below-name.result.0 c.put_below-name.result.1 c.requires c.in-Some.is c.read.ensures.node (sym c.covers.ensures ∙ c.if-not-covers.false) c.if-key-eid.false (sym c.next_bit.ensures ∙ c.if-next_bit.true) c.put_below-name.ensures
+    live_high _ _ c.args.at c.in-Some.at top c.args.eid.now c.args.value c.args.least c.put_below-name.result.0 c.put_below-name.result.1 c.requires c.in-Some.is c.read.ensures.node (sym (c.covers.ensures top.eid c.args.eid.now c.read.ensures.key c.of-sought.ensures) ∙ c.if-not-covers.false) (other_len _ _ top.eid c.args.eid.now c.read.ensures.key c.of-sought.ensures c.if-len-sought.false) (bit_behind _ _ top.eid c.args.eid.now c.read.ensures.key c.of-sought.ensures _ (c.next_bit.ensures c.args.eid.now c.of-sought.ensures) ∙ c.if-next_bit.true) (subst (λ n. Puts c.args.store.now c.put_below-name.new.store top.one (n + 1) c.args.eid.now c.args.value c.put_below-name.result.0 c.put_below-name.result.1) (ap (λ (k : Key). k.len) c.read.ensures.key) c.put_below-name.ensures)
 
 pub returns-then-next_bit : goal.returns-then-next_bit
 returns-then-next_bit g t c =
     let top = with_eid c.read.result.0.now c.read.result.1.now in
-    puts_high _ _ _ c.args.at c.in-Some.at top c.args.eid c.args.value c.args.least c.put_below-name.result.0 c.put_below-name.result.1 c.in-Some.is c.read.ensures.node (sym c.covers.ensures ∙ c.if-not-covers.false) c.if-key-eid.false (sym c.next_bit.ensures ∙ c.if-next_bit.true) c.put_below-name.ensures c.link_one.ensures.changes c.link_one.ensures.rooms c.link_one.ensures.slots
+    puts_high _ _ _ c.args.at c.in-Some.at top c.args.eid.now c.args.value c.args.least c.put_below-name.result.0 c.put_below-name.result.1 c.in-Some.is c.read.ensures.node (sym (c.covers.ensures top.eid c.args.eid.now c.read.ensures.key c.of-sought.ensures) ∙ c.if-not-covers.false) (other_len _ _ top.eid c.args.eid.now c.read.ensures.key c.of-sought.ensures c.if-len-sought.false) (bit_behind _ _ top.eid c.args.eid.now c.read.ensures.key c.of-sought.ensures _ (c.next_bit.ensures c.args.eid.now c.of-sought.ensures) ∙ c.if-next_bit.true) (subst (λ n. Puts c.args.store.now c.put_below-name.new.store top.one (n + 1) c.args.eid.now c.args.value c.put_below-name.result.0 c.put_below-name.result.1) (ap (λ (k : Key). k.len) c.read.ensures.key) c.put_below-name.ensures) c.link_one.ensures.changes c.link_one.ensures.rooms c.link_one.ensures.slots
 
 pub put_below-name-requires-2 : goal.put_below-name-requires-2
 put_below-name-requires-2 g t c κs within =
     let top = with_eid c.read.result.0.now c.read.result.1.now in
-    let bounds = len_bounds _ c.args.at c.in-Some.at top c.args.eid c.args.least c.requires c.in-Some.is c.read.ensures.node in
-    let smaller : 129 - (top.eid.prefix.len + 1) < 129 - c.args.least = omega (arith, bounds.0, bounds.1) in
-    (search (rules, smaller), (search rules, takes_low _ c.args.at c.in-Some.at top c.args.eid c.args.least c.requires c.in-Some.is c.read.ensures.node (sym c.covers.ensures ∙ c.if-not-covers.false) c.if-key-eid.false (sym c.next_bit.ensures ∙ c.if-next_bit.false)))
+    let bounds = len_bounds _ c.args.at c.in-Some.at top c.args.eid.now c.args.least c.requires c.in-Some.is c.read.ensures.node in
+    let len = ap (λ (k : Key). k.len) c.read.ensures.key in
+    let smaller : 129 - (c.read.result.1.now.key.len + 1) < 129 - c.args.least = omega (arith, bounds.0, bounds.1, len) in
+    (search (rules, smaller), (search rules, subst (λ n. Takes c.args.store.now top.zero (n + 1) c.args.eid.now) (sym len) (takes_low _ c.args.at c.in-Some.at top c.args.eid.now c.args.least c.requires c.in-Some.is c.read.ensures.node (sym (c.covers.ensures top.eid c.args.eid.now c.read.ensures.key c.of-sought.ensures) ∙ c.if-not-covers.false) (other_len _ _ top.eid c.args.eid.now c.read.ensures.key c.of-sought.ensures c.if-len-sought.false) (bit_behind _ _ top.eid c.args.eid.now c.read.ensures.key c.of-sought.ensures _ (c.next_bit.ensures c.args.eid.now c.of-sought.ensures) ∙ c.if-next_bit.false))))
 
 pub link_zero-requires : goal.link_zero-requires
 link_zero-requires g t c =
     let top = with_eid c.read.result.0.now c.read.result.1.now in
-    live_low _ _ c.args.at c.in-Some.at top c.args.eid c.args.value c.args.least c.put_below-name-2.result.0 c.put_below-name-2.result.1 c.requires c.in-Some.is c.read.ensures.node (sym c.covers.ensures ∙ c.if-not-covers.false) c.if-key-eid.false (sym c.next_bit.ensures ∙ c.if-next_bit.false) c.put_below-name-2.ensures
+    live_low _ _ c.args.at c.in-Some.at top c.args.eid.now c.args.value c.args.least c.put_below-name-2.result.0 c.put_below-name-2.result.1 c.requires c.in-Some.is c.read.ensures.node (sym (c.covers.ensures top.eid c.args.eid.now c.read.ensures.key c.of-sought.ensures) ∙ c.if-not-covers.false) (other_len _ _ top.eid c.args.eid.now c.read.ensures.key c.of-sought.ensures c.if-len-sought.false) (bit_behind _ _ top.eid c.args.eid.now c.read.ensures.key c.of-sought.ensures _ (c.next_bit.ensures c.args.eid.now c.of-sought.ensures) ∙ c.if-next_bit.false) (subst (λ n. Puts c.args.store.now c.put_below-name-2.new.store top.zero (n + 1) c.args.eid.now c.args.value c.put_below-name-2.result.0 c.put_below-name-2.result.1) (ap (λ (k : Key). k.len) c.read.ensures.key) c.put_below-name-2.ensures)
 
 pub returns : goal.returns
 returns g t c =
     let top = with_eid c.read.result.0.now c.read.result.1.now in
-    puts_low _ _ _ c.args.at c.in-Some.at top c.args.eid c.args.value c.args.least c.put_below-name-2.result.0 c.put_below-name-2.result.1 c.in-Some.is c.read.ensures.node (sym c.covers.ensures ∙ c.if-not-covers.false) c.if-key-eid.false (sym c.next_bit.ensures ∙ c.if-next_bit.false) c.put_below-name-2.ensures c.link_zero.ensures.changes c.link_zero.ensures.rooms c.link_zero.ensures.slots
+    puts_low _ _ _ c.args.at c.in-Some.at top c.args.eid.now c.args.value c.args.least c.put_below-name-2.result.0 c.put_below-name-2.result.1 c.in-Some.is c.read.ensures.node (sym (c.covers.ensures top.eid c.args.eid.now c.read.ensures.key c.of-sought.ensures) ∙ c.if-not-covers.false) (other_len _ _ top.eid c.args.eid.now c.read.ensures.key c.of-sought.ensures c.if-len-sought.false) (bit_behind _ _ top.eid c.args.eid.now c.read.ensures.key c.of-sought.ensures _ (c.next_bit.ensures c.args.eid.now c.of-sought.ensures) ∙ c.if-next_bit.false) (subst (λ n. Puts c.args.store.now c.put_below-name-2.new.store top.zero (n + 1) c.args.eid.now c.args.value c.put_below-name-2.result.0 c.put_below-name-2.result.1) (ap (λ (k : Key). k.len) c.read.ensures.key) c.put_below-name-2.ensures) c.link_zero.ensures.changes c.link_zero.ensures.rooms c.link_zero.ensures.slots
 
 pub put_leaf-requires : goal.put_leaf-requires
-put_leaf-requires g t c = room_leaf _ c.args.at c.args.eid c.args.least c.requires c.in_default.is
+put_leaf-requires g t c = room_leaf _ c.args.at c.args.eid.now c.args.least c.requires c.in_default.is
 
 pub put_above-requires-clause-rooms : goal.put_above-requires-clause-rooms
 put_above-requires-clause-rooms g t c =
     let top = with_eid c.read.result.0.now c.read.result.1.now in
-    room_missed _ c.args.at c.in-Some.at top c.args.eid c.args.least c.requires c.in-Some.is c.read.ensures.node (sym c.covers.ensures ∙ c.if-not-covers.true)
+    room_missed _ c.args.at c.in-Some.at top c.args.eid.now c.args.least c.requires c.in-Some.is c.read.ensures.node (sym (c.covers.ensures top.eid c.args.eid.now c.read.ensures.key c.of-sought.ensures) ∙ c.if-not-covers.true)
 
 pub put_beside-requires-clause-rooms : goal.put_beside-requires-clause-rooms
 put_beside-requires-clause-rooms g t c =
     let top = with_eid c.read.result.0.now c.read.result.1.now in
-    room_missed _ c.args.at c.in-Some.at top c.args.eid c.args.least c.requires c.in-Some.is c.read.ensures.node (sym c.covers.ensures ∙ c.if-not-covers.true)
+    room_missed _ c.args.at c.in-Some.at top c.args.eid.now c.args.least c.requires c.in-Some.is c.read.ensures.node (sym (c.covers.ensures top.eid c.args.eid.now c.read.ensures.key c.of-sought.ensures) ∙ c.if-not-covers.true)

@@ -1,7 +1,6 @@
 use Rattle.std.proofs.Common.{ap, sym}
 use Rattle.std.specs.Prelude.{refl}
 use Rattle.std.proofs.lemmas.Option.{IfSome_then}
-use Rattle.std.proofs.lemmas.Result.{on_err_weaker}
 use Rattle.command_words.specs.declared.intake.InputFormat.TheVariants.{Classic}
 use Rattle.desk.specs.World.{World, content}
 use Rattle.lisp_settings.specs.Settings.{settings_of}

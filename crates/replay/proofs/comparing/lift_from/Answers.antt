@@ -1,4 +1,3 @@
-use Rattle.std.proofs.Common.{Ok}
 use Rattle.command_words.specs.declared.intake.InputFormat.TheVariants.{Classic}
 use Rattle.desk.specs.World.{World, content}
 use Rattle.replay.specs.Opening.{opened}

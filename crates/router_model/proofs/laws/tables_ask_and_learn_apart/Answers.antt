@@ -1,4 +1,4 @@
-use Rattle.router_model.proofs.TenantLemmas.{tables-ask, tables-learn}
+use Rattle.router_model.proofs.TenantTableLemmas.{tables-ask, tables-learn}
 use Rattle.router_model.proofs.laws.tables_ask_and_learn_apart.Goals as goal
 
 pub returns-clause-ask : goal.returns-clause-ask

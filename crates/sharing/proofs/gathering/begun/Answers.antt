@@ -1,4 +1,3 @@
-use Rattle.std.proofs.Common.{rules}
 use Rattle.sharing.proofs.RoundLemmas.{begins-none, ready-begun}
 use Rattle.sharing.proofs.gathering.begun.Goals as goal
 

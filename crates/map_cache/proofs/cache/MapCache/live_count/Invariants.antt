@@ -1,7 +1,7 @@
-use Rattle.std.proofs.Common.{◌≡◌, ◌≤◌, length, take}
+use Rattle.std.proofs.Common.{◌≡◌, ◌+◌, length}
 use Rattle.map_cache.specs.Cache.{lasting}
 use Rattle.map_cache.proofs.cache.MapCache.live_count.Given as goal
 
--- those so far that last
-abbrev pub invariant-loop-index : goal.invariant-loop-index
-invariant-loop-index l = (l.count ≡ length (lasting l.m (take l.index l.self.mappings))) × (l.count ≤ l.index)
+-- those so far and those to come are all that last
+abbrev pub invariant-loop-mapping : goal.invariant-loop-mapping
+invariant-loop-mapping l = l.count + length (lasting l.m l.mapping-iterator) ≡ length (lasting l.m l.self.mappings)

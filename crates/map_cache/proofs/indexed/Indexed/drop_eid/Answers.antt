@@ -1,21 +1,28 @@
-use Rattle.std.proofs.Common.{sym, ◌∙◌}
-use Rattle.map_cache.proofs.EndingLemmas.{remove-there}
-use Rattle.map_cache.proofs.PlaceOfLemmas.{absent-if, there-if, within-there, without-absent}
+use Rattle.std.proofs.Common.{List, length, sym, ap, subst, ◌∙◌, arith}
+use Rattle.map_cache.specs.Cache.{learned_in, without_eid}
+use Rattle.map_cache.specs.Indexed.{IsIndexed}
+use Rattle.map_cache.specs.declared.mapping.Mapping.{Mapping}
+use Rattle.map_cache.proofs.PlaceLemmas.{length-without_eid, without-none}
+use Rattle.map_cache.proofs.IndexedLemmas.{counted-there, indexed-dropped}
 use Rattle.map_cache.proofs.indexed.Indexed.drop_eid.Goals as goal
 
-pub take-requires : goal.take-requires
-take-requires c =
-    rw (← c.self.view_is) (within-there c.args.eid.now c.self.inside.mappings.items c.place_of-place.result
-    (there-if c.args.eid.now c.self.inside.mappings.items c.place_of-place.result c.self.invariant.ascending c.place_of-place.ensures.place (sym c.is_at.ensures.is ∙ c.if-is_at.true)))
+pub drop-requires : goal.drop-requires
+drop-requires c = (
+  λ iid. learned_in iid (without_eid c.args.eid.now c.self.inside.by_eid.mappings),
+  counted-there c.self.inside.by_eid.mappings c.self.inside.endings.keys c.self.inside.counts c.self.invariant c.args.eid.now c.in-Some.mapping c.len.ensures.ascending (sym c.in-Some.ensures.taken),
+)
 
-pub returns-then-is_at-clause-mappings : goal.returns-then-is_at-clause-mappings
-returns-then-is_at-clause-mappings c =
-    let items = c.self.inside.mappings.items in
-    let there = there-if c.args.eid.now items c.place_of-place.result c.self.invariant.ascending c.place_of-place.ensures.place (sym c.is_at.ensures.is ∙ c.if-is_at.true) in
-    rw (c.take.ensures.mappings, ← c.self.view_is) (remove-there c.args.eid.now items c.place_of-place.result there)
+pub invariant_of-self : goal.invariant_of-self
+invariant_of-self c =
+    indexed-dropped c.self.inside.by_eid.mappings c.take.new.self.mappings c.self.inside.endings.keys c.drop_ending.new.endings.keys c.self.inside.counts c.drop.new.self c.self.invariant c.drop.ensures.limits c.in-Some.mapping c.args.eid.now c.len.ensures.ascending (sym c.in-Some.ensures.taken) c.take.ensures.mappings c.drop_ending.ensures.members c.drop.ensures.learned
 
-pub returns-else-is_at-clause-mappings : goal.returns-else-is_at-clause-mappings
-returns-else-is_at-clause-mappings c =
-    let items = c.self.inside.mappings.items in
-    let absent = absent-if c.args.eid.now items c.place_of-place.result c.self.invariant.ascending c.place_of-place.ensures.place (sym c.is_at.ensures.is ∙ c.if-is_at.false) in
-    rw (← c.self.view_is) (sym (without-absent c.args.eid.now items c.place_of-place.result absent))
+pub invariant_of-self-in_default : goal.invariant_of-self-in_default
+invariant_of-self-in_default c =
+    let same = c.take.ensures.mappings ∙ without-none c.args.eid.now c.self.inside.by_eid.mappings (sym c.in_default.ensures.taken) in
+    subst (λ (l : List Mapping). IsIndexed l c.self.inside.endings.keys c.self.inside.counts) (sym same) c.self.invariant
+
+pub returns-in-Some-clause-total : goal.returns-in-Some-clause-total
+returns-in-Some-clause-total c =
+    let less = length-without_eid c.args.eid.now c.self.inside.by_eid.mappings in
+    let one = rw (← c.in-Some.ensures.taken) at less in
+    rw (← c.self.view_is) (omega (arith, one, ap length c.take.ensures.mappings, c.take.ensures.total, c.drop_ending.ensures.one))

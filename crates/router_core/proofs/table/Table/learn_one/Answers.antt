@@ -6,7 +6,6 @@ use Rattle.router_log.specs.declared.entry.Entry.TheVariants.{Learned}
 use Rattle.router_model.specs.Changes.{has_room}
 use Rattle.router_model.specs.Hear.{is_asked_for, is_static, shortened}
 use Rattle.router_model.specs.Parts.{Parts, view_in, with_entry}
-use Rattle.router_core.specs.Copies.{copies_of}
 use Rattle.router_core.specs.Table.{change_of}
 use Rattle.router_core.specs.declared.copies.Copies.{Copies}
 use Rattle.router_core.proofs.ChangeLemmas.{both, taught-so}

@@ -1,4 +1,4 @@
-use Rattle.std.proofs.Common.{◌≡◌, true, ◌∙◌, ◌≤◌, ◌+◌, List, ◌∷◌, ◌++◌, [], length, take, sym, ap, subst, arith}
+use Rattle.std.proofs.Common.{true, ◌∙◌, ◌≤◌, ◌+◌, List, ◌∷◌, ◌++◌, [], length, take, sym, ap, subst, arith}
 use Rattle.std.proofs.lemmas.List.{take_all, take_more}
 use Rattle.map_cache.specs.declared.mapping.Mapping.{Mapping}
 use Rattle.mapping_records.specs.declared.record.Record.{Record}

@@ -1,0 +1,183 @@
+// Mappings under names, and the name of each under its EID.
+ghost use Rattle.std.specs.Prelude.{◌≡◌, ◌≤◌, ◌<◌, ◌+◌, ◌*◌, ◌^◌, [], length, max, false, is_some, sum_by, IfOk, OnOk, IsOk};
+ghost use Rattle.std.specs.Option.{option_copied};
+ghost use Rattle.mapping_records.specs.Orders.{eid_order, put_in_order};
+ghost use Rattle.prefix_table.specs.Limits.{most_nodes};
+ghost use Rattle.map_cache.specs.Cache.{bits_told, exact, in_force, lasting, without_eid};
+ghost use Rattle.map_cache.specs.Limits.{most_mappings};
+ghost use Rattle.map_cache.specs.Lists.{IsAscending};
+
+use crate::bits::tell;
+use crate::copies::copied;
+use crate::stay::{Stay, stay_lasts, stay_until};
+use crate::{Iter, Mapping, NoMemory};
+use mapping_records::Eid;
+use node_store::{NodeStore, Reads};
+use prefix_table::PrefixTable;
+use std::alloc::Global;
+use std::marker::Model;
+
+/// Mappings in order of EID, of each EID one. None is moved where one comes or goes.
+#[derive(Drop)]
+pub(crate) struct ByEid {
+    // Each under a name.
+    store: NodeStore<Mapping>,
+    stays: PrefixTable<Stay>,
+}
+
+impl Model for ByEid {
+    ghost use Rattle.std.specs.Prelude.{◌+◌, length, max, min, sum_by};
+    ghost use Rattle.map_cache.specs.Filed.{Filed, IsFiled, mappings_at};
+
+    ghost Value = { Filed };
+
+    ghost view = { λ filed. record {
+      mappings = mappings_at filed.store filed.stays.pairs;
+      spare = min filed.store.rooms filed.stays.spare;
+      room = max filed.store.rooms filed.stays.spare;
+      kept = length filed.store.slots + (filed.store.rooms + (filed.stays.kept
+          + sum_by (λ mapping. length mapping.details.locators)
+          (mappings_at filed.store filed.stays.pairs)));
+    } };
+
+    ghost invariant = { λ filed. IsFiled filed.store filed.stays.pairs };
+}
+
+impl ByEid {
+    /// No mappings. Takes no memory.
+    pub(crate) fn new(alloc: Global) -> ByEid
+        ensures mappings { result.mappings ≡ [] }
+        ensures spare { result.spare ≡ 0 }
+        ensures room { result.room ≡ 0 }
+    {
+        ByEid {
+            store: NodeStore::new(alloc),
+            stays: PrefixTable::new(alloc),
+        }
+    }
+
+    /// The same of their own, with as much room.
+    pub(crate) fn copy(&self, alloc: Global) -> Result<ByEid, NoMemory>
+        ensures { IfOk result (λ copy. copy ≡ self.now) }
+    {
+        let store = self
+            .store
+            .copy(|mapping| copied(alloc, mapping), &mut Reads::new())?;
+        let stays = self.stays.copy(|stay| Ok(*stay))?;
+        Ok(ByEid { store, stays })
+    }
+
+    /// Makes room for `n` further mappings.
+    pub(crate) fn reserve(&mut self, n: u32) -> Result<(), NoMemory>
+        requires n { n ≤ most_mappings }
+        requires len { length self.old.mappings ≤ most_mappings }
+        ensures mappings { self.new.mappings ≡ self.old.mappings }
+        ensures spare { self.old.spare ≤ self.new.spare }
+        ensures at_most { self.new.spare ≤ max self.old.spare n }
+        ensures room { self.new.room ≤ max self.old.room n }
+        ensures ok { OnOk result (n ≤ self.new.spare) }
+        ensures enough { n ≤ self.old.spare → IsOk result }
+    {
+        // These say that there are as many names as mappings.
+        let _ = (self.store.rooms(), self.stays.len());
+        self.store.make_room(n)?;
+        self.stays.reserve(n)
+    }
+
+    /// The number of mappings.
+    pub(crate) fn len(&self) -> usize
+        ensures len { result ≡ length self.now.mappings }
+        ensures ascending { IsAscending self.now.mappings }
+        ensures tied { self.now.spare ≤ self.now.room }
+        ensures kept { self.now.kept ≤ 9 * (result + self.now.room)
+            + sum_by (λ mapping. length mapping.details.locators) self.now.mappings }
+    {
+        let _ = self.store.rooms();
+        self.stays.len() as usize
+    }
+
+    /// The mappings in order of EID.
+    pub(crate) fn iter(&self) -> Iter<'_>
+        ensures { result ≡ self.now.mappings }
+    {
+        Iter::new(&self.store, self.stays.iter())
+    }
+
+    /// There is a mapping of that EID.
+    pub(crate) fn has(&self, eid: &Eid) -> bool
+        ensures { result ≡ is_some (exact self.now.mappings eid.now) }
+    {
+        self.stays.get(eid, &mut Reads::new()).is_some()
+    }
+
+    /// The longest of the mappings that haven't ended at a moment and cover an EID.
+    pub(crate) fn in_force(&self, m: u64, eid: &Eid, reads: &mut Reads) -> Option<&Mapping>
+        requires { reads.old < 2 ^ 63 }
+        ensures found { option_copied result ≡ in_force (lasting m self.now.mappings) eid.now }
+        ensures counted { reads.old ≤ reads.new }
+        ensures bound { reads.new ≤ reads.old + most_nodes }
+    {
+        match self
+            .stays
+            .longest_where(eid, |stay| stay_lasts(m, stay), reads)
+        {
+            None => None,
+            Some((_, stay)) => Some(self.store.read(stay.name, &mut Reads::new())),
+        }
+    }
+
+    /// The mapping of just that EID, unless it has ended at a moment.
+    pub(crate) fn exact(&self, m: u64, eid: &Eid, reads: &mut Reads) -> Option<&Mapping>
+        requires { reads.old < 2 ^ 63 }
+        ensures found { option_copied result ≡ exact (lasting m self.now.mappings) eid.now }
+        ensures counted { reads.old ≤ reads.new }
+        ensures bound { reads.new ≤ reads.old + most_nodes }
+    {
+        let stay = self.stays.get(eid, reads)?;
+        if !stay_lasts(m, stay) {
+            return None;
+        }
+        Some(self.store.read(stay.name, &mut Reads::new()))
+    }
+
+    /// Puts in a mapping of an EID of which there is none. Takes no memory.
+    pub(crate) fn put(&mut self, mapping: Mapping)
+        requires spare { 0 < self.old.spare }
+        requires new { is_some (exact self.old.mappings mapping.eid) ≡ false }
+        ensures mappings { self.new.mappings
+            ≡ put_in_order (λ item. item.eid) eid_order mapping self.old.mappings }
+        ensures spare { self.new.spare + 1 ≡ self.old.spare }
+        ensures room { self.new.room + 1 ≡ self.old.room }
+    {
+        let (eid, fixed, end) = (mapping.eid, mapping.fixed, mapping.end);
+        let name = self.store.put(mapping);
+        self.stays.insert(eid, stay_until(fixed, end, name));
+    }
+
+    /// Takes the mapping of that EID away. Takes no memory.
+    pub(crate) fn take(&mut self, eid: &Eid) -> Option<Mapping>
+        ensures taken { result ≡ exact self.old.mappings eid.now }
+        ensures mappings { self.new.mappings ≡ without_eid eid.now self.old.mappings }
+        ensures spare { self.old.spare ≤ self.new.spare }
+        ensures total { length self.new.mappings + self.new.spare
+            ≡ length self.old.mappings + self.old.spare }
+        ensures room { length self.new.mappings + self.new.room
+            ≡ length self.old.mappings + self.old.room }
+    {
+        let stay = self.stays.remove(eid)?;
+        Some(self.store.drop_node(stay.name))
+    }
+
+    /// Tells the mapping of an EID so many of the lowest status bits.
+    pub(crate) fn tell(&mut self, eid: &Eid, bits: u32, width: u8)
+        requires { width ≤ 32 }
+        ensures mappings { self.new.mappings ≡ bits_told eid.now bits width self.old.mappings }
+        ensures spare { self.new.spare ≡ self.old.spare }
+        ensures room { self.new.room ≡ self.old.room }
+    {
+        if let Some(stay) = self.stays.get(eid, &mut Reads::new()) {
+            let name = stay.name;
+            tell(bits, width, self.store.edit(name));
+        }
+    }
+}

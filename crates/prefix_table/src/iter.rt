@@ -1,0 +1,88 @@
+// The pairs one after another.
+ghost use Rattle.std.specs.Prelude.{◌≡◌, ◌∷◌, [], All, MatchOption};
+ghost use Rattle.std.specs.Iterator.{YieldsFirstBy, item_count};
+ghost use Rattle.prefix_table.specs.Longest.{seen};
+ghost use Rattle.prefix_table.specs.Stacked.{stacked, AreUnder};
+ghost use Rattle.prefix_table.specs.Table.{pairs_under, IsRootIn};
+
+use crate::node::Root;
+use crate::nodes::Nodes;
+use crate::stack::Stack;
+use mapping_records::Eid;
+use node_store::Reads;
+use std::marker::Model;
+
+/// The pairs of a table that are still to come, in ascending order of the EIDs. Takes no memory.
+#[derive(Drop)]
+pub struct Iter<'a, V> {
+    store: &'a Nodes<V>,
+    // Under these names come the first pairs.
+    stack: Stack,
+    // Under these the others.
+    roots: &'a [Root],
+}
+
+impl<'a, V> Model for Iter<'a, V> {
+    ghost use Rattle.std.specs.Prelude.{◌++◌, List, All};
+    ghost use Rattle.mapping_records.specs.declared.eid.Eid.{Eid};
+    ghost use Rattle.prefix_table.specs.Stacked.{stacked, AreUnder};
+    ghost use Rattle.prefix_table.specs.Table.{pairs_under, IsRootIn};
+
+    ghost Value = { List (Eid × V) };
+
+    ghost view = { λ it. stacked it.store.now it.stack ++ pairs_under it.store.now it.roots.now };
+
+    ghost invariant = { λ it. AreUnder it.store.now 0 it.stack
+        × All (IsRootIn it.store.now) it.roots.now };
+}
+
+impl<'a, V> Iter<'a, V> {
+    /// Those under roots.
+    pub(crate) fn new(store: &'a Nodes<V>, roots: &'a [Root]) -> Self
+        requires { All (IsRootIn store.now) roots.now }
+        ensures { result ≡ pairs_under store.now roots.now }
+    {
+        Iter {
+            store,
+            stack: Stack::new(),
+            roots,
+        }
+    }
+}
+
+impl<'a, V> Iterator for Iter<'a, V> {
+    type Item = (&'a Eid, &'a V);
+
+    ghost next_gives = { YieldsFirstBy seen (λ rest. rest) };
+
+    ghost remaining = { item_count (λ rest. rest) };
+
+    fn next(&mut self) -> Option<(&'a Eid, &'a V)> {
+        loop {
+            if let Some(pair) = next_of(self.store, &mut self.stack) {
+                return Some(pair);
+            }
+            let (root, others) = self.roots.split_first()?;
+            self.roots = others;
+            self.stack.push(Some(root.name));
+        }
+    }
+}
+
+// The first pair under the names of a stack.
+fn next_of<'a, V>(store: &'a Nodes<V>, stack: &mut Stack) -> Option<(&'a Eid, &'a V)>
+    requires { AreUnder store.now 0 stack.old }
+    ensures first { MatchOption result
+        ((stacked store.now stack.old ≡ []) × (stack.new ≡ []))
+        (λ found. stacked store.now stack.old ≡ seen found ∷ stacked store.now stack.new) }
+    ensures under { AreUnder store.now 0 stack.new }
+{
+    let name = stack.pop()?;
+    let (eid, node) = store.read(name, &mut Reads::new());
+    stack.push(node.one);
+    stack.push(node.zero);
+    match &node.value {
+        Some(value) => Some((eid, value)),
+        None => next_of(store, stack),
+    }
+}

@@ -1,0 +1,249 @@
+-- What an instance learns is the same in a journal and in its part, and tables that stand for journals ask and learn alike.
+use Rattle.std.proofs.Common.{◌≡◌, ℕ, suc, ◌+◌, max, ◌≤◌, ◌==◌, ◌||◌, ◌&&◌, not, Bool, true, false, cond, List, [], ◌∷◌, ◌++◌, Some, None, length, refl, sym, ap, ap₂, subst, ◌∙◌, arith}
+use Rattle.std.proofs.lemmas.Bool.{eq-eqb, eqb-true}
+use Rattle.ip_headers.specs.declared.addr.Addr.{Addr}
+use Rattle.mapping_records.specs.declared.eid.Eid.{Eid}
+use Rattle.mapping_records.specs.declared.record.Record.{Record}
+use Rattle.mapping_records.specs.Eids.{covers_eid}
+use Rattle.map_messages.specs.declared.message.MapReply.{MapReply}
+use Rattle.lisp_settings.specs.Instances.{limits_in}
+use Rattle.lisp_settings.specs.declared.settings.Settings.{Settings}
+use Rattle.request_queue.specs.Queue.{with_nonce}
+use Rattle.request_queue.specs.declared.request.Request.{Request}
+use Rattle.router_log.specs.declared.entry.Entry.{Entry}
+use Rattle.router_log.specs.declared.entry.Entry.TheVariants.{Learned, Answered}
+use Rattle.router_log.specs.declared.notice.Notice.{Notice}
+use Rattle.router_log.specs.declared.notice.Notice.TheVariants as notice
+use Rattle.router_model.specs.Changes.{Change, asked, each, entered, has_room, journal as of_journal, may_ask, unchanged}
+use Rattle.router_log.specs.declared.verdict.Reason.TheVariants.{Unfit}
+use Rattle.router_model.specs.Hear.{Heard, drops, is_asked_for, is_fit, is_static, probe_replied, replied_to, reply_heard, shortened, tallied, taught}
+use Rattle.router_model.specs.Isolation.{asked_in, counts_in, of_instance}
+use Rattle.router_model.specs.Journal.{Journal, changed, last_moment}
+use Rattle.router_model.specs.Lifting.{MayGo, Ready}
+use Rattle.router_model.specs.Mappings.{exact}
+use Rattle.router_model.specs.Note.{is_learned, is_missing, noted}
+use Rattle.router_model.specs.Parts.{Parts, Stands, parts_in, standing_in, table, view_in}
+use Rattle.router_model.specs.Requests.{open_requests}
+use Rattle.router_model.specs.Standing.{own_after, standing}
+use Rattle.router_model.specs.Tenants.{AreAlike, IsRead, NoncesDiffer, TablesAsk, TablesLearn, asks, notice_eid}
+use Rattle.router_model.specs.View.{View, seen_at, view}
+use Rattle.router_model.proofs.HearLemmas.{reply_heard-alike}
+use Rattle.router_model.proofs.IsolationLemmas.{all-standing, mine-before}
+use Rattle.router_model.proofs.PartsLemmas.{and_both}
+use Rattle.router_model.proofs.RequestLemmas.{requests-open}
+use Rattle.router_model.proofs.StandsLemmas.{proper-rises, standing-sees}
+use Rattle.router_model.proofs.UpsLemmas.{stands-in}
+use Rattle.router_model.proofs.TenantLemmas.{Each, Known, all-known, asking-isolated, find-each, nonces-isolated, room-mine}
+
+-- ### what is learned
+
+-- a record that was asked for is of the instance of the EID
+asked-iid : (asked : Eid) (mapping : Record) (mappings : List Record) → is_asked_for asked mappings mapping ≡ true → mapping.eid.iid ≡ asked.iid
+asked-iid asked mapping [] is = cc
+asked-iid asked mapping (wider ∷ mappings) is = by (covers_eid wider.eid asked && covers_eid wider.eid mapping.eid) refl is (asked-iid asked mapping mappings)
+  where
+    by : (b : Bool) → (covers_eid wider.eid asked && covers_eid wider.eid mapping.eid) ≡ b → (b || is_asked_for asked mappings mapping) ≡ true → (is_asked_for asked mappings mapping ≡ true → mapping.eid.iid ≡ asked.iid) → mapping.eid.iid ≡ asked.iid
+    by true both is h =
+        let covers = and_both (covers_eid wider.eid asked) (covers_eid wider.eid mapping.eid) both in
+        sym (eqb-true wider.eid.iid mapping.eid.iid (and_both (wider.eid.iid == mapping.eid.iid) _ covers.1).0)
+        ∙ eqb-true wider.eid.iid asked.iid (and_both (wider.eid.iid == asked.iid) _ covers.0).0
+    by false both is h = h is
+
+-- seen at a moment that isn't before the last entry's
+seen-then : (journal : Journal) (m : ℕ) → last_moment journal ≤ m → view journal m ≡ seen_at journal m
+unfolding view
+seen-then journal m last = ap (seen_at journal) (at-then (last_moment journal) last)
+  where
+    at-then : (n : ℕ) → n ≤ m → max m n ≡ m
+    at-then n less = omega (arith, less)
+
+module _ (settings : Settings) (i m : ℕ) where
+  -- changes of a journal and of that of the instance, which came so far alike
+  record Apart (all mine : Change Journal) : Type 0 where
+    entries : all.entries ≡ mine.entries
+    after : of_instance all.after i ≡ mine.after
+    last : last_moment all.after ≤ m
+    mine_last : last_moment mine.after ≤ m
+
+  module _ (asked : Eid) (mappings : List Record) (is : asked.iid ≡ i) where
+    -- a record is learned of both
+    entered-apart : (mapping : Record) (all mine : Change Journal) → mapping.eid.iid ≡ i → Apart all mine → Apart (entered of_journal settings m (Learned m (shortened mapping) false) all) (entered of_journal settings m (Learned m (shortened mapping) false) mine)
+    entered-apart mapping all mine its apart = record {
+      entries = ap (λ l. l ++ Learned m (shortened mapping) false ∷ []) apart.entries;
+      after =
+          ap (λ b. cond b (Learned m (shortened mapping) false ∷ of_instance all.after i) (of_instance all.after i)) (eq-eqb mapping.eid.iid i its)
+          ∙ ap (λ j. Learned m (shortened mapping) false ∷ j) apart.after;
+      last = omega arith;
+      mine_last = omega arith;
+    }
+
+    taught-apart : (mapping : Record) (all mine : Change Journal) → Apart all mine → Apart (taught of_journal settings m asked mappings mapping all) (taught of_journal settings m asked mappings mapping mine)
+    taught-apart mapping all mine apart = by (is_asked_for asked mappings mapping) refl
+      where
+        told : Change Journal → Change Journal
+        told = entered of_journal settings m (Learned m (shortened mapping) false)
+
+        passes : Change Journal → Bool
+        passes change = not (is_static settings mapping) && has_room (limits_in settings) (view change.after m) mapping
+
+        alike : mapping.eid.iid ≡ i → passes all ≡ passes mine
+        alike its =
+            ap (λ b. not (is_static settings mapping) && b)
+            (ap (λ v. has_room (limits_in settings) v mapping) (seen-then all.after m apart.last)
+            ∙ room-mine all.after i m (limits_in settings) mapping its
+            ∙ ap (λ j. has_room (limits_in settings) (seen_at j m) mapping) apart.after
+            ∙ ap (λ v. has_room (limits_in settings) v mapping) (sym (seen-then mine.after m apart.mine_last)))
+
+        both : (b c : Bool) → b ≡ c → mapping.eid.iid ≡ i → Apart (cond b (told all) all) (cond c (told mine) mine)
+        both true true same its = entered-apart mapping all mine its apart
+        both false false same its = apart
+        both true false same its = cc
+        both false true same its = cc
+
+        by : (b : Bool) → is_asked_for asked mappings mapping ≡ b → Apart (cond (b && passes all) (told all) all) (cond (b && passes mine) (told mine) mine)
+        by false fit = apart
+        by true fit =
+            let its = asked-iid asked mapping mappings fit ∙ is in
+            both (passes all) (passes mine) (alike its) its
+
+    each-apart : (records : List Record) (all mine : Change Journal) → Apart all mine → Apart (each (taught of_journal settings m asked mappings) records all) (each (taught of_journal settings m asked mappings) records mine)
+    each-apart [] all mine apart = apart
+    each-apart (mapping ∷ records) all mine apart = each-apart records _ _ (taught-apart mapping all mine apart)
+
+  -- a reply to an open request of the instance
+  replied-apart : (reply : MapReply) (request : Request) (journal : Journal) → request.eid.iid ≡ i → asked_in reply.nonce journal ≡ Some request.eid.iid → last_moment journal ≤ m → last_moment (of_instance journal i) ≤ m → AreAlike (replied_to of_journal settings m reply (Some request) (unchanged journal)) (replied_to of_journal settings m reply (Some request) (unchanged (of_instance journal i)))
+  replied-apart reply request journal its asked last mine_last = by (is_fit request.eid reply.mappings)
+    where
+      told : Journal → Change Journal
+      told j = entered of_journal settings m (Answered m reply.nonce) (unchanged j)
+
+      answered : Apart (told journal) (told (of_instance journal i))
+      answered = record {
+        entries = refl;
+        after =
+            ap (λ b. cond b (Answered m reply.nonce ∷ of_instance journal i) (of_instance journal i))
+            (ap (counts_in i) asked ∙ eq-eqb request.eid.iid i its);
+        last = omega arith;
+        mine_last = omega arith;
+      }
+
+      learned : Apart (each (taught of_journal settings m request.eid reply.mappings) reply.mappings (told journal)) (each (taught of_journal settings m request.eid reply.mappings) reply.mappings (told (of_instance journal i)))
+      learned = each-apart request.eid reply.mappings its reply.mappings _ _ answered
+
+      tallied-alike : (all mine : Change Journal) → all.entries ≡ mine.entries → AreAlike (tallied of_journal settings m reply all) (tallied of_journal settings m reply mine)
+      tallied-alike all mine same = record {
+        verdict = ap (λ (l : List Entry). (tallied of_journal settings m reply (record { after = journal; entries = l; emits = [] })).verdict) same;
+        entries = same;
+      }
+
+      by : (b : Bool) → AreAlike (cond b (tallied of_journal settings m reply (each (taught of_journal settings m request.eid reply.mappings) reply.mappings (told journal))) (drops Unfit (unchanged journal))) (cond b (tallied of_journal settings m reply (each (taught of_journal settings m request.eid reply.mappings) reply.mappings (told (of_instance journal i)))) (drops Unfit (unchanged (of_instance journal i))))
+      by true = tallied-alike _ _ learned.entries
+      by false = record { verdict = refl; entries = refl }
+
+-- ### tables
+
+-- two that are alike to one another, and on
+alike-then : {S T U : Type 0} (a : Heard S) (b : Heard T) (c : Heard U) → AreAlike a b → AreAlike b c → AreAlike a c
+alike-then a b c one other = record { verdict = one.verdict ∙ other.verdict; entries = one.entries ∙ other.entries }
+
+alike-back : {S T : Type 0} (a : Heard S) (b : Heard T) → AreAlike a b → AreAlike b a
+alike-back a b one = record { verdict = sym one.verdict; entries = sym one.entries }
+
+-- the moment of a table that may be asked
+seen-now : (settings : Settings) (p : Parts) (journal : Journal) (m : ℕ) → Stands settings p journal → MayGo journal m → view_in p m ≡ seen_at journal m
+seen-now settings p journal m stands may = standing-sees settings p journal m stands ∙ seen-then journal m may.0
+
+-- whether a notice makes a table ask
+asked-if : (settings : Settings) (p : Parts) (m : ℕ) (told : Notice) (eid : Eid) → notice_eid told ≡ Some eid → length (noted table settings m told (unchanged p)).entries ≡ cond (asks settings p.limits (view_in p m) told) 1 0
+unfolding noted
+asked-if settings p m (notice.Ask k source) eid names = by (is_missing settings p.limits (view_in p m) k)
+  where
+    by : (b : Bool) → length (cond b (asked table settings m k source false (unchanged p)) (unchanged p)).entries ≡ cond b 1 0
+    by true = refl
+    by false = refl
+asked-if settings p m (notice.Refresh k) eid names = by (is_learned (exact (view_in p m).mappings k) && may_ask settings p.limits (view_in p m) k)
+  where
+    by : (b : Bool) → length (cond b (asked table settings m k None false (unchanged p)) (unchanged p)).entries ≡ cond b 1 0
+    by true = refl
+    by false = refl
+asked-if settings p m _ eid names = cc
+
+-- a reply that answers no probe
+reply-plain : (settings : Settings) (m : ℕ) (from : Addr) (reply : MapReply) (journal : Journal) → reply.probe ≡ false → reply_heard of_journal settings m from reply (unchanged journal) ≡ replied_to of_journal settings m reply (with_nonce (view journal m).requests reply.nonce) (unchanged journal)
+unfolding reply_heard
+reply-plain settings m from reply journal plain =
+    ap (λ b. cond b (probe_replied of_journal settings m from reply ((view journal m).probe_open reply.nonce) (unchanged journal)) (replied_to of_journal settings m reply (with_nonce (view journal m).requests reply.nonce) (unchanged journal))) plain
+
+module _ (settings : Settings) (i m : ℕ) where
+  -- a table asks as the journal of the instance would
+  asks-as : (p : Parts) (journal : Journal) (told : Notice) (eid : Eid) → Stands settings p journal → MayGo journal m → NoncesDiffer m journal → notice_eid told ≡ Some eid → eid.iid ≡ i → asks (standing_in settings p) p.limits (view_in p m) told ≡ asks (standing settings (of_instance journal i)) (limits_in settings) (seen_at (of_instance journal i) m) told
+  asks-as p journal told eid stands may differ names is =
+      ap (λ q. asks (standing_in settings q) q.limits (view_in p m) told) stands.whole
+      ∙ ap₂ (λ s v. asks s (limits_in settings) v told) (stands-in settings journal ∙ sym (all-standing settings i journal)) (seen-now settings p journal m stands may)
+      ∙ asking-isolated (standing settings (of_instance journal i)) (limits_in settings) journal i m told eid (proper-rises settings journal stands.proper) differ names is
+
+  -- what is known of an open request
+  known-now : (journal : Journal) (nonce : ℕ) (request : Request) → with_nonce (open_requests m journal) nonce ≡ Some request → asked_in nonce journal ≡ Some request.eid.iid
+  known-now journal nonce request found =
+      let known = find-each (Known m journal) (λ r. r.nonce == nonce) (open_requests m journal) request (subst (Each (Known m journal)) (requests-open m journal) (all-known m journal)) found in
+      ap (λ n. asked_in n journal) (sym (eqb-true request.nonce nonce known.1)) ∙ known.0.0
+
+  module _ (from : Addr) (reply : MapReply) (request : Request) (read : IsRead reply) (plain : reply.probe ≡ false) (is : request.eid.iid ≡ i) where
+    -- what the journal of the instance would make of the reply
+    abbrev by_instance : Journal → Heard Journal
+    by_instance journal = replied_to of_journal (standing settings (of_instance journal i)) m reply (Some request) (unchanged (of_instance journal i))
+
+    -- a table hears it so
+    hears-as : (p : Parts) (journal : Journal) → Stands settings p journal → MayGo journal m → with_nonce (open_requests m journal) reply.nonce ≡ Some request → AreAlike (reply_heard table (standing_in settings p) m from reply (unchanged p)) (by_instance journal)
+    hears-as p journal stands may found =
+        let rising = proper-rises settings journal stands.proper in
+        let last = may.0 in
+        let mine_last = mine-before i journal rising in
+        let asked = known-now journal reply.nonce request found in
+        let own : standing settings (of_instance journal i) ≡ standing settings journal = all-standing settings i journal in
+        alike-then _ _ _
+        (subst (λ q. AreAlike (reply_heard table (standing_in settings q) m from reply (unchanged q)) (reply_heard of_journal (standing settings journal) m from reply (unchanged journal))) (sym stands.whole)
+        (subst (λ s. AreAlike (reply_heard table s m from reply (unchanged (parts_in settings journal))) (reply_heard of_journal (standing settings journal) m from reply (unchanged journal))) (sym (stands-in settings journal)) tabled-so))
+        (subst (λ s. AreAlike (reply_heard of_journal (standing settings journal) m from reply (unchanged journal)) (replied_to of_journal s m reply (Some request) (unchanged (of_instance journal i)))) (sym own)
+        (subst (λ h. AreAlike h (replied_to of_journal (standing settings journal) m reply (Some request) (unchanged (of_instance journal i)))) (sym replied)
+        (replied-apart (standing settings journal) i m reply request journal is asked last (omega (arith, mine_last, last)))))
+      where
+        ready : Ready settings m (suc (0 + length reply.mappings)) journal
+        ready = record { proper = stands.proper; last = may.0; room = (let room = may.1 in let few = read.few in omega (arith, room, few)) }
+
+        tabled-so : AreAlike (reply_heard table (standing settings journal) m from reply (unchanged (parts_in settings journal))) (reply_heard of_journal (standing settings journal) m from reply (unchanged journal))
+        tabled-so =
+            let hears = reply_heard-alike settings (own_after settings journal) (changed journal) m 0 from reply (unchanged journal) read.bounded ready in
+            record { verdict = ap (λ (h : Heard Parts). h.verdict) hears.same; entries = ap (λ (h : Heard Parts). h.change.entries) hears.same }
+
+        replied : reply_heard of_journal (standing settings journal) m from reply (unchanged journal) ≡ replied_to of_journal (standing settings journal) m reply (Some request) (unchanged journal)
+        replied =
+            reply-plain (standing settings journal) m from reply journal plain
+            ∙ ap (λ o. replied_to of_journal (standing settings journal) m reply o (unchanged journal)) (ap (λ (v : View). with_nonce v.requests reply.nonce) (seen-then journal m may.0) ∙ found)
+
+pub tables-ask : TablesAsk
+tables-ask settings i m one other mine theirs told eid both names is =
+    asked-if (standing_in settings one) one m told eid names
+    ∙ ap (λ b. cond b 1 0)
+    (asks-as settings i m one mine told eid both.stand.0 both.may.0 both.differ.0 names is
+    ∙ ap (λ j. asks (standing settings j) (limits_in settings) (seen_at j m) told) both.same
+    ∙ sym (asks-as settings i m other theirs told eid both.stand.1 both.may.1 both.differ.1 names is))
+    ∙ sym (asked-if (standing_in settings other) other m told eid names)
+
+pub tables-learn : TablesLearn
+tables-learn settings i m one other mine theirs from reply request both read plain found is =
+    alike-then _ _ _
+    (subst (λ j. AreAlike (reply_heard table (standing_in settings one) m from reply (unchanged one)) (replied_to of_journal (standing settings j) m reply (Some request) (unchanged j))) both.same
+    (hears-as settings i m from reply request read plain is one mine both.stand.0 both.may.0 here))
+    (alike-back _ _ (hears-as settings i m from reply request read plain is other theirs both.stand.1 both.may.1 there))
+  where
+    here : with_nonce (open_requests m mine) reply.nonce ≡ Some request
+    here = ap (λ (v : View). with_nonce v.requests reply.nonce) (sym (seen-now settings one mine m both.stand.0 both.may.0)) ∙ found
+
+    own : with_nonce (open_requests m (of_instance mine i)) reply.nonce ≡ Some request
+    own = (nonces-isolated mine i m reply.nonce request (proper-rises settings mine both.stand.0.proper) both.differ.0).0 here is
+
+    there : with_nonce (open_requests m theirs) reply.nonce ≡ Some request
+    there =
+        (nonces-isolated theirs i m reply.nonce request (proper-rises settings theirs both.stand.1.proper) both.differ.1).1
+        (ap (λ j. with_nonce (open_requests m j) reply.nonce) (sym both.same) ∙ own)
