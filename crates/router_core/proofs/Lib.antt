@@ -8,6 +8,7 @@ pub mod EntryLemmas
 pub mod HeldLemmas
 pub mod HostLemmas
 pub mod IdleLemmas
+pub mod KeptRestLemmas
 pub mod LengthLemmas
 pub mod LimitLemmas
 pub mod NotingLemmas

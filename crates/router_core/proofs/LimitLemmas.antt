@@ -17,7 +17,7 @@ use Rattle.map_cache.specs.declared.mapping.Mapping.{Mapping}
 use Rattle.router_model.specs.Cache.{held_of}
 use Rattle.router_model.specs.Changes as model
 use Rattle.router_model.specs.Changes.{has_room, may_replace}
-use Rattle.router_model.specs.Mappings.{Held, exact}
+use Rattle.router_model.specs.Mappings.{Held}
 use Rattle.router_model.specs.Parts.{Parts, view_in}
 use Rattle.router_model.proofs.FewLemmas.{left-few}
 use Rattle.router_core.specs.Bounded.{KeepLimits}

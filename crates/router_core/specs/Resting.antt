@@ -1,5 +1,5 @@
 -- Locators that aren't to be probed until a moment.
-use Rattle.std.specs.Prelude.{◌≡◌, ℕ, ◌+◌, ◌==◌, ◌||◌, nat_le, not, Bool, true, List, Option, Some, None, is_none}
+use Rattle.std.specs.Prelude.{◌≡◌, ℕ, ◌+◌, ◌==◌, ◌||◌, nat_le, nat_lt, not, Bool, true, List, Option, Some, None, is_none, if◌then◌else◌}
 use Rattle.std.specs.List.{list_all}
 use Rattle.ip_headers.specs.declared.addr.Addr.{Addr}
 use Rattle.mapping_records.specs.Eids.{same_address}
@@ -36,3 +36,7 @@ all_rest own until probes locators = list_all (rests own until probes) locators
 abbrev pub IsAtRest : List OwnLocator → ℕ → List Probe → List Mapping → Type 0
 IsAtRest own until probes mappings =
     ((until == 0) || list_all (λ mapping. all_rest own until probes mapping.details.locators) mappings) ≡ true
+
+-- what is known of that moment behind an entry
+abbrev pub rest_behind : ℕ → ℕ → ℕ
+rest_behind until now = if nat_lt now until then until else 0

@@ -1,7 +1,7 @@
 // When the next locator can be probed.
-ghost use Rattle.std.specs.Prelude.{◌≡◌, ◌≤◌, true};
+ghost use Rattle.std.specs.Prelude.{◌≡◌, ◌≤◌, ◌==◌, ◌||◌, true};
 ghost use Rattle.std.specs.List.{list_all};
-ghost use Rattle.router_core.specs.Resting.{all_rest, rests};
+ghost use Rattle.router_core.specs.Resting.{all_rest, rest_behind, rests};
 
 use crate::site::{is_own, ours};
 use lisp_settings::{Locator, OwnLocator};
@@ -44,4 +44,30 @@ pub(crate) fn rest_until(own: &[OwnLocator], m: u64, state: &LocatorState, cache
         until = until.min(rest_of_all(own, m, state, mapping.details.locators.as_slice()));
     }
     until
+}
+
+/// The same behind an entry of a moment. Once that moment has come nothing is known.
+pub(crate) fn rest_behind(rest: u64, m: u64) -> u64
+    ensures { result ≡ rest_behind rest m }
+{
+    if m < rest { rest } else { 0 }
+}
+
+/// The same once a mapping is learned, too, which names these locators.
+pub(crate) fn rest_with(
+    rest: u64,
+    own: &[OwnLocator],
+    m: u64,
+    state: &LocatorState,
+    locators: &[Locator],
+) -> u64
+    ensures sooner { result ≤ rest }
+    ensures rest { ((result == 0)
+        || all_rest own.now result state.now.observed.probes locators.now) ≡ true }
+{
+    // Where nothing is known, nothing is asked.
+    if rest == 0 {
+        return 0;
+    }
+    rest.min(rest_of_all(own, m, state, locators))
 }

@@ -37,7 +37,7 @@ pub struct Table {
     pub(crate) cache: MapCache,
     pub(crate) queue: RequestQueue,
     pub(crate) locators: LocatorState,
-    // Until this moment no locator is to be probed, as far as is known; 0 behind each entry.
+    // Until this moment no locator is to be probed, as far as is known; 0 where nothing is.
     pub(crate) rest: u64,
 }
 

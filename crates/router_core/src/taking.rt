@@ -12,6 +12,7 @@ ghost use Rattle.router_core.specs.Bounded.{KeepLimits};
 ghost use Rattle.router_core.specs.Steps.{MayEnter};
 
 use crate::Table;
+use crate::resting::{rest_behind, rest_with};
 use crate::site::same_address;
 use ip_headers::Addr;
 use lisp_settings::OwnLocator;
@@ -33,12 +34,18 @@ impl Table {
         ensures mapping_room { self.old.mapping_room ≤ self.new.mapping_room + 1 }
         ensures request_room { self.old.request_room ≤ self.new.request_room }
     {
-        self.rest = 0;
+        self.queue.purge(m);
+        self.locators.purge(m);
+        self.rest = rest_with(
+            rest_behind(self.rest, m),
+            self.own.as_slice(),
+            m,
+            &self.locators,
+            mapping.locators.as_slice(),
+        );
         // The length says that there are at most as many as may live.
         let _ = self.cache.len();
         let _ = self.cache.learn(m, mapping, fixed);
-        self.queue.purge(m);
-        self.locators.purge(m);
         self.count += 1;
     }
 
@@ -52,7 +59,7 @@ impl Table {
             ≡ with_entry (Asked m eid source invoked nonce) self.old.parts }
         ensures request_room { self.old.request_room ≤ self.new.request_room + 1 }
     {
-        self.rest = 0;
+        self.rest = rest_behind(self.rest, m);
         self.cache.purge(m);
         // The length says that there are at most as many as may wait.
         let _ = self.queue.len();
@@ -69,7 +76,7 @@ impl Table {
         ensures mapping_room { self.old.mapping_room ≤ self.new.mapping_room }
         ensures request_room { self.old.request_room ≤ self.new.request_room }
     {
-        self.rest = 0;
+        self.rest = rest_behind(self.rest, m);
         self.cache.purge(m);
         self.queue.purge(m);
         self.locators.purge(m);
@@ -84,7 +91,7 @@ impl Table {
         ensures parts { self.new.parts ≡ with_entry (Retried m nonce) self.old.parts }
         ensures probe_room { self.old.probe_room ≤ self.new.probe_room }
     {
-        self.rest = 0;
+        self.rest = rest_behind(self.rest, m);
         self.cache.purge(m);
         self.queue.purge(m);
         self.locators.purge(m);
@@ -113,7 +120,7 @@ impl Table {
         requires may { MayEnter 1 m self.old.parts }
         ensures parts { self.new.parts ≡ with_entry (ProbeAnswered m nonce) self.old.parts }
     {
-        self.rest = 0;
+        self.rest = rest_behind(self.rest, m);
         self.cache.purge(m);
         self.queue.purge(m);
         self.locators.probe_answered(m, nonce);
@@ -128,7 +135,7 @@ impl Table {
         requires short { nonce < 2 ^ 24 }
         ensures parts { self.new.parts ≡ with_entry (EchoStarted m rloc nonce) self.old.parts }
     {
-        self.rest = 0;
+        self.rest = rest_behind(self.rest, m);
         self.cache.purge(m);
         self.queue.purge(m);
         let _ = self.locators.echo_started(m, rloc, nonce);
@@ -141,7 +148,7 @@ impl Table {
         requires may { MayEnter 1 m self.old.parts }
         ensures parts { self.new.parts ≡ with_entry (EchoHeard m rloc.now) self.old.parts }
     {
-        self.rest = 0;
+        self.rest = rest_behind(self.rest, m);
         self.cache.purge(m);
         self.queue.purge(m);
         self.locators.echo_heard(m, rloc);
@@ -153,7 +160,7 @@ impl Table {
         requires may { MayEnter 1 m self.old.parts }
         ensures parts { self.new.parts ≡ with_entry (DataFrom m rloc.now) self.old.parts }
     {
-        self.rest = 0;
+        self.rest = rest_behind(self.rest, m);
         self.cache.purge(m);
         self.queue.purge(m);
         self.locators.data_from(m, rloc);
@@ -168,7 +175,7 @@ impl Table {
         requires short { nonce < 2 ^ 24 }
         ensures parts { self.new.parts ≡ with_entry (EchoWanted m rloc nonce) self.old.parts }
     {
-        self.rest = 0;
+        self.rest = rest_behind(self.rest, m);
         self.cache.purge(m);
         self.queue.purge(m);
         let _ = self.locators.echo_wanted(m, rloc, nonce);
@@ -184,7 +191,7 @@ impl Table {
         ensures probe_room { self.old.probe_room ≤ self.new.probe_room }
         ensures solicit_room { self.old.solicit_room ≤ self.new.solicit_room + 1 }
     {
-        self.rest = 0;
+        self.rest = rest_behind(self.rest, m);
         self.cache.purge(m);
         self.queue.purge(m);
         let _ = self.locators.solicited(m, rloc, eid);
@@ -198,7 +205,7 @@ impl Table {
         requires width { width ≤ 32 }
         ensures parts { self.new.parts ≡ with_entry (Bits m eid.now bits width) self.old.parts }
     {
-        self.rest = 0;
+        self.rest = rest_behind(self.rest, m);
         self.cache.purge(m);
         self.queue.purge(m);
         self.locators.purge(m);

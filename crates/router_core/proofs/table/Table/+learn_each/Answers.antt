@@ -1,4 +1,4 @@
-use Rattle.std.proofs.Common.{rules, ◌∷◌, ◌++◌, drop, arith, sym, ap, ◌∙◌}
+use Rattle.std.proofs.Common.{rules, ◌++◌, drop, arith, sym, ap, ◌∙◌}
 use Rattle.std.specs.Option.{option_to_list}
 use Rattle.mapping_records.specs.Record.{InRange}
 use Rattle.router_core.proofs.CopyLemmas.{all-left, copies-left, length-left}

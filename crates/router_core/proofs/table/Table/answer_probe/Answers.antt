@@ -1,4 +1,4 @@
-use Rattle.std.proofs.Common.{List, ap, ap₂, arith, refl, subst, sym, ℕ, ◌+◌, ◌∙◌, ◌≤◌}
+use Rattle.std.proofs.Common.{List, ap, ap₂, arith, subst, sym, ℕ, ◌+◌, ◌∙◌, ◌≤◌}
 use Rattle.map_cache.specs.Cache.{lasting}
 use Rattle.map_cache.specs.declared.mapping.Mapping.{Mapping}
 use Rattle.request_queue.specs.declared.request.Request.{Request}
@@ -6,10 +6,12 @@ use Rattle.router_log.specs.declared.entry.Entry.TheVariants.{ProbeAnswered}
 use Rattle.locator_state.specs.Observed.{Observed, longest}
 use Rattle.locator_state.specs.Probes.{probe_answered}
 use Rattle.router_model.specs.Parts.{with_entry}
+use Rattle.router_core.specs.Resting.{IsAtRest}
 use Rattle.router_core.specs.Table.{TableSeen}
 use Rattle.router_core.specs.Bounded.{AreShort, AreVersioned, KeepLimits}
 use Rattle.router_core.proofs.BoundLemmas.{lasting-versioned, probes-short}
 use Rattle.router_core.proofs.EntryLemmas.{parts_with, probe_answered-parts}
+use Rattle.router_core.proofs.KeptRestLemmas.{answered-behind}
 use Rattle.router_core.proofs.LimitLemmas.{lasting-keeps}
 use Rattle.router_core.proofs.LengthLemmas.{probe_answered-few}
 use Rattle.router_core.proofs.table.Table.answer_probe.Goals as goal
@@ -34,7 +36,8 @@ invariant_of-self c =
     let limited = c.self.invariant.5 in
     let are = c.self.invariant.4 in (
       omega (arith, few),
-      refl,
+      subst (λ (rest : ℕ). IsAtRest inside.own.items rest c.probe_answered.new.self.observed.probes c.purge.new.self.mappings) (sym c.rest_behind-self-inside.ensures)
+          (answered-behind inside.own.items inside.rest m c.args.nonce inside.locators.observed.probes inside.cache.mappings _ _ c.self.invariant.1 (ap (λ (o : Observed). o.probes) c.probe_answered.ensures.observed) c.purge.ensures.mappings),
       subst AreVersioned (sym c.purge.ensures.mappings) (lasting-versioned m inside.cache.mappings c.self.invariant.2),
       subst AreShort (sym c.probe_answered.ensures.observed) (probes-short m (probe_answered m c.args.nonce inside.locators.observed.probes) inside.locators.observed c.self.invariant.3),
       record {

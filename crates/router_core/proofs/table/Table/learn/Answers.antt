@@ -1,14 +1,18 @@
-use Rattle.std.proofs.Common.{IsTrue, List, ◌≤◌, ap, ap₂, arith, refl, subst, sym, ℕ, ◌+◌, ◌<◌, ◌∙◌, ◌≡◌}
+use Rattle.std.proofs.Common.{IsTrue, List, ◌≤◌, ap, ap₂, arith, subst, sym, ℕ, ◌+◌, ◌<◌, ◌==◌, ◌||◌, ◌∙◌, ◌≡◌}
+use Rattle.lisp_settings.specs.declared.settings.OwnLocator.{OwnLocator}
+use Rattle.mapping_records.specs.declared.record.Locator.{Locator}
 use Rattle.map_cache.specs.Cache.{has_room, lasting, learned}
 use Rattle.map_cache.specs.declared.mapping.Mapping.{Mapping}
 use Rattle.request_queue.specs.declared.request.Request.{Request}
 use Rattle.router_log.specs.declared.entry.Entry.TheVariants.{Learned}
 use Rattle.locator_state.specs.Observed.{Observed, longest}
 use Rattle.router_model.specs.Parts.{with_entry}
+use Rattle.router_core.specs.Resting.{all_rest}
 use Rattle.router_core.specs.Table.{TableSeen}
 use Rattle.router_core.specs.Bounded.{AreShort, AreVersioned, KeepLimits}
 use Rattle.router_core.proofs.BoundLemmas.{learned-versioned, recent-short}
 use Rattle.router_core.proofs.EntryLemmas.{learned-parts, parts_with, was_learned}
+use Rattle.router_core.proofs.KeptRestLemmas.{learned-behind}
 use Rattle.router_core.proofs.LengthLemmas.{recent-few}
 use Rattle.router_core.proofs.table.Table.learn.Goals as goal
 
@@ -41,7 +45,10 @@ invariant_of-self c =
     was_learned c.learn.result (has_room inside.cache.limits c.args.mapping c.args.fixed (lasting m inside.cache.mappings)) c.learn.ensures.ok (c.learn.ensures.memory room) c.learn.ensures.full place in
     let keeps = subst (λ (t : TableSeen). KeepLimits t.parts.limits (learned m c.args.mapping c.args.fixed t.parts.mappings)) (sym c.self.view_is) c.requires.keeps in (
       omega (arith, few),
-      refl,
+      learned-behind inside.own.items inside.rest m inside.locators.observed.probes inside.cache.mappings c.args.mapping c.args.fixed c.rest_with-self-inside.result _ _ c.self.invariant.1 (ap (λ (o : Observed). o.probes) c.purge-2.ensures.observed) ms
+          (subst (λ (n : ℕ). c.rest_with-self-inside.result ≤ n) c.rest_behind.ensures c.rest_with-self-inside.ensures.sooner)
+          (ap₂ (λ (own : List OwnLocator) (locators : List Locator). (c.rest_with-self-inside.result == 0) || all_rest own c.rest_with-self-inside.result c.purge-2.new.self.observed.probes locators) (sym c.as_slice.ensures.value) (sym c.as_slice-2.ensures)
+          ∙ c.rest_with-self-inside.ensures.rest),
       subst AreVersioned (sym ms) (learned-versioned m c.args.mapping c.args.fixed inside.cache.mappings c.requires.version c.self.invariant.2),
       subst AreShort (sym c.purge-2.ensures.observed) (recent-short m inside.locators.observed c.self.invariant.3),
       record {

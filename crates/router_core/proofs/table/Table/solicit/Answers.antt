@@ -1,4 +1,4 @@
-use Rattle.std.proofs.Common.{List, ap, ap₂, arith, refl, subst, sym, ℕ, ◌+◌, ◌<◌, ◌∙◌, ◌≡◌, ◌≤◌, count_by}
+use Rattle.std.proofs.Common.{List, ap, ap₂, arith, subst, sym, ℕ, ◌+◌, ◌<◌, ◌∙◌, ◌≡◌, ◌≤◌, count_by}
 use Rattle.locator_state.specs.Observed.{Observed, longest, with_solicits}
 use Rattle.locator_state.specs.Solicits.{solicit_counts, solicited}
 use Rattle.map_cache.specs.Cache.{lasting}
@@ -6,10 +6,12 @@ use Rattle.map_cache.specs.declared.mapping.Mapping.{Mapping}
 use Rattle.request_queue.specs.declared.request.Request.{Request}
 use Rattle.router_log.specs.declared.entry.Entry.TheVariants.{Solicited}
 use Rattle.router_model.specs.Parts.{with_entry}
+use Rattle.router_core.specs.Resting.{IsAtRest}
 use Rattle.router_core.specs.Table.{TableSeen}
 use Rattle.router_core.specs.Bounded.{AreShort, AreVersioned, KeepLimits}
 use Rattle.router_core.proofs.BoundLemmas.{lasting-versioned, solicits-short}
 use Rattle.router_core.proofs.EntryLemmas.{parts_with, solicited-parts, was_kept}
+use Rattle.router_core.proofs.KeptRestLemmas.{behind}
 use Rattle.router_core.proofs.LimitLemmas.{lasting-keeps}
 use Rattle.router_core.proofs.LengthLemmas.{few-solicits, solicited-few}
 use Rattle.router_core.proofs.table.Table.solicit.Goals as goal
@@ -38,7 +40,8 @@ invariant_of-self c =
     was_kept c.solicited.result inside.locators.solicit_room c.solicited.ensures.ok c.solicited.ensures.memory room in
     let place = subst (λ (t : TableSeen). count_by (solicit_counts m) t.parts.observed.solicits < 4096) (sym c.self.view_is) (few-solicits c.args.self.now.parts m c.requires.may.later c.args.rloc c.args.eid c.requires.place) in (
       omega (arith, few),
-      refl,
+      subst (λ (rest : ℕ). IsAtRest inside.own.items rest c.solicited.new.self.observed.probes c.purge.new.self.mappings) (sym c.rest_behind-self-inside.ensures)
+          (behind inside.own.items inside.rest m inside.locators.observed.probes inside.cache.mappings _ _ c.self.invariant.1 (ap (λ (o : Observed). o.probes) os) c.purge.ensures.mappings),
       subst AreVersioned (sym c.purge.ensures.mappings) (lasting-versioned m inside.cache.mappings c.self.invariant.2),
       subst AreShort (sym os) (solicits-short m (solicited m c.args.rloc c.args.eid inside.locators.observed.solicits) inside.locators.observed c.self.invariant.3),
       record {

@@ -1,4 +1,4 @@
-use Rattle.std.proofs.Common.{List, ap, ap₂, arith, refl, subst, sym, ℕ, ◌+◌, ◌<◌, ◌∙◌, ◌≡◌, ◌≤◌, count_by}
+use Rattle.std.proofs.Common.{List, ap, ap₂, arith, subst, sym, ℕ, ◌+◌, ◌<◌, ◌∙◌, ◌≡◌, ◌≤◌, count_by}
 use Rattle.locator_state.specs.Echoes.{wanted, wish_counts}
 use Rattle.locator_state.specs.Observed.{Observed, longest, with_wishes}
 use Rattle.map_cache.specs.Cache.{lasting}
@@ -6,10 +6,12 @@ use Rattle.map_cache.specs.declared.mapping.Mapping.{Mapping}
 use Rattle.request_queue.specs.declared.request.Request.{Request}
 use Rattle.router_log.specs.declared.entry.Entry.TheVariants.{EchoWanted}
 use Rattle.router_model.specs.Parts.{with_entry}
+use Rattle.router_core.specs.Resting.{IsAtRest}
 use Rattle.router_core.specs.Table.{TableSeen}
 use Rattle.router_core.specs.Bounded.{AreShort, AreVersioned, KeepLimits}
 use Rattle.router_core.proofs.BoundLemmas.{lasting-versioned, wanted-short}
 use Rattle.router_core.proofs.EntryLemmas.{parts_with, wanted-parts, was_kept}
+use Rattle.router_core.proofs.KeptRestLemmas.{behind}
 use Rattle.router_core.proofs.LimitLemmas.{lasting-keeps}
 use Rattle.router_core.proofs.LengthLemmas.{few-wishes, wanted-few}
 use Rattle.router_core.proofs.table.Table.want_echo.Goals as goal
@@ -41,7 +43,8 @@ invariant_of-self c =
     was_kept c.echo_wanted.result inside.locators.wish_room c.echo_wanted.ensures.ok c.echo_wanted.ensures.memory room in
     let place = subst (λ (t : TableSeen). count_by (wish_counts m) t.parts.observed.wishes < 4096) (sym c.self.view_is) (few-wishes c.args.self.now.parts m c.requires.may.later c.args.rloc c.args.nonce c.requires.place) in (
       omega (arith, few),
-      refl,
+      subst (λ (rest : ℕ). IsAtRest inside.own.items rest c.echo_wanted.new.self.observed.probes c.purge.new.self.mappings) (sym c.rest_behind-self-inside.ensures)
+          (behind inside.own.items inside.rest m inside.locators.observed.probes inside.cache.mappings _ _ c.self.invariant.1 (ap (λ (o : Observed). o.probes) os) c.purge.ensures.mappings),
       subst AreVersioned (sym c.purge.ensures.mappings) (lasting-versioned m inside.cache.mappings c.self.invariant.2),
       subst AreShort (sym os) (wanted-short m c.args.rloc c.args.nonce inside.locators.observed c.requires.short c.self.invariant.3),
       record {
