@@ -1,5 +1,5 @@
 -- The nodes of names, in order.
-use Rattle.std.proofs.Common.{◌≡◌, ℕ, zero, suc, ◌<◌, ◌==◌, true, cond, if◌then◌else◌, List, [], ◌∷◌, ◌++◌, length, get_or, take, drop, slice_get, Option, Some, None, is_some, IsSome, All, inl, inr, refl, sym, ap, ◌∙◌, arith}
+use Rattle.std.proofs.Common.{◌≡◌, ℕ, zero, suc, ◌<◌, ◌==◌, true, cond, if◌then◌else◌, List, [], ◌∷◌, ◌++◌, length, get_or, take, drop, slice_get, Option, Some, None, is_some, All, inl, inr, refl, sym, ap, ◌∙◌, arith}
 use Rattle.std.proofs.lemmas.Bool.{cases_Bool, eqb-true}
 use Rattle.std.proofs.lemmas.List.Elements.{All-head, All-tail}
 use Rattle.node_store.specs.Store.{Store, node_at, IsLive}
@@ -72,19 +72,6 @@ module _ {T : Type 0} where
   -- where the first name is another one, the item is one of those behind
   named-first : (store : Store T) (first : ℕ) (names : List ℕ) (name : ℕ) (item : T) → node_at store first ≡ Some item → item_named (first ∷ names) (items_at store (first ∷ names)) name ≡ (if first == name then Some item else item_named names (items_at store names) name)
   named-first store first names name item is = ap (λ items. item_named (first ∷ names) items name) (items_at-more store first names item is)
-
-  -- an item that has the name is its node
-  pub item_named-items_at : (store : Store T) (names : List ℕ) (name : ℕ) → All (IsLive store) names → IsSome (item_named names (items_at store names) name) → item_named names (items_at store names) name ≡ node_at store name
-  item_named-items_at store [] name each found = absurd (cc (found))
-  item_named-items_at store (first ∷ names) name each found =
-      let node = live_some (node_at store first) (All-head (IsLive store) first names each) in
-      let step = named-first store first names name node.0 node.1 in
-      elim (cases_Bool (first == name)) [
-        | inl same ↦ step ∙ ap (λ b. cond b (Some node.0) (item_named names (items_at store names) name)) same ∙ sym node.1 ∙ ap (node_at store) (eqb-true first name same)
-        | inr differ ↦
-            let on = step ∙ ap (λ b. cond b (Some node.0) (item_named names (items_at store names) name)) differ in
-            on ∙ item_named-items_at store names name (All-tail (IsLive store) first names each) (ap is_some (sym on) ∙ found)
-      ]
 
   -- a name without a node is no item's
   pub item_named-dead : (store : Store T) (names : List ℕ) (name : ℕ) → All (IsLive store) names → node_at store name ≡ None → item_named names (items_at store names) name ≡ None

@@ -96,16 +96,6 @@ impl<T> NamedList<T> {
         }
     }
 
-    /// The item of that name.
-    pub fn named(&self, name: u32) -> &T
-        requires { IsSome (item_named self.now.names self.now.items name) }
-        ensures item { item_named self.now.names self.now.items name ≡ Some result.now }
-        ensures by_place { (index : _) → slice_get self.now.names index ≡ Some name
-            → slice_get self.now.items index ≡ Some result.now }
-    {
-        self.store.read(name, &mut Reads::new())
-    }
-
     /// The first place whose item isn't below, found by halving, where those that are stand before
     /// those that aren't: the item before that place is below, the one at it isn't.
     pub fn place<F: Fn(&T) -> bool>(&self, is_below: F) -> usize
