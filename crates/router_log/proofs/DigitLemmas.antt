@@ -29,6 +29,10 @@ length_more n low fits = ap length (decimal_more n low fits) ∙ length-append _
 pub length_octet : (n : ℕ) → n < 256 → length (decimal n) ≤ 3
 length_octet n high = length-decimal-le 3 n (omega arith) (omega arith) (omega arith)
 
+-- a port has at most five
+pub length_port : (n : ℕ) → n < 2 ^ 16 → length (decimal n) ≤ 5
+length_port n high = length-decimal-le 5 n (omega arith) (omega arith) (omega arith)
+
 -- a number of 64 bits has at most twenty
 pub length_any : (n : ℕ) → n < 2 ^ 64 → length (decimal n) ≤ 20
 length_any n fits = length-decimal-le 20 n (omega arith) (omega arith) fits

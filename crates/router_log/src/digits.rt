@@ -1,4 +1,4 @@
-// Decimal digits, written from the last to the first into text that is long enough for them.
+// Text that is written from its end to its front, into octets that are long enough for it.
 ghost use Rattle.std.specs.Prelude.{◌≡◌, ◌+◌, ◌/◌, ◌%◌, ◌<◌, ◌≤◌, ◌∷◌, ◌++◌, length, drop};
 ghost use Rattle.std.specs.Fmt.{decimal};
 
@@ -49,13 +49,33 @@ fn write_pair(pair: u64, text: &mut [u8], at: usize)
     text[at] = PAIRS[place];
 }
 
-/// Writes a dot and a number, as `write_digits` does. Returns the place of the dot.
-pub fn write_behind_dot(number: u64, text: &mut [u8], end: usize) -> usize
+/// Writes octets before the place `end`. Returns the place of the first one.
+pub fn write_octets(octets: &[u8], text: &mut [u8], end: usize) -> usize
+    requires { (length octets.now ≤ end) × (end ≤ length text.old) }
+    ensures place { result + length octets.now ≡ end }
+    ensures written { drop result text.new ≡ octets.now ++ drop end text.old }
+{
+    let from = end - octets.len();
+    text[from..end].copy_from_slice(octets);
+    from
+}
+
+/// Writes one octet before the place `end`. Returns its place.
+pub fn write_octet(octet: u8, text: &mut [u8], end: usize) -> usize
+    requires { (0 < end) × (end ≤ length text.old) }
+    ensures place { result + 1 ≡ end }
+    ensures written { drop result text.new ≡ octet ∷ drop end text.old }
+{
+    text[end - 1] = octet;
+    end - 1
+}
+
+/// Writes an octet and a number, as `write_digits` does. Returns the place of the octet.
+pub fn write_behind(octet: u8, number: u64, text: &mut [u8], end: usize) -> usize
     requires { (length (decimal number) < end) × (end ≤ length text.old) }
     ensures place { result + 1 + length (decimal number) ≡ end }
-    ensures written { drop result text.new ≡ 46 ∷ (decimal number ++ drop end text.old) }
+    ensures written { drop result text.new ≡ octet ∷ (decimal number ++ drop end text.old) }
 {
     let from = write_digits(number, text, end);
-    text[from - 1] = b'.';
-    from - 1
+    write_octet(octet, text, from)
 }

@@ -1,10 +1,14 @@
 // The line of a frame in a report.
-ghost use Rattle.std.specs.Prelude.{◌≡◌, ◌++◌, IfOk, OnOk};
+ghost use Rattle.std.specs.Prelude.{◌≡◌, ◌∷◌, ◌++◌, codes, IfOk, OnOk};
+ghost use Rattle.std.specs.Fmt.{decimal};
+ghost use Rattle.router_log.specs.Numbers.{address_text};
 ghost use Rattle.router_log.specs.Lines.{done_text, frame_line, length_text, moment_text, reason_text, verdict_text};
 
-use crate::numbers::{push_address, push_named, push_nine_digits, push_number};
+use crate::digits::{write_behind, write_digits, write_octet, write_octets};
+use crate::numbers::{MOST_ADDRESS, nine_digits, push_named, write_address};
 use crate::refusals::push_refused;
 use crate::{Done, Reason, Verdict};
+use ip_headers::Addr;
 use octets::{NoMemory, Octets};
 use std::alloc::Global;
 
@@ -34,27 +38,33 @@ pub fn push_frame_line(
 ) -> Result<(), NoMemory>
     ensures { OnOk result (out.new ≡ out.old ++ frame_line frame moment n verdict.now) }
 {
-    push_number(u64::from(frame), out)?;
-    push_moment(moment, out)?;
-    push_length(n, out)?;
+    push_front(frame, moment, n, out)?;
     push_verdict(verdict, out)?;
     out.push(b'\n')
 }
 
-fn push_moment(moment: u64, out: &mut Octets) -> Result<(), NoMemory>
-    ensures { OnOk result (out.new ≡ out.old ++ moment_text moment) }
-{
-    out.push(b' ')?;
-    push_number(moment / 1_000_000_000, out)?;
-    out.push(b'.')?;
-    push_nine_digits((moment % 1_000_000_000) as u32, out)
-}
+// The most octets before a verdict: three numbers, nine digits, and what stands between them.
+const MOST_FRONT: usize = 75;
 
-fn push_length(n: u64, out: &mut Octets) -> Result<(), NoMemory>
-    ensures { OnOk result (out.new ≡ out.old ++ length_text n) }
+// Appends what comes before the verdict.
+#[tactic(auto, using(crate::proofs::DigitLemmas::length_any), unfolding(crate::specs::Numbers::named))]
+fn push_front(frame: u32, moment: u64, n: u64, out: &mut Octets) -> Result<(), NoMemory>
+    ensures { OnOk result (out.new ≡ out.old
+        ++ (decimal frame ++ (moment_text moment ++ length_text n))) }
 {
-    push_named(b" n=", n, out)?;
-    out.push(b' ')
+    let mut text = [0u8; MOST_FRONT];
+    let end = write_octet(b' ', &mut text, MOST_FRONT);
+    let end = write_digits(n, &mut text, end);
+    let end = write_octets(b" n=", &mut text, end);
+    let end = write_octets(
+        &nine_digits((moment % 1_000_000_000) as u32),
+        &mut text,
+        end,
+    );
+    let end = write_octet(b'.', &mut text, end);
+    let end = write_behind(b' ', moment / 1_000_000_000, &mut text, end);
+    let from = write_digits(u64::from(frame), &mut text, end);
+    out.append(&text[from..])
 }
 
 fn push_verdict(verdict: &Verdict, out: &mut Octets) -> Result<(), NoMemory>
@@ -63,14 +73,7 @@ fn push_verdict(verdict: &Verdict, out: &mut Octets) -> Result<(), NoMemory>
     match verdict {
         Verdict::Own => out.append(b"own"),
         Verdict::Local => out.append(b"local"),
-        Verdict::Encapsulated { from, to, port, .. } => {
-            out.append(b"encapsulated ")?;
-            push_address(*from, out)?;
-            out.push(b' ')?;
-            push_address(*to, out)?;
-            out.push(b' ')?;
-            push_number(u64::from(*port), out)
-        }
+        Verdict::Encapsulated { from, to, port, .. } => push_encapsulated(*from, *to, *port, out),
         Verdict::Delivered { iid, .. } => push_named(b"delivered ", u64::from(*iid), out),
         Verdict::Native { .. } => out.append(b"native"),
         Verdict::Control(done) => {
@@ -82,6 +85,24 @@ fn push_verdict(verdict: &Verdict, out: &mut Octets) -> Result<(), NoMemory>
             push_reason(*reason, out)
         }
     }
+}
+
+// The most octets of a packet's way into a tunnel: a word, two addresses, a port of five digits, and what
+// stands between them.
+const MOST_WAY: usize = 13 + 2 * MOST_ADDRESS + 7;
+
+#[tactic(auto, using(crate::proofs::DigitLemmas::length_port))]
+fn push_encapsulated(from: Addr, to: Addr, port: u16, out: &mut Octets) -> Result<(), NoMemory>
+    ensures { OnOk result (out.new ≡ out.old ++ (codes "encapsulated "
+        ++ (address_text from ++ (32 ∷ (address_text to ++ (32 ∷ decimal port)))))) }
+{
+    let mut text = [0u8; MOST_WAY];
+    let end = write_behind(b' ', u64::from(port), &mut text, MOST_WAY);
+    let end = write_address(to, &mut text, end);
+    let end = write_octet(b' ', &mut text, end);
+    let end = write_address(from, &mut text, end);
+    let from = write_octets(b"encapsulated ", &mut text, end);
+    out.append(&text[from..])
 }
 
 fn push_done(done: Done, out: &mut Octets) -> Result<(), NoMemory>

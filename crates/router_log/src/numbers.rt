@@ -1,9 +1,9 @@
 // Numbers and addresses as a report writes them.
-ghost use Rattle.std.specs.Prelude.{◌≡◌, ◌<◌, ◌+◌, ◌%◌, ◌++◌, flat_map, OnOk};
+ghost use Rattle.std.specs.Prelude.{◌≡◌, ◌<◌, ◌≤◌, ◌+◌, ◌%◌, ◌^◌, ◌++◌, length, drop, flat_map, OnOk};
 ghost use Rattle.std.specs.Fmt.{decimal};
 ghost use Rattle.router_log.specs.Numbers.{address_text, dotted, fixed_decimal, fixed_hex, four_groups, groups, hex_16, hex_glyph, named};
 
-use crate::digits::{write_behind_dot, write_digits};
+use crate::digits::{write_behind, write_digits, write_octet, write_octets};
 use ip_headers::Addr;
 use octets::{NoMemory, Octets};
 
@@ -27,12 +27,12 @@ pub fn push_named(name: &[u8], number: u64, out: &mut Octets) -> Result<(), NoMe
     push_number(number, out)
 }
 
-/// Appends nine decimal digits, with leading zeros.
-pub fn push_nine_digits(number: u32, out: &mut Octets) -> Result<(), NoMemory>
+/// Nine decimal digits, with leading zeros.
+pub(crate) fn nine_digits(number: u32) -> [u8; 9]
     requires { number < 1000000000 }
-    ensures { OnOk result (out.new ≡ out.old ++ fixed_decimal 9 number) }
+    ensures { result ≡ fixed_decimal 9 number }
 {
-    let digits = [
+    [
         digit(number / 100_000_000),
         digit(number / 10_000_000),
         digit(number / 1_000_000),
@@ -42,8 +42,7 @@ pub fn push_nine_digits(number: u32, out: &mut Octets) -> Result<(), NoMemory>
         digit(number / 100),
         digit(number / 10),
         digit(number),
-    ];
-    out.append(&digits)
+    ]
 }
 
 /// Appends sixteen hexadecimal digits, with leading zeros.
@@ -101,36 +100,53 @@ fn digit(number: u32) -> u8
     b'0' + (number % 10) as u8
 }
 
+/// The most octets of an address.
+pub(crate) const MOST_ADDRESS: usize = 39;
+
 /// Appends an address: IPv4 dotted, IPv6 as eight groups of four hexadecimal digits.
 pub fn push_address(address: Addr, out: &mut Octets) -> Result<(), NoMemory>
     ensures { OnOk result (out.new ≡ out.old ++ address_text address) }
 {
+    let mut text = [0u8; MOST_ADDRESS];
+    let from = write_address(address, &mut text, MOST_ADDRESS);
+    out.append(&text[from..])
+}
+
+/// Writes an address before the place `end`. Returns the place of its first octet.
+pub(crate) fn write_address(address: Addr, text: &mut [u8], end: usize) -> usize
+    requires { (MOST_ADDRESS ≤ end) × (end ≤ length text.old) }
+    ensures place { (result ≤ end) × (end ≤ result + MOST_ADDRESS) }
+    ensures written { drop result text.new ≡ address_text address ++ drop end text.old }
+{
     match address {
-        Addr::V4(number) => push_dotted(number, out),
-        Addr::V6(number) => push_groups(number, out),
+        Addr::V4(number) => write_dotted(u64::from(number), text, end),
+        Addr::V6(number) => write_groups(number, text, end),
     }
 }
 
+// Four numbers of at most three digits, and three dots.
 #[tactic(auto, using(crate::proofs::DigitLemmas::length_octet))]
-fn push_dotted(number: u32, out: &mut Octets) -> Result<(), NoMemory>
-    ensures { OnOk result (out.new ≡ out.old ++ dotted number) }
+fn write_dotted(number: u64, text: &mut [u8], end: usize) -> usize
+    requires { (number < 2 ^ 32) × ((15 ≤ end) × (end ≤ length text.old)) }
+    ensures place { (result ≤ end) × (end ≤ result + 15) }
+    ensures written { drop result text.new ≡ dotted number ++ drop end text.old }
 {
-    let number = u64::from(number);
-    // Four numbers of at most three digits, and three dots.
-    let mut text = [0u8; 15];
-    let fourth = write_behind_dot(number % 256, &mut text, 15);
-    let third = write_behind_dot(number / 256 % 256, &mut text, fourth);
-    let second = write_behind_dot(number / 65_536 % 256, &mut text, third);
-    let first = write_digits(number / 16_777_216, &mut text, second);
-    out.append(&text[first..])
+    let fourth = write_behind(b'.', number % 256, text, end);
+    let third = write_behind(b'.', number / 256 % 256, text, fourth);
+    let second = write_behind(b'.', number / 65_536 % 256, text, third);
+    write_digits(number / 16_777_216, text, second)
 }
 
-fn push_groups(number: u128, out: &mut Octets) -> Result<(), NoMemory>
-    ensures { OnOk result (out.new ≡ out.old ++ groups number) }
+fn write_groups(number: u128, text: &mut [u8], end: usize) -> usize
+    requires { (39 ≤ end) × (end ≤ length text.old) }
+    ensures place { result + 39 ≡ end }
+    ensures written { drop result text.new ≡ groups number ++ drop end text.old }
 {
-    out.append(&four_groups((number / 0x1_0000_0000_0000_0000) as u64))?;
-    out.push(b':')?;
-    out.append(&four_groups((number % 0x1_0000_0000_0000_0000) as u64))
+    let lower = four_groups((number % 0x1_0000_0000_0000_0000) as u64);
+    let upper = four_groups((number / 0x1_0000_0000_0000_0000) as u64);
+    let from = write_octets(&lower, text, end);
+    let from = write_octet(b':', text, from);
+    write_octets(&upper, text, from)
 }
 
 #[tactic(auto, unfolding(crate::specs::Numbers::four_groups))]
