@@ -25,7 +25,7 @@ use Rattle.router_model.specs.Note.{is_learned, is_missing, noted}
 use Rattle.router_model.specs.Parts.{Parts, Stands, parts_in, standing_in, table, view_in}
 use Rattle.router_model.specs.Requests.{open_requests}
 use Rattle.router_model.specs.Standing.{own_after, standing}
-use Rattle.router_model.specs.Tenants.{AreAlike, IsRead, NoncesDiffer, TablesAsk, TablesLearn, asks, notice_eid}
+use Rattle.router_model.specs.Tenants.{AreAlike, IsRead, LearningIsolated, NoncesDiffer, TablesAsk, TablesLearn, asks, notice_eid}
 use Rattle.router_model.specs.View.{View, seen_at, view}
 use Rattle.router_model.proofs.HearLemmas.{reply_heard-alike}
 use Rattle.router_model.proofs.IsolationLemmas.{all-standing, mine-before}
@@ -220,6 +220,25 @@ module _ (settings : Settings) (i m : ℕ) where
         replied =
             reply-plain (standing settings journal) m from reply journal plain
             ∙ ap (λ o. replied_to of_journal (standing settings journal) m reply o (unchanged journal)) (ap (λ (v : View). with_nonce v.requests reply.nonce) (seen-then journal m may.0) ∙ found)
+
+-- ### what is promised
+
+pub learning-isolated : LearningIsolated
+learning-isolated settings journal i m from reply request rising last differ plain found is =
+    subst (λ h. AreAlike h (reply_heard of_journal settings m from reply (unchanged (of_instance journal i)))) (sym (replied journal last found))
+    (subst (λ h. AreAlike (replied_to of_journal settings m reply (Some request) (unchanged journal)) h) (sym (replied (of_instance journal i) mine_last own))
+    (replied-apart settings i m reply request journal is (known-now settings i m journal reply.nonce request found) last mine_last))
+  where
+    mine_last : last_moment (of_instance journal i) ≤ m
+    mine_last = (let before = mine-before i journal rising in omega (arith, before, last))
+
+    own : with_nonce (open_requests m (of_instance journal i)) reply.nonce ≡ Some request
+    own = (nonces-isolated journal i m reply.nonce request rising differ).0 found is
+
+    replied : (j : Journal) → last_moment j ≤ m → with_nonce (open_requests m j) reply.nonce ≡ Some request → reply_heard of_journal settings m from reply (unchanged j) ≡ replied_to of_journal settings m reply (Some request) (unchanged j)
+    replied j before waits =
+        reply-plain settings m from reply j plain
+        ∙ ap (λ o. replied_to of_journal settings m reply o (unchanged j)) (ap (λ (v : View). with_nonce v.requests reply.nonce) (seen-then j m before) ∙ waits)
 
 pub tables-ask : TablesAsk
 tables-ask settings i m one other mine theirs told eid both names is =

@@ -14,10 +14,10 @@ use Rattle.router_log.specs.Moments.{younger}
 use Rattle.router_log.specs.declared.entry.Entry.TheVariants.{Asked}
 use Rattle.router_log.specs.declared.notice.Notice.{Notice}
 use Rattle.router_log.specs.declared.notice.Notice.TheVariants as notice
-use Rattle.router_model.specs.Changes.{may_ask, unchanged}
+use Rattle.router_model.specs.Changes.{journal as of_journal, may_ask, unchanged}
 use Rattle.router_model.specs.Hear.{Heard, reply_heard}
 use Rattle.router_model.specs.Isolation.{of_instance}
-use Rattle.router_model.specs.Journal.{Journal, IsRising}
+use Rattle.router_model.specs.Journal.{Journal, last_moment, IsRising}
 use Rattle.router_model.specs.Lifting.{MayGo, is_bounded}
 use Rattle.router_model.specs.Limits.{most_message_records}
 use Rattle.router_model.specs.Mappings.{exact}
@@ -75,6 +75,10 @@ RequestsIsolated = (journal : Journal) (i now : ℕ) → IsRising journal → No
 -- a notice for an EID of an instance makes the router ask exactly if it does so by the journal of the instance
 abbrev pub AskingIsolated : Type 0
 AskingIsolated = (settings : Settings) (limits : List LimitItem) (journal : Journal) (i now : ℕ) (told : Notice) (eid : Eid) → IsRising journal → NoncesDiffer now journal → notice_eid told ≡ Some eid → eid.iid ≡ i → asks settings limits (seen_at journal now) told ≡ asks settings limits (seen_at (of_instance journal i) now) told
+
+-- a reply to an open request of an instance is heard as by the journal of the instance: the same records are learned
+abbrev pub LearningIsolated : Type 0
+LearningIsolated = (settings : Settings) (journal : Journal) (i m : ℕ) (from : Addr) (reply : MapReply) (request : Request) → IsRising journal → last_moment journal ≤ m → NoncesDiffer m journal → reply.probe ≡ false → with_nonce (open_requests m journal) reply.nonce ≡ Some request → request.eid.iid ≡ i → AreAlike (reply_heard of_journal settings m from reply (unchanged journal)) (reply_heard of_journal settings m from reply (unchanged (of_instance journal i)))
 
 -- ### what is promised of tables
 

@@ -17,7 +17,7 @@ ghost use Rattle.router_model.specs.Hear.{drops, hear, reply_heard};
 ghost use Rattle.router_model.specs.Isolation.{AgreesDecides, DecisionIsolated, MomentIsolated, NoneAsks, RisingIsolated, TableIsolated, TablesAlike};
 ghost use Rattle.router_model.specs.Journal.{Journal, statics};
 ghost use Rattle.router_model.specs.Lifting.{AllAbsorbed, BitsKept, CameFits, CameInOrder, CaptureReplays, ChangesComeOnce, CourseStands, EntryAbsorbed, EventsInOrder, HearsStill, LawfulMayChange, LiveIsExact, NotesStill, NoticesSound, OwnTells, PartsAnswer, ProperRises, StandingAbsorbs, StandingAdmits, StandingSees, StaticsStand, TableDecides, TableHears, TableNotes, TableReplays, TableTicks, VersionsStep};
-ghost use Rattle.router_model.specs.Tenants.{AskingIsolated, RequestsIsolated, TablesAsk, TablesLearn};
+ghost use Rattle.router_model.specs.Tenants.{AskingIsolated, LearningIsolated, RequestsIsolated, TablesAsk, TablesLearn};
 ghost use Rattle.router_model.specs.Received.{message_in};
 ghost use Rattle.router_model.specs.View.{Agrees, View, view};
 
@@ -169,11 +169,12 @@ pub fn tables_are_isolated()
     ensures two { TablesAlike }
 {}
 
-/// With limits of its own, an instance asks by its own journal, where no two young requests share a nonce: its open
-/// requests are those of that journal.
+/// With limits of its own, an instance asks and learns by its own journal, where no two young requests share a nonce:
+/// its open requests are those of that journal.
 pub fn limits_are_isolated()
     ensures requests { RequestsIsolated }
     ensures asking { AskingIsolated }
+    ensures learning { LearningIsolated }
 {}
 
 /// Two tables that stand for journals that are one to an instance, by which no two young requests share a nonce, ask
