@@ -5,6 +5,6 @@ use Rattle.std.specs.Prelude.{ℕ}
 abbrev pub most_candidates : ℕ
 most_candidates = 32
 
--- the least source port of a tunnel packet (RFC 9300 section 4.1 leaves it open; this router's choice)
+-- the least source port of a tunnel packet (RFC 9300 section 12 leaves it open; this router's choice)
 abbrev pub first_port : ℕ
 first_port = 0xc000

@@ -5,7 +5,7 @@ pub use Rattle.map_cache.specs.Limits.{most_locators, most_mappings}
 pub use Rattle.request_queue.specs.Limits.{most_retries}
 pub use Rattle.locator_state.specs.Limits.{most_probes, most_solicits, most_starts, most_targets, most_wishes}
 
--- the UDP port of packets in tunnels (RFC 9300, section 4.1)
+-- the UDP port of packets in tunnels (RFC 9300, section 5.3)
 abbrev pub data_port : ℕ
 data_port = 4341
 
