@@ -3,8 +3,8 @@
 use desk::{Calls, MemoryDesk};
 use octets::NoMemory;
 use replay::{Gate, Status, Word, run};
-use run_rows::exchanges::{Arrival, TENANT, capture_of};
-use run_rows::packets::{PACKET, RAW, REPLY};
+use run_rows::exchanges::{Arrival, Departure, TENANT, capture_of, output_of};
+use run_rows::packets::{CONTROL, PACKET, RAW, REPLY};
 use run_rows::runs::{desk_with, run_words, said};
 use std::alloc::Global;
 use std::process::Abort;
@@ -133,6 +133,9 @@ const EIGHT: [Arrival<'static>; 8] = [
     (0, 700_000, &PACKET, ""),
 ];
 
+/// The request for them, which goes with the last frame of their round, before all other packets.
+const REQUESTED: [Departure<'static>; 1] = [(0, 300_000_000, &CONTROL, &[])];
+
 /// What may be said of a packet beside the reply: that it was decided before it, or after all of it.
 const BEFORE: &str = "n=1 drop 13 miss";
 
@@ -192,5 +195,8 @@ fn a_packet_beside_a_reply_is_decided_before_it_or_after_all_of_it(
     let written = carried(&rt, report).saturating_add(1);
     let end = format!(in rt.alloc(); "end frames=8 written={written} entries=3\n")?;
     assert!(rt; report.ends_with(end.as_str()), "{report}");
+    let requested = output_of(rt.alloc(), &REQUESTED)?;
+    let output = desk.file("out").unwrap_or(&[]);
+    assert!(rt; output.starts_with(requested.as_slice()));
     Ok(())
 }

@@ -1,17 +1,23 @@
-// A round of a replay by itself: its lines hold the looks by which packets were decided.
-ghost use Rattle.std.specs.Prelude.{◌≡◌, ◌≤◌, ◌<◌, ◌^◌, length, IfOk};
+// Rounds by themselves: their lines hold the looks by which packets were decided, and forwarders see what
+// rounds publish.
+ghost use Rattle.std.specs.Prelude.{◌≡◌, ◌≤◌, ◌<◌, ◌^◌, [], length, IfOk, IfSome};
 ghost use Rattle.lisp_settings.specs.Lawful.{IsLawful};
 ghost use Rattle.router_model.specs.Journal.{statics};
 ghost use Rattle.router_model.specs.Lifting.{AreOctets};
 ghost use Rattle.router_model.specs.Parts.{Stands, parts_in};
+ghost use Rattle.forwarders.specs.Batches.{journal_of};
 
 use crate::forwarding::{Meeting, SITE};
 use capture_io::{Frame, Link};
-use forwarders::{Gate, Line, open_hall, run_round};
+use forwarders::{
+    Forwarded, Forwarder, Gate, Line, OpenGate, Published, Tally, open_hall, run_round,
+};
 use lisp_settings::{Settings, read_settings};
 use octets::{NoMemory, Octets};
 use router_core::Table;
-use run_rows::packets::PACKET;
+use router_log::Verdict;
+use run_rows::exchanges::TENANT;
+use run_rows::packets::{PACKET, REPLY};
 use std::alloc::Global;
 use std::sync::Wait;
 use std::test::Fail;
@@ -19,16 +25,16 @@ use std::thread::Threads;
 
 const MOMENT: u64 = 1_700_000_000_000_000_000;
 
-// A packet, as a frame of that number.
-fn frame(alloc: Global, number: u32, packet: &[u8]) -> Result<Frame, NoMemory>
+// A packet, as a frame of that number at a moment.
+fn frame(alloc: Global, number: u32, moment: u64, packet: &[u8]) -> Result<Frame, NoMemory>
     requires number { 1 ≤ number }
     requires size { length packet.now < 2 ^ 32 }
-    ensures moment { IfOk result (λ frame. frame.moment ≡ 1700000000000000000) }
+    ensures moment { IfOk result (λ frame. frame.moment ≡ moment) }
     ensures octets { IfOk result (λ frame. AreOctets frame.octets) }
 {
     Ok(Frame {
         number,
-        moment: MOMENT,
+        moment,
         link: Link::Raw,
         octets: Octets::copied(alloc, packet)?,
     })
@@ -87,8 +93,8 @@ fn looks_of_two<R: Threads + Wait + Sync, G: Gate>(
     let Ok(settings) = read_settings(alloc, SITE.as_bytes()) else {
         return Err(NoMemory);
     };
-    let first = frame(alloc, 1, &PACKET)?;
-    let second = frame(alloc, 2, &PACKET)?;
+    let first = frame(alloc, 1, MOMENT, &PACKET)?;
+    let second = frame(alloc, 2, MOMENT, &PACKET)?;
     let mut table = Table::new(alloc, &settings)?;
     looks_of_round(rt, alloc, &settings, &mut table, first, second, gate)
 }
@@ -98,5 +104,118 @@ fn each_line_of_a_round_holds_a_look(rt: HostRuntime) -> Result<(), Fail> {
     let gate = Meeting::new();
     assert_eq!(rt; looks_of_two(&rt, rt.alloc(), &gate)?, 2);
     gate.was_kept(&rt);
+    Ok(())
+}
+
+// When the reply comes.
+const REPLIED: u64 = MOMENT + 100_000_000;
+
+// A forwarder of what is published. None where its place was refused.
+fn forwarder_of(published: &mut Published) -> Option<Forwarder>
+    ensures kept { published.new ≡ published.old }
+    ensures settings { IfSome result (λ forwarder. forwarder.settings ≡ published.old.settings) }
+{
+    published.forwarder(&mut Tally::new())
+}
+
+// By how many entries a forwarder decides a packet, and whether it goes into a tunnel. None where it decides
+// nothing.
+fn carried(forwarder: &mut Forwarder, settings: &Settings, packet: &Frame) -> Option<(u64, bool)>
+    requires lawful { IsLawful settings.now }
+    requires settings { forwarder.old.settings ≡ settings.now }
+    ensures { forwarder.new.settings ≡ settings.now }
+{
+    let decided = forwarder.forward(settings, REPLIED, packet, &mut Tally::new());
+    let Ok(Forwarded { look, decision }) = decided else {
+        return None;
+    };
+    let carries = matches!(decision.verdict, Verdict::Encapsulated { .. });
+    Some((look.count(), carries))
+}
+
+// A packet that misses, then the reply to its request, each a round by itself. What forwarders decide of the
+// packet: one that is made between the rounds, before the second and after it; then one that is made
+// behind both, twice.
+fn looks_beside_a_reply<R: Threads + Wait + Sync>(
+    rt: &R,
+    alloc: Global,
+    settings: &Settings,
+    table: &mut Table,
+    published: &mut Published,
+    packet: Frame,
+    reply: Frame,
+) -> Result<[Option<(u64, bool)>; 4], NoMemory>
+    requires lawful { IsLawful settings.now }
+    requires settings { published.old.settings ≡ settings.now }
+    requires parts { table.old.parts ≡ parts_in settings.now (statics settings.now) }
+    requires stands { Stands settings.now table.old.parts (journal_of published.old.batches) }
+    requires none { published.old.pending ≡ [] }
+    requires plan { published.old.plan ≡ published.old.batches }
+    requires moments { (packet.moment ≡ 1700000000000000000) × (reply.moment ≡ 1700000000100000000) }
+    requires octets { AreOctets packet.octets × AreOctets reply.octets }
+{
+    let (packets, replies) = ([packet], [reply]);
+    let packet = &packets[0];
+    let gate = &OpenGate;
+    run_round(
+        rt, alloc, settings, table, published, 0, None, &packets, gate,
+    )?;
+    let Some(mut early) = forwarder_of(published) else {
+        return Ok([None; 4]);
+    };
+    let before = carried(&mut early, settings, packet);
+    let previous = Some(MOMENT);
+    run_round(
+        rt, alloc, settings, table, published, 0, previous, &replies, gate,
+    )?;
+    let Some(mut late) = forwarder_of(published) else {
+        return Ok([None; 4]);
+    };
+    Ok([
+        before,
+        carried(&mut early, settings, packet),
+        carried(&mut late, settings, packet),
+        carried(&mut late, settings, packet),
+    ])
+}
+
+// The same over a table that has just begun.
+fn looks_of_rounds<R: Threads + Wait + Sync>(
+    rt: &R,
+    alloc: Global,
+    settings: &Settings,
+    table: &mut Table,
+) -> Result<[Option<(u64, bool)>; 4], NoMemory>
+    requires lawful { IsLawful settings.now }
+    requires parts { table.old.parts ≡ parts_in settings.now (statics settings.now) }
+    requires stands { Stands settings.now table.old.parts (statics settings.now) }
+{
+    let packet = frame(alloc, 1, MOMENT, &PACKET)?;
+    let reply = frame(alloc, 2, REPLIED, &REPLY)?;
+    let mut published = open_hall(rt, alloc, settings, table, 2)?;
+    let looks = looks_beside_a_reply(rt, alloc, settings, table, &mut published, packet, reply);
+    published.close(rt);
+    looks
+}
+
+fn looks_of_site<R: Threads + Wait + Sync>(
+    rt: &R,
+    alloc: Global,
+    text: &str,
+) -> Result<[Option<(u64, bool)>; 4], NoMemory> {
+    let Ok(settings) = read_settings(alloc, text.as_bytes()) else {
+        return Err(NoMemory);
+    };
+    let mut table = Table::new(alloc, &settings)?;
+    looks_of_rounds(rt, alloc, &settings, &mut table)
+}
+
+#[test]
+fn a_forwarder_sees_what_a_round_published(rt: HostRuntime) -> Result<(), Fail> {
+    let [first, second, third, fourth] = looks_of_site(&rt, rt.alloc(), TENANT)?;
+    assert_eq!(rt; first, Some((1, false)));
+    assert_eq!(rt; second, Some((3, true)));
+    assert_eq!(rt; third, Some((3, true)));
+    assert_eq!(rt; fourth, Some((3, true)));
     Ok(())
 }
