@@ -1,18 +1,14 @@
 // The nonce of the Map-Request that the router sent in a frame.
-ghost use Rattle.std.specs.Prelude.{◌≡◌, ◌<◌, ◌+◌, ◌^◌, length, IfOk, Ok};
-ghost use Rattle.ip_headers.specs.Udp.{udp_read};
-ghost use Rattle.router_core.specs.Seen.{datagram_seen, packet_seen};
-ghost use Rattle.router_model.specs.Course.{arriving, by_port};
-ghost use Rattle.router_model.specs.Site.{is_own};
+ghost use Rattle.std.specs.Prelude.{◌≡◌, ◌<◌, ◌+◌, ◌^◌, length, IfOk};
+ghost use Rattle.router_core.specs.Seen.{course_seen, datagram_seen, packet_seen};
 ghost use Rattle.audit.specs.Requests.{carried_nonce, course_nonce, datagram_nonce, message_nonce, nonce_of, own_nonce, sent_nonce};
 
 use capture_io::Frame;
-use ip_headers::{Addr, IpPacket, UDP, UdpHeader, check_udp, read_udp, same_address, udp_payload};
-use lisp_header::LISP_DATA_PORT;
-use lisp_settings::{OwnLocator, Settings};
-use map_messages::{Ecm, LISP_CONTROL_PORT, Message, MessageFault, read_message};
+use ip_headers::{IpPacket, check_udp, udp_payload};
+use lisp_settings::{OwnLocator, Settings, is_own};
+use map_messages::{Ecm, Message, MessageFault, read_message};
 use octets::NoMemory;
-use router_core::{Datagram, frame_packet};
+use router_core::{Course, Datagram, arriving, frame_packet};
 use std::alloc::Global;
 
 /// The nonce of the Map-Request that the router sent in a frame, encapsulated or not, if it did.
@@ -30,7 +26,7 @@ pub(crate) fn sent_nonce(
     }
 }
 
-// That of a packet that comes from an own locator.
+// That of a packet that comes from an own locator, by what it is where it comes to one.
 fn own_nonce(
     alloc: Global,
     locators: &[OwnLocator],
@@ -39,50 +35,20 @@ fn own_nonce(
     ensures { IfOk result (λ nonce. nonce ≡ own_nonce locators.now (packet_seen packet.entry)) }
 {
     if is_own(locators, packet.header.source()) {
-        packet_nonce(alloc, packet)
+        course_nonce(alloc, arriving(packet))
     } else {
         Ok(None)
     }
 }
 
-// Whether an own locator, up or not, has this address.
-fn is_own(locators: &[OwnLocator], address: Addr) -> bool
-    ensures { result ≡ is_own locators.now address }
+// That of a control message; nothing else has one.
+fn course_nonce(alloc: Global, course: Course) -> Result<Option<u64>, NoMemory>
+    ensures { IfOk result (λ nonce. nonce ≡ course_nonce (course_seen course.entry)) }
 {
-    let [own, others @ ..] = locators else {
-        return false;
-    };
-    same_address(&own.addr, &address) || is_own(others, address)
-}
-
-// That of a packet that is a control message by the rules for those that come.
-#[tactic(auto, unfolding(router_model::specs::Course::arriving))]
-fn packet_nonce(alloc: Global, packet: IpPacket) -> Result<Option<u64>, NoMemory>
-    ensures { IfOk result (λ nonce. nonce
-        ≡ course_nonce (arriving (packet_seen packet.entry))) }
-{
-    if packet.header.is_fragment() || packet.header.protocol() != UDP {
-        return Ok(None);
+    match course {
+        Course::Control(datagram) => datagram_nonce(alloc, &datagram),
+        _ => Ok(None),
     }
-    match read_udp(&packet) {
-        Ok(udp) => port_nonce(alloc, packet, udp),
-        Err(_) => Ok(None),
-    }
-}
-
-// That of a datagram from or to the port of control messages, and not to that of packets in tunnels.
-fn port_nonce(alloc: Global, packet: IpPacket, udp: UdpHeader) -> Result<Option<u64>, NoMemory>
-    requires { udp_read packet ≡ Ok udp }
-    ensures { IfOk result (λ nonce. nonce
-        ≡ course_nonce (by_port (packet_seen packet.entry) udp)) }
-{
-    if udp.dest == LISP_DATA_PORT {
-        return Ok(None);
-    }
-    if udp.dest == LISP_CONTROL_PORT || udp.source == LISP_CONTROL_PORT {
-        return datagram_nonce(alloc, &Datagram { packet, udp });
-    }
-    Ok(None)
 }
 
 // That of the message in a datagram.

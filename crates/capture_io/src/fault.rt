@@ -4,7 +4,6 @@ ghost use Rattle.capture_io.specs.declared.fault.CaptureFault.TheVariants.{Memor
 
 use desk::DeskFault;
 use octets::NoMemory;
-use std::alloc::AllocError;
 
 /// The first fault of a capture. Places are offsets of octets in the file; that of a record is
 /// where its header begins. Records are numbered from 1.
@@ -38,14 +37,6 @@ impl From<NoMemory> for CaptureFault {
     ghost from_gives = { λ _ fault. fault ≡ Memory };
 
     fn from(_: NoMemory) -> Self {
-        CaptureFault::Memory
-    }
-}
-
-impl From<AllocError> for CaptureFault {
-    ghost from_gives = { λ _ fault. fault ≡ Memory };
-
-    fn from(_: AllocError) -> Self {
         CaptureFault::Memory
     }
 }

@@ -17,8 +17,7 @@ mod record;
 mod writing;
 
 pub use desk::{
-    Calls, Desk, DeskFault, FileId, Files, HostDesk, HostFile, MemoryDesk, NamedFile, SteadyDesk,
-    read_full,
+    Calls, Desk, DeskFault, FileId, Files, HostDesk, MemoryDesk, NamedFile, SteadyDesk,
 };
 pub use fault::CaptureFault;
 pub use frame::Frame;

@@ -9,7 +9,6 @@ use crate::limits::{DEFAULT_ROUND_FRAMES, MOST_ROUND_FRAMES, MOST_TRIAL_MAPPINGS
 use crate::nonce_source::nonces_of;
 use crate::options::{are_options, number_in, number_or, value_of};
 use crate::{Intake, NonceSource};
-use octets::NoMemory;
 use std::alloc::{AllocError, Global};
 use std::marker::Model;
 use thiserror::Error;

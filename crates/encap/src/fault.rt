@@ -3,7 +3,6 @@ ghost use Rattle.std.specs.Prelude.{◌≡◌};
 ghost use Rattle.encap.specs.declared.fault.EncapDrop.TheVariants.{Memory};
 
 use octets::NoMemory;
-use std::alloc::AllocError;
 
 /// Why a packet is not sent.
 #[derive(Clone, Copy, Debug, PartialEq, Eq)]
@@ -20,14 +19,6 @@ impl From<NoMemory> for EncapDrop {
     ghost from_gives = { λ _ fault. fault ≡ Memory };
 
     fn from(_: NoMemory) -> Self {
-        EncapDrop::Memory
-    }
-}
-
-impl From<AllocError> for EncapDrop {
-    ghost from_gives = { λ _ fault. fault ≡ Memory };
-
-    fn from(_: AllocError) -> Self {
         EncapDrop::Memory
     }
 }

@@ -1,5 +1,5 @@
 -- Lines and packets that are put together are those of the items that were gathered.
-use Rattle.std.proofs.Common.{◌≡◌, ◌∙◌, ℕ, suc, ◌*◌, ◌^◌, ◌≤◌, ◌<◌, Bool, true, false, cond, List, [], ◌∷◌, ◌++◌, length, map, Option, Some, None, All, IfSome, append_assoc, refl, sym, ap, subst, arith}
+use Rattle.std.proofs.Common.{◌≡◌, ◌∙◌, ℕ, suc, ◌+◌, ◌*◌, ◌^◌, ◌≤◌, ◌<◌, Bool, true, false, cond, List, [], ◌∷◌, ◌++◌, length, map, Option, Some, None, All, IfSome, append_assoc, refl, sym, ap, subst, arith}
 use Rattle.std.specs.List.{AllZip}
 use Rattle.std.proofs.lemmas.List.{length-append, map-append}
 use Rattle.std.proofs.lemmas.List.Elements.{All-append, All-cons, All-nil}
@@ -24,7 +24,7 @@ use Rattle.forwarders.specs.declared.round_done.Line.{Line}
 use Rattle.forwarders.specs.declared.round_done.Packet.{Packet}
 use Rattle.forwarders.specs.declared.ruled.Ruled.{Ruled}
 use Rattle.forwarders.specs.Given.{IsGiven}
-use Rattle.forwarders.specs.Gathering.{IsFit, IsWritable, all_gathered, lines_in, packet_gathered, packet_made, packets_in, sent_of}
+use Rattle.forwarders.specs.Gathering.{IsFit, IsWritable, all_gathered, left_in, left_of, lines_in, packet_gathered, packet_made, packets_in, sent_of}
 use Rattle.forwarders.specs.Rounding.{HasCome, line_seen, packet_seen}
 use Rattle.forwarders.specs.Ruling.{HasLooked, HaveLooked, ruling_of}
 
@@ -59,6 +59,35 @@ lines-seen (Message line packets ∷ items) more ruled =
 lines-seen (Data frame ∷ items) more [] = lines-seen items more []
 lines-seen (Data frame ∷ items) more (one ∷ ruled) =
     ap (λ (l : List rounds.Line). rounds.line_of frame one.n one.decision.verdict ∷ l) (lines-seen items more ruled)
+
+-- ### data packets
+
+-- packets are none
+left-packets : (packets : List events.Packet) (items : List Gathered) → left_in (all_packets packets ++ items) ≡ left_in items
+left-packets [] items = refl
+left-packets (packet ∷ packets) items = let rest = left-packets packets items in omega (arith, rest)
+
+left-only : (packets : List events.Packet) → left_in (all_packets packets) ≡ 0
+left-only [] = refl
+left-only (packet ∷ packets) = let rest = left-only packets in omega (arith, rest)
+
+left-behind : (items : List Gathered) (packets : List events.Packet) → left_in (items ++ all_packets packets) ≡ left_in items
+left-behind [] packets = left-only packets
+left-behind (item ∷ items) packets = ap (λ (n : ℕ). left_of item + n) (left-behind items packets)
+
+-- with packets behind what was gathered, there are as many
+pub left-noted : (old new : List Gathered) (packets : List events.Packet) → new ≡ old ++ all_packets packets → left_in new ≡ left_in old
+left-noted old new packets is = ap left_in is ∙ left-behind old packets
+
+-- those of items are gathered
+pub left-data : (items : List Item) → left_in (all_gathered items) ≡ length (data_in items)
+left-data [] = refl
+left-data (Second packets ∷ items) = left-packets packets (all_gathered items) ∙ left-data items
+left-data (Message line packets ∷ items) =
+    let here = left-packets packets (all_gathered items) in
+    let rest = left-data items in
+    omega (arith, here, rest)
+left-data (Data frame ∷ items) = let rest = left-data items in omega (arith, rest)
 
 -- ### packets
 

@@ -169,7 +169,8 @@ module _ (settings : Settings) (previous : Option ℕ) (frame : Frame) (frames :
       pub shared : Shares settings previous all (journal_of before) result
       shared = tables-share settings parts (journal_of before) previous start all (map ruling_of ruled) stands may rulings-are
 
-      ruled-data : length ruled ≡ length (data_in written_of.items)
+      -- each data packet has a ruling
+      pub ruled-data : length ruled ≡ length (data_in written_of.items)
       ruled-data =
           zip-long (IsRuledAt settings (before ++ take from written.batches) (before ++ written.batches) all) written.places ruled are
           ∙ (sym (length-map written.places (λ (place : ℕ). slice_index_or all place frame))

@@ -1,5 +1,5 @@
 -- A round with forwarders, from what its call asks for.
-use Rattle.std.proofs.Common.{◌≡◌, ℕ, ◌+◌, ◌*◌, ◌^◌, ◌≤◌, ◌<◌, List, [], ◌∷◌, ◌++◌, length, take, Option, All, sym, subst, arith}
+use Rattle.std.proofs.Common.{◌≡◌, ◌∙◌, ℕ, ◌+◌, ◌*◌, ◌^◌, ◌≤◌, ◌<◌, List, [], ◌∷◌, ◌++◌, length, take, Option, All, ap, sym, subst, arith}
 use Rattle.capture_io.specs.Frame.{Frame}
 use Rattle.lisp_settings.specs.declared.settings.Settings.{Settings}
 use Rattle.capture_events.specs.Events.{events_after}
@@ -16,12 +16,13 @@ use Rattle.forwarders.specs.declared.round_done.RoundDone.{RoundDone}
 use Rattle.forwarders.specs.declared.ruled.Ruled.{Ruled}
 use Rattle.forwarders.specs.Batches.{count_of, journal_of}
 use Rattle.forwarders.specs.Finishing.{Finishes, noted_of}
-use Rattle.forwarders.specs.Gathering.{IsWritten, round_writing}
+use Rattle.forwarders.specs.Gathering.{IsWritten, left_in, round_writing}
 use Rattle.forwarders.specs.Publication.{Publication}
 use Rattle.forwarders.specs.Rounding.{RunsRound, begun_at}
 use Rattle.forwarders.specs.Ruling.{AreRuled, HaveLooked}
 use Rattle.forwarders.proofs.BeginLemmas.{closing-early, may-begin, round-few}
-use Rattle.forwarders.proofs.RoundLemmas.{notices-proper, places-few, published-stands, ruled-few, runs-round}
+use Rattle.forwarders.proofs.PutLemmas.{left-data}
+use Rattle.forwarders.proofs.RoundLemmas.{notices-proper, places-few, published-stands, ruled-data, ruled-few, runs-round}
 
 -- what a round is asked for
 pub record MayRun (settings : Settings) (previous : Option ℕ) (frames : List Frame) (parts : Parts) (before : List (List Entry)) : Type 0 where
@@ -59,6 +60,14 @@ module _ (settings : Settings) (previous : Option ℕ) (parts : Parts) (before :
     module _ (ruled : List Ruled) where
       abbrev Ruling-of : List Frame → Type 0
       Ruling-of frames = AreRuled settings (before ++ take from written.batches) (before ++ written.batches) frames written.places ruled
+
+      -- each data packet that was left has a ruling
+      pub left-ruled : (frames : List Frame) → MayRun settings previous frames parts before → IsWritten settings previous frames parts from written → Ruling-of frames → left_in written.items.items ≡ length ruled
+      left-ruled [] may is are = absurd (none-run may)
+      left-ruled (frame ∷ frames) may is are =
+          ap left_in is.items
+          ∙ (left-data (round_writing settings previous (frame ∷ frames) parts).items
+          ∙ sym (ruled-data settings previous frame frames parts before may.stands (begins-of frame frames may) from written is ruled are))
 
       -- there is room for what the notices add
       pub notices-room : (frames : List Frame) (after : Parts) → MayRun settings previous frames parts before → IsWritten settings previous frames parts from written → Ruling-of frames → after.count ≤ parts.count + most_ticked * length (events_after previous frames) → after.count + 5 * length ruled < 2 ^ 61

@@ -58,6 +58,17 @@ gathered_of (Data frame) = mark.Left frame.number frame.moment ∷ []
 abbrev pub all_gathered : List Item → List Gathered
 all_gathered items = flat_map gathered_of items
 
+-- how many data packets that is
+abbrev pub left_of : Gathered → ℕ
+left_of (mark.Packet packet) = 0
+left_of (mark.Message line) = 0
+left_of (mark.Left number moment) = 1
+
+-- how many data packets are among what was gathered
+abbrev pub left_in : List Gathered → ℕ
+left_in [] = 0
+left_in (item ∷ items) = left_of item + left_in items
+
 -- frames by their places
 abbrev pub frames_at : List Frame → List ℕ → Frame → List Frame
 frames_at frames places d = map (λ place. slice_index_or frames place d) places

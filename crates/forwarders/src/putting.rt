@@ -1,6 +1,6 @@
 // Lines and packets of a round, put together.
-ghost use Rattle.std.specs.Prelude.{◌≡◌, ◌++◌, ◌∷◌, [], List, OnOk};
-ghost use Rattle.forwarders.specs.Gathering.{Puts, line_ruled, lines_in, packets_in, sent_of};
+ghost use Rattle.std.specs.Prelude.{◌≡◌, ◌+◌, ◌≤◌, ◌++◌, ◌∷◌, [], List, length, OnOk};
+ghost use Rattle.forwarders.specs.Gathering.{Puts, left_in, left_of, line_ruled, lines_in, packets_in, sent_of};
 
 use crate::gathering::Gathered;
 use crate::round_done::{Line, Packet, Packets, RoundDone};
@@ -76,27 +76,31 @@ fn put(
     ruled: &mut VecDeque<Ruled>,
     done: &mut RoundDone,
 ) -> Result<(), NoMemory>
-    ensures { OnOk result
+    requires { left_of gathered ≤ length ruled.old.items }
+    ensures puts { OnOk result
         (Puts gathered ruled.old.items done.old ruled.new.items done.new) }
+    ensures left { OnOk result
+        (left_of gathered + length ruled.new.items ≡ length ruled.old.items) }
 {
     match gathered {
         Gathered::Packet(packet) => done.written.push(packet),
         Gathered::Message(line) => done.lines.push(line),
         Gathered::Left { number, moment } => match ruled.pop_front() {
             Some(one) => put_ruled(alloc, number, moment, one, done),
-            None => Ok(()),
+            None => unreachable!(),
         },
     }
 }
 
 /// Adds all that is gathered, in order, with the lines and packets of the rulings in the places of the
-/// data packets.
+/// data packets, of which each has one.
 pub(crate) fn put_together(
     alloc: Global,
     items: &mut VecDeque<Gathered>,
     ruled: &mut VecDeque<Ruled>,
     done: &mut RoundDone,
 ) -> Result<(), NoMemory>
+    requires { left_in items.old.items ≡ length ruled.old.items }
     ensures lines { OnOk result (done.new.lines
         ≡ done.old.lines ++ lines_in items.old.items ruled.old.items) }
     ensures packets { OnOk result (done.new.written

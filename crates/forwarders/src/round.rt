@@ -14,6 +14,7 @@ ghost use Rattle.forwarders.specs.Batches.{count_of, journal_of};
 ghost use Rattle.forwarders.specs.Deciding.{AreWithin};
 ghost use Rattle.forwarders.specs.Given.{IsGiven};
 ghost use Rattle.forwarders.specs.Finishing.{Finishes, noted_of};
+ghost use Rattle.forwarders.specs.Gathering.{left_in};
 ghost use Rattle.forwarders.specs.Rounding.{AreWritable, GrewBy, HasCome, IsRound, RunsRound, begun_at, last_length};
 ghost use Rattle.forwarders.specs.Ruling.{AreRuled, HaveLooked};
 
@@ -113,6 +114,7 @@ fn finish_round<R: Wait>(
     requires lawful { IsLawful settings.now }
     requires settings { published.old.settings ≡ settings.now }
     requires given { All (λ one. IsGiven one.decision) ruled.items }
+    requires left { left_in written.old.items.items ≡ length ruled.items }
     requires later { table.old.parts.now ≤ moment }
     requires count { table.old.parts.count + 5 * length ruled.items < 2 ^ 61 }
     requires moment { moment < 2 ^ 32 * 1000000000 }
@@ -187,7 +189,8 @@ fn work_round<R: Threads + Wait + Sync, G: Gate>(
 ///
 /// `previous` is the moment of the frame before the round, in nanoseconds, None before the first
 /// frame. The table stands for all that is published, before and after. With no worker, and in a round
-/// without data packets, no thread is made. After a refusal the publication can only be closed.
+/// without data packets, no thread is made. After a refusal the table may have taken a part of the round,
+/// published or not; it and the publication can only be closed.
 pub fn run_round<R: Threads + Wait + Sync, G: Gate>(
     rt: &R,
     alloc: Global,

@@ -1,5 +1,8 @@
--- IP addresses and their first bits.
+-- IP addresses, their order and their first bits.
 use Rattle.std.specs.Prelude.{ℕ, Bool, ◌-◌, ◌*◌, ◌/◌, ◌^◌, ◌%◌, ◌&&◌, ◌==◌, ◌<◌, nat_le}
+use Rattle.std.specs.Ordering.{nat_cmp}
+use Rattle.std.specs.declared.cmp.Ordering.{Ordering}
+use Rattle.std.specs.declared.cmp.Ordering.TheVariants.{Less, Greater}
 use Rattle.ip_headers.specs.declared.addr.Addr.{Addr}
 use Rattle.ip_headers.specs.declared.addr.Addr.TheVariants.{V4, V6}
 
@@ -16,6 +19,13 @@ number (V6 n) = n
 -- the two are of one family and have the same bits
 abbrev pub same_address : Addr → Addr → Bool
 same_address a b = (width a == width b) && (number a == number b)
+
+-- each IPv4 address before each IPv6 address, then by number
+abbrev pub addr_order : Addr → Addr → Ordering
+addr_order (V4 m) (V4 n) = nat_cmp m n
+addr_order (V4 m) (V6 n) = Less
+addr_order (V6 m) (V4 n) = Greater
+addr_order (V6 m) (V6 n) = nat_cmp m n
 
 -- the number fits its family
 abbrev pub IsAddr : Addr → Type 0

@@ -1,6 +1,7 @@
 // IP addresses.
-ghost use Rattle.std.specs.Prelude.{◌≡◌, ◌==◌};
-ghost use Rattle.ip_headers.specs.Addr.{same_address};
+ghost use Rattle.std.specs.Prelude.{◌≡◌};
+ghost use Rattle.std.specs.Ordering.{is_lt};
+ghost use Rattle.ip_headers.specs.Addr.{addr_order, same_address};
 
 /// An IP address. Each IPv4 address is below each IPv6 address.
 #[derive(Clone, Copy, Debug, PartialEq, Eq, PartialOrd, Ord)]
@@ -21,12 +22,6 @@ impl Addr {
             Addr::V6(_) => 128,
         }
     }
-
-    pub fn is_v4(&self) -> bool
-        ensures { result ≡ (width self.now == 32) }
-    {
-        matches!(self, Addr::V4(_))
-    }
 }
 
 /// The two are of one family and have the same bits.
@@ -34,4 +29,11 @@ pub fn same_address(a: &Addr, b: &Addr) -> bool
     ensures { result ≡ same_address a.now b.now }
 {
     a == b
+}
+
+/// The first comes before the second in the order of addresses.
+pub fn is_below(a: &Addr, b: &Addr) -> bool
+    ensures { result ≡ is_lt (addr_order a.now b.now) }
+{
+    a < b
 }

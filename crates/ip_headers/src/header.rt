@@ -51,6 +51,7 @@ pub enum IpHeader {
 impl IpHeader {
     ghost use Rattle.ip_headers.specs.Ip.{class_of, dest_of, is_fragment, protocol_of, source_of, ttl_of};
 
+    /// The source address.
     pub fn source(&self) -> Addr
         ensures { result ≡ source_of self.now }
     {
@@ -60,6 +61,7 @@ impl IpHeader {
         }
     }
 
+    /// The destination address.
     pub fn dest(&self) -> Addr
         ensures { result ≡ dest_of self.now }
     {

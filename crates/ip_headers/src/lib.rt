@@ -15,7 +15,7 @@ mod udp;
 mod udp_writing;
 mod writing;
 
-pub use addr::{Addr, same_address};
+pub use addr::{Addr, is_below, same_address};
 pub use flow::five_tuple;
 pub use header::{IpHeader, UDP, UdpHeader, V4Header, V6Header};
 pub use laws::{

@@ -45,6 +45,7 @@ pub struct Key {
 }
 
 impl Key {
+    /// Of a nonce.
     pub fn nonce(nonce: u64) -> Key
         ensures { result ≡ nonce_key nonce }
     {
@@ -57,6 +58,7 @@ impl Key {
         }
     }
 
+    /// Of a locator.
     pub fn locator(rloc: Addr) -> Key
         ensures { result ≡ locator_key rloc }
     {
@@ -69,6 +71,7 @@ impl Key {
         }
     }
 
+    /// Of an EID.
     pub fn eid(eid: &Eid) -> Key
         ensures { result ≡ eid_key eid.now }
     {

@@ -102,7 +102,7 @@ fn only_own(locators: &[OwnLocator], addr: Addr) -> Option<Addr>
 }
 
 /// Whether an own locator, up or not, has this address.
-fn is_own(locators: &[OwnLocator], addr: Addr) -> bool
+pub fn is_own(locators: &[OwnLocator], addr: Addr) -> bool
     ensures { result ≡ is_own locators.now addr }
 {
     locators.iter().any(|own| same_address(&own.addr, &addr))

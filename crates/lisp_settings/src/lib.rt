@@ -23,6 +23,7 @@ mod settings;
 mod values;
 mod writing;
 
+pub use changes::is_own;
 pub use fault::{Key, SettingsFault};
 pub use homes::home;
 pub use instances::{Limits, limits_of};

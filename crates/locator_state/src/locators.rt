@@ -8,7 +8,6 @@ ghost use Rattle.locator_state.specs.Probes.{probe_answered, probed};
 ghost use Rattle.locator_state.specs.Solicits.{solicited};
 
 use crate::echoing::{come_all, drop_starts, drop_wishes, echo_wanted, hear_all};
-use crate::limits::PROBE_LIFE;
 use crate::probing::{drop_probes, settle_nonce};
 use crate::soliciting::drop_solicits;
 use crate::{Addr, EchoStart, EchoWish, Eid, NoMemory, Probe, ProbeState, Solicitation};

@@ -10,12 +10,6 @@ use ip_headers::Addr;
 use keyed_list::{Key, KeyedList};
 use router_log::{Probe, ProbeState};
 
-pub(crate) fn same_address(a: &Addr, b: &Addr) -> bool
-    ensures { result ≡ same_address a.now b.now }
-{
-    a == b
-}
-
 pub(crate) fn probe_counts(now: u64, probe: &Probe) -> bool
     ensures { result ≡ probe_counts now probe.now }
 {

@@ -1,16 +1,13 @@
 // Which locators are probed first.
 ghost use Rattle.std.specs.Prelude.{◌≡◌, ◌≤◌, ◌<◌, ◌||◌, length, slice_get, take, vec_len, vec_capacity};
-ghost use Rattle.std.specs.Ordering.{is_lt};
 ghost use Rattle.std.specs.List.{position_or_len};
 ghost use Rattle.mapping_records.specs.Eids.{same_address};
-ghost use Rattle.mapping_records.specs.Orders.{addr_order};
 ghost use Rattle.locator_state.specs.Limits.{most_targets};
 ghost use Rattle.locator_state.specs.Turns.{goes_before, has_rested, is_at, turn_of, with_target};
 
 use crate::Target;
 use crate::limits::{MOST_TARGETS, PROBE_REST};
-use crate::probing::same_address;
-use ip_headers::Addr;
+use ip_headers::{is_below, same_address};
 
 /// The last probe of a locator, if one counts, is `PROBE_REST` old.
 pub fn has_rested(now: u64, last: Option<u64>) -> bool
@@ -32,17 +29,11 @@ fn turn_of(last: Option<u64>) -> u128
     }
 }
 
-fn is_lesser(a: &Addr, b: &Addr) -> bool
-    ensures { result ≡ is_lt (addr_order a.now b.now) }
-{
-    a < b
-}
-
 fn goes_before(a: &Target, b: &Target) -> bool
     ensures { result ≡ goes_before a.now b.now }
 {
     let (turn, other) = (turn_of(a.last), turn_of(b.last));
-    turn < other || (turn == other && is_lesser(&a.rloc, &b.rloc))
+    turn < other || (turn == other && is_below(&a.rloc, &b.rloc))
 }
 
 // A locator has its place before another, or is that one.
@@ -87,7 +78,9 @@ pub fn offer(target: Target, first: &mut Vec<Target>)
 {
     let index = place(&target, first);
     if !is_there(&target, index, first) {
-        let _ = first.insert(index, target);
+        if first.insert(index, target).is_err() {
+            unreachable!();
+        }
         first.truncate(MOST_TARGETS);
     }
 }

@@ -3,7 +3,6 @@ ghost use Rattle.std.specs.Prelude.{◌≡◌};
 ghost use Rattle.map_cache.specs.declared.fault.LearnFault.TheVariants.{Memory};
 
 use octets::NoMemory;
-use std::alloc::AllocError;
 
 /// A mapping wasn't learned. Only the purge has taken place.
 #[derive(Clone, Copy, Debug, PartialEq, Eq)]
@@ -13,14 +12,6 @@ pub enum LearnFault {
     CacheFull,
     /// An allocation was refused.
     Memory,
-}
-
-impl From<AllocError> for LearnFault {
-    ghost from_gives = { λ _ fault. fault ≡ Memory };
-
-    fn from(_: AllocError) -> Self {
-        LearnFault::Memory
-    }
 }
 
 impl From<NoMemory> for LearnFault {

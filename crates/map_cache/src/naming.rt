@@ -3,8 +3,8 @@ ghost use Rattle.std.specs.Prelude.{◌≡◌, fold, map, filter};
 ghost use Rattle.std.specs.Option.{option_copied};
 ghost use Rattle.map_cache.specs.Named.{is_named, lesser};
 
-use crate::searching::{comes_after, is_less};
-use ip_headers::Addr;
+use crate::searching::comes_after;
+use ip_headers::{Addr, is_below};
 use mapping_records::{Eid, Locator};
 
 /// The least of the best so far and of the addresses above `after` that the locators of an EID's
@@ -39,7 +39,7 @@ fn lesser(best: Option<(Addr, Eid)>, next: (Addr, Eid)) -> Option<(Addr, Eid)>
     let Some(least) = best else {
         return Some(next);
     };
-    if is_less(&next.0, &least.0) {
+    if is_below(&next.0, &least.0) {
         return Some(next);
     }
     Some(least)

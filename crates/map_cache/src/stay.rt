@@ -2,7 +2,7 @@
 ghost use Rattle.std.specs.Prelude.{◌≡◌};
 ghost use Rattle.map_cache.specs.Indexed.{stay_lasts, stay_until};
 
-/// Until when a mapping lasts, and its name in the list.
+/// Until when a mapping lasts, and its name in the store.
 #[derive(Clone, Copy, Drop)]
 pub(crate) struct Stay {
     /// The moment at which it ends, 0 where none does.

@@ -1,7 +1,7 @@
-// Which EIDs are the same, which cover which, and the longest of a list that does.
+// Which EIDs cover which, and the longest of a list that does.
 ghost use Rattle.std.specs.Prelude.{◌≡◌, option_map};
 ghost use Rattle.ip_headers.specs.Addr.{width};
-ghost use Rattle.mapping_records.specs.Eids.{covers_eid, covers_prefix, longer, longest, same_eid};
+ghost use Rattle.mapping_records.specs.Eids.{covers_eid, covers_prefix, longer, longest};
 ghost use Rattle.mapping_records.specs.declared.eid.Eid.{Eid};
 
 use crate::{Eid, Record};
@@ -21,13 +21,6 @@ impl HasEid for Record {
     fn eid(&self) -> &Eid {
         &self.eid
     }
-}
-
-/// The two are the same prefix of one instance.
-pub fn same_eid(a: &Eid, b: &Eid) -> bool
-    ensures { result ≡ same_eid a.now b.now }
-{
-    a == b
 }
 
 impl Eid {

@@ -16,7 +16,7 @@ mod record_reading;
 mod record_writing;
 
 pub use action::Action;
-pub use covering::{HasEid, longest, same_eid};
+pub use covering::{HasEid, longest};
 pub use eid::Eid;
 pub use eid_reading::read_eid;
 pub use eid_writing::write_eid;

@@ -82,11 +82,15 @@ fn insert_name(slots: &mut Vec<u32>, heads: &mut [usize], index: usize, name: u3
 {
     let full = heads.len() * RING;
     if index >= full {
-        let _ = slots.insert(index, name);
+        if slots.insert(index, name).is_err() {
+            unreachable!();
+        }
         return;
     }
     let carried = insert_below(&mut slots[0..full], heads, index, name);
-    let _ = slots.insert(full, carried);
+    if slots.insert(full, carried).is_err() {
+        unreachable!();
+    }
 }
 
 // Takes the name at a place out, where one lies behind the rings.

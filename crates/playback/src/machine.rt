@@ -27,7 +27,8 @@ pub trait Machine {
     /// What the calls ask of it, and keep, at a progress, with so many packets written.
     ghost IsReady: { Progress → ℕ → Self → Type 0 };
 
-    /// Lets a second begin, and gathers lines and packets.
+    /// Lets a second begin, and gathers lines and packets. Where memory is refused, a part of them may be
+    /// gathered, and the machine may not be called again.
     fn tick(
         &mut self,
         alloc: Global,
@@ -46,7 +47,8 @@ pub trait Machine {
         ensures gathers { OnOk result (GathersOne (Does (state self.old) (Happens (Tick second)))
             output.old output.new (state self.new)) };
 
-    /// Takes a frame, and gathers lines and packets. Answers that the machine is full.
+    /// Takes a frame, and gathers lines and packets. Answers that the machine is full. Where memory is
+    /// refused, a part of them may be gathered, and the machine may not be called again.
     fn take(
         &mut self,
         alloc: Global,

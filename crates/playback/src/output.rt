@@ -36,7 +36,8 @@ impl Output {
         }
     }
 
-    /// Gathers a packet at its moment, in nanoseconds.
+    /// Gathers a packet at its moment, in nanoseconds. Where memory is refused, nothing is said of what
+    /// is gathered.
     pub fn push_packet(&mut self, moment: u64, packet: &[u8]) -> Result<(), NoMemory>
         requires moment { moment < 2 ^ 32 * 1000000000 }
         requires size { length packet.now ≤ most_frame_octets }

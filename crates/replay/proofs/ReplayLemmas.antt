@@ -54,19 +54,6 @@ sends-one moment octets old new lines records written = record {
   written = written;
 }
 
--- a packet, then others
-pub sends-more : (packet : Packet) (packets : List Packet) (old mid new : Output) → Sends (packet ∷ []) old mid → Sends packets mid new → Sends (packet ∷ packets) old new
-sends-more packet packets old mid new first others =
-    let a = first.written in
-    let b = others.written in
-    record {
-      lines = others.lines ∙ first.lines;
-      records = others.records ∙ ap (λ (r : List ℕ). r ++ records_of packets) first.records
-          ∙ append_assoc old.records (records_of (packet ∷ [])) (records_of packets)
-          ∙ ap (λ (r : List ℕ). old.records ++ r) (sym (flat_map-append (λ (p : Packet). packet_record p.moment p.octets) (packet ∷ []) packets));
-      written = omega (arith, a, b);
-    }
-
 -- packets, then others
 sends-both : (first others : List Packet) (old mid new : Output) → Sends first old mid → Sends others mid new → Sends (first ++ others) old new
 sends-both first others old mid new a b =

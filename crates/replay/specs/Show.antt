@@ -1,9 +1,8 @@
 -- What `show` says of each frame.
-use Rattle.std.specs.Prelude.{ℕ, ◌+◌, ◌-◌, ◌==◌, ◌||◌, ◌&&◌, not, true, false, List, [], ◌∷◌, ◌++◌, codes, length, take, flat_map, Option, Some, None, Result, Ok, Err, if◌then◌else◌}
+use Rattle.std.specs.Prelude.{ℕ, ◌+◌, ◌-◌, true, false, List, [], ◌∷◌, ◌++◌, codes, length, take, flat_map, Option, Some, None}
 use Rattle.std.specs.Fmt.{decimal}
 use Rattle.octets.specs.Rules.{first_failing}
 use Rattle.octets.specs.declared.refused.Refused.{Refused}
-use Rattle.ip_headers.specs.Ip.{is_fragment, protocol_of}
 use Rattle.ip_headers.specs.Udp.{payload_in, sum_rules}
 use Rattle.ip_headers.specs.declared.header.UdpHeader.{UdpHeader}
 use Rattle.lisp_header.specs.Header.{lisp_rules}
@@ -12,8 +11,10 @@ use Rattle.capture_io.specs.Frame.{Frame}
 use Rattle.capture_events.specs.Events.{Event, Outcome, Tick, Arrival, idle}
 use Rattle.router_log.specs.Numbers.{fixed_hex, named}
 use Rattle.router_log.specs.Refusals.{refused_text}
-use Rattle.router_model.specs.Course.{FramePacket, datagram_read, frame_packet, frame_refusal}
-use Rattle.router_model.specs.Limits.{control_port, data_port}
+use Rattle.router_log.specs.declared.verdict.Reason.TheVariants.{Refused as IsRefused}
+use Rattle.router_log.specs.declared.verdict.Verdict.{Verdict}
+use Rattle.router_log.specs.declared.verdict.Verdict.TheVariants.{Drop}
+use Rattle.router_model.specs.Course.{Course, FramePacket, Settled, Data, Control, arriving, frame_packet, frame_refusal}
 use Rattle.replay.specs.Messages.{message_at}
 
 -- a frame that a rule refuses
@@ -51,27 +52,21 @@ control_text packet udp =
     (unless_refused (first_failing (message_rules (packet.base + udp.at + 8) payload))
     (message_at payload))
 
--- a datagram, by its ports
-unfoldable pub by_port : FramePacket → UdpHeader → List ℕ
-by_port packet udp =
-    if udp.dest == data_port then data_text packet udp
-    else if udp.dest == control_port || udp.source == control_port then control_text packet udp
-    else other_line
+-- a packet without a datagram of LISP, which a rule of UDP may refuse
+abbrev pub settled_text : Verdict → List ℕ
+settled_text (Drop (IsRefused refused)) = refused_line refused
+settled_text _ = other_line
 
--- a packet of UDP, by its header where the rules of UDP hold
-abbrev pub by_udp : FramePacket → Result UdpHeader Refused → List ℕ
-by_udp packet (Err refused) = refused_line refused
-by_udp packet (Ok udp) = by_port packet udp
-
--- a packet, by its datagram where it has one
-unfoldable pub packet_text : FramePacket → List ℕ
-packet_text packet =
-    if (protocol_of packet.header == 17) && not (is_fragment packet.header)
-    then by_udp packet (datagram_read packet) else other_line
+-- a packet by what it is where it comes to an own locator
+abbrev pub course_text : Course → List ℕ
+course_text (Settled verdict) = settled_text verdict
+course_text (Data d) = data_text d.packet d.udp
+course_text (Control d) = control_text d.packet d.udp
+course_text _ = other_line
 
 -- a frame, without its number
 unfoldable pub frame_text : Frame → List ℕ
-frame_text frame = unless_refused (frame_refusal frame) (packet_text (frame_packet frame))
+frame_text frame = unless_refused (frame_refusal frame) (course_text (arriving (frame_packet frame)))
 
 -- the lines of a frame
 abbrev pub shown_frame : Frame → List ℕ

@@ -1,16 +1,16 @@
 // What `show` says of each frame.
 ghost use Rattle.std.specs.Prelude.{◌≡◌, ◌++◌, ◌≤◌, length, OnOk};
-ghost use Rattle.router_core.specs.Seen.{packet_seen};
-ghost use Rattle.replay.specs.Show.{by_port, control_text, data_line, data_text, frame_text, other_line, packet_text, refused_line, shown_frame};
+ghost use Rattle.router_core.specs.Seen.{course_seen, packet_seen};
+ghost use Rattle.replay.specs.Show.{control_text, course_text, data_line, data_text, frame_text, other_line, refused_line, settled_text, shown_frame};
 
 use crate::message_lines::push_message;
 use capture_io::Frame;
-use ip_headers::{IpPacket, UDP, check_udp, read_udp, udp_payload};
-use lisp_header::{LISP_DATA_PORT, read_header};
-use map_messages::{LISP_CONTROL_PORT, MessageFault, read_message};
+use ip_headers::{check_udp, udp_payload};
+use lisp_header::read_header;
+use map_messages::{MessageFault, read_message};
 use octets::{NoMemory, Octets, Refused};
-use router_core::{Datagram, frame_packet};
-use router_log::{push_named, push_number, push_octets, push_refused};
+use router_core::{Course, Datagram, arriving, frame_packet};
+use router_log::{Reason, Verdict, push_named, push_number, push_octets, push_refused};
 use std::alloc::Global;
 
 /// Appends the lines of a frame.
@@ -28,7 +28,7 @@ fn push_frame(alloc: Global, frame: &Frame, out: &mut Octets) -> Result<(), NoMe
     ensures { OnOk result (out.new ≡ out.old ++ frame_text frame.now) }
 {
     match frame_packet(frame) {
-        Ok((_, packet)) => push_packet(alloc, packet, out),
+        Ok((_, packet)) => push_course(alloc, arriving(packet), out),
         Err(refused) => push_refused_line(refused, out),
     }
 }
@@ -47,33 +47,25 @@ fn push_other(out: &mut Octets) -> Result<(), NoMemory>
     out.append(b"other\n")
 }
 
-#[tactic(auto, unfolding(crate::specs::Show::packet_text))]
-fn push_packet(alloc: Global, packet: IpPacket, out: &mut Octets) -> Result<(), NoMemory>
-    ensures { OnOk result (out.new ≡ out.old ++ packet_text (packet_seen packet.entry)) }
+// The lines of a packet that is this where it comes to an own locator.
+fn push_course(alloc: Global, course: Course, out: &mut Octets) -> Result<(), NoMemory>
+    ensures { OnOk result (out.new ≡ out.old ++ course_text (course_seen course.entry)) }
 {
-    let has_datagram = packet.header.protocol() == UDP && !packet.header.is_fragment();
-    if !has_datagram {
-        return push_other(out);
-    }
-    match read_udp(&packet) {
-        Ok(udp) => push_by_port(alloc, &Datagram { packet, udp }, out),
-        Err(refused) => push_refused_line(refused, out),
+    match course {
+        Course::Settled(verdict) => push_settled(verdict, out),
+        Course::Data(datagram) => push_data(&datagram, out),
+        Course::Control(datagram) => push_control(alloc, &datagram, out),
+        Course::Leaving { .. } => push_other(out),
     }
 }
 
-#[tactic(auto, unfolding(crate::specs::Show::by_port))]
-fn push_by_port(alloc: Global, datagram: &Datagram, out: &mut Octets) -> Result<(), NoMemory>
-    ensures { OnOk result (out.new ≡ out.old
-        ++ by_port (packet_seen datagram.now.packet) datagram.now.udp) }
+// Those of one without a datagram of LISP.
+fn push_settled(verdict: Verdict, out: &mut Octets) -> Result<(), NoMemory>
+    ensures { OnOk result (out.new ≡ out.old ++ settled_text verdict) }
 {
-    let udp = &datagram.udp;
-    if udp.dest == LISP_DATA_PORT {
-        return push_data(datagram, out);
-    }
-    if udp.dest == LISP_CONTROL_PORT || udp.source == LISP_CONTROL_PORT {
-        push_control(alloc, datagram, out)
-    } else {
-        push_other(out)
+    match verdict {
+        Verdict::Drop(Reason::Refused(refused)) => push_refused_line(refused, out),
+        _ => push_other(out),
     }
 }
 

@@ -16,7 +16,7 @@ use desk::{Desk, DeskFault};
 use lisp_settings::{Key, SettingsFault};
 use octets::{NoMemory, Octets};
 use playback::InputFault;
-use router_log::{push_named, push_number};
+use router_log::push_named;
 use std::alloc::Global;
 
 /// Says that the words are of no form.

@@ -260,11 +260,10 @@ fn push_emits(
     ensures { OnOk result (Sends (emit_packets (standing_by settings.now own.now) moment emits.now)
         output.old output.new) }
 {
-    let [emit, others @ ..] = emits else {
-        return Ok(());
-    };
-    push_emit(alloc, settings, own, moment, emit, output)?;
-    push_emits(alloc, settings, own, moment, others, output)
+    for emit in emits {
+        push_emit(alloc, settings, own, moment, emit, output)?;
+    }
+    Ok(())
 }
 
 // Gathers the packet of an emit, by those.

@@ -1,5 +1,5 @@
 -- What an entry makes of the lists of a table.
-use Rattle.std.proofs.Common.{◌≢◌, ◌≡◌, ℕ, suc, ◌+◌, ◌-◌, ◌*◌, ◌<◌, ◌≤◌, ◌==◌, ◌||◌, not, nat_lt, Bool, true, false, cond, IsTrue, IsFalse, List, [], ◌∷◌, ◌++◌, filter, filter_map, map, Option, Some, None, Result, Ok, Err, OnOk, OnErr, ◌↔◌, refl, sym, ap, ap₂, ◌∙◌, arith}
+use Rattle.std.proofs.Common.{◌≡◌, ℕ, suc, ◌+◌, ◌-◌, ◌*◌, ◌<◌, ◌==◌, ◌||◌, not, nat_lt, Bool, true, false, cond, List, [], ◌∷◌, ◌++◌, filter, filter_map, map, Option, Some, None, Result, Ok, Err, OnOk, is_err, refl, sym, ap, ap₂, ◌∙◌, arith}
 use Rattle.std.specs.List.{cons_option}
 use Rattle.std.proofs.lemmas.Bool.Decides.{nat_tests}
 use Rattle.ip_headers.specs.declared.addr.Addr.{Addr}
@@ -8,8 +8,6 @@ use Rattle.mapping_records.specs.Orders.{eid_order, put_in_order}
 use Rattle.mapping_records.specs.declared.eid.Eid.{Eid}
 use Rattle.mapping_records.specs.declared.record.Record.{Record}
 use Rattle.map_cache.specs.Cache.{bits_told, fresh, lasting, lasts, learned, lifetime, told_mapping, without_eid}
-use Rattle.map_cache.specs.declared.fault.LearnFault.{LearnFault}
-use Rattle.map_cache.specs.declared.fault.LearnFault.TheVariants as learning
 use Rattle.lisp_settings.specs.declared.settings.LimitItem.{LimitItem}
 use Rattle.lisp_settings.specs.declared.settings.OwnLocator.{OwnLocator}
 use Rattle.map_cache.specs.declared.mapping.Mapping.{Mapping}
@@ -17,10 +15,7 @@ use Rattle.locator_state.specs.Echoes.{come_from, counting_starts, counting_wish
 use Rattle.locator_state.specs.Observed.{Observed, recent, with_probes, with_solicits, with_starts, with_wishes}
 use Rattle.locator_state.specs.Probes.{counting_probes, probe_answered, probe_counts, probed, settle_with}
 use Rattle.locator_state.specs.Solicits.{counting_solicits, solicit_counts, solicited}
-use Rattle.octets.specs.declared.items.NoMemory.{NoMemory}
 use Rattle.request_queue.specs.Queue.{asked, is_waiting, once_more, sent_again, waiting, without_nonce}
-use Rattle.request_queue.specs.declared.fault.AskFault.{AskFault}
-use Rattle.request_queue.specs.declared.fault.AskFault.TheVariants as asking
 use Rattle.request_queue.specs.declared.request.Request.{Request}
 use Rattle.router_log.specs.declared.entry.Entry.TheVariants.{Answered, Asked, Bits, DataFrom, EchoHeard, EchoStarted, EchoWanted, Learned, ProbeAnswered, Probed, Retried, Solicited, Changed}
 use Rattle.router_log.specs.declared.entry.Entry.{Entry}
@@ -151,16 +146,6 @@ learned-parts limits own steps count drawn now ms rs o m mapping fixed =
     same-parts limits own steps (count + 1) (suc count) drawn (0 + drawn) m _ (absorb mapping_kind (lasts m) (Learned m mapping fixed) ms) _ (absorb request_kind (is_waiting m) (Learned m mapping fixed) rs) _ (observing m (Learned m mapping fixed) o)
     (one_more count) (no_more drawn) (sym (absorb-learned m mapping fixed ms)) (sym (filter_map-all (waiting m rs))) (sym (still m o))
 
--- a cache that has room and place took it
-pub was_learned : {P : Type 0} (r : Result (Unit {0}) LearnFault) (place : Bool) → OnOk r P → r ≢ Err learning.Memory → ((r ≡ Err learning.CacheFull) ↔ IsFalse place) → IsTrue place → P
-was_learned (Ok u) place ok memory full is = ok
-was_learned (Err learning.Memory) place ok memory full is = absurd (memory refl)
-was_learned (Err learning.CacheFull) place ok memory full is = apart place (full.0 refl) is
-  where
-    apart : {Q : Type 0} (b : Bool) → IsFalse b → IsTrue b → Q
-    apart true isn't is' = cc
-    apart false isn't is' = cc
-
 -- ### a request that is made
 
 pub asked-parts : (limits : List LimitItem) (own : List OwnLocator) (steps count drawn now : ℕ) (ms : List Mapping) (rs : List Request) (o : Observed) (m : ℕ) (eid : Eid) (source : Option Addr) (invoked : Bool) (nonce : ℕ) → parts_with limits own steps (count + 1) (drawn + 1) m (lasting m ms) (asked m eid source invoked nonce rs) (recent m o) ≡ with_entry (Asked m eid source invoked nonce) (parts_with limits own steps count drawn now ms rs o)
@@ -179,12 +164,6 @@ asked-parts limits own steps count drawn now ms rs o m eid source invoked nonce 
 
     whole : absorb request_kind (is_waiting m) (Asked m eid source invoked nonce) rs ≡ asked m eid source invoked nonce rs
     whole = rw (young m) (ap (λ (l : List Request). l ++ r ∷ []) others)
-
--- a queue that has room and place took it
-pub was_asked : {P : Type 0} (r : Result (Unit {0}) AskFault) (spare waits most : ℕ) → OnOk r P → (r ≡ Err asking.Memory → spare ≡ 0) → 0 < spare → ((r ≡ Err asking.QueueFull) ↔ (most ≤ waits)) → waits < most → P
-was_asked (Ok u) spare waits most ok memory some full few = ok
-was_asked (Err asking.Memory) spare waits most ok memory some full few = let none = memory refl in absurd (omega (arith, none, some))
-was_asked (Err asking.QueueFull) spare waits most ok memory some full few = let least = full.0 refl in absurd (omega (arith, least, few))
 
 -- ### a request that was answered
 
@@ -291,10 +270,10 @@ solicited-parts limits own steps count drawn now ms rs o m rloc eid nonce =
     whole : absorb solicit_kind (solicit_counts m) (Solicited m rloc eid nonce) o.solicits ≡ solicited m rloc eid o.solicits
     whole = rw (fresh_solicit m) (ap (λ (l : List Solicitation). l ++ new ∷ []) (filter_map-all (counting_solicits m o.solicits)))
 
--- there was room for an item
-pub was_kept : {P : Type 0} (r : Result (Unit {0}) NoMemory) (spare : ℕ) → OnOk r P → OnErr r (spare ≡ 0) → 0 < spare → P
-was_kept (Ok u) spare ok memory some = ok
-was_kept (Err e) spare ok memory some = absurd (omega (arith, memory, some))
+-- what a call that wasn't refused left
+pub left_by : {T E P : Type 0} (r : Result T E) → OnOk r P → is_err r ≡ false → P
+left_by (Ok x) ok isn't = ok
+left_by (Err e) ok isn't = cc
 
 -- an own locator goes up or down
 pub changed-parts : (limits : List LimitItem) (own : List OwnLocator) (steps count drawn now : ℕ) (ms : List Mapping) (rs : List Request) (o : Observed) (m : ℕ) (address : Addr) (up : Bool) → parts_with limits (changing address up own) (steps + 1) (count + 1) drawn m (lasting m ms) (waiting m rs) (recent m o) ≡ with_entry (Changed m address up) (parts_with limits own steps count drawn now ms rs o)

@@ -1,23 +1,30 @@
 -- The site that stands: what of it is as the settings say, and what is lawful of it.
-use Rattle.std.proofs.Common.{◌≡◌, ℕ, zero, suc, ◌+◌, ◌/◌, ◌<◌, ◌≤◌, ◌==◌, ◌||◌, Bool, true, false, cond, List, [], ◌∷◌, length, map, refl, sym, ap, subst, arith, nat_lt}
+use Rattle.std.proofs.Common.{◌≡◌, ◌∙◌, ℕ, zero, suc, ◌+◌, ◌/◌, ◌<◌, ◌≤◌, ◌==◌, ◌||◌, not, Bool, true, false, cond, List, [], ◌∷◌, length, map, Option, Some, None, is_none, is_some, option_map, refl, sym, ap, ap₂, subst, arith, nat_lt}
 use Rattle.std.specs.List.{All}
 use Rattle.std.proofs.lemmas.Bool.Decides.{nat_tests}
 use Rattle.std.proofs.lemmas.List.{length-map}
 use Rattle.std.proofs.lemmas.List.Elements.{All-cons, All-nil, All-tail}
+use Rattle.ip_headers.specs.Ip.{dest_of, source_of}
 use Rattle.ip_headers.specs.declared.addr.Addr.{Addr}
+use Rattle.ip_headers.specs.declared.header.IpHeader.{IpHeader}
 use Rattle.capture_io.specs.Frame.{Frame}
 use Rattle.mapping_records.specs.Eids.{same_address}
 use Rattle.lisp_header.specs.Versions.{successor}
+use Rattle.lisp_settings.specs.Home.{home_of}
 use Rattle.lisp_settings.specs.Lawful.{IsLawful, IsLawfulDatabase}
 use Rattle.lisp_settings.specs.declared.settings.Database.{Database}
 use Rattle.lisp_settings.specs.declared.settings.OwnLocator.{OwnLocator}
 use Rattle.lisp_settings.specs.declared.settings.Settings.{Settings}
+use Rattle.router_log.specs.declared.verdict.Reason.TheVariants.{Multicast, NotSite}
+use Rattle.router_log.specs.declared.verdict.Verdict.{Verdict}
+use Rattle.router_log.specs.declared.verdict.Verdict.TheVariants.{Local, Drop}
 use Rattle.router_model.specs.Course.{course_of}
+use Rattle.router_model.specs.Decide.{is_multicast, site_cases}
 use Rattle.router_model.specs.Site.{is_own}
 use Rattle.router_model.specs.Standing.{standing_by, stepped, stood, stood_version, with_ups}
 use Rattle.router_model.specs.declared.own.Own.{Own}
 use Rattle.router_model.proofs.StandingLemmas.{course-with}
-use Rattle.router_model.proofs.StoodLemmas.{databases-lawful}
+use Rattle.router_model.proofs.StoodLemmas.{databases-lawful, home-stood}
 use Rattle.router_core.specs.Site.{IsSite}
 
 -- ### own locators, whichever are up
@@ -34,6 +41,30 @@ is_own-ups ups (own ∷ others) x = ap (λ b. same_address own.addr x || b) (is_
 pub course-by : (settings : Settings) (own : Own) (frame : Frame) → course_of (standing_by settings own) frame ≡ course_of settings frame
 course-by settings own frame =
     course-with settings (with_ups own.ups settings.locators) own.steps (is_own-ups own.ups settings.locators) frame
+
+-- ### databases, however many steps on
+
+none-stood : (steps : ℕ) (home : Option Database) → is_none (option_map (stood steps) home) ≡ is_none home
+none-stood steps None = refl
+none-stood steps (Some database) = refl
+
+some-stood : (steps : ℕ) (home : Option Database) → is_some (option_map (stood steps) home) ≡ is_some home
+some-stood steps None = refl
+some-stood steps (Some database) = refl
+
+-- the cases of a packet of an instance, by what is found of its addresses
+abbrev cases_by : IpHeader → Bool → Bool → List (Bool × Verdict)
+cases_by header away own = (not (is_multicast (dest_of header)), Drop Multicast) ∷ (away, Local) ∷ (own, Drop NotSite) ∷ []
+
+-- whether a packet leaves the site doesn't depend on it
+pub cases-by : (settings : Settings) (own : Own) (iid : ℕ) (header : IpHeader) → site_cases (standing_by settings own) iid header ≡ site_cases settings iid header
+cases-by settings own iid header =
+    let databases = settings.databases in
+    let dest = dest_of header in
+    let source = source_of header in
+    ap₂ (cases_by header)
+    (ap (λ (home : Option Database). is_none home) (home-stood own.steps databases iid dest) ∙ none-stood own.steps (home_of databases iid dest))
+    (ap (λ (home : Option Database). is_some home) (home-stood own.steps databases iid source) ∙ some-stood own.steps (home_of databases iid source))
 
 -- ### lawful settings
 

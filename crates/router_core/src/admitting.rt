@@ -10,9 +10,8 @@ ghost use Rattle.router_model.specs.Parts.{admits, view_in};
 ghost use Rattle.router_model.specs.Proper.{is_in_range, is_short, may_retry, suits};
 
 use crate::Table;
-use crate::site::is_own;
 use ip_headers::Addr;
-use lisp_settings::MOST_CHANGES;
+use lisp_settings::{MOST_CHANGES, is_own};
 use map_cache::MOST_LOCATORS;
 use mapping_records::{Eid, Record};
 use request_queue::Request;

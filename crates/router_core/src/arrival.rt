@@ -17,7 +17,6 @@ ghost use Rattle.router_core.specs.Table.{seen};
 use crate::Table;
 use crate::datagram::Datagram;
 use crate::hosts::host_eid;
-use crate::site::Site;
 use crate::tellings::notices;
 use crate::versions::wrong_version;
 use crate::view::View;

@@ -29,6 +29,15 @@ pub(crate) fn chosen(view: &View<'_>, mapping: &Mapping, hash: u32) -> Option<Ad
         mapping.now.details.locators hash }
 {
     let locators = mapping.details.locators.as_slice();
+    // One locator, as most mappings have, leaves no choice.
+    if let [only] = locators {
+        let candidate = candidate(view, is_up(mapping, 0, only), only);
+        return if candidate.usable {
+            Some(only.addr)
+        } else {
+            None
+        };
+    }
     let mut places = [NOBODY; MOST_CANDIDATES];
     fill(view, mapping, 0, locators, &mut places);
     let index = choose(&places[..locators.len()], hash)?;

@@ -12,11 +12,11 @@ ghost use Rattle.router_model.specs.Plain.{packet_of};
 ghost use Rattle.router_core.specs.Seen.{course_seen, packet_seen, IfLeaving, IfSettled};
 
 use crate::datagram::Datagram;
-use crate::site::{instance_of, is_own};
+use crate::site::instance_of;
 use capture_io::{Frame, link_payload};
 use ip_headers::{IpPacket, Refused, UDP, UdpHeader, read_ip, read_udp};
 use lisp_header::LISP_DATA_PORT;
-use lisp_settings::Settings;
+use lisp_settings::{Settings, is_own};
 use map_messages::LISP_CONTROL_PORT;
 use router_log::{Reason, Verdict};
 
@@ -98,11 +98,11 @@ fn packet_course<'a>(settings: &Settings, vlan: u16, packet: IpPacket<'a>) -> Co
     }
 }
 
-// What a packet to an own locator is.
+/// What a packet is where it comes to an own locator; its addresses don't count.
 #[tactic(auto, unfolding(router_model::specs::Course::arriving))]
-fn arriving<'a>(packet: IpPacket<'a>) -> Course<'a>
+pub fn arriving<'a>(packet: IpPacket<'a>) -> Course<'a>
     ensures course { course_seen result ≡ arriving (packet_seen packet.entry) }
-    ensures stays { IfLeaving result (λ iid. iid < 2 ^ 24) }
+    ensures instance { IfLeaving result (λ iid. iid < 2 ^ 24) }
     ensures quiet { IfSettled result (λ verdict. packet_of verdict ≡ None) }
 {
     if let Some(verdict) = no_datagram(&packet) {
@@ -130,7 +130,7 @@ fn no_datagram(packet: &IpPacket) -> Option<Verdict>
 fn by_port<'a>(packet: IpPacket<'a>, udp: UdpHeader) -> Course<'a>
     requires { udp_read packet ≡ Ok udp }
     ensures course { course_seen result ≡ by_port (packet_seen packet.entry) udp }
-    ensures stays { IfLeaving result (λ iid. iid < 2 ^ 24) }
+    ensures instance { IfLeaving result (λ iid. iid < 2 ^ 24) }
     ensures quiet { IfSettled result (λ verdict. packet_of verdict ≡ None) }
 {
     if udp.dest == LISP_DATA_PORT {

@@ -1,5 +1,5 @@
 // A packet from the site: into a tunnel, past the tunnels, or dropped.
-ghost use Rattle.std.specs.Prelude.{◌≡◌, ◌<◌, ◌≤◌, ◌^◌, IfOk, IfErr, IfSome, Some, None};
+ghost use Rattle.std.specs.Prelude.{◌≡◌, ◌<◌, ◌≤◌, ◌^◌, IfOk, Some};
 ghost use Rattle.octets.specs.Rules.{first_failing};
 ghost use Rattle.ip_headers.specs.Addr.{width};
 ghost use Rattle.ip_headers.specs.Ip.{dest_of, source_of};
@@ -9,10 +9,10 @@ ghost use Rattle.lisp_settings.specs.Home.{home_of};
 ghost use Rattle.locator_choice.specs.Hash.{source_port};
 ghost use Rattle.map_cache.specs.Lists.{IsFew};
 ghost use Rattle.router_model.specs.Cache.{held_of};
-ghost use Rattle.router_model.specs.Decide.{asking, by_action, echo_notice, from_ours, hash_of, home_version, is_multicast, mapped, natively, routed, sent, site_cases};
+ghost use Rattle.router_model.specs.Decide.{asking, by_action, echo_notice, from_ours, hash_of, home_version, mapped, natively, routed, sent};
 ghost use Rattle.router_model.specs.Hosts.{host_eid};
 ghost use Rattle.router_model.specs.Lifting.{AreSound};
-ghost use Rattle.router_model.specs.Plain.{packet_of, FitsRecord};
+ghost use Rattle.router_model.specs.Plain.{FitsRecord};
 ghost use Rattle.router_model.specs.Site.{ours};
 ghost use Rattle.router_log.specs.declared.verdict.Verdict.TheVariants.{Drop};
 ghost use Rattle.router_core.specs.Site.{IsSite};
@@ -23,7 +23,6 @@ ghost use Rattle.router_core.specs.Table.{seen};
 use crate::Table;
 use crate::choice::chosen;
 use crate::hosts::host_eid;
-use crate::site::Site;
 use crate::tunnel_headers::header_to;
 use crate::view::View;
 use encap::{EncapDrop, encapsulate, forward_native};
@@ -46,7 +45,7 @@ pub(crate) fn routed(view: &View<'_>, iid: u32, packet: &IpPacket) -> Result<Dec
     ensures size { IfOk result (λ decision. FitsRecord decision.verdict) }
     ensures notices { IfOk result (λ decision. AreSound decision.notices) }
 {
-    let version = match leaving(view.site, iid, packet) {
+    let version = match view.site.leaving_version(iid, &packet.header) {
         Ok(version) => version,
         Err(verdict) => return Ok(view.table.alone(verdict)),
     };
@@ -74,41 +73,6 @@ fn asking(alloc: Global, eid: Eid, packet: &IpPacket, reason: Reason) -> Result<
         verdict: Verdict::Drop(reason),
         notices,
     })
-}
-
-// The version of the prefix of the site that a packet leaves, or the verdict on one that stays out of a
-// tunnel.
-fn leaving(site: &Site<'_>, iid: u32, packet: &IpPacket) -> Result<u16, Verdict>
-    requires { IsSite site.now }
-    ensures leaves { IfOk result (λ version.
-        first_failing (site_cases site.now iid packet.now.header) ≡ None) }
-    ensures version { IfOk result (λ version. version
-        ≡ home_version (home_of site.now.databases iid (source_of packet.now.header))) }
-    ensures bits { IfOk result (λ version. version ≤ 4095) }
-    ensures stays { IfErr result (λ verdict.
-        first_failing (site_cases site.now iid packet.now.header) ≡ Some verdict) }
-    ensures quiet { IfErr result (λ verdict. packet_of verdict ≡ None) }
-{
-    let dest = packet.header.dest();
-    if is_multicast(dest) {
-        return Err(Verdict::Drop(Reason::Multicast));
-    }
-    if site.home(iid, &dest).is_some() {
-        return Err(Verdict::Local);
-    }
-    match site.home(iid, &packet.header.source()) {
-        Some(home) => Ok(home.version),
-        None => Err(Verdict::Drop(Reason::NotSite)),
-    }
-}
-
-fn is_multicast(address: Addr) -> bool
-    ensures { result ≡ is_multicast address }
-{
-    match address {
-        Addr::V4(number) => number >> 28 == 14 || number == 0xffff_ffff,
-        Addr::V6(number) => number >> 120 == 255,
-    }
 }
 
 // The decision by the mapping in force, on a packet from a prefix of the site that has that version.
@@ -185,7 +149,8 @@ fn natively(alloc: Global, packet: &IpPacket) -> Result<Verdict, NoMemory>
     match forward_native(alloc, packet) {
         Ok(packet) => Ok(Verdict::Native { packet }),
         Err(EncapDrop::TtlExpired) => Ok(Verdict::Drop(Reason::TtlExpired)),
-        Err(EncapDrop::TooBig) => Ok(Verdict::Drop(Reason::TooBig)),
+        // A packet that goes on as it is doesn't grow.
+        Err(EncapDrop::TooBig) => unreachable!(),
         Err(EncapDrop::Memory) => Err(NoMemory),
     }
 }

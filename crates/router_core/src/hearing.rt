@@ -19,10 +19,10 @@ ghost use Rattle.router_core.specs.Table.{change_of, heard_seen};
 use crate::answering::Asker;
 use crate::changed::only;
 use crate::courses::{Course, course_of};
-use crate::site::{Site, same_address};
+use crate::site::Site;
 use crate::{Datagram, Heard, Table};
 use capture_io::Frame;
-use ip_headers::{Addr, check_udp, udp_payload};
+use ip_headers::{Addr, check_udp, same_address, udp_payload};
 use lisp_settings::Settings;
 use map_messages::{Ecm, MapReply, MapRequest, Message, MessageFault, read_message};
 use octets::{Items, NoMemory};
@@ -50,7 +50,8 @@ fn route_of(datagram: &Datagram) -> Route
 
 impl Table {
     /// Hears a frame that is a control message, at a moment: it takes the entries that come of it. Any
-    /// other frame is decided, and here dropped. Where memory is refused, the table is as it was.
+    /// other frame is for `decide`: here its verdict is a drop, and it leaves no entry. Where memory is
+    /// refused, the table is as it was.
     pub fn hear(&mut self, settings: &Settings, m: u64, frame: &Frame) -> Result<Heard, NoMemory>
         requires lawful { IsLawful settings.now }
         requires may { MayStep m self.old.parts }
@@ -266,7 +267,7 @@ impl Table {
         let Some(rloc) = self.locators.probe_open(m, nonce) else {
             return Ok(self.dropped(Reason::Unsolicited));
         };
-        if !same_address(rloc, from) {
+        if !same_address(&rloc, &from) {
             return Ok(self.dropped(Reason::Foreign));
         }
         let entries = only(self.alloc, Entry::ProbeAnswered { moment: m, nonce })?;

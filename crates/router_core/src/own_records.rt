@@ -5,8 +5,8 @@ ghost use Rattle.std.specs.List.{list_any};
 ghost use Rattle.mapping_records.specs.Eids.{same_address};
 ghost use Rattle.router_model.specs.Hear.{own_locator, own_record};
 
-use crate::site::{Site, is_first_up, same_address};
-use ip_headers::Addr;
+use crate::site::{Site, is_first_up};
+use ip_headers::{Addr, same_address};
 use lisp_settings::{Database, Locator, OwnLocator};
 use map_messages::Record;
 use mapping_records::Locators;
@@ -85,7 +85,7 @@ fn is_probed(probed: Option<Addr>, addr: Addr) -> bool
         ≡ list_any (λ probed. same_address probed addr) (option_to_list probed) }
 {
     match probed {
-        Some(probed) => same_address(probed, addr),
+        Some(probed) => same_address(&probed, &addr),
         None => false,
     }
 }

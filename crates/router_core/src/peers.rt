@@ -10,8 +10,8 @@ ghost use Rattle.router_model.specs.Tick.{first_told, is_told, named, with_addre
 ghost use Rattle.router_core.specs.Telling.{is_at, named_by, told_with};
 
 use crate::Table;
-use crate::site::{Site, same_address};
-use ip_headers::Addr;
+use crate::site::Site;
+use ip_headers::{Addr, is_below, same_address};
 use lisp_settings::Locator;
 use map_cache::lasts;
 
@@ -77,7 +77,9 @@ fn offer_address(address: Addr, told: &mut Vec<Addr>)
 {
     let index = place(address, told);
     if !is_there(address, index, told) {
-        let _ = told.insert(index, address);
+        if told.insert(index, address).is_err() {
+            unreachable!();
+        }
         told.truncate(MOST_TOLD);
     }
 }
@@ -101,13 +103,7 @@ fn is_placed(address: &Addr, next: &Addr) -> bool
     ensures { result ≡ (same_address address.now next.now
         || is_lt (addr_order address.now next.now)) }
 {
-    same_address(*address, *next) || is_lesser(address, next)
-}
-
-fn is_lesser(a: &Addr, b: &Addr) -> bool
-    ensures { result ≡ is_lt (addr_order a.now b.now) }
-{
-    a < b
+    same_address(address, next) || is_below(address, next)
 }
 
 // The address stands at that place.
@@ -116,6 +112,6 @@ fn is_there(address: Addr, index: usize, told: &[Addr]) -> bool
 {
     match told.get(index) {
         None => false,
-        Some(next) => same_address(address, *next),
+        Some(next) => same_address(&address, next),
     }
 }

@@ -3,8 +3,8 @@ ghost use Rattle.std.specs.Prelude.{◌≡◌, ◌≤◌, ◌==◌, ◌||◌, tr
 ghost use Rattle.std.specs.List.{list_all};
 ghost use Rattle.router_core.specs.Resting.{all_rest, rest_behind, rests};
 
-use crate::site::{is_own, ours};
-use lisp_settings::{Locator, OwnLocator};
+use crate::site::ours;
+use lisp_settings::{Locator, OwnLocator, is_own};
 use locator_state::{LocatorState, PROBE_REST};
 use map_cache::MapCache;
 

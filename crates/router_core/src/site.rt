@@ -1,23 +1,28 @@
 // The own site, as it stands: its locators, its prefixes, and what its settings say.
-ghost use Rattle.std.specs.Prelude.{◌≡◌, ◌<◌, ◌≤◌, ◌-◌, ◌^◌, length, IfSome, All, map};
+ghost use Rattle.std.specs.Prelude.{◌≡◌, ◌<◌, ◌≤◌, ◌-◌, ◌^◌, length, None, Some, IfErr, IfOk, IfSome, All, map};
 ghost use Rattle.std.specs.List.Sorted.{IsStrictlySortedBy};
 ghost use Rattle.std.specs.Ordering.{nat_cmp};
+ghost use Rattle.octets.specs.Rules.{first_failing};
 ghost use Rattle.ip_headers.specs.Addr.{width};
+ghost use Rattle.ip_headers.specs.Ip.{source_of};
 ghost use Rattle.lisp_settings.specs.Home.{home_of};
 ghost use Rattle.lisp_settings.specs.Lawful.{IsLawfulDatabase};
 ghost use Rattle.lisp_settings.specs.Nonces.{nonce_of};
-ghost use Rattle.mapping_records.specs.Eids.{same_address};
+ghost use Rattle.router_model.specs.Decide.{home_version, site_cases};
 ghost use Rattle.router_model.specs.Limits.{most_locators};
 ghost use Rattle.router_model.specs.Mappings.{bit};
+ghost use Rattle.router_model.specs.Plain.{packet_of};
 ghost use Rattle.router_model.specs.Site.{instance_of, is_own, ours, own_bits, reaches_resolver};
 ghost use Rattle.router_model.specs.Standing.{standing_by, stood, with_ups};
 ghost use Rattle.router_model.specs.Tick.{is_told};
 ghost use Rattle.router_core.specs.Site.{IsSite};
 
-use crate::stepping::stood;
-use ip_headers::Addr;
-use lisp_settings::{Attachment, Database, OwnLocator, Settings, home, nonce_at};
+use crate::leaving::leaving_from;
+use crate::stepping::{stood, stood_version};
+use ip_headers::{Addr, IpHeader};
+use lisp_settings::{Attachment, Database, OwnLocator, Settings, home, is_own, nonce_at};
 use mapping_records::Record;
+use router_log::Verdict;
 use router_model::Own;
 use std::marker::Model;
 
@@ -106,6 +111,25 @@ impl<'s> Site<'s> {
         }
     }
 
+    /// The version of the prefix of the site that a packet leaves, or the verdict on one that stays out of
+    /// a tunnel.
+    pub(crate) fn leaving_version(&self, iid: u32, header: &IpHeader) -> Result<u16, Verdict>
+        requires { IsSite self.now }
+        ensures leaves { IfOk result (λ version.
+            first_failing (site_cases self.now iid header.now) ≡ None) }
+        ensures version { IfOk result (λ version. version
+            ≡ home_version (home_of self.now.databases iid (source_of header.now))) }
+        ensures bits { IfOk result (λ version. version ≤ 4095) }
+        ensures stays { IfErr result (λ verdict.
+            first_failing (site_cases self.now iid header.now) ≡ Some verdict) }
+        ensures quiet { IfErr result (λ verdict. packet_of verdict ≡ None) }
+    {
+        match leaving_from(self.settings, iid, header) {
+            Ok(database) => Ok(stood_version(database, &self.own)),
+            Err(verdict) => Err(verdict),
+        }
+    }
+
     /// The static mappings, in order of EID.
     pub(crate) fn mappings(&self) -> &'s [Record]
         ensures { result.now ≡ self.now.mappings }
@@ -157,27 +181,6 @@ impl<'s> Site<'s> {
         ensures { result ≡ nonce_of self.now.seed self.now.nonces i }
     {
         nonce_at(self.settings, i)
-    }
-}
-
-/// Whether an own locator, up or not, has this address.
-pub(crate) fn is_own(locators: &[OwnLocator], address: Addr) -> bool
-    ensures { result ≡ is_own locators.now address }
-{
-    let [own, others @ ..] = locators else {
-        return false;
-    };
-    same_address(own.addr, address) || is_own(others, address)
-}
-
-/// The two are of one family and have the same bits.
-pub(crate) fn same_address(a: Addr, b: Addr) -> bool
-    ensures { result ≡ same_address a b }
-{
-    match (a, b) {
-        (Addr::V4(m), Addr::V4(n)) => m == n,
-        (Addr::V6(m), Addr::V6(n)) => m == n,
-        _ => false,
     }
 }
 

@@ -6,8 +6,7 @@ ghost use Rattle.router_model.specs.Cache.{known_up};
 ghost use Rattle.router_model.specs.Mappings.{bit, status_of};
 ghost use Rattle.router_model.specs.Note.{differs};
 
-use crate::site::same_address;
-use ip_headers::Addr;
+use ip_headers::{Addr, same_address};
 use lisp_settings::Locator;
 use map_cache::Mapping;
 
@@ -27,7 +26,7 @@ pub(crate) fn is_named(locators: &[Locator], address: &Addr) -> bool
     ensures { result ≡ list_any (λ locator. same_address locator.addr address.now) locators.now }
 {
     for locator in locators {
-        if same_address(locator.addr, *address) {
+        if same_address(&locator.addr, address) {
             return true;
         }
     }

@@ -1,5 +1,5 @@
 // Map-Versions that step on with each change of the own locators (RFC 9302, section 6.1).
-ghost use Rattle.std.specs.Prelude.{◌≡◌, ◌≤◌, ◌<◌, ◌^◌};
+ghost use Rattle.std.specs.Prelude.{◌≡◌, ◌≤◌};
 ghost use Rattle.router_model.specs.Standing as standing;
 
 use lisp_settings::Database;
@@ -9,7 +9,7 @@ use router_model::Own;
 const VERSIONS: u64 = 4_095;
 
 /// The Map-Version of a prefix of the site after so many changes of its own locators. 0, none, stays.
-pub fn stood_version(database: &Database, own: &Own) -> u16
+pub(crate) fn stood_version(database: &Database, own: &Own) -> u16
     requires { database.now.version ≤ 4095 }
     ensures { result ≡ standing.stood_version own.now.steps database.now.version }
 {

@@ -13,8 +13,7 @@ ghost use Rattle.router_core.specs.Steps.{MayEnter};
 
 use crate::Table;
 use crate::resting::{rest_behind, rest_with};
-use crate::site::same_address;
-use ip_headers::Addr;
+use ip_headers::{Addr, same_address};
 use lisp_settings::OwnLocator;
 use mapping_records::{Eid, Record};
 
@@ -45,7 +44,9 @@ impl Table {
         );
         // The length says that there are at most as many as may live.
         let _ = self.cache.len();
-        let _ = self.cache.learn(m, mapping, fixed);
+        if self.cache.learn(m, mapping, fixed).is_err() {
+            unreachable!();
+        }
         self.count += 1;
     }
 
@@ -63,7 +64,9 @@ impl Table {
         self.cache.purge(m);
         // The length says that there are at most as many as may wait.
         let _ = self.queue.len();
-        let _ = self.queue.ask(m, eid, source, invoked, nonce);
+        if self.queue.ask(m, eid, source, invoked, nonce).is_err() {
+            unreachable!();
+        }
         self.locators.purge(m);
         self.count += 1;
         self.drawn += 1;
@@ -110,7 +113,9 @@ impl Table {
         self.rest = 0;
         self.cache.purge(m);
         self.queue.purge(m);
-        let _ = self.locators.probed(m, rloc, nonce);
+        if self.locators.probed(m, rloc, nonce).is_err() {
+            unreachable!();
+        }
         self.count += 1;
         self.drawn += 1;
     }
@@ -138,7 +143,9 @@ impl Table {
         self.rest = rest_behind(self.rest, m);
         self.cache.purge(m);
         self.queue.purge(m);
-        let _ = self.locators.echo_started(m, rloc, nonce);
+        if self.locators.echo_started(m, rloc, nonce).is_err() {
+            unreachable!();
+        }
         self.count += 1;
         self.drawn += 1;
     }
@@ -178,7 +185,9 @@ impl Table {
         self.rest = rest_behind(self.rest, m);
         self.cache.purge(m);
         self.queue.purge(m);
-        let _ = self.locators.echo_wanted(m, rloc, nonce);
+        if self.locators.echo_wanted(m, rloc, nonce).is_err() {
+            unreachable!();
+        }
         self.count += 1;
     }
 
@@ -194,7 +203,9 @@ impl Table {
         self.rest = rest_behind(self.rest, m);
         self.cache.purge(m);
         self.queue.purge(m);
-        let _ = self.locators.solicited(m, rloc, eid);
+        if self.locators.solicited(m, rloc, eid).is_err() {
+            unreachable!();
+        }
         self.count += 1;
         self.drawn += 1;
     }
@@ -247,7 +258,7 @@ fn set_one(own: &mut OwnLocator, address: Addr, up: bool)
           else own.old.up;
     } }
 {
-    if same_address(own.addr, address) {
+    if same_address(&own.addr, &address) {
         own.up = up;
     }
 }

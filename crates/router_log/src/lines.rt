@@ -28,7 +28,7 @@ pub fn frame_line(
     Ok(line)
 }
 
-/// Appends the line of a frame.
+/// Appends the line of a frame. Where memory is refused, `out` may have a part of it.
 pub fn push_frame_line(
     frame: u32,
     moment: u64,

@@ -7,7 +7,7 @@ use crate::digits::{write_behind, write_digits, write_octet, write_octets};
 use ip_headers::Addr;
 use octets::{NoMemory, Octets};
 
-/// Appends a number in decimal digits.
+/// Appends a number in decimal digits. Where memory is refused, nothing is said of `out`.
 #[tactic(auto, using(crate::proofs::DigitLemmas::length_any))]
 pub fn push_number(number: u64, out: &mut Octets) -> Result<(), NoMemory>
     ensures { OnOk result (out.new ≡ out.old ++ decimal number) }
@@ -18,7 +18,7 @@ pub fn push_number(number: u64, out: &mut Octets) -> Result<(), NoMemory>
     out.append(&text[from..])
 }
 
-/// Appends a name and a number.
+/// Appends a name and a number. Where memory is refused, `out` may have a part of it.
 #[tactic(auto, unfolding(crate::specs::Numbers::named))]
 pub fn push_named(name: &[u8], number: u64, out: &mut Octets) -> Result<(), NoMemory>
     ensures { OnOk result (out.new ≡ out.old ++ named name.now number) }
@@ -45,7 +45,8 @@ pub(crate) fn nine_digits(number: u32) -> [u8; 9]
     ]
 }
 
-/// Appends sixteen hexadecimal digits, with leading zeros.
+/// Appends sixteen hexadecimal digits, with leading zeros. Where memory is refused, nothing is said of
+/// `out`.
 pub fn push_hex(number: u64, out: &mut Octets) -> Result<(), NoMemory>
     ensures { OnOk result (out.new ≡ out.old ++ hex_16 number) }
 {
@@ -76,7 +77,7 @@ fn hex_digits(number: u64) -> [u8; 16]
     ]
 }
 
-/// Appends two hexadecimal digits for each octet.
+/// Appends two hexadecimal digits for each octet. Where memory is refused, `out` may have some of them.
 pub fn push_octets(octets: &[u8], out: &mut Octets) -> Result<(), NoMemory>
     ensures { OnOk result (out.new ≡ out.old ++ flat_map (fixed_hex 2) octets.now) }
 {
@@ -103,7 +104,8 @@ fn digit(number: u32) -> u8
 /// The most octets of an address.
 pub(crate) const MOST_ADDRESS: usize = 39;
 
-/// Appends an address: IPv4 dotted, IPv6 as eight groups of four hexadecimal digits.
+/// Appends an address: IPv4 dotted, IPv6 as eight groups of four hexadecimal digits. Where memory is
+/// refused, nothing is said of `out`.
 pub fn push_address(address: Addr, out: &mut Octets) -> Result<(), NoMemory>
     ensures { OnOk result (out.new ≡ out.old ++ address_text address) }
 {

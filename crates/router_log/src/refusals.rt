@@ -5,7 +5,8 @@ ghost use Rattle.router_log.specs.Refusals.{layer_word, refused_text, why_word};
 use crate::numbers::push_number;
 use octets::{Layer, NoMemory, Octets, Refused, Why};
 
-/// Appends the layer, the place and the reason of a refusal.
+/// Appends the layer, the place and the reason of a refusal. Where memory is refused, `out` may have a
+/// part of it.
 pub fn push_refused(refused: Refused, out: &mut Octets) -> Result<(), NoMemory>
     ensures { OnOk result (out.new ≡ out.old ++ refused_text refused) }
 {

@@ -1,8 +1,6 @@
 // A frame whose packet is split in two.
-ghost use Rattle.std.specs.Prelude.{◌≡◌, ◌≤◌, ◌+◌, length, option_map, is_none, IfOk, IfSome};
-ghost use Rattle.octets.specs.Rules.{first_failing};
+ghost use Rattle.std.specs.Prelude.{◌≡◌, ◌≤◌, ◌+◌, length, option_map, IfOk, IfSome};
 ghost use Rattle.lisp_settings.specs.Lawful.{IsLawful};
-ghost use Rattle.router_model.specs.Decide.{is_multicast, site_cases};
 ghost use Rattle.router_core.specs.Seen.{packet_seen};
 ghost use Rattle.split_v4.specs.Halves.{halves, leaving_packet, AreKept, AreNoLonger, HaveOctets};
 
@@ -10,10 +8,10 @@ use crate::cutting::cut_of;
 use crate::halves::{first_half, second_half};
 use crate::split_size;
 use capture_io::Frame;
-use ip_headers::{Addr, IpHeader, IpPacket};
-use lisp_settings::{Settings, home};
+use ip_headers::IpPacket;
+use lisp_settings::Settings;
 use octets::NoMemory;
-use router_core::{Course, course_of};
+use router_core::{Course, course_of, leaving_from};
 use std::alloc::Global;
 
 /// The frame with either half of its packet, where that leaves the site and may be split. Each half
@@ -55,31 +53,8 @@ fn leaving_packet<'a>(settings: &Settings, frame: &'a Frame) -> Option<IpPacket<
     let Course::Leaving { iid, packet } = course_of(settings, frame) else {
         return None;
     };
-    if !leaves_site(settings, iid, &packet.header) {
+    let Ok(_) = leaving_from(settings, iid, &packet.header) else {
         return None;
-    }
+    };
     Some(packet)
-}
-
-// A packet of an instance is from the site, and to elsewhere.
-fn leaves_site(settings: &Settings, iid: u32, header: &IpHeader) -> bool
-    ensures { result ≡ is_none (first_failing (site_cases settings.now iid header.now)) }
-{
-    let dest = header.dest();
-    if is_multicast(dest) {
-        return false;
-    }
-    if home(settings, iid, &dest).is_some() {
-        return false;
-    }
-    home(settings, iid, &header.source()).is_some()
-}
-
-fn is_multicast(address: Addr) -> bool
-    ensures { result ≡ is_multicast address }
-{
-    match address {
-        Addr::V4(number) => number >> 28 == 14 || number == 0xffff_ffff,
-        Addr::V6(number) => number >> 120 == 255,
-    }
 }

@@ -1,5 +1,14 @@
+use Rattle.std.proofs.Common.{List, ◌∙◌, ap, length, sym}
+use Rattle.forwarders.specs.declared.ruled.Ruled.{Ruled}
 use Rattle.forwarders.proofs.FinishLemmas.{finished}
+use Rattle.forwarders.proofs.PutLemmas.{left-noted}
 use Rattle.forwarders.proofs.round.finish_round.Goals as goal
+
+pub put_together-requires : goal.put_together-requires
+put_together-requires g c =
+    left-noted c.args.written.now.items.items c.note_round.new.items.items _ c.in_ok-note_round.ensures.notes.items
+    ∙ c.requires.left
+    ∙ ap (λ (l : List Ruled). length l) (sym c.from_vec-ruled.ensures.items)
 
 pub returns : goal.returns
 returns g c = record {

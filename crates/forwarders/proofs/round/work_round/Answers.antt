@@ -9,7 +9,7 @@ use Rattle.forwarders.specs.Batches.{journal_of}
 use Rattle.forwarders.specs.Finishing.{noted_of}
 use Rattle.forwarders.specs.Publication.{Publication}
 use Rattle.forwarders.proofs.RoundLemmas.{all-given}
-use Rattle.forwarders.proofs.RunLemmas.{all-run, closes-early, few-places, notices-go, notices-room, then-stands}
+use Rattle.forwarders.proofs.RunLemmas.{all-run, closes-early, few-places, left-ruled, notices-go, notices-room, then-stands}
 use Rattle.forwarders.proofs.round.work_round.Goals as goal
 
 pub write_round-requires-clause-own : goal.write_round-requires-clause-own
@@ -28,6 +28,11 @@ decide_round-requires-clause-stands g c = λ κs bounds.
 
 pub finish_round-requires-clause-given : goal.finish_round-requires-clause-given
 finish_round-requires-clause-given g c = all-given c.args.settings.now _ _ c.args.frames.now c.write_round.new.written.places c.in_ok-ruled.ruled.items c.in_ok-ruled.ensures.ruled
+
+pub finish_round-requires-clause-left : goal.finish_round-requires-clause-left
+finish_round-requires-clause-left g c =
+    left-ruled c.args.settings.now c.args.previous c.args.table.now.parts c.args.published.now.batches c.in_ok-from.from c.write_round.new.written c.in_ok-ruled.ruled.items c.args.frames.now
+    (record { stands = c.requires.stands; some = c.requires.number.0; number = c.requires.number.1; order = c.requires.order; moments = c.requires.moments; later = c.requires.later; room = c.requires.count }) c.in_ok-from.ensures.written c.in_ok-ruled.ensures.ruled
 
 pub finish_round-requires-clause-later : goal.finish_round-requires-clause-later
 finish_round-requires-clause-later g c =

@@ -5,8 +5,8 @@ use Rattle.locator_state.specs.declared.target.Target.{Target}
 use Rattle.locator_state.proofs.PlaceLemmas.{place_of, put, there}
 use Rattle.locator_state.proofs.turns.offer.Goals as goal
 
-pub returns-then-not-is_there-clause-items : goal.returns-then-not-is_there-clause-items
-returns-then-not-is_there-clause-items c =
+pub returns-else-is_err-clause-items : goal.returns-else-is_err-clause-items
+returns-else-is_err-clause-items c =
     let target = c.args.target in
     let items = c.args.first.now.items in
     let place : c.place-index.result ≡ place_of target items = c.place-index.ensures.place ∙ ap (place_of target) c.deref.ensures.value in

@@ -4,8 +4,8 @@ use Rattle.router_core.specs.Telling.{is_at}
 use Rattle.router_core.proofs.ToldLemmas.{place_of, put-told, there-told}
 use Rattle.router_core.proofs.peers.offer_address.Goals as goal
 
-pub returns-then-not-is_there-clause-items : goal.returns-then-not-is_there-clause-items
-returns-then-not-is_there-clause-items c =
+pub returns-else-is_err-clause-items : goal.returns-else-is_err-clause-items
+returns-else-is_err-clause-items c =
     let address = c.args.address in
     let items = c.args.told.now.items in
     let place : c.place-index.result ≡ place_of address items = c.place-index.ensures.place ∙ ap (place_of address) c.deref.ensures.value in

@@ -1,8 +1,7 @@
-use Rattle.std.proofs.Common.{List, ap, ap₂, arith, subst, sym, ℕ, ◌+◌, ◌<◌, ◌∙◌, ◌≡◌, ◌≤◌}
+use Rattle.std.proofs.Common.{List, ap, ap₂, arith, subst, sym, ℕ, ◌+◌, ◌∙◌, ◌≡◌, ◌≤◌}
 use Rattle.map_cache.specs.Cache.{lasting}
 use Rattle.map_cache.specs.declared.mapping.Mapping.{Mapping}
-use Rattle.lisp_settings.specs.Instances.{requests_in}
-use Rattle.request_queue.specs.Queue.{asked, open_in, waiting}
+use Rattle.request_queue.specs.Queue.{asked}
 use Rattle.request_queue.specs.declared.request.Request.{Request}
 use Rattle.router_log.specs.declared.entry.Entry.TheVariants.{Asked}
 use Rattle.locator_state.specs.Observed.{Observed, longest}
@@ -11,7 +10,7 @@ use Rattle.router_core.specs.Resting.{IsAtRest}
 use Rattle.router_core.specs.Table.{TableSeen}
 use Rattle.router_core.specs.Bounded.{AreShort, AreVersioned, KeepLimits}
 use Rattle.router_core.proofs.BoundLemmas.{lasting-versioned, recent-short}
-use Rattle.router_core.proofs.EntryLemmas.{asked-parts, parts_with, was_asked}
+use Rattle.router_core.proofs.EntryLemmas.{asked-parts, left_by, parts_with}
 use Rattle.router_core.proofs.KeptRestLemmas.{behind}
 use Rattle.router_core.proofs.LimitLemmas.{lasting-keeps}
 use Rattle.router_core.proofs.LengthLemmas.{recent-few}
@@ -22,11 +21,8 @@ returns-clause-parts c =
     let m = c.args.m in
     let inside = c.self.inside in
     let after : List Request = asked m c.args.eid c.args.source c.args.invoked c.args.nonce inside.queue.requests in
-    let place = subst (λ (t : TableSeen). open_in c.args.eid.iid (waiting m t.parts.requests) < requests_in t.parts.limits c.args.eid.iid) (sym c.self.view_is) c.requires.place in
-    let most : requests_in inside.queue.limits c.args.eid.iid ≡ requests_in inside.limits c.args.eid.iid = ap (λ l. requests_in l c.args.eid.iid) c.self.invariant.5.requests in
-    let room = subst (λ (t : TableSeen). 0 < t.request_room) (sym c.self.view_is) c.requires.room in
     let rs : c.ask.new.self.requests ≡ after =
-    was_asked c.ask.result inside.queue.spare (open_in c.args.eid.iid (waiting m inside.queue.requests)) (requests_in inside.queue.limits c.args.eid.iid) c.ask.ensures.ok c.ask.ensures.memory room c.ask.ensures.full (omega (arith, most, place)) in
+    left_by c.ask.result c.ask.ensures.ok (sym c.is_err.ensures.value ∙ c.if-is_err.false) in
     ap₂ (λ (now : ℕ) (l : List Mapping). parts_with inside.limits inside.own.items inside.steps (inside.count + 1) (inside.drawn + 1) now l c.ask.new.self.requests c.purge-2.new.self.observed) c.purge.ensures.now c.purge.ensures.mappings
     ∙ ap₂ (λ (l : List Request) (p : Observed). parts_with inside.limits inside.own.items inside.steps (inside.count + 1) (inside.drawn + 1) m (lasting m inside.cache.mappings) l p) rs c.purge-2.ensures.observed
     ∙ asked-parts inside.limits inside.own.items inside.steps inside.count inside.drawn inside.cache.now inside.cache.mappings inside.queue.requests inside.locators.observed m c.args.eid c.args.source c.args.invoked c.args.nonce

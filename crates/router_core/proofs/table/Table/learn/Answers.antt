@@ -1,7 +1,7 @@
-use Rattle.std.proofs.Common.{IsTrue, List, ◌≤◌, ap, ap₂, arith, subst, sym, ℕ, ◌+◌, ◌<◌, ◌==◌, ◌||◌, ◌∙◌, ◌≡◌}
+use Rattle.std.proofs.Common.{List, ◌≤◌, ap, ap₂, arith, subst, sym, ℕ, ◌+◌, ◌==◌, ◌||◌, ◌∙◌, ◌≡◌}
 use Rattle.lisp_settings.specs.declared.settings.OwnLocator.{OwnLocator}
 use Rattle.mapping_records.specs.declared.record.Locator.{Locator}
-use Rattle.map_cache.specs.Cache.{has_room, lasting, learned}
+use Rattle.map_cache.specs.Cache.{learned}
 use Rattle.map_cache.specs.declared.mapping.Mapping.{Mapping}
 use Rattle.request_queue.specs.declared.request.Request.{Request}
 use Rattle.router_log.specs.declared.entry.Entry.TheVariants.{Learned}
@@ -11,7 +11,7 @@ use Rattle.router_core.specs.Resting.{all_rest}
 use Rattle.router_core.specs.Table.{TableSeen}
 use Rattle.router_core.specs.Bounded.{AreShort, AreVersioned, KeepLimits}
 use Rattle.router_core.proofs.BoundLemmas.{learned-versioned, recent-short}
-use Rattle.router_core.proofs.EntryLemmas.{learned-parts, parts_with, was_learned}
+use Rattle.router_core.proofs.EntryLemmas.{learned-parts, left_by, parts_with}
 use Rattle.router_core.proofs.KeptRestLemmas.{learned-behind}
 use Rattle.router_core.proofs.LengthLemmas.{recent-few}
 use Rattle.router_core.proofs.table.Table.learn.Goals as goal
@@ -21,11 +21,8 @@ returns-clause-parts c =
     let m = c.args.m in
     let mapping = c.args.mapping in
     let inside = c.self.inside in
-    let place = subst (λ (t : TableSeen). IsTrue (has_room t.parts.limits mapping c.args.fixed (lasting m t.parts.mappings))) (sym c.self.view_is) c.requires.place in
-    let place = subst (λ l. IsTrue (has_room l mapping c.args.fixed (lasting m inside.cache.mappings))) (sym c.self.invariant.5.mappings) place in
-    let room = subst (λ (t : TableSeen). 0 < t.mapping_room) (sym c.self.view_is) c.requires.room in
     let ms : c.learn.new.self.mappings ≡ learned m mapping c.args.fixed inside.cache.mappings =
-    was_learned c.learn.result (has_room inside.cache.limits mapping c.args.fixed (lasting m inside.cache.mappings)) c.learn.ensures.ok (c.learn.ensures.memory room) c.learn.ensures.full place in
+    left_by c.learn.result c.learn.ensures.ok (sym c.is_err.ensures.value ∙ c.if-is_err.false) in
     ap₂ (λ (now : ℕ) (l : List Mapping). parts_with inside.limits inside.own.items inside.steps (inside.count + 1) inside.drawn now l c.purge.new.self.requests c.purge-2.new.self.observed) c.learn.ensures.now ms
     ∙ ap₂ (λ (r : List Request) (p : Observed). parts_with inside.limits inside.own.items inside.steps (inside.count + 1) inside.drawn m (learned m mapping c.args.fixed inside.cache.mappings) r p) c.purge.ensures.requests c.purge-2.ensures.observed
     ∙ learned-parts inside.limits inside.own.items inside.steps inside.count inside.drawn inside.cache.now inside.cache.mappings inside.queue.requests inside.locators.observed m mapping c.args.fixed
@@ -38,11 +35,8 @@ invariant_of-self c =
     let few = c.self.invariant.0 in
     let limited = c.self.invariant.5 in
     let are = c.self.invariant.4 in
-    let place = subst (λ (t : TableSeen). IsTrue (has_room t.parts.limits c.args.mapping c.args.fixed (lasting m t.parts.mappings))) (sym c.self.view_is) c.requires.place in
-    let place = subst (λ l. IsTrue (has_room l c.args.mapping c.args.fixed (lasting m inside.cache.mappings))) (sym limited.mappings) place in
-    let room = subst (λ (t : TableSeen). 0 < t.mapping_room) (sym c.self.view_is) c.requires.room in
     let ms : c.learn.new.self.mappings ≡ learned m c.args.mapping c.args.fixed inside.cache.mappings =
-    was_learned c.learn.result (has_room inside.cache.limits c.args.mapping c.args.fixed (lasting m inside.cache.mappings)) c.learn.ensures.ok (c.learn.ensures.memory room) c.learn.ensures.full place in
+    left_by c.learn.result c.learn.ensures.ok (sym c.is_err.ensures.value ∙ c.if-is_err.false) in
     let keeps = subst (λ (t : TableSeen). KeepLimits t.parts.limits (learned m c.args.mapping c.args.fixed t.parts.mappings)) (sym c.self.view_is) c.requires.keeps in (
       omega (arith, few),
       learned-behind inside.own.items inside.rest m inside.locators.observed.probes inside.cache.mappings c.args.mapping c.args.fixed c.rest_with-self-inside.result _ _ c.self.invariant.1 (ap (λ (o : Observed). o.probes) c.purge-2.ensures.observed) ms

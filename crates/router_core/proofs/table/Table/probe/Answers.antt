@@ -9,7 +9,7 @@ use Rattle.router_model.specs.Parts.{with_entry}
 use Rattle.router_core.specs.Table.{TableSeen}
 use Rattle.router_core.specs.Bounded.{AreShort, AreVersioned, KeepLimits}
 use Rattle.router_core.proofs.BoundLemmas.{lasting-versioned, probes-short}
-use Rattle.router_core.proofs.EntryLemmas.{parts_with, probed-parts, was_kept}
+use Rattle.router_core.proofs.EntryLemmas.{left_by, parts_with, probed-parts}
 use Rattle.router_core.proofs.LimitLemmas.{lasting-keeps}
 use Rattle.router_core.proofs.LengthLemmas.{few-probes, probed-few}
 use Rattle.router_core.proofs.table.Table.probe.Goals as goal
@@ -18,9 +18,8 @@ pub returns-clause-parts : goal.returns-clause-parts
 returns-clause-parts c =
     let m = c.args.m in
     let inside = c.self.inside in
-    let room = subst (λ (t : TableSeen). 0 < t.probe_room) (sym c.self.view_is) c.requires.room in
     let os : c.probed.new.self.observed ≡ with_probes m (probed m c.args.rloc c.args.nonce inside.locators.observed.probes) inside.locators.observed =
-    was_kept c.probed.result inside.locators.probe_room c.probed.ensures.ok c.probed.ensures.memory room in
+    left_by c.probed.result c.probed.ensures.ok (sym c.is_err.ensures.value ∙ c.if-is_err.false) in
     ap₂ (λ (now : ℕ) (l : List Mapping). parts_with inside.limits inside.own.items inside.steps (inside.count + 1) (inside.drawn + 1) now l c.purge-2.new.self.requests c.probed.new.self.observed) c.purge.ensures.now c.purge.ensures.mappings
     ∙ ap₂ (λ (l : List Request) (p : Observed). parts_with inside.limits inside.own.items inside.steps (inside.count + 1) (inside.drawn + 1) m (lasting m inside.cache.mappings) l p) c.purge-2.ensures.requests os
     ∙ probed-parts inside.limits inside.own.items inside.steps inside.count inside.drawn inside.cache.now inside.cache.mappings inside.queue.requests inside.locators.observed m c.args.rloc c.args.nonce
@@ -33,9 +32,8 @@ invariant_of-self c =
     let few = c.self.invariant.0 in
     let limited = c.self.invariant.5 in
     let are = c.self.invariant.4 in
-    let room = subst (λ (t : TableSeen). 0 < t.probe_room) (sym c.self.view_is) c.requires.room in
     let os : c.probed.new.self.observed ≡ with_probes m (probed m c.args.rloc c.args.nonce inside.locators.observed.probes) inside.locators.observed =
-    was_kept c.probed.result inside.locators.probe_room c.probed.ensures.ok c.probed.ensures.memory room in
+    left_by c.probed.result c.probed.ensures.ok (sym c.is_err.ensures.value ∙ c.if-is_err.false) in
     let place = subst (λ (t : TableSeen). probe_count m t.parts.observed.probes < 9600) (sym c.self.view_is) (few-probes c.args.self.now.parts m c.requires.may.later c.requires.place) in (
       omega (arith, few),
       refl,

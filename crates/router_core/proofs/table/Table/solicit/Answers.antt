@@ -10,7 +10,7 @@ use Rattle.router_core.specs.Resting.{IsAtRest}
 use Rattle.router_core.specs.Table.{TableSeen}
 use Rattle.router_core.specs.Bounded.{AreShort, AreVersioned, KeepLimits}
 use Rattle.router_core.proofs.BoundLemmas.{lasting-versioned, solicits-short}
-use Rattle.router_core.proofs.EntryLemmas.{parts_with, solicited-parts, was_kept}
+use Rattle.router_core.proofs.EntryLemmas.{left_by, parts_with, solicited-parts}
 use Rattle.router_core.proofs.KeptRestLemmas.{behind}
 use Rattle.router_core.proofs.LimitLemmas.{lasting-keeps}
 use Rattle.router_core.proofs.LengthLemmas.{few-solicits, solicited-few}
@@ -20,9 +20,8 @@ pub returns-clause-parts : goal.returns-clause-parts
 returns-clause-parts c =
     let m = c.args.m in
     let inside = c.self.inside in
-    let room = subst (λ (t : TableSeen). 0 < t.solicit_room) (sym c.self.view_is) c.requires.room in
     let os : c.solicited.new.self.observed ≡ with_solicits m (solicited m c.args.rloc c.args.eid inside.locators.observed.solicits) inside.locators.observed =
-    was_kept c.solicited.result inside.locators.solicit_room c.solicited.ensures.ok c.solicited.ensures.memory room in
+    left_by c.solicited.result c.solicited.ensures.ok (sym c.is_err.ensures.value ∙ c.if-is_err.false) in
     ap₂ (λ (now : ℕ) (l : List Mapping). parts_with inside.limits inside.own.items inside.steps (inside.count + 1) (inside.drawn + 1) now l c.purge-2.new.self.requests c.solicited.new.self.observed) c.purge.ensures.now c.purge.ensures.mappings
     ∙ ap₂ (λ (l : List Request) (p : Observed). parts_with inside.limits inside.own.items inside.steps (inside.count + 1) (inside.drawn + 1) m (lasting m inside.cache.mappings) l p) c.purge-2.ensures.requests os
     ∙ solicited-parts inside.limits inside.own.items inside.steps inside.count inside.drawn inside.cache.now inside.cache.mappings inside.queue.requests inside.locators.observed m c.args.rloc c.args.eid c.args.nonce
@@ -35,9 +34,8 @@ invariant_of-self c =
     let few = c.self.invariant.0 in
     let limited = c.self.invariant.5 in
     let are = c.self.invariant.4 in
-    let room = subst (λ (t : TableSeen). 0 < t.solicit_room) (sym c.self.view_is) c.requires.room in
     let os : c.solicited.new.self.observed ≡ with_solicits m (solicited m c.args.rloc c.args.eid inside.locators.observed.solicits) inside.locators.observed =
-    was_kept c.solicited.result inside.locators.solicit_room c.solicited.ensures.ok c.solicited.ensures.memory room in
+    left_by c.solicited.result c.solicited.ensures.ok (sym c.is_err.ensures.value ∙ c.if-is_err.false) in
     let place = subst (λ (t : TableSeen). count_by (solicit_counts m) t.parts.observed.solicits < 4096) (sym c.self.view_is) (few-solicits c.args.self.now.parts m c.requires.may.later c.args.rloc c.args.eid c.requires.place) in (
       omega (arith, few),
       subst (λ (rest : ℕ). IsAtRest inside.own.items rest c.solicited.new.self.observed.probes c.purge.new.self.mappings) (sym c.rest_behind-self-inside.ensures)

@@ -10,7 +10,7 @@ use Rattle.router_core.specs.Resting.{IsAtRest}
 use Rattle.router_core.specs.Table.{TableSeen}
 use Rattle.router_core.specs.Bounded.{AreShort, AreVersioned, KeepLimits}
 use Rattle.router_core.proofs.BoundLemmas.{lasting-versioned, started-short}
-use Rattle.router_core.proofs.EntryLemmas.{parts_with, started-parts, was_kept}
+use Rattle.router_core.proofs.EntryLemmas.{left_by, parts_with, started-parts}
 use Rattle.router_core.proofs.KeptRestLemmas.{behind}
 use Rattle.router_core.proofs.LimitLemmas.{lasting-keeps}
 use Rattle.router_core.proofs.LengthLemmas.{few-starts, started-few}
@@ -20,9 +20,8 @@ pub returns : goal.returns
 returns c =
     let m = c.args.m in
     let inside = c.self.inside in
-    let room = subst (λ (t : TableSeen). 0 < t.start_room) (sym c.self.view_is) c.requires.room in
     let os : c.echo_started.new.self.observed ≡ with_starts m (echo_started m c.args.rloc c.args.nonce inside.locators.observed.starts) inside.locators.observed =
-    was_kept c.echo_started.result inside.locators.start_room c.echo_started.ensures.ok c.echo_started.ensures.memory room in
+    left_by c.echo_started.result c.echo_started.ensures.ok (sym c.is_err.ensures.value ∙ c.if-is_err.false) in
     record {
       parts =
           ap₂ (λ (now : ℕ) (l : List Mapping). parts_with inside.limits inside.own.items inside.steps (inside.count + 1) (inside.drawn + 1) now l c.purge-2.new.self.requests c.echo_started.new.self.observed) c.purge.ensures.now c.purge.ensures.mappings
@@ -38,9 +37,8 @@ invariant_of-self c =
     let few = c.self.invariant.0 in
     let limited = c.self.invariant.5 in
     let are = c.self.invariant.4 in
-    let room = subst (λ (t : TableSeen). 0 < t.start_room) (sym c.self.view_is) c.requires.room in
     let os : c.echo_started.new.self.observed ≡ with_starts m (echo_started m c.args.rloc c.args.nonce inside.locators.observed.starts) inside.locators.observed =
-    was_kept c.echo_started.result inside.locators.start_room c.echo_started.ensures.ok c.echo_started.ensures.memory room in
+    left_by c.echo_started.result c.echo_started.ensures.ok (sym c.is_err.ensures.value ∙ c.if-is_err.false) in
     let place = subst (λ (t : TableSeen). count_by (start_counts m) t.parts.observed.starts < 4096) (sym c.self.view_is) (few-starts c.args.self.now.parts m c.requires.may.later c.args.rloc c.requires.place) in (
       omega (arith, few),
       subst (λ (rest : ℕ). IsAtRest inside.own.items rest c.echo_started.new.self.observed.probes c.purge.new.self.mappings) (sym c.rest_behind-self-inside.ensures)
