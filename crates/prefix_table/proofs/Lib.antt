@@ -1,5 +1,6 @@
 pub mod Bits
 pub mod KeyLemmas
+pub mod HalfLemmas
 pub mod LongestLemmas
 pub mod SearchLemmas
 pub mod AfterLemmas

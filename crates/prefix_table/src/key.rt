@@ -38,12 +38,6 @@ impl Key {
         }
     }
 
-    fn number(&self) -> u128
-        ensures { result ≡ self.now.high * 2 ^ 64 + self.now.low }
-    {
-        (u128::from(self.high) << 64) + u128::from(self.low)
-    }
-
     /// The EID of the one covers that of the other.
     pub(crate) fn covers(&self, other: &Key) -> bool
         requires len { self.now.len ≤ self.now.width }
@@ -55,10 +49,7 @@ impl Key {
             return false;
         }
         let past = self.width - self.len;
-        let bits = self.number();
-        let other_bits = other.number();
-        // A number isn't shifted by all of its bits.
-        past == 128 || bits >> past == other_bits >> past
+        is_same_above(past, self.high, self.low, other.high, other.low)
     }
 
     /// The bit of the address behind its first `len` bits.
@@ -68,8 +59,34 @@ impl Key {
         ensures { (a : Eid) → self.now ≡ key_of a
             → result ≡ (first_bits a.prefix.addr (len + 1) % 2 == 1) }
     {
-        (self.number() >> (self.width - 1 - len)) % 2 == 1
+        is_set(self.width - 1 - len, self.high, self.low)
     }
+}
+
+// Two numbers, each in two halves, are the same but for so many of their lowest bits.
+#[tactic(auto, using(crate::proofs::HalfLemmas::same_high, crate::proofs::HalfLemmas::high_differs, crate::proofs::HalfLemmas::same_upper))]
+fn is_same_above(past: u8, high: u64, low: u64, other_high: u64, other_low: u64) -> bool
+    requires { past ≤ 128 }
+    ensures { result ≡ ((high * 2 ^ 64 + low) / 2 ^ past
+        == (other_high * 2 ^ 64 + other_low) / 2 ^ past) }
+{
+    if past < 64 {
+        return high == other_high && low >> past == other_low >> past;
+    }
+    // A half isn't shifted by all of its bits.
+    past == 128 || high >> (past - 64) == other_high >> (past - 64)
+}
+
+// The bit of a number in two halves that has so many below it.
+#[tactic(auto, using(crate::proofs::HalfLemmas::bit_lower, crate::proofs::HalfLemmas::bit_upper))]
+fn is_set(place: u8, high: u64, low: u64) -> bool
+    requires { place < 128 }
+    ensures { result ≡ ((high * 2 ^ 64 + low) / 2 ^ place % 2 == 1) }
+{
+    if place < 64 {
+        return (low >> place) % 2 == 1;
+    }
+    (high >> (place - 64)) % 2 == 1
 }
 
 // The address as a number, in two halves.
