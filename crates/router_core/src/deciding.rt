@@ -21,8 +21,8 @@ use router_log::{Decision, Reason, Verdict};
 
 impl Table {
     /// The decision on a frame that is no control message, at a moment, which may be one before the last
-    /// entry's: that of the journal. It has at most five notices. A control message is heard, and here
-    /// dropped.
+    /// entry's: that of the journal. It has at most five notices. A control message is for `hear`: here
+    /// its verdict is a drop.
     #[tactic(auto, unfolding(router_model::specs::Decide::decide_by))]
     pub fn decide(&self, settings: &Settings, m: u64, frame: &Frame) -> Result<Decision, NoMemory>
         requires { IsLawful settings.now }
