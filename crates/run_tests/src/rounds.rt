@@ -198,16 +198,29 @@ fn looks_of_rounds<R: Threads + Wait + Sync>(
     looks
 }
 
+// The same over a table of its own, which `closed` drops.
+fn looks_of_table<R: Threads + Wait + Sync>(
+    rt: &R,
+    alloc: Global,
+    settings: &Settings,
+) -> Result<[Option<(u64, bool)>; 4], NoMemory>
+    requires lawful { IsLawful settings.now }
+{
+    let mut table = Table::new(alloc, settings)?;
+    let looks = looks_of_rounds(rt, alloc, settings, &mut table);
+    let _ = table.closed();
+    looks
+}
+
 fn looks_of_site<R: Threads + Wait + Sync>(
     rt: &R,
     alloc: Global,
     text: &str,
 ) -> Result<[Option<(u64, bool)>; 4], NoMemory> {
-    let Ok(settings) = read_settings(alloc, text.as_bytes()) else {
-        return Err(NoMemory);
-    };
-    let mut table = Table::new(alloc, &settings)?;
-    looks_of_rounds(rt, alloc, &settings, &mut table)
+    match read_settings(alloc, text.as_bytes()) {
+        Ok(settings) => looks_of_table(rt, alloc, &settings),
+        Err(_) => Err(NoMemory),
+    }
 }
 
 #[test]
