@@ -30,7 +30,7 @@ fn forwarded(alloc: Global, inner: &IpPacket) -> Result<Octets, NoMemory>
     requires { 1 ≤ ttl_of inner.now.header }
     ensures { IfOk result (λ packet. packet ≡ forwarded inner.now.octets.now) }
 {
-    let mut packet = Octets::from_vec(Vec::with_capacity(alloc, inner.octets.len())?);
+    let mut packet = Octets::with_capacity(alloc, inner.octets.len())?;
     append_forwarded(inner, &mut packet)?;
     Ok(packet)
 }

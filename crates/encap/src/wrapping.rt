@@ -62,7 +62,7 @@ fn wrapped(
         IfOk result (λ packet. length packet ≡ size) }
 {
     let size = inner.octets.len();
-    let mut packet = Octets::from_vec(Vec::with_capacity(alloc, outer_len(from) + size)?);
+    let mut packet = Octets::with_capacity(alloc, outer_len(from) + size)?;
     append_outer(inner, from, to, &mut packet)?;
     packet.append(&udp_header(port, 8 + size as u16))?;
     packet.append(&write_header(header))?;

@@ -6,6 +6,7 @@ ghost use Rattle.map_messages.specs.Limits.{most_message_octets};
 ghost use Rattle.map_messages.specs.Range.{InRangeEcm};
 
 use crate::control_header::write_control_header;
+use crate::limits::FIRST_ROOM;
 use crate::reply_writing::write_reply;
 use crate::request_writing::write_request;
 use crate::{Addr, Ecm, LISP_CONTROL_PORT, NoMemory, Octets};
@@ -33,7 +34,7 @@ fn carried_octets(alloc: Global, ecm: &Ecm) -> Result<Octets, NoMemory>
     requires { InRangeEcm ecm.now }
     ensures { IfOk result (λ octets. octets ≡ canonical_carried ecm.now.request ecm.now.reply) }
 {
-    let mut octets = Octets::new(alloc);
+    let mut octets = Octets::with_capacity(alloc, FIRST_ROOM)?;
     if let Some(request) = &ecm.request {
         write_request(alloc, request, &mut octets)?;
     }

@@ -5,6 +5,7 @@ ghost use Rattle.map_messages.specs.Limits.{most_message_octets};
 ghost use Rattle.map_messages.specs.Range.{InRange};
 
 use crate::ecm_writing::write_ecm;
+use crate::limits::FIRST_ROOM;
 use crate::reply_writing::write_reply;
 use crate::request_writing::write_request;
 use crate::{Message, NoMemory, Octets};
@@ -18,7 +19,7 @@ pub fn write_message(alloc: Global, message: &Message, out: &mut Octets) -> Resu
     ensures ok { OnOk result (out.new ≡ out.old ++ canonical_message message.now) }
     ensures err { OnErr result (out.new ≡ out.old) }
 {
-    let mut octets = Octets::new(alloc);
+    let mut octets = Octets::with_capacity(alloc, FIRST_ROOM)?;
     write_parts(alloc, message, &mut octets)?;
     out.append(octets.as_slice())
 }

@@ -8,13 +8,16 @@ use ip_headers::Addr;
 use octets::{NoMemory, Octets};
 use std::alloc::Global;
 
+// Octets that are made room for before a record is written: most have no more.
+const FIRST_ROOM: usize = 64;
+
 /// Appends a record, with all that is ignored 0. Without memory `out` stays as it was.
 pub fn write_record(alloc: Global, mapping: &Record, out: &mut Octets) -> Result<(), NoMemory>
     requires { InRange mapping.now }
     ensures ok { OnOk result (out.new ≡ out.old ++ canonical_record mapping.now) }
     ensures err { OnErr result (out.new ≡ out.old) }
 {
-    let mut octets = Octets::new(alloc);
+    let mut octets = Octets::with_capacity(alloc, FIRST_ROOM)?;
     octets.append(&head(mapping))?;
     write_eid(&mapping.eid, &mut octets)?;
     write_locators(mapping.locators.as_slice(), &mut octets)?;

@@ -47,6 +47,15 @@ impl<T> Items<T> {
         }
     }
 
+    /// A list with no items, and with room for so many.
+    pub fn with_capacity(alloc: Global, room: usize) -> Result<Self, NoMemory>
+        ensures { IfOk result (λ list. list ≡ []) }
+    {
+        Ok(Items {
+            vec: Vec::with_capacity(alloc, room)?,
+        })
+    }
+
     /// The items of a vector, as a list. Takes no memory.
     pub fn from_vec(vec: Vec<T>) -> Self
         ensures { result ≡ vec.items }

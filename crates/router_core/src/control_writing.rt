@@ -16,6 +16,12 @@ use map_messages::{
 use octets::{NoMemory, Octets};
 use std::alloc::Global;
 
+// Octets that are made room for before a message is written: most have no more.
+const FIRST_ROOM: usize = 256;
+
+// The most octets before a message: an IPv6 header and a UDP header.
+const MOST_HEADERS: usize = 48;
+
 /// A message in its packet, from one address to another and a port.
 pub(crate) fn message_packet(
     alloc: Global,
@@ -31,7 +37,7 @@ pub(crate) fn message_packet(
         ≡ message_packet from to port (canonical_message message.now)) }
     ensures size { IfOk result (λ packet. length packet ≤ most_frame_octets) }
 {
-    let mut payload = Octets::new(alloc);
+    let mut payload = Octets::with_capacity(alloc, FIRST_ROOM)?;
     write_message(alloc, message, &mut payload)?;
     datagram_packet(alloc, from, to, port, payload.as_slice())
 }
@@ -49,7 +55,7 @@ pub(crate) fn reply_packet(
         ≡ message_packet from to port (canonical_reply reply.now)) }
     ensures size { IfOk result (λ packet. length packet ≤ most_frame_octets) }
 {
-    let mut payload = Octets::new(alloc);
+    let mut payload = Octets::with_capacity(alloc, FIRST_ROOM)?;
     write_reply(alloc, reply, &mut payload)?;
     datagram_packet(alloc, from, to, port, payload.as_slice())
 }
@@ -67,7 +73,7 @@ fn datagram_packet(
     ensures octets { IfOk result (λ packet. packet ≡ message_packet from to port payload.now) }
     ensures size { IfOk result (λ packet. length packet ≤ most_frame_octets) }
 {
-    let mut packet = Octets::new(alloc);
+    let mut packet = Octets::with_capacity(alloc, MOST_HEADERS + payload.len())?;
     write_control_header(from, to, 8 + payload.len() as u16, &mut packet)?;
     write_udp(
         from,
