@@ -1,5 +1,5 @@
 -- The Internet checksum, RFC 1071.
-use Rattle.std.specs.Prelude.{ℕ, ◌+◌, ◌-◌, ◌*◌, nat_lt, List, [], ◌∷◌, fold, if◌then◌else◌}
+use Rattle.std.specs.Prelude.{ℕ, ◌+◌, ◌-◌, ◌*◌, ◌%◌, nat_lt, List, [], ◌∷◌, fold, if◌then◌else◌}
 
 -- the 16 bit words of octets, an odd last octet padded with zero
 abbrev pub words : List ℕ → List ℕ
@@ -18,3 +18,11 @@ ones_sum octets = fold ones_add 0 (words octets)
 -- the complement of the sum
 abbrev pub checksum : List ℕ → ℕ
 checksum octets = 65535 - ones_sum octets
+
+-- the plain sum of the words, that goes on from an earlier one
+abbrev pub plain_sum : ℕ → List ℕ → ℕ
+plain_sum start octets = fold (λ (sum word : ℕ). sum + word) start (words octets)
+
+-- a plain sum with its carries added in: 0 for 0 alone
+abbrev pub folded : ℕ → ℕ
+folded sum = if nat_lt 0 sum then (sum - 1) % 65535 + 1 else 0

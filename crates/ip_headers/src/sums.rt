@@ -1,9 +1,12 @@
 // The Internet checksum.
-ghost use Rattle.std.specs.Prelude.{◌≡◌, fold};
+ghost use Rattle.std.specs.Prelude.{◌≡◌, ◌≤◌, fold, length};
 ghost use Rattle.ip_headers.specs.Udp.{addr_octets, pseudo_header};
-ghost use Rattle.ip_headers.specs.Checksum.{checksum, ones_add, ones_sum, words};
+ghost use Rattle.ip_headers.specs.Checksum.{checksum, folded, ones_add, ones_sum, plain_sum, words};
 
 use crate::{Addr, UDP};
+
+/// Octets whose plain sum fits 32 bits.
+const BLOCK: usize = 65_536;
 
 /// The checksum of RFC 1071, an odd last octet padded with zero.
 pub fn checksum(octets: &[u8]) -> u16
@@ -25,14 +28,44 @@ pub(crate) fn sum_from(start: u16, octets: &[u8]) -> u16
 {
     let mut sum = start;
     let mut rest = octets;
+    while rest.len() > BLOCK {
+        let (block, after) = rest.split_at(BLOCK);
+        sum = sum_block(sum, block);
+        rest = after;
+    }
+    sum_block(sum, rest)
+}
+
+fn sum_block(start: u16, octets: &[u8]) -> u16
+    requires { length octets.now ≤ 65536 }
+    ensures { result ≡ fold ones_add start (words octets.now) }
+{
+    folded(plain_sum(start, octets))
+}
+
+/// The plain sum: its carries are added in once for all words, not word by word.
+fn plain_sum(start: u16, octets: &[u8]) -> u32
+    requires { length octets.now ≤ 65536 }
+    ensures { result ≡ plain_sum start octets.now }
+{
+    let mut sum = u32::from(start);
+    let mut rest = octets;
     while let [high, low, after @ ..] = rest {
-        sum = ones_add(sum, u16::from(*high) * 256 + u16::from(*low));
+        sum += u32::from(*high) * 256 + u32::from(*low);
         rest = after;
     }
     if let [last] = rest {
-        sum = ones_add(sum, u16::from(*last) * 256);
+        sum += u32::from(*last) * 256;
     }
     sum
+}
+
+/// A plain sum with its carries added in.
+fn folded(sum: u32) -> u16
+    ensures { result ≡ folded sum }
+{
+    let once = sum % 0x1_0000 + sum / 0x1_0000;
+    (once % 0x1_0000 + once / 0x1_0000) as u16
 }
 
 /// The sum of a UDP pseudo-header: the addresses, the protocol and the length.

@@ -12,13 +12,16 @@ pub fn write_v4(header: &V4Header, out: &mut Octets) -> Result<(), NoMemory>
     ensures ok { OnOk result (out.new ≡ out.old ++ canonical_v4 header.now) }
     ensures err { OnErr result (out.new ≡ out.old) }
 {
-    let sum = checksum(&spelled_v4(header, 0));
-    out.append(&spelled_v4(header, sum))
+    let mut octets = unsummed_v4(header);
+    let sum = checksum(&octets);
+    octets[10..12].copy_from_slice(&sum.to_be_bytes());
+    out.append(&octets)
 }
 
-fn spelled_v4(header: &V4Header, sum: u16) -> [u8; 20]
+/// The header with 0 for its checksum.
+fn unsummed_v4(header: &V4Header) -> [u8; 20]
     requires { header.now.offset < 2 ^ 13 }
-    ensures { result ≡ spelled_v4 header.now sum }
+    ensures { result ≡ spelled_v4 header.now 0 }
 {
     let mut octets = [0; 20];
     octets[0] = 0x45;
@@ -28,7 +31,6 @@ fn spelled_v4(header: &V4Header, sum: u16) -> [u8; 20]
     octets[6..8].copy_from_slice(&v4_flags(header).to_be_bytes());
     octets[8] = header.ttl;
     octets[9] = header.protocol;
-    octets[10..12].copy_from_slice(&sum.to_be_bytes());
     octets[12..16].copy_from_slice(&header.source.to_be_bytes());
     octets[16..].copy_from_slice(&header.dest.to_be_bytes());
     octets
