@@ -1,9 +1,8 @@
 -- Ones' complement sums: their order, and sums over runs of octets.
-use Rattle.std.proofs.Common.{◌≡◌, ◌<◌, ◌≤◌, ℕ, zero, suc, ◌+◌, ◌-◌, ◌*◌, ◌/◌, ◌%◌, List, [], ◌∷◌, ◌++◌, All, length, fold, refl, sym, ap, ◌∙◌, arith}
+use Rattle.std.proofs.Common.{◌≡◌, ◌<◌, ◌≤◌, ℕ, suc, ◌+◌, ◌-◌, ◌*◌, ◌/◌, ◌%◌, List, [], ◌∷◌, ◌++◌, All, length, fold, refl, sym, ap, ◌∙◌, arith}
 use Rattle.std.proofs.lemmas.Grind.{common_steps}
-use Rattle.std.proofs.lemmas.List.Sums.{fold-append}
 use Rattle.octets.specs.Numbers.{big_octets}
-use Rattle.ip_headers.specs.Checksum.{folded, ones_add, ones_sum, plain_sum, words}
+use Rattle.ip_headers.specs.Checksum.{ones_add, ones_sum, words}
 use Rattle.ip_headers.specs.Udp.{addr_octets, pseudo_header}
 use Rattle.ip_headers.specs.declared.addr.Addr.{Addr}
 use Rattle.ip_headers.specs.declared.addr.Addr.TheVariants.{V4, V6}
@@ -95,33 +94,3 @@ pub complete : (start w : ℕ) (back : List ℕ) → start ≤ 65535 → w ≤ 6
     → ones_add (fold ones_add (ones_add start 0) back) w ≡ 65535 → fold ones_add (ones_add start w) back ≡ 65535
 complete start w back small fits are whole =
     fold-ones_add back start w are small fits ∙ ap (λ (s : ℕ). ones_add (fold ones_add s back) w) (sym (ones_add-zero start small)) ∙ whole
-
--- a word that is added to a folded sum
-ones_add-folded : (sum w : ℕ) → w ≤ 65535 → ones_add (folded sum) w ≡ folded (sum + w)
-ones_add-folded zero w fits = grind (arith, common_steps)
-ones_add-folded (suc sum) w fits = grind (arith, common_steps)
-
-fold-folded : (ws : List ℕ) (sum : ℕ) → AreWords ws → fold ones_add (folded sum) ws ≡ folded (fold (λ (a w : ℕ). a + w) sum ws)
-fold-folded [] sum are = refl
-fold-folded (w ∷ ws) sum are = ap (λ (s : ℕ). fold ones_add s ws) (ones_add-folded sum w are.0) ∙ fold-folded ws (sum + w) are.1
-
-folded-small : (sum : ℕ) → sum ≤ 65535 → folded sum ≡ sum
-folded-small sum small = grind (arith, common_steps)
-
--- carries that are added in once for all words
-pub fold-plain_sum : (octets : List ℕ) (start : ℕ) → All (λ octet. octet < 256) octets → start ≤ 65535
-    → fold ones_add start (words octets) ≡ folded (plain_sum start octets)
-fold-plain_sum octets start all small =
-    ap (λ (s : ℕ). fold ones_add s (words octets)) (sym (folded-small start small)) ∙ fold-folded (words octets) start (are_words octets all)
-
--- words of octets behind whole words
-words-append : (a b : List ℕ) (count : ℕ) → length a ≡ count * 2 → words (a ++ b) ≡ words a ++ words b
-words-append [] b count even = refl
-words-append (last ∷ []) b count even = absurd (omega (arith, even))
-words-append (high ∷ low ∷ a) b zero even = absurd (omega (arith, even))
-words-append (high ∷ low ∷ a) b (suc count) even = ap (λ (ws : List ℕ). (high * 256 + low) ∷ ws) (words-append a b count (omega (arith, even)))
-
-pub sum-append : (a b : List ℕ) (start count : ℕ) → length a ≡ count * 2
-    → fold ones_add (fold ones_add start (words a)) (words b) ≡ fold ones_add start (words (a ++ b))
-sum-append a b start count even =
-    sym (fold-append ones_add start (words a) (words b)) ∙ ap (fold ones_add start) (sym (words-append a b count even))

@@ -5,7 +5,7 @@ ghost use Rattle.ip_headers.specs.Checksum.{checksum, folded, ones_add, ones_sum
 
 use crate::{Addr, UDP};
 
-/// Octets whose plain sum fits 32 bits.
+/// Octets whose plain sum fits.
 const BLOCK: usize = 65_536;
 
 /// The checksum of RFC 1071, an odd last octet padded with zero.
@@ -43,29 +43,36 @@ fn sum_block(start: u16, octets: &[u8]) -> u16
     folded(plain_sum(start, octets))
 }
 
-/// The plain sum: its carries are added in once for all words, not word by word.
-fn plain_sum(start: u16, octets: &[u8]) -> u32
+/// A sum that folds as the plain one does: of two words at once, since 65,536 folds to 1.
+fn plain_sum(start: u16, octets: &[u8]) -> u64
     requires { length octets.now ≤ 65536 }
-    ensures { result ≡ plain_sum start octets.now }
+    ensures { folded result ≡ folded (plain_sum start octets.now) }
 {
-    let mut sum = u32::from(start);
+    let mut sum = u64::from(start);
     let mut rest = octets;
-    while let [high, low, after @ ..] = rest {
-        sum += u32::from(*high) * 256 + u32::from(*low);
+    while let [a, b, c, d, after @ ..] = rest {
+        sum += u64::from(u32::from_be_bytes([*a, *b, *c, *d]));
+        rest = after;
+    }
+    if let [high, low, after @ ..] = rest {
+        sum += u64::from(*high) * 256 + u64::from(*low);
         rest = after;
     }
     if let [last] = rest {
-        sum += u32::from(*last) * 256;
+        sum += u64::from(*last) * 256;
     }
     sum
 }
 
 /// A plain sum with its carries added in.
-fn folded(sum: u32) -> u16
+fn folded(sum: u64) -> u16
     ensures { result ≡ folded sum }
 {
-    let once = sum % 0x1_0000 + sum / 0x1_0000;
-    (once % 0x1_0000 + once / 0x1_0000) as u16
+    if sum > 0 {
+        ((sum - 1) % 0xffff + 1) as u16
+    } else {
+        0
+    }
 }
 
 /// The sum of a UDP pseudo-header: the addresses, the protocol and the length.

@@ -1,10 +1,10 @@
-use Rattle.std.proofs.Common.{◌∙◌, ap, sym, arith}
+use Rattle.std.proofs.Common.{◌<◌, ◌∙◌, All, arith}
 use Rattle.std.proofs.lemmas.Grind.{get_or_default_zero}
-use Rattle.ip_headers.specs.Checksum.{folded}
-use Rattle.ip_headers.proofs.SumLemmas.{fold-plain_sum}
+use Rattle.ip_headers.proofs.PlainSums.{folded-plain_sum}
 use Rattle.ip_headers.proofs.sums.sum_block.Goals as goal
 
 pub returns : goal.returns
 returns c =
-    c.folded.ensures ∙ ap folded c.plain_sum.ensures
-    ∙ sym (fold-plain_sum c.args.octets.now c.args.start (λ k d below. rw (get_or_default_zero c.args.octets.now k d below) (c.type_inv.octets k).fits) (omega (arith, c.ranges.start.fits)))
+    let octets = c.args.octets.now in
+    let all : All (λ octet. octet < 256) octets = λ k d below. rw (get_or_default_zero octets k d below) (c.type_inv.octets k).fits in
+    c.folded.ensures ∙ c.plain_sum.ensures ∙ folded-plain_sum octets c.args.start all (omega (arith, c.ranges.start.fits))

@@ -1,6 +1,6 @@
 use Rattle.std.proofs.Common.{◌∙◌, ℕ, List, fold, ap, sym, arith}
 use Rattle.ip_headers.specs.Checksum.{ones_add, words}
-use Rattle.ip_headers.proofs.SumLemmas.{sum-append}
+use Rattle.ip_headers.proofs.PlainSums.{sum-append}
 use Rattle.ip_headers.proofs.sums.sum_from.Goals as goal
 
 pub loop-rest-preserved : goal.loop-rest-preserved
