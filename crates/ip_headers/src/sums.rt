@@ -5,7 +5,7 @@ ghost use Rattle.ip_headers.specs.Checksum.{checksum, folded, ones_add, ones_sum
 
 use crate::{Addr, UDP};
 
-/// Octets whose plain sum fits.
+/// So many octets at most are summed before carries are added in.
 const BLOCK: usize = 65_536;
 
 /// The checksum of RFC 1071, an odd last octet padded with zero.
@@ -40,11 +40,11 @@ fn sum_block(start: u16, octets: &[u8]) -> u16
     requires { length octets.now ≤ 65536 }
     ensures { result ≡ fold ones_add start (words octets.now) }
 {
-    folded(plain_sum(start, octets))
+    folded(wide_sum(start, octets))
 }
 
-/// A sum that folds as the plain one does: of two words at once, since 65,536 folds to 1.
-fn plain_sum(start: u16, octets: &[u8]) -> u64
+/// A sum that folds as the plain one does: two words are one number, since 65,536 folds to 1.
+fn wide_sum(start: u16, octets: &[u8]) -> u64
     requires { length octets.now ≤ 65536 }
     ensures { folded result ≡ folded (plain_sum start octets.now) }
 {

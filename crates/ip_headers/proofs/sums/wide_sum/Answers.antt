@@ -1,6 +1,6 @@
 use Rattle.std.proofs.Common.{rules, ◌∙◌}
 use Rattle.ip_headers.proofs.PlainSums.{plain_sum-both}
-use Rattle.ip_headers.proofs.sums.plain_sum.Goals as goal
+use Rattle.ip_headers.proofs.sums.wide_sum.Goals as goal
 
 pub loop-rest-preserved : goal.loop-rest-preserved
 loop-rest-preserved c =

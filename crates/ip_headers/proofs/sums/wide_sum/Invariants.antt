@@ -1,6 +1,6 @@
 use Rattle.std.proofs.Common.{◌≡◌, ◌<◌, ◌^◌, ◌+◌, ◌*◌, length}
 use Rattle.ip_headers.specs.Checksum.{folded, plain_sum}
-use Rattle.ip_headers.proofs.sums.plain_sum.Given as goal
+use Rattle.ip_headers.proofs.sums.wide_sum.Given as goal
 
 abbrev pub invariant-loop-rest : goal.invariant-loop-rest
 invariant-loop-rest l =
