@@ -6,6 +6,9 @@ ghost use Rattle.std.specs.Fmt.{decimal};
 static PAIRS: [u8; 200] =
     *b"00010203040506070809101112131415161718192021222324252627282930313233343536373839404142434445464748495051525354555657585960616263646566676869707172737475767778798081828384858687888990919293949596979899";
 
+/// The most digits of a number of 64 bits.
+pub const MOST_DIGITS: usize = 20;
+
 /// Writes a number so that its last digit stands before the place `end`. Returns the place of its
 /// first digit.
 #[tactic(auto, using(crate::proofs::DigitLemmas::decimal_more, crate::proofs::DigitLemmas::length_more, std::proofs::lemmas::Grind::common_steps))]

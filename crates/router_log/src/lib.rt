@@ -14,6 +14,7 @@ mod refusals;
 mod verdict;
 
 pub use decision::Decision;
+pub use digits::{MOST_DIGITS, write_behind, write_digits, write_octet, write_octets};
 pub use emit::{Emit, Emits};
 pub use entry::{Entries, Entry};
 pub use ip_headers::{Addr, Prefix, Refused};
@@ -22,7 +23,10 @@ pub use lines::{frame_line, push_frame_line};
 pub use map_messages::MapReply;
 pub use mapping_records::{Eid, Record};
 pub use notice::{Notice, Notices};
-pub use numbers::{push_address, push_hex, push_named, push_number, push_octets};
+pub use numbers::{
+    MOST_ADDRESS, push_address, push_hex, push_named, push_number, push_octets, write_address,
+    write_hex, write_named,
+};
 pub use octets::{Items, NoMemory, Octets};
 pub use refusals::push_refused;
 pub use verdict::{Done, Reason, Verdict};

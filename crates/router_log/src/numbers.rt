@@ -3,7 +3,7 @@ ghost use Rattle.std.specs.Prelude.{◌≡◌, ◌<◌, ◌≤◌, ◌+◌, ◌%
 ghost use Rattle.std.specs.Fmt.{decimal};
 ghost use Rattle.router_log.specs.Numbers.{address_text, dotted, fixed_decimal, fixed_hex, four_groups, groups, hex_16, hex_glyph, named};
 
-use crate::digits::{write_behind, write_digits, write_octet, write_octets};
+use crate::digits::{MOST_DIGITS, write_behind, write_digits, write_octet, write_octets};
 use ip_headers::Addr;
 use octets::{NoMemory, Octets};
 
@@ -12,9 +12,8 @@ use octets::{NoMemory, Octets};
 pub fn push_number(number: u64, out: &mut Octets) -> Result<(), NoMemory>
     ensures { OnOk result (out.new ≡ out.old ++ decimal number) }
 {
-    // A number of 64 bits has at most 20 digits.
-    let mut text = [0u8; 20];
-    let from = write_digits(number, &mut text, 20);
+    let mut text = [0u8; MOST_DIGITS];
+    let from = write_digits(number, &mut text, MOST_DIGITS);
     out.append(&text[from..])
 }
 
@@ -25,6 +24,17 @@ pub fn push_named(name: &[u8], number: u64, out: &mut Octets) -> Result<(), NoMe
 {
     out.append(name)?;
     push_number(number, out)
+}
+
+/// Writes a name and a number before the place `end`. Returns the place of the name's first octet.
+#[tactic(auto, using(crate::proofs::DigitLemmas::length_any), unfolding(crate::specs::Numbers::named))]
+pub fn write_named(name: &[u8], number: u64, text: &mut [u8], end: usize) -> usize
+    requires { (length name.now + MOST_DIGITS ≤ end) × (end ≤ length text.old) }
+    ensures place { (result ≤ end) × (end ≤ result + length name.now + MOST_DIGITS) }
+    ensures written { drop result text.new ≡ named name.now number ++ drop end text.old }
+{
+    let from = write_digits(number, text, end);
+    write_octets(name, text, from)
 }
 
 /// Nine decimal digits, with leading zeros.
@@ -51,6 +61,16 @@ pub fn push_hex(number: u64, out: &mut Octets) -> Result<(), NoMemory>
     ensures { OnOk result (out.new ≡ out.old ++ hex_16 number) }
 {
     out.append(&hex_digits(number))
+}
+
+/// Writes sixteen hexadecimal digits before the place `end`, with leading zeros. Returns the place of
+/// the first one.
+pub fn write_hex(number: u64, text: &mut [u8], end: usize) -> usize
+    requires { (16 ≤ end) × (end ≤ length text.old) }
+    ensures place { result + 16 ≡ end }
+    ensures written { drop result text.new ≡ hex_16 number ++ drop end text.old }
+{
+    write_octets(&hex_digits(number), text, end)
 }
 
 #[tactic(auto, unfolding(crate::specs::Numbers::hex_16))]
@@ -102,7 +122,7 @@ fn digit(number: u32) -> u8
 }
 
 /// The most octets of an address.
-pub(crate) const MOST_ADDRESS: usize = 39;
+pub const MOST_ADDRESS: usize = 39;
 
 /// Appends an address: IPv4 dotted, IPv6 as eight groups of four hexadecimal digits. Where memory is
 /// refused, nothing is said of `out`.
@@ -115,7 +135,7 @@ pub fn push_address(address: Addr, out: &mut Octets) -> Result<(), NoMemory>
 }
 
 /// Writes an address before the place `end`. Returns the place of its first octet.
-pub(crate) fn write_address(address: Addr, text: &mut [u8], end: usize) -> usize
+pub fn write_address(address: Addr, text: &mut [u8], end: usize) -> usize
     requires { (MOST_ADDRESS ≤ end) × (end ≤ length text.old) }
     ensures place { (result ≤ end) × (end ≤ result + MOST_ADDRESS) }
     ensures written { drop result text.new ≡ address_text address ++ drop end text.old }
