@@ -1,10 +1,13 @@
 // The lines that show control messages.
-ghost use Rattle.std.specs.Prelude.{◌≡◌, ◌++◌, ◌∷◌, [], flat_map, OnOk};
+ghost use Rattle.std.specs.Prelude.{◌≡◌, ◌++◌, ◌+◌, ◌≤◌, drop, flat_map, length, OnOk};
 ghost use Rattle.replay.specs.Messages.{counts_text, details_text, eid_text, flag_text, line_of_eid, line_of_record, lines_of_carried, lines_of_message, lines_of_reply, lines_of_request, reply_line, request_line};
 
 use map_messages::{Eid, MapReply, MapRequest, Message, Record};
 use octets::{NoMemory, Octets};
-use router_log::{push_address, push_hex, push_named, push_number};
+use router_log::{
+    MOST_ADDRESS, MOST_DIGITS, write_address, write_behind, write_digits, write_hex, write_named,
+    write_octet, write_octets,
+};
 
 /// Appends the lines of a message, of whose octets so many are left over.
 pub(crate) fn push_message(message: &Message, left: u32, out: &mut Octets) -> Result<(), NoMemory>
@@ -43,6 +46,10 @@ fn push_request(request: &MapRequest, left: u32, out: &mut Octets) -> Result<(),
     push_eids(request.eids.as_slice(), out)
 }
 
+// The most octets of a Map-Request's line: a word, the nonce's digits, two flags behind their names, and
+// the counts.
+const MOST_REQUEST_LINE: usize = 14 + 16 + 2 * (3 + 1) + MOST_COUNTS;
+
 // The line of a Map-Request with so many EIDs.
 #[tactic(auto, unfolding(crate::specs::Messages::request_line))]
 fn push_request_line(
@@ -54,13 +61,15 @@ fn push_request_line(
     ensures { OnOk result (out.new ≡ out.old
         ++ request_line request.now.nonce request.now.probe request.now.smr eids left) }
 {
-    out.append(b"request nonce=")?;
-    push_hex(request.nonce, out)?;
-    out.append(b" p=")?;
-    push_flag(request.probe, out)?;
-    out.append(b" s=")?;
-    push_flag(request.smr, out)?;
-    push_counts(eids, left, out)
+    let mut text = [0u8; MOST_REQUEST_LINE];
+    let end = write_counts(eids, left, &mut text, MOST_REQUEST_LINE);
+    let end = write_flag(request.smr, &mut text, end);
+    let end = write_octets(b" s=", &mut text, end);
+    let end = write_flag(request.probe, &mut text, end);
+    let end = write_octets(b" p=", &mut text, end);
+    let end = write_hex(request.nonce, &mut text, end);
+    let from = write_octets(b"request nonce=", &mut text, end);
+    out.append(&text[from..])
 }
 
 fn push_reply(reply: &MapReply, left: u32, out: &mut Octets) -> Result<(), NoMemory>
@@ -69,6 +78,10 @@ fn push_reply(reply: &MapReply, left: u32, out: &mut Octets) -> Result<(), NoMem
     push_reply_line(reply, reply.mappings.len(), left, out)?;
     push_records(reply.mappings.as_slice(), out)
 }
+
+// The most octets of a Map-Reply's line: a word, the nonce's digits, a flag behind its name, and the
+// counts.
+const MOST_REPLY_LINE: usize = 12 + 16 + 3 + 1 + MOST_COUNTS;
 
 // The line of a Map-Reply with so many records.
 #[tactic(auto, unfolding(crate::specs::Messages::reply_line))]
@@ -81,26 +94,35 @@ fn push_reply_line(
     ensures { OnOk result (out.new ≡ out.old
         ++ reply_line reply.now.nonce reply.now.probe records left) }
 {
-    out.append(b"reply nonce=")?;
-    push_hex(reply.nonce, out)?;
-    out.append(b" p=")?;
-    push_flag(reply.probe, out)?;
-    push_counts(records, left, out)
+    let mut text = [0u8; MOST_REPLY_LINE];
+    let end = write_counts(records, left, &mut text, MOST_REPLY_LINE);
+    let end = write_flag(reply.probe, &mut text, end);
+    let end = write_octets(b" p=", &mut text, end);
+    let end = write_hex(reply.nonce, &mut text, end);
+    let from = write_octets(b"reply nonce=", &mut text, end);
+    out.append(&text[from..])
 }
 
-fn push_flag(flag: bool, out: &mut Octets) -> Result<(), NoMemory>
-    ensures { OnOk result (out.new ≡ out.old ++ flag_text flag) }
+fn write_flag(flag: bool, text: &mut [u8], end: usize) -> usize
+    requires { (1 ≤ end) × (end ≤ length text.old) }
+    ensures place { result + 1 ≡ end }
+    ensures written { drop result text.new ≡ flag_text flag ++ drop end text.old }
 {
-    out.push(if flag { b'1' } else { b'0' })
+    write_octet(if flag { b'1' } else { b'0' }, text, end)
 }
+
+// The most octets of two counts, which have names of 9 and 6 octets, and of a line's end.
+const MOST_COUNTS: usize = 9 + 6 + 2 * MOST_DIGITS + 1;
 
 #[tactic(auto, unfolding(crate::specs::Messages::counts_text))]
-fn push_counts(records: usize, left: u32, out: &mut Octets) -> Result<(), NoMemory>
-    ensures { OnOk result (out.new ≡ out.old ++ counts_text records left) }
+fn write_counts(records: usize, left: u32, text: &mut [u8], end: usize) -> usize
+    requires { (MOST_COUNTS ≤ end) × (end ≤ length text.old) }
+    ensures place { (result ≤ end) × (end ≤ result + MOST_COUNTS) }
+    ensures written { drop result text.new ≡ counts_text records left ++ drop end text.old }
 {
-    push_named(b" records=", records as u64, out)?;
-    push_named(b" left=", u64::from(left), out)?;
-    out.push(b'\n')
+    let end = write_octet(b'\n', text, end);
+    let end = write_named(b" left=", u64::from(left), text, end);
+    write_named(b" records=", records as u64, text, end)
 }
 
 fn push_eids(eids: &[Eid], out: &mut Octets) -> Result<(), NoMemory>
@@ -112,25 +134,34 @@ fn push_eids(eids: &[Eid], out: &mut Octets) -> Result<(), NoMemory>
     Ok(())
 }
 
+// The most octets of an EID's line: a word, the EID, and a line's end.
+const MOST_EID_LINE: usize = 5 + MOST_EID + 1;
+
 fn push_eid_line(eid: &Eid, out: &mut Octets) -> Result<(), NoMemory>
     ensures { OnOk result (out.new ≡ out.old ++ line_of_eid eid.now) }
 {
-    out.append(b" eid ")?;
-    push_eid(eid, out)?;
-    out.push(b'\n')
+    let mut text = [0u8; MOST_EID_LINE];
+    let end = write_octet(b'\n', &mut text, MOST_EID_LINE);
+    let end = write_eid(eid, &mut text, end);
+    let from = write_octets(b" eid ", &mut text, end);
+    out.append(&text[from..])
 }
 
+// The most octets of an EID: two numbers, an address, and two octets between them.
+const MOST_EID: usize = 2 * MOST_DIGITS + MOST_ADDRESS + 2;
+
 // Instance, address and mask length.
-#[tactic(auto, unfolding(crate::specs::Messages::eid_text))]
-fn push_eid(eid: &Eid, out: &mut Octets) -> Result<(), NoMemory>
-    ensures { OnOk result (out.new ≡ out.old
-        ++ eid_text eid.now.iid eid.now.prefix.addr eid.now.prefix.len) }
+#[tactic(auto, using(router_log::proofs::DigitLemmas::length_any), unfolding(crate::specs::Messages::eid_text))]
+fn write_eid(eid: &Eid, text: &mut [u8], end: usize) -> usize
+    requires { (MOST_EID ≤ end) × (end ≤ length text.old) }
+    ensures place { (result ≤ end) × (end ≤ result + MOST_EID) }
+    ensures written { drop result text.new
+        ≡ eid_text eid.now.iid eid.now.prefix.addr eid.now.prefix.len ++ drop end text.old }
 {
-    push_number(u64::from(eid.iid), out)?;
-    out.push(b' ')?;
-    push_address(eid.prefix.addr, out)?;
-    out.push(b'/')?;
-    push_number(u64::from(eid.prefix.len), out)
+    let end = write_behind(b'/', u64::from(eid.prefix.len), text, end);
+    let end = write_address(eid.prefix.addr, text, end);
+    let end = write_octet(b' ', text, end);
+    write_digits(u64::from(eid.iid), text, end)
 }
 
 fn push_records(mappings: &[Record], out: &mut Octets) -> Result<(), NoMemory>
@@ -142,23 +173,34 @@ fn push_records(mappings: &[Record], out: &mut Octets) -> Result<(), NoMemory>
     Ok(())
 }
 
+// The most octets of a record's line: a word, its EID, and what it has beside.
+const MOST_RECORD_LINE: usize = 8 + MOST_EID + MOST_DETAILS;
+
 fn push_record_line(mapping: &Record, out: &mut Octets) -> Result<(), NoMemory>
     ensures { OnOk result (out.new ≡ out.old ++ line_of_record mapping.now) }
 {
-    out.append(b" record ")?;
-    push_eid(&mapping.eid, out)?;
-    push_details(mapping, mapping.locators.len(), out)
+    let mut text = [0u8; MOST_RECORD_LINE];
+    let end = write_details(mapping, mapping.locators.len(), &mut text, MOST_RECORD_LINE);
+    let end = write_eid(&mapping.eid, &mut text, end);
+    let from = write_octets(b" record ", &mut text, end);
+    out.append(&text[from..])
 }
+
+// The most octets of four numbers, which have names of 5, 8, 9 and 10 octets, and of a line's end.
+const MOST_DETAILS: usize = 5 + 8 + 9 + 10 + 4 * MOST_DIGITS + 1;
 
 // What a record has beside its EID, with so many locators.
 #[tactic(auto, unfolding(crate::specs::Messages::details_text))]
-fn push_details(mapping: &Record, locators: usize, out: &mut Octets) -> Result<(), NoMemory>
-    ensures { OnOk result (out.new ≡ out.old
-        ++ details_text mapping.now.ttl mapping.now.action mapping.now.version locators) }
+fn write_details(mapping: &Record, locators: usize, text: &mut [u8], end: usize) -> usize
+    requires { (MOST_DETAILS ≤ end) × (end ≤ length text.old) }
+    ensures place { (result ≤ end) × (end ≤ result + MOST_DETAILS) }
+    ensures written { drop result text.new
+        ≡ details_text mapping.now.ttl mapping.now.action mapping.now.version locators
+        ++ drop end text.old }
 {
-    push_named(b" ttl=", u64::from(mapping.ttl), out)?;
-    push_named(b" action=", u64::from(mapping.action), out)?;
-    push_named(b" version=", u64::from(mapping.version), out)?;
-    push_named(b" locators=", locators as u64, out)?;
-    out.push(b'\n')
+    let end = write_octet(b'\n', text, end);
+    let end = write_named(b" locators=", locators as u64, text, end);
+    let end = write_named(b" version=", u64::from(mapping.version), text, end);
+    let end = write_named(b" action=", u64::from(mapping.action), text, end);
+    write_named(b" ttl=", u64::from(mapping.ttl), text, end)
 }
