@@ -1,5 +1,5 @@
 // Numbers and addresses as a report writes them.
-ghost use Rattle.std.specs.Prelude.{◌≡◌, ◌<◌, ◌≤◌, ◌+◌, ◌%◌, ◌^◌, ◌++◌, length, drop, flat_map, OnOk};
+ghost use Rattle.std.specs.Prelude.{◌≡◌, ◌<◌, ◌≤◌, ◌+◌, ◌*◌, ◌%◌, ◌^◌, ◌++◌, length, drop, flat_map, OnOk};
 ghost use Rattle.std.specs.Fmt.{decimal};
 ghost use Rattle.router_log.specs.Numbers.{address_text, dotted, fixed_decimal, fixed_hex, four_groups, groups, hex_16, hex_glyph, named};
 
@@ -112,6 +112,33 @@ fn push_octet(octet: u8, out: &mut Octets) -> Result<(), NoMemory>
 {
     let octet = u64::from(octet);
     out.append(&[hex_digit(octet / 16), hex_digit(octet)])
+}
+
+/// Writes two hexadecimal digits for each octet before the place `end`. Returns the place of the first
+/// one.
+pub fn write_hex_octets(octets: &[u8], text: &mut [u8], end: usize) -> usize
+    requires { (length octets.now * 2 ≤ end) × (end ≤ length text.old) }
+    ensures place { result + length octets.now * 2 ≡ end }
+    ensures written { drop result text.new
+        ≡ flat_map (fixed_hex 2) octets.now ++ drop end text.old }
+{
+    let mut left = octets.len();
+    let mut from = end;
+    while left > 0 {
+        left -= 1;
+        from = write_hex_octet(octets[left], text, from);
+    }
+    from
+}
+
+fn write_hex_octet(octet: u8, text: &mut [u8], end: usize) -> usize
+    requires { (2 ≤ end) × (end ≤ length text.old) }
+    ensures place { result + 2 ≡ end }
+    ensures written { drop result text.new ≡ fixed_hex 2 octet ++ drop end text.old }
+{
+    let octet = u64::from(octet);
+    let from = write_octet(hex_digit(octet), text, end);
+    write_octet(hex_digit(octet / 16), text, from)
 }
 
 // The lowest decimal digit.
