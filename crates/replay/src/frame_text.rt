@@ -1,5 +1,7 @@
 // What `show` says of each frame.
-ghost use Rattle.std.specs.Prelude.{◌≡◌, ◌++◌, ◌≤◌, length, OnOk};
+ghost use Rattle.std.specs.Prelude.{◌≡◌, ◌∷◌, ◌++◌, ◌≤◌, [], codes, flat_map, length, OnOk};
+ghost use Rattle.std.specs.Fmt.{decimal};
+ghost use Rattle.router_log.specs.Numbers.{fixed_hex, named};
 ghost use Rattle.router_core.specs.Seen.{course_seen, packet_seen};
 ghost use Rattle.replay.specs.Show.{control_text, course_text, data_line, data_text, frame_text, other_line, refused_line, settled_text, shown_frame};
 
@@ -10,16 +12,29 @@ use lisp_header::read_header;
 use map_messages::{MessageFault, read_message};
 use octets::{NoMemory, Octets, Refused};
 use router_core::{Course, Datagram, arriving, frame_packet};
-use router_log::{Reason, Verdict, push_named, push_number, push_octets, push_refused};
+use router_log::{
+    MOST_DIGITS, Reason, Verdict, push_refused, write_digits, write_hex_octets, write_named,
+    write_octet, write_octets,
+};
 use std::alloc::Global;
 
 /// Appends the lines of a frame.
 pub(crate) fn push_shown(alloc: Global, frame: &Frame, out: &mut Octets) -> Result<(), NoMemory>
     ensures { OnOk result (out.new ≡ out.old ++ shown_frame frame.now) }
 {
-    push_number(u64::from(frame.number), out)?;
-    out.push(b' ')?;
+    push_number(frame.number, out)?;
     push_frame(alloc, frame, out)
+}
+
+// Appends a number, and a space behind it.
+#[tactic(auto, using(router_log::proofs::DigitLemmas::length_any))]
+fn push_number(number: u32, out: &mut Octets) -> Result<(), NoMemory>
+    ensures { OnOk result (out.new ≡ out.old ++ (decimal number ++ 32 ∷ [])) }
+{
+    let mut text = [0u8; MOST_DIGITS + 1];
+    let end = write_octet(b' ', &mut text, MOST_DIGITS + 1);
+    let from = write_digits(u64::from(number), &mut text, end);
+    out.append(&text[from..])
 }
 
 // The lines without the frame's number.
@@ -91,10 +106,25 @@ fn push_data_line(payload: &[u8], out: &mut Octets) -> Result<(), NoMemory>
     requires { 8 ≤ length payload.now }
     ensures { OnOk result (out.new ≡ out.old ++ data_line payload.now) }
 {
-    out.append(b"data header=")?;
-    push_octets(&payload[..8], out)?;
-    push_named(b" left=", (payload.len() - 8) as u64, out)?;
-    out.push(b'\n')
+    push_header_line(&payload[..8], payload.len() - 8, out)
+}
+
+// The most octets of that line: a word, two digits for each octet of the header, a number behind its name,
+// and a line's end.
+const MOST_HEADER_LINE: usize = 12 + 2 * 8 + 6 + MOST_DIGITS + 1;
+
+// The line of a LISP header with so many octets behind it.
+fn push_header_line(header: &[u8], left: usize, out: &mut Octets) -> Result<(), NoMemory>
+    requires { length header.now ≤ 8 }
+    ensures { OnOk result (out.new ≡ out.old ++ (codes "data header="
+        ++ (flat_map (fixed_hex 2) header.now ++ (named (codes " left=") left ++ 10 ∷ [])))) }
+{
+    let mut text = [0u8; MOST_HEADER_LINE];
+    let end = write_octet(b'\n', &mut text, MOST_HEADER_LINE);
+    let end = write_named(b" left=", left as u64, &mut text, end);
+    let end = write_hex_octets(header, &mut text, end);
+    let from = write_octets(b"data header=", &mut text, end);
+    out.append(&text[from..])
 }
 
 // A datagram from or to the port of control messages, whose checksum may not be 0.
