@@ -3,7 +3,9 @@ use Rattle.std.proofs.Common.{◌≡◌, ℕ, zero, suc, ◌+◌, ◌-◌, ◌*�
 use Rattle.std.specs.Fmt.{decimal}
 use Rattle.std.proofs.lemmas.Fmt.{decimal_digit, decimal_step, length-decimal-le}
 use lib.Ieee.Fits.{and_l, and_r}
+use Rattle.router_log.specs.Numbers.{hex_glyph}
 use Rattle.router_log.specs.declared.digits.TheConstants.{PAIRS}
+use Rattle.router_log.specs.declared.numbers.TheConstants.{GLYPHS}
 
 -- the two digits of a number below 100
 abbrev pub pair : ℕ → List ℕ
@@ -56,3 +58,21 @@ pair_below (suc n) p test below =
 -- a pair of the table
 pub pair_at : (p : ℕ) → p < 100 → (get_or PAIRS (p * 2) 0 ≡ 48 + p / 10) × (get_or PAIRS (p * 2 + 1) 0 ≡ 48 + p % 10)
 pair_at p below = pair_below 100 p tt below
+
+-- the first n of the hexadecimal digits are those of the numbers below n
+abbrev are_glyphs : ℕ → Bool
+are_glyphs zero = true
+are_glyphs (suc n) = eqb (get_or GLYPHS n 0) (hex_glyph n) && are_glyphs n
+
+-- so is each of them
+glyph_below : (n d : ℕ) → T (are_glyphs n) → d < n → get_or GLYPHS d 0 ≡ hex_glyph d
+glyph_below zero d test below = absurd (omega arith)
+glyph_below (suc n) d test below =
+    elim (eq-zero-or-pos (n - d)) [
+      | inl last ↦ let same : d ≡ n = omega arith in rw same (eqb→eq _ _ (and_l _ (are_glyphs n) test))
+      | inr more ↦ glyph_below n d (and_r _ (are_glyphs n) test) (omega arith)
+    ]
+
+-- a hexadecimal digit of the table
+pub glyph_at : (d : ℕ) → d < 16 → get_or GLYPHS d 0 ≡ hex_glyph d
+glyph_at d below = glyph_below 16 d tt below

@@ -224,14 +224,13 @@ fn group_text(group: u16) -> [u8; 4]
     ]
 }
 
+// The hexadecimal digits: a place in them takes half the steps of a test for letters.
+static GLYPHS: [u8; 16] = *b"0123456789abcdef";
+
 // The lowest hexadecimal digit, in lower case.
+#[tactic(auto, using(crate::proofs::DigitLemmas::glyph_at))]
 fn hex_digit(number: u64) -> u8
     ensures { result ≡ hex_glyph (number % 16) }
 {
-    let digit = (number % 16) as u8;
-    if digit < 10 {
-        b'0' + digit
-    } else {
-        b'a' - 10 + digit
-    }
+    GLYPHS[(number % 16) as usize]
 }
