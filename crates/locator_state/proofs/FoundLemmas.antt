@@ -1,5 +1,5 @@
 -- What is found by a key.
-use Rattle.std.proofs.Common.{◌≡◌, ℕ, ◌==◌, ◌&&◌, ◌||◌, Bool, true, false, cond, List, [], ◌∷◌, fold, map, Option, Some, None, is_some, Ordering, Less, Equal, Greater, is_eq, nat_cmp, refl, ap, ap₂, ◌∙◌, arith}
+use Rattle.std.proofs.Common.{◌≡◌, ℕ, ◌==◌, ◌&&◌, ◌||◌, Bool, true, false, cond, List, [], ◌∷◌, fold, length, map, Option, Some, None, is_some, Ordering, Less, Equal, Greater, is_eq, nat_cmp, refl, ap, ap₂, ◌∙◌, arith}
 use Rattle.std.specs.Borrow.{Bor}
 use Rattle.std.specs.List.{list_any}
 use Rattle.std.specs.Option.{option_copied}
@@ -95,6 +95,15 @@ module _ {A : Type 0} (p q : A → Bool) (same : (x : A) → p x ≡ q x) where
   -- tests that say the same find the same
   pub last-same : (items : List A) → last_where p items ≡ last_where q items
   last-same items = same-from None items
+
+-- where there is no item, none passes
+pub last-empty : {A : Type 0} (test : A → Bool) (items : List A) → length items ≡ 0 → None ≡ last_where test items
+last-empty test [] none = refl
+last-empty test (x ∷ items) none = absurd (cc none)
+
+pub any-empty : {A : Type 0} (test : A → Bool) (items : List A) → length items ≡ 0 → false ≡ list_any test items
+any-empty test [] none = refl
+any-empty test (x ∷ items) none = absurd (cc none)
 
 -- of a key alone
 pub last-key : {A : Type 0} (p q : A → Bool) → ((x : A) → p x ≡ q x) → (items : List A) → last_where (λ x. p x && true) items ≡ last_where q items

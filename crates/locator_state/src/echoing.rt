@@ -43,6 +43,10 @@ fn is_deaf(now: u64, start: &EchoStart) -> bool
 fn last_start<'a>(rloc: &Addr, starts: &'a KeyedList<EchoStart>) -> Option<&'a EchoStart>
     ensures { option_copied result ≡ last_start starts.now.items rloc.now }
 {
+    // Mostly none is kept, and each packet asks.
+    if starts.len() == 0 {
+        return None;
+    }
     starts.last(&Key::locator(*rloc), |_| true)
 }
 
@@ -51,6 +55,10 @@ fn last_wish<'a>(rloc: &Addr, wishes: &'a KeyedList<EchoWish>) -> Option<&'a Ech
     ensures { option_copied result
         ≡ last_where (λ wish. same_address wish.rloc rloc.now) wishes.now.items }
 {
+    // Mostly none is kept, and each packet asks.
+    if wishes.len() == 0 {
+        return None;
+    }
     wishes.last(&Key::locator(*rloc), |_| true)
 }
 
@@ -112,6 +120,9 @@ pub(crate) fn is_asked(now: u64, rloc: &Addr, starts: &KeyedList<EchoStart>) -> 
         ≡ list_any (λ start. same_address start.rloc rloc.now && start_counts now start)
         starts.now.items }
 {
+    if starts.len() == 0 {
+        return false;
+    }
     starts
         .last(&Key::locator(*rloc), |start| start_counts(now, start))
         .is_some()

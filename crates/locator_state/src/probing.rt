@@ -53,6 +53,9 @@ pub(crate) fn last_of<'a>(rloc: &Addr, probes: &'a KeyedList<Probe>) -> Option<&
     ensures { option_copied result
         ≡ last_where (λ probe. same_address probe.rloc rloc.now) probes.now.items }
 {
+    if probes.len() == 0 {
+        return None;
+    }
     probes.last(&Key::locator(*rloc), |_| true)
 }
 
@@ -66,6 +69,10 @@ pub(crate) fn last_judged<'a>(
         ≡ last_where (λ probe. same_address probe.rloc rloc.now && is_judged now probe)
         probes.now.items }
 {
+    // Mostly none is kept, and each packet asks.
+    if probes.len() == 0 {
+        return None;
+    }
     probes.last(&Key::locator(*rloc), |probe| is_judged(now, probe))
 }
 

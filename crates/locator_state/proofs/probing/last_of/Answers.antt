@@ -1,10 +1,13 @@
-use Rattle.std.proofs.Common.{rules, true, ◌∙◌}
+use Rattle.std.proofs.Common.{rules, true, sym, ◌∙◌}
 use Rattle.keyed_list.specs.Keyed.{is_key}
 use Rattle.keyed_list.specs.Keys.{locator_key}
 use Rattle.keyed_list.specs.Known.{probe_marks}
 use Rattle.mapping_records.specs.Eids.{same_address}
-use Rattle.locator_state.proofs.FoundLemmas.{last-key, probe-locator}
+use Rattle.locator_state.proofs.FoundLemmas.{last-empty, last-key, probe-locator}
 use Rattle.locator_state.proofs.probing.last_of.Goals as goal
+
+pub returns-then-len-eq0 : goal.returns-then-len-eq0
+returns-then-len-eq0 c = last-empty (λ probe. same_address probe.rloc c.args.rloc.now) c.args.probes.now.items (sym c.len.ensures.len ∙ c.if-len-eq0.true)
 
 pub returns : goal.returns
 returns c =
