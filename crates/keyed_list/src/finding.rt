@@ -1,6 +1,7 @@
 // Where items are found.
 ghost use Rattle.std.specs.Prelude.{◌≡◌, ◌-◌, ◌≤◌, ◌<◌, Some, count_by, false, map, max, nat_lt, not, true, length, slice_get, IfSome, is_some};
 ghost use Rattle.std.specs.List.{list_all};
+ghost use Rattle.std.specs.Option.{option_copied};
 ghost use Rattle.std.specs.Ordering.{is_lt};
 ghost use Rattle.ordered_set.specs.Keys.{Ascends as KeysAscend};
 ghost use Rattle.keyed_list.specs.Keys.{mark_order};
@@ -11,7 +12,7 @@ use crate::key::{Age, Mark};
 use crate::keyed::Numbered;
 use crate::{Key, Keyed};
 use named_list::NamedList;
-use ordered_set::{Ordered, OrderedSet};
+use ordered_set::OrderedSet;
 
 // The place of the item of a number, or where it would stand.
 fn place_of<T>(number: u64, list: &NamedList<Numbered<T>>) -> usize
@@ -39,18 +40,20 @@ fn place_behind_first<T>(number: u64, list: &NamedList<Numbered<T>>) -> Option<u
     Some(place)
 }
 
-// The greatest mark below one.
-fn mark_below(mark: Mark, index: &OrderedSet<Mark>) -> Option<Mark>
-    ensures last { result ≡ last_where (λ other. is_lt (mark_order other mark)) index.now.keys }
+// The greatest mark below that of a key under a number.
+fn mark_below<'a>(key: &Key, number: u64, index: &'a OrderedSet<Mark>) -> Option<&'a Mark>
+    ensures last { option_copied result
+        ≡ last_where (λ other. is_lt (mark_order other (record { key = key.now; number = number })))
+        index.now.keys }
     ensures ascends { KeysAscend mark_order index.now.keys }
 {
     // The length says that keys ascend.
     let _ = index.len();
-    let place = index.place(|other| other.compare(&mark).is_lt());
+    let place = index.place(|other| other.is_below(key, number));
     if place == 0 {
         return None;
     }
-    index.get(place - 1).copied()
+    index.get(place - 1)
 }
 
 /// The place of the last item that has a key, of those with lower numbers.
@@ -70,13 +73,7 @@ pub(crate) fn place_below<T: Keyed>(
     if list.len() == 0 {
         return None;
     }
-    let mark = mark_below(
-        Mark {
-            key: *key,
-            number: bound,
-        },
-        index,
-    )?;
+    let mark = mark_below(key, bound, index)?;
     if !mark.key.is_same(key) {
         return None;
     }

@@ -1,6 +1,7 @@
 // Keys, and the order of keys and numbers.
 ghost use Rattle.std.specs.Prelude.{◌≡◌};
-ghost use Rattle.std.specs.Ordering.{nat_cmp};
+ghost use Rattle.std.specs.Ordering.{is_lt, nat_cmp, ordering_then};
+ghost use Rattle.mapping_records.specs.Orders.{addr_order};
 ghost use Rattle.keyed_list.specs.Keys.{age_order, eid_key, key_order, key_prefix_order, kind_rank, locator_key, mark_order, nonce_key, same_key, told_key};
 
 use ip_headers::Addr;
@@ -127,6 +128,62 @@ impl Key {
 pub(crate) struct Mark {
     pub key: Key,
     pub number: u64,
+}
+
+impl Mark {
+    /// It is below that of a key under a number. Marks are found by halving, and mostly one of the first
+    /// parts tells.
+    pub(crate) fn is_below(&self, key: &Key, number: u64) -> bool
+        ensures { result ≡ is_lt (mark_order self.now (record { key = key.now; number = number })) }
+    {
+        let (rank, other_rank) = (self.key.kind.rank(), key.kind.rank());
+        if rank != other_rank {
+            return rank < other_rank;
+        }
+        if self.key.number != key.number {
+            return self.key.number < key.number;
+        }
+        match compare_addresses(&self.key.rloc, &key.rloc) {
+            Ordering::Less => true,
+            Ordering::Equal => self.is_below_by_prefix(key, number),
+            Ordering::Greater => false,
+        }
+    }
+
+    // The same, where what stands before the address ties.
+    fn is_below_by_prefix(&self, key: &Key, number: u64) -> bool
+        ensures { result ≡ is_lt (ordering_then (key_prefix_order self.now.key key.now)
+            (nat_cmp self.now.number number)) }
+    {
+        match compare_addresses(&self.key.addr, &key.addr) {
+            Ordering::Less => true,
+            Ordering::Equal => self.is_below_by_len(key, number),
+            Ordering::Greater => false,
+        }
+    }
+
+    // The same, where the address ties too.
+    fn is_below_by_len(&self, key: &Key, number: u64) -> bool
+        ensures { result ≡ is_lt (ordering_then (nat_cmp self.now.key.len key.now.len)
+            (nat_cmp self.now.number number)) }
+    {
+        if self.key.len != key.len {
+            return self.key.len < key.len;
+        }
+        self.number < number
+    }
+}
+
+// Each IPv4 address is below each IPv6 address.
+fn compare_addresses(a: &Addr, b: &Addr) -> Ordering
+    ensures { result ≡ addr_order a.now b.now }
+{
+    match (a, b) {
+        (Addr::V4(a), Addr::V4(b)) => a.cmp(b),
+        (Addr::V4(_), Addr::V6(_)) => Ordering::Less,
+        (Addr::V6(_), Addr::V4(_)) => Ordering::Greater,
+        (Addr::V6(a), Addr::V6(b)) => a.cmp(b),
+    }
 }
 
 impl Ordered for Mark {

@@ -4,10 +4,9 @@ use Rattle.keyed_list.proofs.finding.mark_below.Goals as goal
 
 pub returns-then-place-eq0-clause-last : goal.returns-then-place-eq0-clause-last
 returns-then-place-eq0-clause-last c =
-    none-below c.args.mark c.args.index.now.keys c.place-place.result c.len.ensures.ascends (search rules) c.if-place-eq0.true
+    none-below (record { key = c.args.key.now; number = c.args.number }) c.args.index.now.keys c.place-place.result c.len.ensures.ascends (search rules) c.if-place-eq0.true
 
 pub returns-clause-last : goal.returns-clause-last
 returns-clause-last c =
-    c.copied.ensures
-    ∙ c.get.ensures
-    ∙ last-below c.args.mark c.args.index.now.keys c.place-place.result c.len.ensures.ascends (search rules) (omega (arith, c.if-place-eq0.false)) c.place-place.ensures.within (search rules)
+    c.get.ensures
+    ∙ last-below (record { key = c.args.key.now; number = c.args.number }) c.args.index.now.keys c.place-place.result c.len.ensures.ascends (search rules) (omega (arith, c.if-place-eq0.false)) c.place-place.ensures.within (search rules)

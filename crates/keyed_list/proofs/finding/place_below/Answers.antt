@@ -15,12 +15,12 @@ returns-in_err-mark-clause-last g c =
 
 pub returns-then-not-is_same-clause-last : goal.returns-then-not-is_same-clause-last
 returns-then-not-is_same-clause-last g c =
-    other-key g.T.Keyed.marks_of c.args.key.now c.args.bound c.args.list.now.items c.args.index.now.keys c.args.ages.now.keys c.requires c.mark_below.ensures.ascends c.in_ok-mark.mark c.in_ok-mark.ensures.last (sym c.is_same.ensures ∙ c.if-not-is_same.true)
+    other-key g.T.Keyed.marks_of c.args.key.now c.args.bound c.args.list.now.items c.args.index.now.keys c.args.ages.now.keys c.requires c.mark_below.ensures.ascends c.in_ok-mark.mark.now c.in_ok-mark.ensures.last (sym c.is_same.ensures ∙ c.if-not-is_same.true)
 
 pub returns-clause-last : goal.returns-clause-last
 returns-clause-last g c =
-    found-last g.T.Keyed.marks_of c.args.key.now c.args.bound c.args.list.now.items c.args.index.now.keys c.args.ages.now.keys c.requires c.mark_below.ensures.ascends c.in_ok-mark.mark c.in_ok-mark.ensures.last (sym c.is_same.ensures ∙ c.if-not-is_same.false) c.place_of.result c.place_of.ensures
+    found-last g.T.Keyed.marks_of c.args.key.now c.args.bound c.args.list.now.items c.args.index.now.keys c.args.ages.now.keys c.requires c.mark_below.ensures.ascends c.in_ok-mark.mark.now c.in_ok-mark.ensures.last (sym c.is_same.ensures ∙ c.if-not-is_same.false) c.place_of.result c.place_of.ensures
 
 pub returns-clause-within : goal.returns-clause-within
 returns-clause-within g c =
-    found-within g.T.Keyed.marks_of c.args.key.now c.args.bound c.args.list.now.items c.args.index.now.keys c.args.ages.now.keys c.requires c.mark_below.ensures.ascends c.in_ok-mark.mark c.in_ok-mark.ensures.last (sym c.is_same.ensures ∙ c.if-not-is_same.false) c.place_of.result c.place_of.ensures
+    found-within g.T.Keyed.marks_of c.args.key.now c.args.bound c.args.list.now.items c.args.index.now.keys c.args.ages.now.keys c.requires c.mark_below.ensures.ascends c.in_ok-mark.mark.now c.in_ok-mark.ensures.last (sym c.is_same.ensures ∙ c.if-not-is_same.false) c.place_of.result c.place_of.ensures
