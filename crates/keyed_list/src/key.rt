@@ -1,6 +1,6 @@
 // Keys, and the order of keys and numbers.
-ghost use Rattle.std.specs.Prelude.{◌≡◌};
-ghost use Rattle.std.specs.Ordering.{is_lt, nat_cmp, ordering_then};
+ghost use Rattle.std.specs.Prelude.{◌≡◌, None, false, true, IfSome};
+ghost use Rattle.std.specs.Ordering.{is_eq, is_lt, nat_cmp, ordering_then};
 ghost use Rattle.mapping_records.specs.Orders.{addr_order};
 ghost use Rattle.keyed_list.specs.Keys.{age_order, eid_key, key_order, key_prefix_order, kind_rank, locator_key, mark_order, nonce_key, same_key, told_key};
 
@@ -119,7 +119,22 @@ impl Key {
     pub(crate) fn is_same(&self, other: &Key) -> bool
         ensures { result ≡ same_key self.now other.now }
     {
-        self.compare(other).is_eq()
+        if self.kind.rank() != other.kind.rank() || self.number != other.number {
+            return false;
+        }
+        match first_is_below(&self.rloc, &other.rloc) {
+            Some(_) => false,
+            None => self.has_same_prefix(other),
+        }
+    }
+
+    fn has_same_prefix(&self, other: &Key) -> bool
+        ensures { result ≡ is_eq (key_prefix_order self.now other.now) }
+    {
+        match first_is_below(&self.addr, &other.addr) {
+            Some(_) => false,
+            None => self.len == other.len,
+        }
     }
 }
 
@@ -143,10 +158,9 @@ impl Mark {
         if self.key.number != key.number {
             return self.key.number < key.number;
         }
-        match compare_addresses(&self.key.rloc, &key.rloc) {
-            Ordering::Less => true,
-            Ordering::Equal => self.is_below_by_prefix(key, number),
-            Ordering::Greater => false,
+        match first_is_below(&self.key.rloc, &key.rloc) {
+            Some(below) => below,
+            None => self.is_below_by_prefix(key, number),
         }
     }
 
@@ -155,10 +169,9 @@ impl Mark {
         ensures { result ≡ is_lt (ordering_then (key_prefix_order self.now.key key.now)
             (nat_cmp self.now.number number)) }
     {
-        match compare_addresses(&self.key.addr, &key.addr) {
-            Ordering::Less => true,
-            Ordering::Equal => self.is_below_by_len(key, number),
-            Ordering::Greater => false,
+        match first_is_below(&self.key.addr, &key.addr) {
+            Some(below) => below,
+            None => self.is_below_by_len(key, number),
         }
     }
 
@@ -174,15 +187,28 @@ impl Mark {
     }
 }
 
-// Each IPv4 address is below each IPv6 address.
-fn compare_addresses(a: &Addr, b: &Addr) -> Ordering
-    ensures { result ≡ addr_order a.now b.now }
+// Whether the first of two addresses is below, where they differ. Each IPv4 address is below each IPv6
+// address.
+fn first_is_below(a: &Addr, b: &Addr) -> Option<bool>
+    ensures differ { IfSome result (λ below. is_eq (addr_order a.now b.now) ≡ false) }
+    ensures below { IfSome result (λ below. below ≡ is_lt (addr_order a.now b.now)) }
+    ensures same { result ≡ None → is_eq (addr_order a.now b.now) ≡ true }
 {
     match (a, b) {
-        (Addr::V4(a), Addr::V4(b)) => a.cmp(b),
-        (Addr::V4(_), Addr::V6(_)) => Ordering::Less,
-        (Addr::V6(_), Addr::V4(_)) => Ordering::Greater,
-        (Addr::V6(a), Addr::V6(b)) => a.cmp(b),
+        (Addr::V4(a), Addr::V4(b)) => {
+            if a == b {
+                return None;
+            }
+            Some(a < b)
+        }
+        (Addr::V4(_), Addr::V6(_)) => Some(true),
+        (Addr::V6(_), Addr::V4(_)) => Some(false),
+        (Addr::V6(a), Addr::V6(b)) => {
+            if a == b {
+                return None;
+            }
+            Some(a < b)
+        }
     }
 }
 
