@@ -102,11 +102,18 @@ impl Key {
     pub(crate) fn compare(&self, other: &Key) -> Ordering
         ensures { result ≡ key_order self.now other.now }
     {
-        let by_kind = self.kind.rank().cmp(&other.kind.rank());
-        by_kind
-            .then_with(|| self.number.cmp(&other.number))
-            .then_with(|| self.rloc.cmp(&other.rloc))
-            .then_with(|| self.compare_prefix(other))
+        let (rank, other_rank) = (self.kind.rank(), other.kind.rank());
+        if rank != other_rank {
+            return rank.cmp(&other_rank);
+        }
+        if self.number != other.number {
+            return self.number.cmp(&other.number);
+        }
+        match first_is_below(&self.rloc, &other.rloc) {
+            Some(true) => Ordering::Less,
+            Some(false) => Ordering::Greater,
+            None => self.compare_prefix(other),
+        }
     }
 
     fn compare_prefix(&self, other: &Key) -> Ordering
