@@ -22,13 +22,13 @@ use std::alloc::Global;
 pub(crate) fn push_shown(alloc: Global, frame: &Frame, out: &mut Octets) -> Result<(), NoMemory>
     ensures { OnOk result (out.new ≡ out.old ++ shown_frame frame.now) }
 {
-    push_number(frame.number, out)?;
+    push_frame_number(frame.number, out)?;
     push_frame(alloc, frame, out)
 }
 
-// Appends a number, and a space behind it.
+// Appends the number of a frame, and a space behind it.
 #[tactic(auto, using(router_log::proofs::DigitLemmas::length_any))]
-fn push_number(number: u32, out: &mut Octets) -> Result<(), NoMemory>
+fn push_frame_number(number: u32, out: &mut Octets) -> Result<(), NoMemory>
     ensures { OnOk result (out.new ≡ out.old ++ (decimal number ++ 32 ∷ [])) }
 {
     let mut text = [0u8; MOST_DIGITS + 1];

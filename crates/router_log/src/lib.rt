@@ -24,8 +24,8 @@ pub use map_messages::MapReply;
 pub use mapping_records::{Eid, Record};
 pub use notice::{Notice, Notices};
 pub use numbers::{
-    MOST_ADDRESS, push_address, push_hex, push_named, push_number, push_octets, write_address,
-    write_hex, write_hex_octets, write_named,
+    MOST_ADDRESS, push_named, push_number, push_octets, write_address, write_hex, write_hex_octets,
+    write_named,
 };
 pub use octets::{Items, NoMemory, Octets};
 pub use refusals::push_refused;

@@ -55,14 +55,6 @@ pub(crate) fn nine_digits(number: u32) -> [u8; 9]
     ]
 }
 
-/// Appends sixteen hexadecimal digits, with leading zeros. Where memory is refused, nothing is said of
-/// `out`.
-pub fn push_hex(number: u64, out: &mut Octets) -> Result<(), NoMemory>
-    ensures { OnOk result (out.new ≡ out.old ++ hex_16 number) }
-{
-    out.append(&hex_digits(number))
-}
-
 /// Writes sixteen hexadecimal digits before the place `end`, with leading zeros. Returns the place of
 /// the first one.
 pub fn write_hex(number: u64, text: &mut [u8], end: usize) -> usize
@@ -151,17 +143,8 @@ fn digit(number: u32) -> u8
 /// The most octets of an address.
 pub const MOST_ADDRESS: usize = 39;
 
-/// Appends an address: IPv4 dotted, IPv6 as eight groups of four hexadecimal digits. Where memory is
-/// refused, nothing is said of `out`.
-pub fn push_address(address: Addr, out: &mut Octets) -> Result<(), NoMemory>
-    ensures { OnOk result (out.new ≡ out.old ++ address_text address) }
-{
-    let mut text = [0u8; MOST_ADDRESS];
-    let from = write_address(address, &mut text, MOST_ADDRESS);
-    out.append(&text[from..])
-}
-
-/// Writes an address before the place `end`. Returns the place of its first octet.
+/// Writes an address before the place `end`: IPv4 dotted, IPv6 as eight groups of four hexadecimal digits.
+/// Returns the place of its first octet.
 pub fn write_address(address: Addr, text: &mut [u8], end: usize) -> usize
     requires { (MOST_ADDRESS ≤ end) × (end ≤ length text.old) }
     ensures place { (result ≤ end) × (end ≤ result + MOST_ADDRESS) }
