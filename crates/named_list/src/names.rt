@@ -158,10 +158,10 @@ impl Names {
         requires { index < length self.now.names }
         ensures { result ≡ slice_index_or self.now.names index result }
     {
-        let ring = index / RING;
-        if ring >= self.heads.len() {
+        if index >= self.heads.len() * RING {
             return self.slots[index];
         }
+        let ring = index / RING;
         let place = turned(self.heads[ring], index % RING);
         self.slots[ring * RING + place]
     }

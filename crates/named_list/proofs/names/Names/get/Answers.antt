@@ -9,9 +9,9 @@ pub index-requires : goal.index-requires
 index-requires c =
     omega (arith, length-joined ring_names c.self.inside.heads.items c.self.inside.slots.items, rw (← c.self.view_is) at c.requires, c.self.inside.slots.ok.0)
 
-pub returns-then-ring-len : goal.returns-then-ring-len
-returns-then-ring-len c =
-    rw (← c.self.view_is) (c.index.ensures ∙ get_or_behind c.self.inside.heads.items c.self.inside.slots.items c.self.invariant.full c.args.index c.index.result.now (omega (arith, c.if-ring-len.true, c.len.ensures, c.self.inside.heads.ok.0)))
+pub returns-then-index-len : goal.returns-then-index-len
+returns-then-index-len c =
+    rw (← c.self.view_is) (c.index.ensures ∙ get_or_behind c.self.inside.heads.items c.self.inside.slots.items c.self.invariant.full c.args.index c.index.result.now (omega (arith, c.if-index-len.true, c.len.ensures, c.self.inside.heads.ok.0)))
 
 pub returns : goal.returns
 returns c =
@@ -22,7 +22,7 @@ returns c =
     let place : ℕ = c.args.index % ring_names in
     let d : ℕ = c.index-3.result.now in
     let ring : List ℕ = take ring_names (drop at slots) in
-    let more : k < length heads = omega (arith, c.if-ring-len.false, c.len.ensures, c.self.inside.heads.ok.0) in
+    let more : k < length heads = omega (arith, c.if-index-len.false, c.len.ensures, c.self.inside.heads.ok.0) in
     let within : at + ring_names ≤ length slots = omega (arith, more, c.self.invariant.full) in
     let index_is : at + place ≡ c.args.index = omega arith in
     let less : place < ring_names = omega arith in
