@@ -1,5 +1,5 @@
 -- A packet that is forwarded: RFC 791 section 3.2, RFC 8200 section 3.
-use Rattle.std.specs.Prelude.{◌≡◌, ℕ, ◌+◌, ◌-◌, ◌==◌, ◌||◌, Bool, true, false, List, ◌∷◌, ◌++◌, length, take, drop, slice_index, None, if◌then◌else◌}
+use Rattle.std.specs.Prelude.{◌≡◌, ℕ, ◌+◌, ◌-◌, ◌%◌, ◌==◌, ◌||◌, Bool, true, false, List, ◌∷◌, ◌++◌, length, take, drop, slice_index, None, if◌then◌else◌}
 use Rattle.octets.specs.Numbers.{big_octets}
 use Rattle.octets.specs.Rules.{first_failing}
 use Rattle.ip_headers.specs.Checksum.{checksum}
@@ -14,6 +14,10 @@ lowered header sum =
 -- an IPv4 header with its TTL one less and the checksum over it, for which that counts as 0
 unfoldable pub renewed : List ℕ → List ℕ
 renewed header = lowered header (checksum (lowered header 0))
+
+-- the checksum of a header whose TTL is one less, by the one with which the header holds (RFC 1624)
+abbrev pub lowered_sum : ℕ → ℕ
+lowered_sum sum = (sum + 256) % 65535
 
 -- an IPv4 packet with its TTL one less
 abbrev pub forwarded_v4 : List ℕ → List ℕ

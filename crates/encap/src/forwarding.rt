@@ -1,15 +1,20 @@
 // A packet one hop further.
-ghost use Rattle.std.specs.Prelude.{◌≡◌, ◌≢◌, ◌≤◌, ◌++◌, length, take, drop, slice_index, IfErr, IfOk, OnOk};
+ghost use Rattle.std.specs.Prelude.{◌≡◌, ◌≢◌, ◌≤◌, ◌++◌, ℕ, length, take, drop, slice_index, true, None, IfErr, IfOk};
+ghost use Rattle.octets.specs.Numbers.{big};
 ghost use Rattle.octets.specs.Rules.{first_failing, FailsBy};
-ghost use Rattle.ip_headers.specs.Ip.{ttl_of};
-ghost use Rattle.encap.specs.Forwarded.{forwarded, forwarded_v6, renewed};
+ghost use Rattle.ip_headers.specs.Ip.{ip_rules, is_v4, ttl_of};
+ghost use Rattle.encap.specs.Forwarded.{forwarded, forwarded_v4, forwarded_v6, lowered, lowered_sum};
 ghost use Rattle.encap.specs.Rules.{encap_drop, forward_rules};
 ghost use Rattle.encap.specs.declared.fault.EncapDrop.TheVariants.{Memory, TooBig};
 
 use crate::EncapDrop;
-use ip_headers::{IpHeader, IpPacket, checksum};
-use octets::{NoMemory, Octets};
+use ip_headers::{IpHeader, IpPacket};
+use octets::{NoMemory, Octets, big_16};
 use std::alloc::Global;
+
+/// So many octets of a packet hold all that forwarding changes: of an IPv4 header those up to its
+/// checksum.
+pub(crate) const FRONT_OCTETS: usize = 12;
 
 /// The packet with its TTL or Hop Limit one less and the checksum of its IPv4 header renewed, for
 /// a destination outside the tunnels. All other octets are those of the packet.
@@ -31,59 +36,72 @@ fn forwarded(alloc: Global, inner: &IpPacket) -> Result<Octets, NoMemory>
     ensures { IfOk result (λ packet. packet ≡ forwarded inner.now.octets.now) }
 {
     let mut packet = Octets::with_capacity(alloc, inner.octets.len())?;
-    append_forwarded(inner, &mut packet)?;
+    let (_, rest) = inner.octets.split_at(FRONT_OCTETS);
+    packet.append_both(&forwarded_front(inner), rest)?;
     Ok(packet)
 }
 
-/// Appends the packet with its TTL one less.
-pub(crate) fn append_forwarded(inner: &IpPacket, out: &mut Octets) -> Result<(), NoMemory>
+/// The first octets of the packet with its TTL one less. Behind them it is the packet as it was.
+pub(crate) fn forwarded_front(inner: &IpPacket) -> [u8; FRONT_OCTETS]
     requires { 1 ≤ ttl_of inner.now.header }
-    ensures { OnOk result (out.new ≡ out.old ++ forwarded inner.now.octets.now) }
+    ensures { result ++ drop 12 inner.now.octets.now ≡ forwarded inner.now.octets.now }
 {
     match inner.header {
-        IpHeader::V4(header) => append_v4(inner.octets, usize::from(header.header_len), out),
-        IpHeader::V6(_) => append_v6(inner.octets, out),
+        IpHeader::V4(_) => front_v4(inner.octets),
+        IpHeader::V6(_) => front_v6(inner.octets),
     }
 }
 
-fn append_v4(octets: &[u8], header_len: usize, out: &mut Octets) -> Result<(), NoMemory>
-    requires least { 20 ≤ header_len }
-    requires most { header_len ≤ 60 }
-    requires within { header_len ≤ length octets.now }
+fn front_v4(octets: &[u8]) -> [u8; FRONT_OCTETS]
+    requires version { is_v4 octets.now ≡ true }
+    requires long { 20 ≤ length octets.now }
     requires ttl { 1 ≤ slice_index octets.now 8 }
-    ensures { OnOk result (out.new ≡ out.old
-        ++ (renewed (take header_len octets.now) ++ drop header_len octets.now)) }
+    ensures { (base : ℕ) → first_failing (ip_rules base octets.now) ≡ None
+        → result ++ drop 12 octets.now ≡ forwarded_v4 octets.now }
 {
-    let (header, rest) = octets.split_at(header_len);
-    let mut room = [0; 60];
-    let copy = &mut room[..header_len];
-    copy.copy_from_slice(header);
-    renew(copy);
-    out.append(copy)?;
-    out.append(rest)
+    lowered_front(octets)
 }
 
-// Lowers the TTL of an IPv4 header by one, and computes its checksum again.
-#[tactic(auto, unfolding(crate::specs::Forwarded::renewed))]
-fn renew(header: &mut [u8])
-    requires long { 20 ≤ length header.old }
-    requires ttl { 1 ≤ slice_index header.old 8 }
-    ensures { header.new ≡ renewed header.old }
+fn lowered_front(octets: &[u8]) -> [u8; FRONT_OCTETS]
+    requires long { 20 ≤ length octets.now }
+    requires ttl { 1 ≤ slice_index octets.now 8 }
+    ensures { let sum = lowered_sum (big 2 octets.now 10) in
+        result ++ drop 12 octets.now ≡ lowered octets.now sum }
 {
-    header[8] -= 1;
-    header[10] = 0;
-    header[11] = 0;
-    let sum = checksum(header).to_be_bytes();
-    header[10] = sum[0];
-    header[11] = sum[1];
+    let mut front = first_octets(octets);
+    let sum = lowered_sum(big_16(octets, 10)).to_be_bytes();
+    front[8] -= 1;
+    front[10] = sum[0];
+    front[11] = sum[1];
+    front
 }
 
-fn append_v6(octets: &[u8], out: &mut Octets) -> Result<(), NoMemory>
+fn front_v6(octets: &[u8]) -> [u8; FRONT_OCTETS]
     requires long { 40 ≤ length octets.now }
     requires hops { 1 ≤ slice_index octets.now 7 }
-    ensures { OnOk result (out.new ≡ out.old ++ forwarded_v6 octets.now) }
+    ensures { result ++ drop 12 octets.now ≡ forwarded_v6 octets.now }
 {
-    out.append(&octets[..7])?;
-    out.push(octets[7] - 1)?;
-    out.append(&octets[8..])
+    let mut front = first_octets(octets);
+    front[7] -= 1;
+    front
+}
+
+fn first_octets(octets: &[u8]) -> [u8; FRONT_OCTETS]
+    requires { 12 ≤ length octets.now }
+    ensures { result ≡ take 12 octets.now }
+{
+    let mut front = [0; FRONT_OCTETS];
+    front.copy_from_slice(&octets[..FRONT_OCTETS]);
+    front
+}
+
+// The checksum of a header whose TTL is one less, by the one that it had (RFC 1624).
+fn lowered_sum(sum: u16) -> u16
+    ensures { result ≡ lowered_sum sum }
+{
+    if sum < 0xfeff {
+        sum + 0x100
+    } else {
+        sum - 0xfeff
+    }
 }

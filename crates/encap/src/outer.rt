@@ -1,5 +1,5 @@
 // The headers in front of a packet in its tunnel.
-ghost use Rattle.std.specs.Prelude.{◌≡◌, ◌≤◌, ◌+◌, ◌++◌, length, OnOk};
+ghost use Rattle.std.specs.Prelude.{◌≡◌, ◌≤◌, ◌+◌, ◌++◌, length, drop};
 ghost use Rattle.ip_headers.specs.Addr.{width};
 ghost use Rattle.ip_headers.specs.Ip.{ttl_of};
 ghost use Rattle.ip_headers.specs.Udp.{udp_octets};
@@ -8,9 +8,8 @@ ghost use Rattle.encap.specs.Limits.{most_tunnel_octets};
 ghost use Rattle.encap.specs.Rules.{outer_len};
 ghost use Rattle.encap.specs.Wrapped.{outer_header, outer_v4, outer_v6};
 
-use ip_headers::{Addr, IpPacket, UDP, V4Header, V6Header, write_v4, write_v6};
+use ip_headers::{Addr, IpPacket, UDP, V4Header, V6Header, canonical_v4, canonical_v6};
 use lisp_header::LISP_DATA_PORT;
-use octets::{NoMemory, Octets};
 
 /// The octets of outer IP header, UDP header and LISP header.
 pub(crate) fn outer_len(from: Addr) -> usize
@@ -22,23 +21,43 @@ pub(crate) fn outer_len(from: Addr) -> usize
     }
 }
 
-/// Appends the outer IP header, whose TTL is that of the packet less one.
-pub(crate) fn append_outer(
+/// Writes the outer IP header, whose TTL is that of the packet less one, before the place `end`.
+/// Returns its place.
+pub(crate) fn write_outer(
     inner: &IpPacket,
     from: Addr,
     to: Addr,
-    out: &mut Octets,
-) -> Result<(), NoMemory>
+    front: &mut [u8],
+    end: usize,
+) -> usize
     requires family { width from ≡ width to }
     requires ttl { 1 ≤ ttl_of inner.now.header }
     requires size { outer_len from + length inner.now.octets.now ≤ most_tunnel_octets }
-    ensures { OnOk result (out.new ≡ out.old ++ outer_header inner.now.octets.now from to) }
+    requires room { (40 ≤ end) × (end ≤ length front.old) }
+    ensures place { result + outer_len from ≡ end + 16 }
+    ensures written { drop result front.new
+        ≡ outer_header inner.now.octets.now from to ++ drop end front.old }
 {
     match (from, to) {
-        (Addr::V4(source), Addr::V4(dest)) => write_v4(&outer_v4(inner, source, dest), out),
-        (Addr::V6(source), Addr::V6(dest)) => write_v6(&outer_v6(inner, source, dest), out),
+        (Addr::V4(source), Addr::V4(dest)) => {
+            write_octets(&canonical_v4(&outer_v4(inner, source, dest)), front, end)
+        }
+        (Addr::V6(source), Addr::V6(dest)) => {
+            write_octets(&canonical_v6(&outer_v6(inner, source, dest)), front, end)
+        }
         _ => unreachable!(),
     }
+}
+
+/// Writes octets before the place `end`. Returns the place of the first one.
+pub(crate) fn write_octets(octets: &[u8], front: &mut [u8], end: usize) -> usize
+    requires { (length octets.now ≤ end) × (end ≤ length front.old) }
+    ensures place { result + length octets.now ≡ end }
+    ensures written { drop result front.new ≡ octets.now ++ drop end front.old }
+{
+    let from = end - octets.len();
+    front[from..end].copy_from_slice(octets);
+    from
 }
 
 fn outer_v4(inner: &IpPacket, source: u32, dest: u32) -> V4Header

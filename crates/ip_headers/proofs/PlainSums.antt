@@ -7,7 +7,7 @@ use Rattle.ip_headers.specs.Checksum.{folded, ones_add, plain_sum, words}
 use Rattle.ip_headers.proofs.SumLemmas.{AreWords, are_words}
 
 -- the plain sum of words
-abbrev total : ℕ → List ℕ → ℕ
+abbrev pub total : ℕ → List ℕ → ℕ
 total start ws = fold (λ (sum word : ℕ). sum + word) start ws
 
 -- a word that is added to a folded sum
@@ -15,7 +15,7 @@ ones_add-folded : (sum w : ℕ) → w ≤ 65535 → ones_add (folded sum) w ≡ 
 ones_add-folded zero w fits = grind (arith, common_steps)
 ones_add-folded (suc sum) w fits = grind (arith, common_steps)
 
-fold-folded : (ws : List ℕ) (sum : ℕ) → AreWords ws → fold ones_add (folded sum) ws ≡ folded (total sum ws)
+pub fold-folded : (ws : List ℕ) (sum : ℕ) → AreWords ws → fold ones_add (folded sum) ws ≡ folded (total sum ws)
 fold-folded [] sum are = refl
 fold-folded (w ∷ ws) sum are = ap (λ (s : ℕ). fold ones_add s ws) (ones_add-folded sum w are.0) ∙ fold-folded ws (sum + w) are.1
 
@@ -41,13 +41,13 @@ pub sum-append : (a b : List ℕ) (start count : ℕ) → length a ≡ count * 2
 sum-append a b start count even =
     sym (fold-append ones_add start (words a) (words b)) ∙ ap (fold ones_add start) (sym (words-append a b count even))
 
-total-plus : (ws : List ℕ) (sum more : ℕ) → total (sum + more) ws ≡ total sum ws + more
+pub total-plus : (ws : List ℕ) (sum more : ℕ) → total (sum + more) ws ≡ total sum ws + more
 total-plus [] sum more = refl
 total-plus (w ∷ ws) sum more =
     let same : sum + more + w ≡ sum + w + more = omega arith in
     ap (λ (s : ℕ). total s ws) same ∙ total-plus ws (sum + w) more
 
-total-least : (ws : List ℕ) (sum : ℕ) → sum ≤ total sum ws
+pub total-least : (ws : List ℕ) (sum : ℕ) → sum ≤ total sum ws
 total-least [] sum = omega arith
 total-least (w ∷ ws) sum = let more = total-least ws (sum + w) in omega (arith, more)
 

@@ -31,4 +31,4 @@ pub use sums::checksum;
 pub use tuple::FiveTuple;
 pub use udp::{check_udp, read_udp, udp_payload};
 pub use udp_writing::write_udp;
-pub use writing::{write_v4, write_v6};
+pub use writing::{canonical_v4, canonical_v6, write_v4, write_v6};

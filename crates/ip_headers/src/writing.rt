@@ -12,10 +12,19 @@ pub fn write_v4(header: &V4Header, out: &mut Octets) -> Result<(), NoMemory>
     ensures ok { OnOk result (out.new ≡ out.old ++ canonical_v4 header.now) }
     ensures err { OnErr result (out.new ≡ out.old) }
 {
+    out.append(&canonical_v4(header))
+}
+
+/// The 20 octets of a header without options, with its checksum.
+pub fn canonical_v4(header: &V4Header) -> [u8; 20]
+    requires plain { header.now.header_len ≡ 20 }
+    requires offset { header.now.offset < 2 ^ 13 }
+    ensures { result ≡ canonical_v4 header.now }
+{
     let mut octets = unsummed_v4(header);
     let sum = checksum(&octets);
     octets[10..12].copy_from_slice(&sum.to_be_bytes());
-    out.append(&octets)
+    octets
 }
 
 /// The header with 0 for its checksum.
@@ -54,7 +63,8 @@ pub fn write_v6(header: &V6Header, out: &mut Octets) -> Result<(), NoMemory>
     out.append(&canonical_v6(header))
 }
 
-fn canonical_v6(header: &V6Header) -> [u8; 40]
+/// The 40 octets of a header.
+pub fn canonical_v6(header: &V6Header) -> [u8; 40]
     requires flow { header.now.flow < 2 ^ 20 }
     ensures { result ≡ canonical_v6 header.now }
 {
