@@ -15,8 +15,10 @@ use crate::position::Position;
 use crate::record::read_record;
 use crate::{CaptureFault, Frame};
 use desk::{Desk, FileId, read_full};
+use octets::Octets;
 use std::alloc::Global;
 use std::marker::Model;
+use std::mem::replace;
 
 /// A reader of a capture, which has read its header.
 #[derive(Drop)]
@@ -25,6 +27,8 @@ pub struct CaptureReader {
     format: Format,
     position: Position,
     fault: Option<CaptureFault>,
+    // Room for the octets of the next frame.
+    spare: Vec<u8>,
 }
 
 impl Model for CaptureReader {
@@ -68,6 +72,7 @@ impl CaptureReader {
             format,
             position: Position::begin(),
             fault: None,
+            spare: Vec::new(alloc),
         })
     }
 
@@ -106,7 +111,8 @@ impl CaptureReader {
         if let Some(fault) = self.fault {
             return Err(fault);
         }
-        match read_record(alloc, desk, self.id, self.format, self.position) {
+        let spare = replace(&mut self.spare, Vec::new(alloc));
+        match read_record(alloc, desk, self.id, self.format, self.position, spare) {
             Ok(Some(frame)) => {
                 self.position = self.position.passed(&frame);
                 Ok(Some(frame))
@@ -119,5 +125,13 @@ impl CaptureReader {
                 Err(fault)
             }
         }
+    }
+
+    /// Takes the list of a frame that nobody needs any more, for the next one. One such list is kept; that
+    /// of a frame that this reader gave has room for less than twice the longest frame so far.
+    pub fn take_back(&mut self, octets: Octets)
+        ensures { self.new ≡ self.old }
+    {
+        self.spare = octets.into_vec();
     }
 }

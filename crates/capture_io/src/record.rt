@@ -19,13 +19,14 @@ use desk::{Desk, DeskFault, FileId, read_full};
 use octets::Octets;
 use std::alloc::Global;
 
-/// The frame of the record that comes next, or none at the end.
+/// The frame of the record that comes next, or none at the end. Its octets come into the spare list.
 pub fn read_record<D: Desk>(
     alloc: Global,
     desk: &mut D,
     id: FileId,
     format: Format,
     at: Position,
+    spare: Vec<u8>,
 ) -> Result<Option<Frame>, CaptureFault>
     requires { IsTrue (is_reachable at) }
     ensures answer { IfSome (D.told desk.old) (λ w.
@@ -48,7 +49,7 @@ pub fn read_record<D: Desk>(
     if let Some(fault) = head_fault(format, at, &head[..n]) {
         return Err(fault);
     }
-    let octets = read_body(alloc, desk, id, format.order.number_32(&head, 8))?;
+    let octets = read_body(alloc, desk, id, format.order.number_32(&head, 8), spare)?;
     let frame = frame_of(format, at, &head, octets)?;
     Ok(Some(frame))
 }
@@ -59,6 +60,7 @@ fn read_body<D: Desk>(
     desk: &mut D,
     id: FileId,
     size: u32,
+    spare: Vec<u8>,
 ) -> Result<Octets, DeskFault>
     ensures octets { IfOk result (λ o.
         IfSome (D.told desk.old) (λ w. o ≡ take size (left_of id.number w))) }
@@ -71,7 +73,8 @@ fn read_body<D: Desk>(
     ensures steady { StaysSteady (D.steady desk.old) (D.steady desk.new)
         (IsGiven id.number to_read (D.given desk.old)) (IsErrOf result Failed) }
 {
-    let mut body = vec![in alloc; 0u8; size as usize]?;
+    let mut body = spare;
+    body.resize(size as usize, 0)?;
     let n = read_full(alloc, desk, id, &mut body)?;
     body.truncate(n);
     Ok(Octets::from_vec(body))

@@ -63,6 +63,13 @@ impl<T> Items<T> {
         Items { vec }
     }
 
+    /// The items, as a vector. Takes no memory.
+    pub fn into_vec(self) -> Vec<T>
+        ensures { result.items ≡ self }
+    {
+        self.vec
+    }
+
     /// The number of items.
     pub fn len(&self) -> usize
         ensures { result ≡ length self.now }

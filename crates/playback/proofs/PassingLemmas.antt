@@ -49,6 +49,10 @@ StaysLeft left = (a b : World) → KeepsReaders (Some a) (Some b) → left b ≡
 pub left_in-stays : {R : Type 0} (id : R → ℕ) (run : R → List ℕ → InputRun) (reader : R) → StaysLeft (left_in id run reader)
 left_in-stays id run reader a b keeps = ap (run reader) (left-kept (id reader) a b keeps)
 
+-- a reader that has the same file and the same to come has the same left
+pub left_in-same : {R : Type 0} (id : R → ℕ) (run : R → List ℕ → InputRun) (one two : R) → id two ≡ id one → run two ≡ run one → left_in id run two ≡ left_in id run one
+left_in-same id run one two same runs = ap₂ {C = World → InputRun} (λ (to_come : List ℕ → InputRun) (number : ℕ) (w : World). to_come (left_of number w)) runs same
+
 -- a frame that may come next where fewer come may come where more do
 pub next-within : (most : ℕ) (at : Progress) (f : Frame) → most ≤ most_frames → IsNext most at f → IsNext most_frames at f
 next-within most at f few next = record {
@@ -189,6 +193,13 @@ module _ {S : Type 0} (does : S → Step → Outcome S → Type 0) (file : Optio
         steps_are = steps-then frames (frames ++ f ∷ []) passing.steps more (events-one frames at.moment f passing.joins) passing.steps_are;
         stands = goes start (shown_of w) passing.steps still;
       }
+
+  -- what is left and the state may be those of others that are the same
+  pub passing-as : (start : S) (run left rest : World → InputRun) (at : Progress) (state next : S) (output : Output) (old now : Option World)
+      → rest ≡ left → next ≡ state → Passing start run left at state output old now → Passing start run rest at next output old now
+  passing-as start run left rest at state next output old now same is passing =
+      subst (λ (l : World → InputRun). Passing start run l at next output old now) (sym same)
+      (subst (λ (s : S). Passing start run left at s output old now) (sym is) passing)
 
   -- a fault while the next frame is read
   pub cut_reading : (start : S) (run left : World → InputRun) (at : Progress) (state : S) (old mid now : Option World) (output : Output)

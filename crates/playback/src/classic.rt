@@ -3,6 +3,7 @@ use crate::fault::InputFault;
 use crate::reader::{FrameReader, Next};
 use capture_io::{CaptureFault, CaptureReader};
 use desk::{Desk, DeskFault};
+use octets::Octets;
 use std::alloc::Global;
 
 impl FrameReader for CaptureReader {
@@ -32,5 +33,9 @@ impl FrameReader for CaptureReader {
                 own => Ok(Next::Fault(InputFault::Classic(own))),
             },
         }
+    }
+
+    fn take_back(&mut self, octets: Octets) {
+        self.take_back(octets);
     }
 }

@@ -8,7 +8,7 @@ ghost use Rattle.playback.specs.declared.progress.Progress.{Progress};
 use crate::Output;
 use crate::progress::Progress;
 use capture_io::Frame;
-use octets::NoMemory;
+use octets::{NoMemory, Octets};
 use std::alloc::Global;
 
 /// What is done for the events of a capture, one after another. A machine may gather events, and leave
@@ -69,4 +69,10 @@ pub trait Machine {
         ensures full { IfOk result (λ is. is ≡ full (state self.new)) }
         ensures gathers { OnOk result (GathersOne (Does (state self.old) (Happens (Arrival frame)))
             output.old output.new (state self.new)) };
+
+    /// The list of the frame that it took last, where it needs that no more.
+    fn spare(&mut self) -> Option<Octets>
+        ensures ready { (progress : Progress) (written : ℕ) →
+            IsReady progress written self.old → IsReady progress written self.new }
+        ensures state { state self.new ≡ state self.old };
 }

@@ -3,6 +3,7 @@ use crate::fault::InputFault;
 use crate::reader::{FrameReader, Next};
 use capture_ng::{NgFault, NgReader};
 use desk::{Desk, DeskFault};
+use octets::Octets;
 use std::alloc::Global;
 
 impl FrameReader for NgReader {
@@ -33,4 +34,7 @@ impl FrameReader for NgReader {
             },
         }
     }
+
+    // A block's list holds more than its frame, so this reader makes one for each.
+    fn take_back(&mut self, _octets: Octets) {}
 }

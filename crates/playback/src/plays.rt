@@ -1,5 +1,5 @@
 // A play of a capture, from pause to pause.
-ghost use Rattle.std.specs.Prelude.{◌≡◌, ◌<◌, ◌≤◌, false, true, IfOk, IsErrOf, OnErr, OnOk};
+ghost use Rattle.std.specs.Prelude.{◌≡◌, ◌<◌, ◌≤◌, ℕ, false, true, IfOk, IsErrOf, OnErr, OnOk};
 ghost use Rattle.desk.specs.declared.fault.DeskFault.TheVariants.{Failed};
 ghost use Rattle.desk.specs.Causes.{HasCause, StaysSteady};
 ghost use Rattle.desk.specs.World.{to_read, IsGiven};
@@ -8,6 +8,7 @@ ghost use Rattle.playback.specs.Input.{beginning, left_in};
 ghost use Rattle.playback.specs.Limits.{most_frames};
 ghost use Rattle.playback.specs.Passing.{file_of, IfFull, IsBegun, IsBetween, IsSamePlay, PassesOn};
 ghost use Rattle.playback.specs.Playing.{handed_on, MayWrite};
+ghost use Rattle.playback.specs.declared.progress.Progress.{Progress};
 
 use crate::fault::InputFault;
 use crate::machine::Machine;
@@ -113,6 +114,7 @@ impl<R: FrameReader> Play<R> {
                     if is_full {
                         return Ok(Turn::Full);
                     }
+                    hand_back(machine, &mut self.reader);
                 }
                 Next::End => return Ok(Turn::Ended(None)),
                 Next::Fault(fault) => return Ok(Turn::Ended(Some(fault))),
@@ -153,5 +155,21 @@ impl<R: FrameReader> Play<R> {
             frames: progress.frames,
             written: output.written,
         })
+    }
+}
+
+// Hands the list of the frame that the machine took last back to the reader, if it is no longer needed.
+fn hand_back<M: Machine, R: FrameReader>(machine: &mut M, reader: &mut R)
+    requires open { R.IsOpen reader.old }
+    ensures id { R.id reader.new ≡ R.id reader.old }
+    ensures run { R.run reader.new ≡ R.run reader.old }
+    ensures progress { R.progress reader.new ≡ R.progress reader.old }
+    ensures open { R.IsOpen reader.new }
+    ensures ready { (progress : Progress) (written : ℕ) →
+        M.IsReady progress written machine.old → M.IsReady progress written machine.new }
+    ensures state { M.state machine.new ≡ M.state machine.old }
+{
+    if let Some(octets) = machine.spare() {
+        reader.take_back(octets);
     }
 }

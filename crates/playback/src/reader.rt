@@ -9,6 +9,7 @@ ghost use Rattle.playback.specs.declared.progress.Progress.{Progress};
 use crate::fault::InputFault;
 use capture_io::Frame;
 use desk::{Desk, DeskFault};
+use octets::Octets;
 use std::alloc::Global;
 
 /// What is next in a capture.
@@ -51,4 +52,12 @@ pub trait FrameReader: Drop {
         ensures given { D.given desk.new ≡ D.given desk.old }
         ensures steady { StaysSteady (D.steady desk.old) (D.steady desk.new)
             (IsGiven (id self.old) to_read (D.given desk.old)) (IsErrOf result Failed) };
+
+    /// Takes the list of a frame that nobody needs any more, for the next one.
+    fn take_back(&mut self, octets: Octets)
+        requires open { IsOpen self.old }
+        ensures id { id self.new ≡ id self.old }
+        ensures run { run self.new ≡ run self.old }
+        ensures progress { progress self.new ≡ progress self.old }
+        ensures open { IsOpen self.new };
 }

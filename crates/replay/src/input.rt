@@ -12,6 +12,7 @@ use capture_io::{CaptureFault, CaptureReader};
 use capture_ng::NgReader;
 use command_words::InputFormat;
 use desk::{Desk, DeskFault, FileId};
+use octets::Octets;
 use playback::{FrameReader, InputFault, Next};
 use std::alloc::Global;
 
@@ -40,6 +41,13 @@ impl FrameReader for Input {
         match self {
             Input::Classic(reader) => reader.next_frame(alloc, desk),
             Input::Ng(reader) => reader.next_frame(alloc, desk),
+        }
+    }
+
+    fn take_back(&mut self, octets: Octets) {
+        match self {
+            Input::Classic(reader) => reader.take_back(octets),
+            Input::Ng(reader) => reader.take_back(octets),
         }
     }
 }

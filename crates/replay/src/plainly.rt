@@ -26,7 +26,7 @@ use auditing::{Audited, audit_frames};
 use capture_io::{CaptureReader, Frame};
 use desk::{Desk, DeskFault};
 use lisp_settings::Settings;
-use octets::NoMemory;
+use octets::{NoMemory, Octets};
 use playback::{FrameReader, Machine, Output, Progress, play};
 use router_core::Table;
 use std::alloc::Global;
@@ -35,6 +35,8 @@ use std::alloc::Global;
 struct Replay<'a> {
     settings: &'a Settings,
     table: Table,
+    /// The list of the frame that was taken last.
+    spare: Option<Octets>,
 }
 
 impl<'a> Machine for Replay<'a> {
@@ -73,7 +75,12 @@ impl<'a> Machine for Replay<'a> {
         output: &mut Output,
     ) -> Result<bool, NoMemory> {
         take_frame(alloc, self.settings, &mut self.table, &frame, output)?;
+        self.spare = Some(frame.octets);
         Ok(false)
+    }
+
+    fn spare(&mut self) -> Option<Octets> {
+        self.spare.take()
     }
 }
 
@@ -101,7 +108,11 @@ pub(crate) fn replay_plainly<D: Desk, R: FrameReader>(
 {
     let file = make_output(alloc, desk, output)?;
     let table = Table::new(alloc, settings)?;
-    let mut router = Replay { settings, table };
+    let mut router = Replay {
+        settings,
+        table,
+        spare: None,
+    };
     let ended = play(alloc, desk, &mut router, reader, Some(file));
     let entries = entries_of(router);
     let ending = ended?;
@@ -135,7 +146,11 @@ pub(crate) fn audit_plainly<D: Desk>(
         (IsErrOf result Failed) }
 {
     let table = Table::new(alloc, settings)?;
-    let mut router = Replay { settings, table };
+    let mut router = Replay {
+        settings,
+        table,
+        spare: None,
+    };
     let audited = audit_frames(alloc, desk, &mut router, input, sent);
     entries_of(router);
     audited
@@ -146,6 +161,10 @@ pub(crate) fn audit_plainly<D: Desk>(
 fn entries_of(router: Replay<'_>) -> u64
     ensures { result ≡ router.entry.table.parts.count }
 {
-    let Replay { settings: _, table } = router;
+    let Replay {
+        settings: _,
+        table,
+        spare: _,
+    } = router;
     table.closed()
 }

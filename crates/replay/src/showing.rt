@@ -18,13 +18,16 @@ use crate::last_lines::{close, count_line, refuse_capture};
 use capture_io::Frame;
 use command_words::InputFormat;
 use desk::{Desk, DeskFault};
-use octets::NoMemory;
+use octets::{NoMemory, Octets};
 use playback::{Machine, Output, Progress, play};
 use std::alloc::Global;
 
-/// A show, which keeps nothing from frame to frame.
+/// A show, which keeps nothing of a frame but its list.
 #[derive(Drop)]
-struct Show {}
+struct Show {
+    /// That of the frame that was taken last.
+    spare: Option<Octets>,
+}
 
 impl Machine for Show {
     ghost State = { Unit {0} };
@@ -55,7 +58,12 @@ impl Machine for Show {
         output: &mut Output,
     ) -> Result<bool, NoMemory> {
         push_shown(alloc, &frame, &mut output.lines)?;
+        self.spare = Some(frame.octets);
         Ok(false)
+    }
+
+    fn spare(&mut self) -> Option<Octets> {
+        self.spare.take()
     }
 }
 
@@ -96,7 +104,8 @@ fn show_frames<D: Desk>(alloc: Global, desk: &mut D, reader: Input) -> Result<St
     ensures steady { StaysSteady (D.steady desk.old) (D.steady desk.new)
         (IsGiven (id_of reader) to_read (D.given desk.old)) (IsErrOf result Failed) }
 {
-    let ending = play(alloc, desk, &mut Show {}, reader, None)?;
+    let mut show = Show { spare: None };
+    let ending = play(alloc, desk, &mut show, reader, None)?;
     let line = count_line(alloc, ending.frames)?;
     close(alloc, desk, ending.fault, line.as_slice())
 }

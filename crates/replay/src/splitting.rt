@@ -9,7 +9,7 @@ ghost use Rattle.replay.specs.Splitting.{splitting_run, under, IsPartOf};
 use capture_io::Frame;
 use desk::{Desk, DeskFault};
 use lisp_settings::Settings;
-use octets::NoMemory;
+use octets::{NoMemory, Octets};
 use playback::{FrameReader, Next};
 use split_v4::split_frame;
 use std::alloc::Global;
@@ -112,5 +112,9 @@ impl<'a, R: FrameReader> FrameReader for Splitting<'a, R> {
             Next::End => Ok(Next::End),
             Next::Fault(fault) => Ok(Next::Fault(fault)),
         }
+    }
+
+    fn take_back(&mut self, octets: Octets) {
+        self.reader.take_back(octets);
     }
 }

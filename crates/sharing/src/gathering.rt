@@ -13,7 +13,7 @@ use crate::limits::MOST_ROUND_OCTETS;
 use capture_io::Frame;
 use forwarders::{Gate, Published, open_hall};
 use lisp_settings::Settings;
-use octets::NoMemory;
+use octets::{NoMemory, Octets};
 use playback::{Machine, Output, Progress};
 use router_core::Table;
 use std::alloc::Global;
@@ -70,6 +70,11 @@ impl<'a> Machine for Gathering<'a> {
         self.octets += frame.octets.len();
         self.frames.push(frame)?;
         Ok(is_full(self.size, self.frames.len(), self.octets))
+    }
+
+    // A round keeps its frames.
+    fn spare(&mut self) -> Option<Octets> {
+        None
     }
 }
 

@@ -4,11 +4,11 @@ use Rattle.capture_io.specs.Reading.{Reading}
 use Rattle.auditing.proofs.LiftLemmas.{lifting-on}
 use Rattle.auditing.proofs.lifting.lift_all.Goals as goal
 
-pub loop-lift-preserved : goal.loop-lift-preserved
-loop-lift-preserved g c =
-    let inv = c.loop-lift.invariant in
+pub loop-reader-preserved : goal.loop-reader-preserved
+loop-reader-preserved g c =
+    let inv = c.loop-reader.invariant in
     let read = c.in_ok-frame.ensures in
-    let reader = c.loop-lift.reader in
+    let reader = c.loop-reader.reader in
     let f = c.in-Some.frame in
     let comes = rw c.in-Some.is at read.comes in
     let next = rw c.in-Some.is at read.frame in
@@ -17,7 +17,7 @@ loop-lift-preserved g c =
       reads = read.open;
       id = read.id ∙ inv.id;
       few = subst (λ (r : Reading). r.position.count ≤ most_records) (sym after) next.most;
-      lifting = lifting-on c.args.settings.now c.args.sent reader c.read_next.new.reader c.loop-lift.lift c.see.new.self f (g.D.Desk.told c.args.desk.now) (g.D.Desk.told c.loop-lift.desk) (g.D.Desk.told c.read_next.new.desk)
+      lifting = lifting-on c.args.settings.now c.args.sent reader c.read_next.new.reader c.loop-reader.lift c.see.new.self f (g.D.Desk.told c.args.desk.now) (g.D.Desk.told c.loop-reader.desk) (g.D.Desk.told c.read_next.new.desk)
           inv.lifting comes inv.id c.in_ok-see.ensures.ok c.frames_lift_one_by_one.ensures.more;
       shown = read.shown ∙ inv.shown;
       given = read.given ∙ inv.given;

@@ -4,8 +4,8 @@ use Rattle.desk.specs.World.{shown}
 use Rattle.auditing.proofs.LiftLemmas.{Lifting}
 use Rattle.auditing.proofs.lifting.lift_all.Given as goal
 
-abbrev pub invariant-loop-lift : goal.invariant-loop-lift
-invariant-loop-lift g l = record {
+abbrev pub invariant-loop-reader : goal.invariant-loop-reader
+invariant-loop-reader g l = record {
   reads : l.reader.fault ≡ None;
   id : l.reader.id ≡ l.fn.sent.id;
   few : l.reader.position.count ≤ most_records;
@@ -16,5 +16,5 @@ invariant-loop-lift g l = record {
   faults : g.D.Desk.faults l.fn.desk ≤ g.D.Desk.faults l.desk;
 }
 
-abbrev pub decreases-loop-lift : goal.decreases-loop-lift
-decreases-loop-lift g l = most_records - l.reader.position.count
+abbrev pub decreases-loop-reader : goal.decreases-loop-reader
+decreases-loop-reader g l = most_records - l.reader.position.count

@@ -4,8 +4,8 @@ use Rattle.capture_io.specs.Limits.{most_records}
 use Rattle.auditing.proofs.ComingLemmas.{KeepsFault}
 use Rattle.auditing.proofs.reading.read_to_end.Given as goal
 
-abbrev pub invariant-loop : goal.invariant-loop
-invariant-loop g l = record {
+abbrev pub invariant-loop-reader : goal.invariant-loop-reader
+invariant-loop-reader g l = record {
   open_still : l.reader.fault ≡ None;
   few : l.reader.position.count ≤ most_records;
   id : l.reader.id ≡ l.fn.capture.id;
@@ -16,5 +16,5 @@ invariant-loop g l = record {
   faults : g.D.Desk.faults l.fn.desk ≤ g.D.Desk.faults l.desk;
 }
 
-abbrev pub decreases-loop : goal.decreases-loop
-decreases-loop g l = most_records - l.reader.position.count
+abbrev pub decreases-loop-reader : goal.decreases-loop-reader
+decreases-loop-reader g l = most_records - l.reader.position.count
