@@ -1,9 +1,9 @@
 -- The decimal digits of a number: the last two behind the others, and how many there are.
-use Rattle.std.proofs.Common.{◌≡◌, ℕ, zero, suc, ◌+◌, ◌-◌, ◌*◌, ◌/◌, ◌%◌, ◌^◌, ◌<◌, ◌≤◌, Bool, true, ◌&&◌, T, eqb, List, [], ◌∷◌, ◌++◌, length, get_or, ap, ◌∙◌, inl, inr, arith, eq-zero-or-pos, eqb→eq, append_assoc, length-append}
+use Rattle.std.proofs.Common.{◌≡◌, ℕ, zero, suc, ◌+◌, ◌-◌, ◌*◌, ◌/◌, ◌%◌, ◌^◌, ◌<◌, ◌≤◌, Bool, true, ◌&&◌, T, eqb, List, [], ◌∷◌, ◌++◌, length, get_or, refl, ap, ◌∙◌, inl, inr, arith, eq-zero-or-pos, eqb→eq, append_assoc, length-append}
 use Rattle.std.specs.Fmt.{decimal}
 use Rattle.std.proofs.lemmas.Fmt.{decimal_digit, decimal_step, length-decimal-le}
 use lib.Ieee.Fits.{and_l, and_r}
-use Rattle.router_log.specs.Numbers.{hex_glyph}
+use Rattle.router_log.specs.Numbers.{fixed_decimal, hex_glyph}
 use Rattle.router_log.specs.declared.digits.TheConstants.{PAIRS}
 use Rattle.router_log.specs.declared.numbers.TheConstants.{GLYPHS}
 
@@ -38,6 +38,21 @@ length_port n high = length-decimal-le 5 n (omega arith) (omega arith) (omega ar
 -- a number of 64 bits has at most twenty
 pub length_any : (n : ℕ) → n < 2 ^ 64 → length (decimal n) ≤ 20
 length_any n fits = length-decimal-le 20 n (omega arith) (omega arith) fits
+
+-- nine digits: the first one, and four pairs
+pub nine_pairs : (n : ℕ) → n < 1000000000
+    → fixed_decimal 9 n ≡ (48 + n / 100000000) ∷ (pair (n / 1000000 % 100) ++ (pair (n / 10000 % 100) ++ (pair (n / 100 % 100) ++ pair (n % 100))))
+nine_pairs n high =
+    let first : n / 100000000 % 10 ≡ n / 100000000 = omega arith in
+    let second : n / 10000000 % 10 ≡ n / 1000000 % 100 / 10 = omega arith in
+    let third : n / 1000000 % 10 ≡ n / 1000000 % 100 % 10 = omega arith in
+    let fourth : n / 100000 % 10 ≡ n / 10000 % 100 / 10 = omega arith in
+    let fifth : n / 10000 % 10 ≡ n / 10000 % 100 % 10 = omega arith in
+    let sixth : n / 1000 % 10 ≡ n / 100 % 100 / 10 = omega arith in
+    let seventh : n / 100 % 10 ≡ n / 100 % 100 % 10 = omega arith in
+    let eighth : n / 10 % 10 ≡ n % 100 / 10 = omega arith in
+    let ninth : n / 1 % 10 ≡ n % 100 % 10 = omega arith in
+    rw (first, second, third, fourth, fifth, sixth, seventh, eighth, ninth) refl
 
 -- the first n pairs of the table are the digits of the numbers below n
 abbrev are_pairs : ℕ → Bool

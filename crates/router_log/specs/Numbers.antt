@@ -1,5 +1,5 @@
 -- Numbers and addresses as a report writes them.
-use Rattle.std.specs.Prelude.{ℕ, zero, suc, ◌+◌, ◌/◌, ◌%◌, ◌^◌, nat_lt, List, [], ◌∷◌, ◌++◌, if◌then◌else◌}
+use Rattle.std.specs.Prelude.{ℕ, zero, suc, ◌+◌, ◌-◌, ◌/◌, ◌%◌, ◌^◌, nat_lt, List, [], ◌∷◌, ◌++◌, if◌then◌else◌, length, replicate}
 use Rattle.std.specs.Fmt.{decimal}
 use Rattle.ip_headers.specs.declared.addr.Addr.{Addr}
 use Rattle.ip_headers.specs.declared.addr.Addr.TheVariants.{V4, V6}
@@ -39,6 +39,11 @@ dotted n =
     decimal (n / 16777216)
     ++ (46 ∷ (decimal (n / 65536 % 256)
     ++ (46 ∷ (decimal (n / 256 % 256) ++ (46 ∷ decimal (n % 256))))))
+
+-- the digits of an octet as a table has them: how many there are, then three octets that end with them
+abbrev pub octet_entry : ℕ → List ℕ
+octet_entry n =
+    (48 + length (decimal n)) ∷ (replicate (3 - length (decimal n)) 46 ++ decimal n)
 
 -- an address of either family
 abbrev pub address_text : Addr → List ℕ

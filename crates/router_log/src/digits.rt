@@ -1,10 +1,30 @@
 // Text that is written from its end to its front, into octets that are long enough for it.
 ghost use Rattle.std.specs.Prelude.{◌≡◌, ◌+◌, ◌/◌, ◌%◌, ◌<◌, ◌≤◌, ◌∷◌, ◌++◌, length, drop};
 ghost use Rattle.std.specs.Fmt.{decimal};
+ghost use Rattle.router_log.specs.Numbers.{octet_entry};
 
 // The digits of 00 to 99, two octets each, so that one division gives two digits.
 static PAIRS: [u8; 200] =
     *b"00010203040506070809101112131415161718192021222324252627282930313233343536373839404142434445464748495051525354555657585960616263646566676869707172737475767778798081828384858687888990919293949596979899";
+
+// The numbers of an octet, four octets each: how many digits it has, then three with these at the end.
+static OCTETS: [u8; 1024] = *b"\
+    1..01..11..21..31..41..51..61..71..81..92.102.112.122.132.142.15\
+    2.162.172.182.192.202.212.222.232.242.252.262.272.282.292.302.31\
+    2.322.332.342.352.362.372.382.392.402.412.422.432.442.452.462.47\
+    2.482.492.502.512.522.532.542.552.562.572.582.592.602.612.622.63\
+    2.642.652.662.672.682.692.702.712.722.732.742.752.762.772.782.79\
+    2.802.812.822.832.842.852.862.872.882.892.902.912.922.932.942.95\
+    2.962.972.982.99310031013102310331043105310631073108310931103111\
+    3112311331143115311631173118311931203121312231233124312531263127\
+    3128312931303131313231333134313531363137313831393140314131423143\
+    3144314531463147314831493150315131523153315431553156315731583159\
+    3160316131623163316431653166316731683169317031713172317331743175\
+    3176317731783179318031813182318331843185318631873188318931903191\
+    3192319331943195319631973198319932003201320232033204320532063207\
+    3208320932103211321232133214321532163217321832193220322132223223\
+    3224322532263227322832293230323132323233323432353236323732383239\
+    3240324132423243324432453246324732483249325032513252325332543255";
 
 /// The most digits of a number of 64 bits.
 pub const MOST_DIGITS: usize = 20;
@@ -43,13 +63,47 @@ fn write_first(number: u64, text: &mut [u8], end: usize) -> usize
 }
 
 #[tactic(auto, using(crate::proofs::DigitLemmas::pair_at, std::proofs::lemmas::Grind::common_steps))]
-fn write_pair(pair: u64, text: &mut [u8], at: usize)
+pub(crate) fn write_pair(pair: u64, text: &mut [u8], at: usize)
     requires { (pair < 100) × (at + 2 ≤ length text.old) }
     ensures { drop at text.new ≡ (48 + pair / 10) ∷ (48 + pair % 10) ∷ drop (at + 2) text.old }
 {
     let place = pair as usize * 2;
     text[at + 1] = PAIRS[place + 1];
     text[at] = PAIRS[place];
+}
+
+/// Writes the number of an octet, as `write_digits` does, by one look into a table.
+pub(crate) fn write_octet_digits(octet: u8, text: &mut [u8], end: usize) -> usize
+    requires { (4 ≤ end) × (end ≤ length text.old) }
+    ensures place { result + length (decimal octet) ≡ end }
+    ensures short { end ≤ result + 3 }
+    ensures written { drop result text.new ≡ decimal octet ++ drop end text.old }
+{
+    write_entry(octet, text, end - 4);
+    end - digit_count(octet)
+}
+
+// The octets of an entry: all are read before one is written, which makes one move of them.
+fn write_entry(octet: u8, text: &mut [u8], at: usize)
+    requires { at + 4 ≤ length text.old }
+    ensures { drop at text.new ≡ octet_entry octet ++ drop (at + 4) text.old }
+{
+    let place = octet as usize * 4;
+    let count = OCTETS[place];
+    let first = OCTETS[place + 1];
+    let second = OCTETS[place + 2];
+    let third = OCTETS[place + 3];
+    text[at + 3] = third;
+    text[at + 2] = second;
+    text[at + 1] = first;
+    text[at] = count;
+}
+
+fn digit_count(octet: u8) -> usize
+    ensures count { result ≡ length (decimal octet) }
+    ensures short { result ≤ 3 }
+{
+    OCTETS[octet as usize * 4] as usize - b'0' as usize
 }
 
 /// Writes octets before the place `end`. Returns the place of the first one.

@@ -1,9 +1,11 @@
 // Numbers and addresses as a report writes them.
-ghost use Rattle.std.specs.Prelude.{◌≡◌, ◌<◌, ◌≤◌, ◌+◌, ◌*◌, ◌%◌, ◌^◌, ◌++◌, length, drop, flat_map, OnOk};
+ghost use Rattle.std.specs.Prelude.{◌≡◌, ◌<◌, ◌≤◌, ◌+◌, ◌*◌, ◌%◌, ◌^◌, ◌∷◌, ◌++◌, length, drop, flat_map, OnOk};
 ghost use Rattle.std.specs.Fmt.{decimal};
 ghost use Rattle.router_log.specs.Numbers.{address_text, dotted, fixed_decimal, fixed_hex, four_groups, groups, hex_16, hex_glyph, named};
 
-use crate::digits::{MOST_DIGITS, write_behind, write_digits, write_octet, write_octets};
+use crate::digits::{
+    MOST_DIGITS, write_digits, write_octet, write_octet_digits, write_octets, write_pair,
+};
 use ip_headers::Addr;
 use octets::{NoMemory, Octets};
 
@@ -37,22 +39,19 @@ pub fn write_named(name: &[u8], number: u64, text: &mut [u8], end: usize) -> usi
     write_octets(name, text, from)
 }
 
-/// Nine decimal digits, with leading zeros.
-pub(crate) fn nine_digits(number: u32) -> [u8; 9]
-    requires { number < 1000000000 }
-    ensures { result ≡ fixed_decimal 9 number }
+/// Writes nine decimal digits before the place `end`, with leading zeros. Returns the place of the first
+/// one.
+#[tactic(auto, using(crate::proofs::DigitLemmas::nine_pairs, std::proofs::lemmas::Grind::common_steps))]
+pub(crate) fn write_nine(number: u32, text: &mut [u8], end: usize) -> usize
+    requires { (number < 1000000000) × ((9 ≤ end) × (end ≤ length text.old)) }
+    ensures place { result + 9 ≡ end }
+    ensures written { drop result text.new ≡ fixed_decimal 9 number ++ drop end text.old }
 {
-    [
-        digit(number / 100_000_000),
-        digit(number / 10_000_000),
-        digit(number / 1_000_000),
-        digit(number / 100_000),
-        digit(number / 10_000),
-        digit(number / 1000),
-        digit(number / 100),
-        digit(number / 10),
-        digit(number),
-    ]
+    write_pair(u64::from(number % 100), text, end - 2);
+    write_pair(u64::from(number / 100 % 100), text, end - 4);
+    write_pair(u64::from(number / 10_000 % 100), text, end - 6);
+    write_pair(u64::from(number / 1_000_000 % 100), text, end - 8);
+    write_octet(b'0' + (number / 100_000_000) as u8, text, end - 8)
 }
 
 /// Writes sixteen hexadecimal digits before the place `end`, with leading zeros. Returns the place of
@@ -133,42 +132,46 @@ fn write_hex_octet(octet: u8, text: &mut [u8], end: usize) -> usize
     write_octet(hex_digit(octet / 16), text, from)
 }
 
-// The lowest decimal digit.
-fn digit(number: u32) -> u8
-    ensures { result ≡ 48 + number % 10 }
-{
-    b'0' + (number % 10) as u8
-}
-
 /// The most octets of an address.
 pub const MOST_ADDRESS: usize = 39;
 
 /// Writes an address before the place `end`: IPv4 dotted, IPv6 as eight groups of four hexadecimal digits.
 /// Returns the place of its first octet.
+#[inline(always)]
 pub fn write_address(address: Addr, text: &mut [u8], end: usize) -> usize
     requires { (MOST_ADDRESS ≤ end) × (end ≤ length text.old) }
     ensures place { (result ≤ end) × (end ≤ result + MOST_ADDRESS) }
     ensures written { drop result text.new ≡ address_text address ++ drop end text.old }
 {
     match address {
-        Addr::V4(number) => write_dotted(u64::from(number), text, end),
+        Addr::V4(number) => write_dotted(number, text, end),
         Addr::V6(number) => write_groups(number, text, end),
     }
 }
 
 // Four numbers of at most three digits, and three dots.
-#[tactic(auto, using(crate::proofs::DigitLemmas::length_octet))]
-fn write_dotted(number: u64, text: &mut [u8], end: usize) -> usize
-    requires { (number < 2 ^ 32) × ((15 ≤ end) × (end ≤ length text.old)) }
+fn write_dotted(number: u32, text: &mut [u8], end: usize) -> usize
+    requires { (16 ≤ end) × (end ≤ length text.old) }
     ensures place { (result ≤ end) × (end ≤ result + 15) }
     ensures written { drop result text.new ≡ dotted number ++ drop end text.old }
 {
-    let fourth = write_behind(b'.', number % 256, text, end);
-    let third = write_behind(b'.', number / 256 % 256, text, fourth);
-    let second = write_behind(b'.', number / 65_536 % 256, text, third);
-    write_digits(number / 16_777_216, text, second)
+    let fourth = write_dot_octet((number % 256) as u8, text, end);
+    let third = write_dot_octet((number / 256 % 256) as u8, text, fourth);
+    let second = write_dot_octet((number / 65_536 % 256) as u8, text, third);
+    write_octet_digits((number / 16_777_216) as u8, text, second)
 }
 
+fn write_dot_octet(octet: u8, text: &mut [u8], end: usize) -> usize
+    requires { (4 ≤ end) × (end ≤ length text.old) }
+    ensures place { (result < end) × (end ≤ result + 4) }
+    ensures written { drop result text.new ≡ 46 ∷ (decimal octet ++ drop end text.old) }
+{
+    let from = write_octet_digits(octet, text, end);
+    write_octet(b'.', text, from)
+}
+
+// Apart, so that an IPv4 address doesn't pay for the registers of this.
+#[inline(never)]
 fn write_groups(number: u128, text: &mut [u8], end: usize) -> usize
     requires { (39 ≤ end) × (end ≤ length text.old) }
     ensures place { result + 39 ≡ end }
