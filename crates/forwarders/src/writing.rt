@@ -123,7 +123,7 @@ fn write_frame(
 {
     let course = course_of(settings, frame);
     if course.is_message() {
-        write_message(alloc, settings, table, frame, course, written)
+        write_message(alloc, settings, table, frame, &course, written)
     } else {
         leave(place, frame, written)
     }
@@ -135,13 +135,13 @@ fn write_message(
     settings: &Settings,
     table: &mut Table,
     frame: &Frame,
-    course: Course,
+    course: &Course<'_>,
     written: &mut Written,
 ) -> Result<(), NoMemory>
     requires lawful { IsLawful settings.now }
     requires may { MayStep frame.now.moment table.old.parts }
     requires moment { frame.now.moment < 2 ^ 32 * 1000000000 }
-    requires course { course_seen course ≡ course_of settings.now frame.now }
+    requires course { course_seen course.now ≡ course_of settings.now frame.now }
     requires message { control settings.now frame.now ≡ true }
     ensures writes { OnOk result ((frames : List FrameValue) → Writes settings.now frames
         (Arrival frame.now ∷ []) table.old.parts written.old table.new.parts written.new) }

@@ -2,7 +2,7 @@
 ghost use Rattle.std.specs.Prelude.{◌≡◌, ◌∷◌, ◌++◌, ◌≤◌, [], codes, flat_map, length, OnOk};
 ghost use Rattle.std.specs.Fmt.{decimal};
 ghost use Rattle.router_log.specs.Numbers.{fixed_hex, named};
-ghost use Rattle.router_core.specs.Seen.{course_seen, packet_seen};
+ghost use Rattle.router_core.specs.Seen.{course_seen, packet_seen, settled_seen};
 ghost use Rattle.replay.specs.Show.{control_text, course_text, data_line, data_text, frame_text, other_line, refused_line, settled_text, shown_frame};
 
 use crate::message_lines::push_message;
@@ -11,10 +11,10 @@ use ip_headers::{check_udp, udp_payload};
 use lisp_header::read_header;
 use map_messages::{MessageFault, read_message};
 use octets::{NoMemory, Octets, Refused};
-use router_core::{Course, Datagram, arriving, frame_packet};
+use router_core::{Course, Datagram, Settled, arriving, frame_packet};
 use router_log::{
-    MOST_DIGITS, Reason, Verdict, push_refused, write_digits, write_hex_octets, write_named,
-    write_octet, write_octets,
+    MOST_DIGITS, Reason, push_refused, write_digits, write_hex_octets, write_named, write_octet,
+    write_octets,
 };
 use std::alloc::Global;
 
@@ -67,7 +67,7 @@ fn push_course(alloc: Global, course: Course, out: &mut Octets) -> Result<(), No
     ensures { OnOk result (out.new ≡ out.old ++ course_text (course_seen course.entry)) }
 {
     match course {
-        Course::Settled(verdict) => push_settled(verdict, out),
+        Course::Settled(settled) => push_settled(settled, out),
         Course::Data(datagram) => push_data(&datagram, out),
         Course::Control(datagram) => push_control(alloc, &datagram, out),
         Course::Leaving { .. } => push_other(out),
@@ -75,11 +75,11 @@ fn push_course(alloc: Global, course: Course, out: &mut Octets) -> Result<(), No
 }
 
 // Those of one without a datagram of LISP.
-fn push_settled(verdict: Verdict, out: &mut Octets) -> Result<(), NoMemory>
-    ensures { OnOk result (out.new ≡ out.old ++ settled_text verdict) }
+fn push_settled(settled: Settled, out: &mut Octets) -> Result<(), NoMemory>
+    ensures { OnOk result (out.new ≡ out.old ++ settled_text (settled_seen settled)) }
 {
-    match verdict {
-        Verdict::Drop(Reason::Refused(refused)) => push_refused_line(refused, out),
+    match settled {
+        Settled::Drop(Reason::Refused(refused)) => push_refused_line(refused, out),
         _ => push_other(out),
     }
 }

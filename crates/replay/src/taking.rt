@@ -3,7 +3,7 @@ ghost use Rattle.std.specs.Prelude.{◌≡◌, ◌<◌, ◌≤◌, ◌+◌, ◌*
 ghost use Rattle.std.specs.List.{list_all};
 ghost use Rattle.lisp_settings.specs.Lawful.{IsLawful};
 ghost use Rattle.capture_events.specs.Events.{Arrival, Tick};
-ghost use Rattle.router_core.specs.Seen.{course_seen, IfLeaving, IfSettled};
+ghost use Rattle.router_core.specs.Seen.{course_seen, IfLeaving};
 ghost use Rattle.router_core.specs.Sendable.{IsSendable};
 ghost use Rattle.router_core.specs.Steps.{HasEntered, HasTicked, MayStep};
 ghost use Rattle.router_log.specs.Moments.{seconds};
@@ -81,9 +81,9 @@ pub(crate) fn take_frame(
 {
     let course = course_of(settings, frame);
     if course.is_message() {
-        hear(alloc, settings, memory, frame, course, output)
+        hear(alloc, settings, memory, frame, &course, output)
     } else {
-        decide(alloc, settings, memory, frame, course, output)
+        decide(alloc, settings, memory, frame, &course, output)
     }
 }
 
@@ -93,7 +93,7 @@ fn hear(
     settings: &Settings,
     memory: &mut Table,
     frame: &Frame,
-    course: Course,
+    course: &Course<'_>,
     output: &mut Output,
 ) -> Result<(), NoMemory>
     requires lawful { IsLawful settings.now }
@@ -103,10 +103,10 @@ fn hear(
     ensures gathers { OnOk result (GathersFew
         (after_message table (router_of settings.now memory.old.parts) frame.now
         (course_heard table (standing_in settings.now memory.old.parts) frame.now.moment
-        (course_seen course.entry) (unchanged memory.old.parts))) output.old output.new) }
+        (course_seen course.now) (unchanged memory.old.parts))) output.old output.new) }
     ensures state { OnOk result (memory.new.parts
         ≡ (course_heard table (standing_in settings.now memory.old.parts) frame.now.moment
-        (course_seen course.entry) (unchanged memory.old.parts)).change.after) }
+        (course_seen course.now) (unchanged memory.old.parts)).change.after) }
     ensures entered { OnOk result
         (HasEntered most_heard frame.now.moment memory.old.parts memory.new.parts) }
 {
@@ -137,12 +137,11 @@ fn decide(
     settings: &Settings,
     memory: &mut Table,
     frame: &Frame,
-    course: Course,
+    course: &Course<'_>,
     output: &mut Output,
 ) -> Result<(), NoMemory>
     requires lawful { IsLawful settings.now }
-    requires instance { IfLeaving course (λ iid. iid < 2 ^ 24) }
-    requires quiet { IfSettled course (λ verdict. packet_of verdict ≡ None) }
+    requires instance { IfLeaving course.now (λ iid. iid < 2 ^ 24) }
     requires later { memory.old.parts.now ≤ frame.now.moment }
     requires count { memory.old.parts.count < 2 ^ 60 }
     requires moment { frame.now.moment < 2 ^ 32 * 1000000000 }
@@ -150,11 +149,11 @@ fn decide(
     ensures gathers { OnOk result (GathersFew
         (after_decision table (router_of settings.now memory.old.parts) frame.now
         (decide_course (standing_in settings.now memory.old.parts)
-        (view_in memory.old.parts frame.now.moment) (course_seen course.entry))) output.old output.new) }
+        (view_in memory.old.parts frame.now.moment) (course_seen course.now))) output.old output.new) }
     ensures state { OnOk result (router_of settings.now memory.new.parts
         ≡ (after_decision table (router_of settings.now memory.old.parts) frame.now
         (decide_course (standing_in settings.now memory.old.parts)
-        (view_in memory.old.parts frame.now.moment) (course_seen course.entry))).after) }
+        (view_in memory.old.parts frame.now.moment) (course_seen course.now))).after) }
     ensures entered { OnOk result
         (HasEntered most_notices frame.now.moment memory.old.parts memory.new.parts) }
 {

@@ -6,7 +6,10 @@ use Rattle.router_model.specs.Course as model
 use Rattle.router_model.specs.Hear as hearing
 use Rattle.router_core.specs.declared.answering.Asker.{Asker}
 use Rattle.router_core.specs.declared.answering.Path.{Path}
+use Rattle.router_log.specs.declared.verdict.Verdict.TheVariants as verdicts
 use Rattle.router_core.specs.declared.courses.Course.{Course}
+use Rattle.router_core.specs.declared.courses.Settled.{Settled as SettledValue}
+use Rattle.router_core.specs.declared.courses.Settled.TheVariants.{Own, Drop}
 use Rattle.router_core.specs.declared.courses.Course.TheVariants.{Settled, Data, Control, Leaving}
 use Rattle.router_core.specs.declared.datagram.Datagram.{Datagram}
 use Rattle.router_core.specs.declared.hearing.Route.{Route}
@@ -20,9 +23,14 @@ packet_seen packet =
 abbrev pub datagram_seen : Datagram → model.Datagram
 datagram_seen datagram = record { packet = packet_seen datagram.packet; udp = datagram.udp }
 
+-- the verdict on a frame that is settled
+abbrev pub settled_seen : SettledValue → Verdict
+settled_seen Own = verdicts.Own
+settled_seen (Drop reason) = verdicts.Drop reason
+
 -- what a frame is
 abbrev pub course_seen : Course → model.Course
-course_seen (Settled verdict) = model.Settled verdict
+course_seen (Settled settled) = model.Settled (settled_seen settled)
 course_seen (Data datagram) = model.Data (datagram_seen datagram)
 course_seen (Control datagram) = model.Control (datagram_seen datagram)
 course_seen (Leaving iid packet) = model.Leaving iid (packet_seen packet)
@@ -31,11 +39,6 @@ course_seen (Leaving iid packet) = model.Leaving iid (packet_seen packet)
 abbrev pub IfLeaving : Course → (ℕ → Type 0) → Type 0
 IfLeaving (Leaving iid packet) P = P iid
 IfLeaving _ P = Unit {0}
-
--- a fact of the verdict on a frame that is settled
-abbrev pub IfSettled : Course → (Verdict → Type 0) → Type 0
-IfSettled (Settled verdict) P = P verdict
-IfSettled _ P = Unit {0}
 
 -- how a message came
 abbrev pub route_seen : Route → hearing.Route

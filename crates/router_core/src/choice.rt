@@ -84,5 +84,5 @@ fn is_usable(view: &View<'_>, up: bool, locator: &Locator) -> bool
 {
     let site = view.site;
     (locator.priority != 255 && !site.is_own(locator.addr))
-        && (site.ours(locator.addr).is_some() && (up && view.is_up(&locator.addr)))
+        && (site.has_ours(&locator.addr) && (up && view.is_up(&locator.addr)))
 }

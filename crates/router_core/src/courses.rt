@@ -1,6 +1,6 @@
 // What a frame is to the router: settled, a packet in a tunnel, a control message, or a packet that
 // leaves the site.
-ghost use Rattle.std.specs.Prelude.{◌≡◌, ◌<◌, ◌^◌, None, Ok, IfOk, IfSome};
+ghost use Rattle.std.specs.Prelude.{◌≡◌, ◌<◌, ◌^◌, Ok, IfOk, option_map};
 ghost use Rattle.octets.specs.Refusals.{refusal_of};
 ghost use Rattle.octets.specs.Rules.{first_failing};
 ghost use Rattle.ip_headers.specs.Packet.{IsPacketOf};
@@ -8,8 +8,8 @@ ghost use Rattle.ip_headers.specs.Udp.{udp_read};
 ghost use Rattle.capture_io.specs.Link.{link_octets, link_place, link_vlan};
 ghost use Rattle.lisp_settings.specs.Lawful.{IsLawful};
 ghost use Rattle.router_model.specs.Course.{arriving, by_port, control, course_of, datagram_cases, frame_refusal, is_message, packet_course};
-ghost use Rattle.router_model.specs.Plain.{packet_of};
-ghost use Rattle.router_core.specs.Seen.{course_seen, packet_seen, IfLeaving, IfSettled};
+ghost use Rattle.router_log.specs.declared.verdict.Verdict.TheVariants.{Drop};
+ghost use Rattle.router_core.specs.Seen.{course_seen, packet_seen, settled_seen, IfLeaving};
 
 use crate::datagram::Datagram;
 use crate::site::instance_of;
@@ -20,11 +20,32 @@ use lisp_settings::{Settings, is_own};
 use map_messages::LISP_CONTROL_PORT;
 use router_log::{Reason, Verdict};
 
+/// What is settled of a frame before any mapping is asked for.
+#[derive(Clone, Copy, Debug, PartialEq, Eq)]
+pub enum Settled {
+    /// It comes from an own locator.
+    Own,
+    /// A rule fails, or its VLAN has no instance.
+    Drop(Reason),
+}
+
+impl Settled {
+    /// The verdict on the frame.
+    pub fn verdict(&self) -> Verdict
+        ensures { result ≡ settled_seen self.now }
+    {
+        match self {
+            Settled::Own => Verdict::Own,
+            Settled::Drop(reason) => Verdict::Drop(*reason),
+        }
+    }
+}
+
 /// What a frame is to the router, which no mapping and no journal changes.
 #[derive(Drop)]
 pub enum Course<'a> {
     /// By a rule that fails, by its source, or for want of an instance.
-    Settled(Verdict),
+    Settled(Settled),
     /// A packet in a tunnel, to an own locator.
     Data(Datagram<'a>),
     /// A control message to an own locator.
@@ -60,11 +81,10 @@ pub fn course_of<'a>(settings: &Settings, frame: &'a Frame) -> Course<'a>
     requires lawful { IsLawful settings.now }
     ensures course { course_seen result ≡ course_of settings.now frame.now }
     ensures instance { IfLeaving result (λ iid. iid < 2 ^ 24) }
-    ensures quiet { IfSettled result (λ verdict. packet_of verdict ≡ None) }
 {
     match frame_packet(frame) {
         Ok((vlan, packet)) => packet_course(settings, vlan, packet),
-        Err(refused) => Course::Settled(Verdict::Drop(Reason::Refused(refused))),
+        Err(refused) => Course::Settled(Settled::Drop(Reason::Refused(refused))),
     }
 }
 
@@ -83,18 +103,17 @@ fn packet_course<'a>(settings: &Settings, vlan: u16, packet: IpPacket<'a>) -> Co
     ensures course { course_seen result
         ≡ packet_course settings.now vlan (packet_seen packet.entry) }
     ensures instance { IfLeaving result (λ iid. iid < 2 ^ 24) }
-    ensures quiet { IfSettled result (λ verdict. packet_of verdict ≡ None) }
 {
     let locators = settings.locators.as_slice();
     if is_own(locators, packet.header.source()) {
-        return Course::Settled(Verdict::Own);
+        return Course::Settled(Settled::Own);
     }
     if is_own(locators, packet.header.dest()) {
         return arriving(packet);
     }
     match instance_of(settings.attachments.as_slice(), vlan) {
         Some(iid) => Course::Leaving { iid, packet },
-        None => Course::Settled(Verdict::Drop(Reason::NoAttachment)),
+        None => Course::Settled(Settled::Drop(Reason::NoAttachment)),
     }
 }
 
@@ -103,26 +122,25 @@ fn packet_course<'a>(settings: &Settings, vlan: u16, packet: IpPacket<'a>) -> Co
 pub fn arriving<'a>(packet: IpPacket<'a>) -> Course<'a>
     ensures course { course_seen result ≡ arriving (packet_seen packet.entry) }
     ensures instance { IfLeaving result (λ iid. iid < 2 ^ 24) }
-    ensures quiet { IfSettled result (λ verdict. packet_of verdict ≡ None) }
 {
-    if let Some(verdict) = no_datagram(&packet) {
-        return Course::Settled(verdict);
+    if let Some(reason) = no_datagram(&packet) {
+        return Course::Settled(Settled::Drop(reason));
     }
     match read_udp(&packet) {
         Ok(udp) => by_port(packet, udp),
-        Err(refused) => Course::Settled(Verdict::Drop(Reason::Refused(refused))),
+        Err(refused) => Course::Settled(Settled::Drop(Reason::Refused(refused))),
     }
 }
 
-fn no_datagram(packet: &IpPacket) -> Option<Verdict>
-    ensures verdict { result ≡ first_failing (datagram_cases packet.now.header) }
-    ensures quiet { IfSome result (λ verdict. packet_of verdict ≡ None) }
+// Why a packet is no datagram.
+fn no_datagram(packet: &IpPacket) -> Option<Reason>
+    ensures { option_map Drop result ≡ first_failing (datagram_cases packet.now.header) }
 {
     if packet.header.is_fragment() {
-        return Some(Verdict::Drop(Reason::Fragment));
+        return Some(Reason::Fragment);
     }
     if packet.header.protocol() != UDP {
-        return Some(Verdict::Drop(Reason::NotTunnel));
+        return Some(Reason::NotTunnel);
     }
     None
 }
@@ -131,13 +149,12 @@ fn by_port<'a>(packet: IpPacket<'a>, udp: UdpHeader) -> Course<'a>
     requires { udp_read packet ≡ Ok udp }
     ensures course { course_seen result ≡ by_port (packet_seen packet.entry) udp }
     ensures instance { IfLeaving result (λ iid. iid < 2 ^ 24) }
-    ensures quiet { IfSettled result (λ verdict. packet_of verdict ≡ None) }
 {
     if udp.dest == LISP_DATA_PORT {
         Course::Data(Datagram { packet, udp })
     } else if udp.dest == LISP_CONTROL_PORT || udp.source == LISP_CONTROL_PORT {
         Course::Control(Datagram { packet, udp })
     } else {
-        Course::Settled(Verdict::Drop(Reason::NotTunnel))
+        Course::Settled(Settled::Drop(Reason::NotTunnel))
     }
 }

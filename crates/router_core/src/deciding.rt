@@ -6,8 +6,8 @@ ghost use Rattle.router_model.specs.Isolation.{frame_instance, of_instance};
 ghost use Rattle.router_model.specs.Journal.{Journal, at};
 ghost use Rattle.router_model.specs.Lifting.{AreSound};
 ghost use Rattle.router_model.specs.Parts.{Stands, view_in, standing_in};
-ghost use Rattle.router_model.specs.Plain.{FitsRecord, packet_of};
-ghost use Rattle.router_core.specs.Seen.{course_seen, IfLeaving, IfSettled};
+ghost use Rattle.router_model.specs.Plain.{FitsRecord};
+ghost use Rattle.router_core.specs.Seen.{course_seen, IfLeaving};
 
 use crate::Table;
 use crate::arrival::tunnelled;
@@ -38,7 +38,7 @@ impl Table {
         ensures size { IfOk result (λ decision. FitsRecord decision.verdict) }
         ensures notices { IfOk result (λ decision. AreSound decision.notices) }
     {
-        self.decide_course(settings, m, course_of(settings, frame))
+        self.decide_course(settings, m, &course_of(settings, frame))
     }
 
     /// The decision on a frame that is this.
@@ -46,24 +46,23 @@ impl Table {
         &self,
         settings: &Settings,
         m: u64,
-        course: Course,
+        course: &Course<'_>,
     ) -> Result<Decision, NoMemory>
         requires lawful { IsLawful settings.now }
-        requires instance { IfLeaving course (λ iid. iid < 2 ^ 24) }
-        requires quiet { IfSettled course (λ verdict. packet_of verdict ≡ None) }
+        requires instance { IfLeaving course.now (λ iid. iid < 2 ^ 24) }
         ensures parts { IfOk result (λ decision. decision
             ≡ decide_course (standing_in settings.now self.now.parts) (view_in self.now.parts m)
-            (course_seen course.entry)) }
+            (course_seen course.now)) }
         ensures size { IfOk result (λ decision. FitsRecord decision.verdict) }
         ensures notices { IfOk result (λ decision. AreSound decision.notices) }
     {
         let site = self.site(settings);
         let view = View::of(self, &site, m);
         match course {
-            Course::Settled(verdict) => Ok(self.alone(verdict)),
-            Course::Data(datagram) => tunnelled(&view, &datagram),
+            Course::Settled(settled) => Ok(self.alone(settled.verdict())),
+            Course::Data(datagram) => tunnelled(&view, datagram),
             Course::Control(_) => Ok(self.alone(Verdict::Drop(Reason::NotTunnel))),
-            Course::Leaving { iid, packet } => routed(&view, iid, &packet),
+            Course::Leaving { iid, packet } => routed(&view, *iid, packet),
         }
     }
 

@@ -72,7 +72,7 @@ impl Table {
         ensures step { IsStep most_heard m self.old.parts self.new.parts result }
     {
         fit(frame.octets.as_slice());
-        self.hear_course(settings, m, course_of(settings, frame))
+        self.hear_course(settings, m, &course_of(settings, frame))
     }
 
     /// Hears a frame that is this.
@@ -80,12 +80,12 @@ impl Table {
         &mut self,
         settings: &Settings,
         m: u64,
-        course: Course,
+        course: &Course<'_>,
     ) -> Result<Heard, NoMemory>
         requires lawful { IsLawful settings.now }
         requires may { MayStep m self.old.parts }
         ensures parts { IfOk result (λ heard. heard_seen self.new.parts heard
-            ≡ course_heard table (standing_in settings.now self.old.parts) m (course_seen course.entry)
+            ≡ course_heard table (standing_in settings.now self.old.parts) m (course_seen course.now)
             (unchanged self.old.parts)) }
         ensures sent { IfOk result (λ heard. AreSent (standing_in settings.now self.new.parts)
             most_heard heard.emits) }
@@ -93,7 +93,7 @@ impl Table {
     {
         let site = self.site(settings);
         match course {
-            Course::Control(datagram) => self.hear_datagram(&site, m, &datagram),
+            Course::Control(datagram) => self.hear_datagram(&site, m, datagram),
             _ => Ok(self.dropped(Reason::NotTunnel)),
         }
     }

@@ -49,7 +49,7 @@ mod view;
 
 pub use changed::{Changed, Heard};
 pub use copies::copied;
-pub use courses::{Course, arriving, course_of, frame_packet, is_control};
+pub use courses::{Course, Settled, arriving, course_of, frame_packet, is_control};
 pub use datagram::Datagram;
 pub use emitting::emit_octets;
 pub use leaving::leaving_from;

@@ -105,6 +105,6 @@ impl Table {
         ensures { result ≡ (is_some (ours site.now.locators rloc.now)
             && (view_in self.now.parts m).may_solicit rloc.now eid.now) }
     {
-        site.ours(*rloc).is_some() && self.locators.may_solicit(self.moment_at(m), rloc, eid)
+        site.has_ours(rloc) && self.locators.may_solicit(self.moment_at(m), rloc, eid)
     }
 }

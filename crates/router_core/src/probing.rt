@@ -194,5 +194,5 @@ impl Table {
 fn is_probed(site: &Site<'_>, m: u64, target: &Target) -> bool
     ensures { result ≡ is_probed site.now m target.now }
 {
-    !site.is_own(target.rloc) && (site.ours(target.rloc).is_some() && has_rested(m, target.last))
+    !site.is_own(target.rloc) && (site.has_ours(&target.rloc) && has_rested(m, target.last))
 }

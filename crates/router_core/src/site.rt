@@ -1,5 +1,5 @@
 // The own site, as it stands: its locators, its prefixes, and what its settings say.
-ghost use Rattle.std.specs.Prelude.{◌≡◌, ◌<◌, ◌≤◌, ◌-◌, ◌^◌, length, None, Some, IfErr, IfOk, IfSome, All, map};
+ghost use Rattle.std.specs.Prelude.{◌≡◌, ◌<◌, ◌≤◌, ◌-◌, ◌^◌, length, None, Some, IfErr, IfOk, IfSome, All, is_some, map};
 ghost use Rattle.std.specs.List.Sorted.{IsStrictlySortedBy};
 ghost use Rattle.std.specs.Ordering.{nat_cmp};
 ghost use Rattle.octets.specs.Rules.{first_failing};
@@ -65,12 +65,19 @@ impl<'s> Site<'s> {
         first_up(self.settings.locators.as_slice(), self.own.ups, to)
     }
 
+    /// An own locator is up, of the family of an address.
+    pub(crate) fn has_ours(&self, to: &Addr) -> bool
+        ensures { result ≡ is_some (ours self.now.locators to.now) }
+    {
+        any_up(self.settings.locators.as_slice(), self.own.ups, to)
+    }
+
     /// A locator that may be told of changes, and probed: it isn't an own one, and there is ours of its
     /// family.
     pub(crate) fn is_told(&self, address: Addr) -> bool
         ensures { result ≡ is_told self.now address }
     {
-        !self.is_own(address) && self.ours(address).is_some()
+        !self.is_own(address) && self.has_ours(&address)
     }
 
     /// The status bits of the own locators, the first one's lowest.
@@ -150,7 +157,7 @@ impl<'s> Site<'s> {
     {
         match self.resolver() {
             None => false,
-            Some(resolver) => self.ours(resolver).is_some(),
+            Some(resolver) => self.has_ours(&resolver),
         }
     }
 
@@ -211,6 +218,20 @@ fn first_up(locators: &[OwnLocator], ups: u32, to: Addr) -> Option<Addr>
         return Some(own.addr);
     }
     first_up(others, ups / 2, to)
+}
+
+// One of own locators is up, of the family of an address, where the lowest bit says that the first one is
+// up, and so on.
+fn any_up(locators: &[OwnLocator], ups: u32, to: &Addr) -> bool
+    ensures { result ≡ is_some (ours (with_ups ups locators.now) to.now) }
+{
+    let [own, others @ ..] = locators else {
+        return false;
+    };
+    if is_first_up(ups) && own.addr.width() == to.width() {
+        return true;
+    }
+    any_up(others, ups / 2, to)
 }
 
 // The first of own locators is up.

@@ -34,7 +34,7 @@ returns-clause-writes c =
     let inside = c.frame.inside in
     let now : inside.moment ≡ frame.moment = ap (λ (f : Frame). f.moment) c.frame.view_is in
     let heard : Heard Parts = heard_seen after c.in_ok-verdict.field-0 in
-    let course : course_seen c.args.course ≡ course_of (standing_in settings before) frame =
+    let course : course_seen c.args.course.now ≡ course_of (standing_in settings before) frame =
     c.requires.course ∙ sym (course-by settings (own_of before) frame) in
     let is : heard ≡ hear_by table (standing_in settings before) frame.moment frame (unchanged before) =
     c.in_ok-verdict.ensures.parts ∙ (λ i. course_heard table (standing_in settings before) (now i) (course i) (unchanged before)) in

@@ -52,8 +52,8 @@ returns-clause-gathers c =
     let decision : Decision = c.in_ok-verdict.field-0 in
     let verdict = decision.verdict in
     let notices = decision.notices in
-    let is : decision ≡ decide_course (standing_in settings parts) (view_in parts frame.moment) (course_seen c.args.course) =
-    c.in_ok-verdict.ensures.parts ∙ ap (λ (m : ℕ). decide_course (standing_in settings parts) (view_in parts m) (course_seen c.args.course)) now in
+    let is : decision ≡ decide_course (standing_in settings parts) (view_in parts frame.moment) (course_seen c.args.course.now) =
+    c.in_ok-verdict.ensures.parts ∙ ap (λ (m : ℕ). decide_course (standing_in settings parts) (view_in parts m) (course_seen c.args.course.now)) now in
     let lines : first.lines ≡ old.lines ++ frame_line frame.number frame.moment parts.count verdict =
     c.in_ok-push_frame_line.ensures
     ∙ ap (λ (n : ℕ). old.lines ++ frame_line inside.number inside.moment n verdict) c.count-entries.ensures

@@ -38,8 +38,8 @@ returns-clause-gathers c =
     let new : Output = c.push_emits.new.output in
     let first : Output = record { lines = c.push_frame_line.new.out; records = old.records; written = old.written } in
     let heard : Heard Parts = heard_seen c.hear_course.new.self.parts c.in_ok-heard.heard in
-    let is : heard ≡ course_heard table (standing_in settings parts) frame.moment (course_seen c.args.course) (unchanged parts) =
-    c.in_ok-heard.ensures.parts ∙ ap (λ (m : ℕ). course_heard table (standing_in settings parts) m (course_seen c.args.course) (unchanged parts)) now in
+    let is : heard ≡ course_heard table (standing_in settings parts) frame.moment (course_seen c.args.course.now) (unchanged parts) =
+    c.in_ok-heard.ensures.parts ∙ ap (λ (m : ℕ). course_heard table (standing_in settings parts) m (course_seen c.args.course.now) (unchanged parts)) now in
     let lines : first.lines ≡ old.lines ++ frame_line frame.number frame.moment parts.count heard.verdict =
     c.in_ok-push_frame_line.ensures
     ∙ ap (λ (n : ℕ). old.lines ++ frame_line inside.number inside.moment n heard.verdict) c.count-entries.ensures
