@@ -1,5 +1,5 @@
 -- Where an item is put in order, and how many mappings are left once one is taken away.
-use Rattle.std.proofs.Common.{◌≡◌, ◌≤◌, suc, ◌+◌, Bool, true, false, cond, not, List, [], ◌∷◌, length, filter, insert, None, Some, is_some, Ordering, is_lt, refl, ap, ap₂, ◌∙◌, arith}
+use Rattle.std.proofs.Common.{◌≡◌, ◌≤◌, suc, ◌+◌, Bool, true, false, cond, not, List, [], ◌∷◌, length, filter, insert, Option, None, Some, is_some, Ordering, is_lt, refl, ap, ap₂, ◌∙◌, arith}
 use Rattle.std.specs.List.{position_or_len}
 use Rattle.mapping_records.specs.Eids.{same_eid}
 use Rattle.mapping_records.specs.Orders.{put_in_order}
@@ -53,3 +53,10 @@ without-none eid (x ∷ others) none = by (same_eid x.eid eid) none (without-non
     by : (b : Bool) → cond b (Some x) (exact others eid) ≡ None → (exact others eid ≡ None → without_eid eid others ≡ others) → cond (not b) (x ∷ without_eid eid others) (without_eid eid others) ≡ x ∷ others
     by true none h = absurd (cc none)
     by false none h = ap (λ l. x ∷ l) (h none)
+
+pub without-missing : (eid : Eid) (mappings : List Mapping) → is_some (exact mappings eid) ≡ false → without_eid eid mappings ≡ mappings
+without-missing eid mappings missing = without-none eid mappings (by (exact mappings eid) missing)
+  where
+    by : (found : Option Mapping) → is_some found ≡ false → found ≡ None
+    by None missing = refl
+    by (Some x) missing = absurd (cc missing)

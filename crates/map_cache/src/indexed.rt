@@ -141,8 +141,23 @@ impl Indexed {
         ensures mapping_places { self.new.mapping_places ≤ self.old.mapping_places }
         ensures limits { self.new.limits ≡ self.old.limits }
     {
-        self.drop_eid(&mapping.eid);
+        self.clear(&mapping.eid);
         self.enter(mapping);
+    }
+
+    // Takes the mapping of that EID away, where there is one. Mostly there is none, and a look is
+    // cheaper than a way down that may change what it passes.
+    fn clear(&mut self, eid: &Eid)
+        ensures mappings { self.new.mappings ≡ without_eid eid.now self.old.mappings }
+        ensures spare { self.old.spare ≤ self.new.spare }
+        ensures total { length self.new.mappings + self.new.spare
+            ≤ length self.old.mappings + self.old.spare }
+        ensures mapping_places { self.new.mapping_places ≤ self.old.mapping_places }
+        ensures limits { self.new.limits ≡ self.old.limits }
+    {
+        if self.has(eid) {
+            self.drop_eid(eid);
+        }
     }
 
     // Puts in a mapping of an EID of which there is none.

@@ -1,5 +1,5 @@
 -- Keys of EIDs, and what they say of these.
-use Rattle.std.proofs.Common.{◌≡◌, ◌+◌, ◌%◌, ◌==◌, Bool, sym, ap, ◌∙◌}
+use Rattle.std.proofs.Common.{◌≡◌, ◌+◌, ◌%◌, ◌==◌, Bool, true, Option, None, Some, is_some, refl, sym, ap, ◌∙◌}
 use Rattle.mapping_records.specs.declared.eid.Eid.{Eid}
 use Rattle.prefix_table.specs.Keys.{key_of, key_len, key_bits}
 use Rattle.prefix_table.specs.declared.key.Key.{Key}
@@ -16,3 +16,12 @@ module _ (key sought : Key) (a b : Eid) (is : key ≡ key_of a) (sought_is : sou
   -- the bit behind a key is that behind its EID
   pub bit_behind : (bit : Bool) → bit ≡ (key_bits b (key.len + 1) % 2 == 1) → (key_bits b (key_len a + 1) % 2 == 1) ≡ bit
   bit_behind bit says = sym (says ∙ ap (λ (k : Key). key_bits b (k.len + 1) % 2 == 1) is)
+
+-- what is there
+pub record Given {V : Type 0} (o : Option V) : Type 0 where
+  pub value : V
+  pub is : o ≡ Some value
+
+pub given_of : {V : Type 0} (o : Option V) → is_some o ≡ true → Given o
+given_of (Some value) there = record { value = value; is = refl }
+given_of None there = absurd (cc there)

@@ -101,6 +101,12 @@ module _ {V : Type 0} (answers : V → Bool → Type 0) (eid : Eid) (store : Sto
       let t = fits_top at name best start reads s top o in
       omega (arith, s.counted, t.0.longer, key_len-most top.eid)
 
+  -- the node is of the instance and family of what is sought
+  pub same_family : (at : Option ℕ) (name : ℕ) (best : Option (Eid × V)) (start reads : ℕ) (top : Node V) → Searching at best start reads → at ≡ Some name → node_at store name ≡ Some top → (top.eid.iid ≡ eid.iid) × (key_width top.eid ≡ key_width eid)
+  same_family at name best start reads top s is found =
+      let o = opened store s.rest name top (s.named ∙ is) s.spelled found in
+      let t = fits_top at name best start reads s top o in (t.0.same_iid, t.0.same_width)
+
   pub end_none : (at : Option ℕ) (best : Option (Eid × V)) (start reads : ℕ) → Searching at best start reads → at ≡ None → Answers answers eid whole None best
   end_none at best start reads s is = s.goes_on best (inl (refl, nothing s.rest (s.named ∙ is)))
     where

@@ -1,15 +1,15 @@
 // A pair is put into a trie.
-ghost use Rattle.std.specs.Prelude.{◌≡◌, ◌≢◌, ◌<◌, ◌≤◌, ◌+◌, true, false, Some, None};
+ghost use Rattle.std.specs.Prelude.{◌≡◌, ◌≢◌, ◌<◌, ◌≤◌, ◌+◌, true, false, Some, None, IsSome};
 ghost use Rattle.node_store.specs.Store.{node_at, IsLive};
 ghost use Rattle.mapping_records.specs.Eids.{covers_eid};
-ghost use Rattle.prefix_table.specs.Keys.{key_bits, key_len, key_width};
+ghost use Rattle.prefix_table.specs.Keys.{key_bits, key_len, key_of, key_width};
 ghost use Rattle.prefix_table.specs.Grown.{Puts, Takes};
 
 use crate::common::common;
 use crate::key::Key;
 use crate::node::Node;
 use crate::nodes::Nodes;
-use crate::place::{link_one, link_zero, set_value};
+use crate::place::{link_one, link_zero, swap_value};
 use crate::search::next_bit;
 use mapping_records::Eid;
 use node_store::Reads;
@@ -26,88 +26,131 @@ pub(crate) fn put_below<V>(
     requires { Takes store.old at least eid.now }
     ensures { Puts store.old store.new at least eid.now value result.0 result.1 }
 {
+    let mut value = Some(value);
+    let name = put_under(store, at, eid, &Key::of(eid), &mut value, least);
+    (name, value)
+}
+
+// The same, of an EID with its key. The value is exchanged for the former one.
+fn put_under<V>(
+    store: &mut Nodes<V>,
+    at: Option<u32>,
+    eid: &Eid,
+    sought: &Key,
+    value: &mut Option<V>,
+    least: u8,
+) -> u32
+    requires takes { Takes store.old at least eid.now }
+    requires key { sought.now ≡ key_of eid.now }
+    requires value { IsSome value.old }
+    ensures { (given : _) → value.old ≡ Some given
+        → Puts store.old store.new at least eid.now given result value.new }
+{
     let Some(at) = at else {
-        return (put_leaf(store, *eid, value), None);
+        return put_leaf(store, eid, value);
     };
-    let sought = Key::of(eid);
     let mut reads = Reads::new();
-    let (key, node) = store.read(at, &mut reads);
+    let (_, node) = store.read(at, &mut reads);
     let len = node.key.len;
     let zero = node.zero;
     let one = node.one;
-    if !node.key.covers(&sought) {
-        // The node's EID lies apart, and is read here alone.
-        let key = *key;
-        if eid.covers(&key) {
-            return (put_above(store, at, key, *eid, value), None);
-        }
-        return (put_beside(store, at, key, *eid, value, least), None);
+    if !node.key.covers(sought) {
+        return put_apart(store, at, eid, value, least);
     }
     if len == sought.len {
-        return (at, set_value(store, at, value));
+        swap_value(store, at, value);
+        return at;
     }
     if sought.next_bit(len) {
-        let (name, was) = put_below(store, one, eid, value, len + 1);
+        let name = put_under(store, one, eid, sought, value, len + 1);
         link_one(store, at, Some(name));
-        return (at, was);
+        return at;
     }
-    let (name, was) = put_below(store, zero, eid, value, len + 1);
+    let name = put_under(store, zero, eid, sought, value, len + 1);
     link_zero(store, at, Some(name));
-    (at, was)
+    at
 }
 
 // A leaf, where nothing was.
-fn put_leaf<V>(store: &mut Nodes<V>, eid: Eid, value: V) -> u32
+fn put_leaf<V>(store: &mut Nodes<V>, eid: &Eid, value: &mut Option<V>) -> u32
     requires { 2 ≤ store.old.rooms }
-    ensures { (least : _) → Puts store.old store.new None least eid value result None }
+    ensures { (given : _) → value.old ≡ Some given
+        → (least : _) → Puts store.old store.new None least eid.now given result value.new }
 {
     store.put(Node {
-        eid,
-        value: Some(value),
+        eid: *eid,
+        value: value.take(),
         zero: None,
         one: None,
     })
 }
 
+// A node above the trie or beside it, where the EID doesn't begin with the key of its node. Apart
+// from the way down, each step of which would clear room for what is held here.
+fn put_apart<V>(store: &mut Nodes<V>, at: u32, eid: &Eid, value: &mut Option<V>, least: u8) -> u32
+    requires takes { Takes store.old (Some at) least eid.now }
+    requires apart { (top : _) → node_at store.old at ≡ Some top
+        → covers_eid top.eid eid.now ≡ false }
+    ensures { (given : _) → value.old ≡ Some given
+        → Puts store.old store.new (Some at) least eid.now given result value.new }
+{
+    let mut reads = Reads::new();
+    let (key, _) = store.read(at, &mut reads);
+    let key = *key;
+    if eid.covers(&key) {
+        return put_above(store, at, key, *eid, value.take());
+    }
+    put_beside(store, at, key, *eid, value.take(), least)
+}
+
 // A node above the trie, whose keys it covers.
-fn put_above<V>(store: &mut Nodes<V>, at: u32, key: Eid, eid: Eid, value: V) -> u32
+fn put_above<V>(store: &mut Nodes<V>, at: u32, key: Eid, eid: Eid, value: Option<V>) -> u32
     requires rooms { 2 ≤ store.old.rooms }
     requires top { (top : _) → node_at store.old at ≡ Some top → top.eid ≡ key }
     requires live { IsLive store.old at }
     requires above { covers_eid eid key ≡ true }
     requires not_below { covers_eid key eid ≡ false }
-    ensures { (least : _) → Puts store.old store.new (Some at) least eid value result None }
+    ensures { (given : _) → value ≡ Some given
+        → (least : _) → Puts store.old store.new (Some at) least eid given result None }
 {
     if next_bit(key.prefix.addr, eid.prefix.len) {
         return store.put(Node {
             eid,
-            value: Some(value),
+            value,
             zero: None,
             one: Some(at),
         });
     }
     store.put(Node {
         eid,
-        value: Some(value),
+        value,
         zero: Some(at),
         one: None,
     })
 }
 
 // A node with no value above the trie and a new leaf.
-fn put_beside<V>(store: &mut Nodes<V>, at: u32, key: Eid, eid: Eid, value: V, least: u8) -> u32
+fn put_beside<V>(
+    store: &mut Nodes<V>,
+    at: u32,
+    key: Eid,
+    eid: Eid,
+    value: Option<V>,
+    least: u8,
+) -> u32
     requires rooms { 2 ≤ store.old.rooms }
     requires top { (top : _) → node_at store.old at ≡ Some top → top.eid ≡ key }
     requires live { IsLive store.old at }
     requires takes { Takes store.old (Some at) least eid }
     requires not_above { covers_eid eid key ≡ false }
     requires not_below { covers_eid key eid ≡ false }
-    ensures { Puts store.old store.new (Some at) least eid value result None }
+    ensures { (given : _) → value ≡ Some given
+        → Puts store.old store.new (Some at) least eid given result None }
 {
     let over = common(key, eid, least);
     let leaf = store.put(Node {
         eid,
-        value: Some(value),
+        value,
         zero: None,
         one: None,
     });

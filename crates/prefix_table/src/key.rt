@@ -3,7 +3,7 @@ ghost use Rattle.std.specs.Prelude.{◌≡◌, ◌≤◌, ◌<◌, ◌+◌, ◌*
 ghost use Rattle.ip_headers.specs.Addr.{first_bits, number};
 ghost use Rattle.mapping_records.specs.Eids.{covers_eid};
 ghost use Rattle.mapping_records.specs.declared.eid.Eid.{Eid};
-ghost use Rattle.prefix_table.specs.Keys.{key_of};
+ghost use Rattle.prefix_table.specs.Keys.{key_of, key_width};
 
 use mapping_records::{Addr, Eid};
 
@@ -45,7 +45,20 @@ impl Key {
         ensures { (a b : Eid) → self.now ≡ key_of a → other.now ≡ key_of b
             → result ≡ covers_eid a b }
     {
-        if self.iid != other.iid || self.width != other.width || self.len > other.len {
+        if self.iid != other.iid || self.width != other.width {
+            return false;
+        }
+        self.begins(other)
+    }
+
+    /// The same, of EIDs of one instance and family.
+    pub(crate) fn begins(&self, other: &Key) -> bool
+        requires len { self.now.len ≤ self.now.width }
+        requires width { self.now.width ≤ 128 }
+        ensures { (a b : Eid) → self.now ≡ key_of a → other.now ≡ key_of b
+            → a.iid ≡ b.iid → key_width a ≡ key_width b → result ≡ covers_eid a b }
+    {
+        if self.len > other.len {
             return false;
         }
         let past = self.width - self.len;

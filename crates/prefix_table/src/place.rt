@@ -4,17 +4,18 @@ ghost use Rattle.node_store.specs.Store.{node_at, IsLive, Changes};
 ghost use Rattle.prefix_table.specs.Grown.{Becomes};
 
 use crate::nodes::Nodes;
+use std::mem;
 
-/// Gives a node a value, and hands back the one that it had.
-pub(crate) fn set_value<V>(store: &mut Nodes<V>, at: u32, value: V) -> Option<V>
+/// Exchanges the value of a node for another.
+pub(crate) fn swap_value<V>(store: &mut Nodes<V>, at: u32, value: &mut Option<V>)
     requires { IsLive store.old at }
-    ensures was { (top : _) → node_at store.old at ≡ Some top → result ≡ top.value }
-    ensures changes { Becomes store.old store.new at (λ top. record top { value = Some value }) }
+    ensures was { (top : _) → node_at store.old at ≡ Some top → value.new ≡ top.value }
+    ensures changes { Becomes store.old store.new at (λ top. record top { value = value.old }) }
     ensures rooms { store.new.rooms ≡ store.old.rooms }
     ensures slots { length store.new.slots ≡ length store.old.slots }
 {
     let node = store.slim.edit(at);
-    node.value.replace(value)
+    mem::swap(&mut node.value, value);
 }
 
 /// Names what is below a node on the side of the next bit 0.

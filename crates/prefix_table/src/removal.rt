@@ -1,6 +1,7 @@
 // A pair is taken out of a trie.
 ghost use Rattle.std.specs.Prelude.{◌≡◌, length, Some, is_some};
 ghost use Rattle.node_store.specs.Store.{node_at, IsLive};
+ghost use Rattle.prefix_table.specs.Keys.{key_of};
 ghost use Rattle.prefix_table.specs.Shrunk.{Holds, Shrinks, StaysWhere, GoesWhere};
 
 use crate::key::Key;
@@ -20,17 +21,31 @@ pub(crate) fn take_below<V>(
     requires { Holds store.old at least eid.now }
     ensures { Shrinks store.old store.new at least eid.now result.0 result.1 }
 {
+    take_under(store, at, eid, &Key::of(eid), least)
+}
+
+// The same, of an EID with its key.
+fn take_under<V>(
+    store: &mut Nodes<V>,
+    at: Option<u32>,
+    eid: &Eid,
+    sought: &Key,
+    least: u8,
+) -> (Option<u32>, Option<V>)
+    requires holds { Holds store.old at least eid.now }
+    requires key { sought.now ≡ key_of eid.now }
+    ensures { Shrinks store.old store.new at least eid.now result.0 result.1 }
+{
     let Some(at) = at else {
         return (None, None);
     };
-    let sought = Key::of(eid);
     let mut reads = Reads::new();
     let (_, node) = store.read(at, &mut reads);
     let len = node.key.len;
     let valued = node.value.is_some();
     let zero = node.zero;
     let one = node.one;
-    if !node.key.covers(&sought) {
+    if !node.key.covers(sought) {
         return (Some(at), None);
     }
     if len == sought.len {
@@ -40,10 +55,10 @@ pub(crate) fn take_below<V>(
         return (zero.or(one), drop_value(store, at));
     }
     if sought.next_bit(len) {
-        let (below, was) = take_below(store, one, eid, len + 1);
+        let (below, was) = take_under(store, one, eid, sought, len + 1);
         return (relink_one(store, at, valued, zero, below), was);
     }
-    let (below, was) = take_below(store, zero, eid, len + 1);
+    let (below, was) = take_under(store, zero, eid, sought, len + 1);
     (relink_zero(store, at, valued, one, below), was)
 }
 

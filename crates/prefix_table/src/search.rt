@@ -69,18 +69,20 @@ pub(crate) fn longest_where<'a, V, F: Fn(&V) -> bool>(
     let mut best: Option<(&'a Eid, &'a V)> = None;
     while let Some(name) = at {
         let (key, node) = store.read(name, reads);
-        if !node.key.covers(&sought) {
+        if !node.key.begins(&sought) {
             return best;
         }
         best = better(key, &node.value, &test, best);
         if node.key.len == sought.len {
             return best;
         }
-        if sought.next_bit(node.key.len) {
-            at = node.one;
+        // Both sides are read, so that there is no branch to predict.
+        let (zero, one) = (node.zero, node.one);
+        at = if sought.next_bit(node.key.len) {
+            one
         } else {
-            at = node.zero;
-        }
+            zero
+        };
     }
     best
 }
