@@ -1,5 +1,5 @@
 -- Encapsulated Control Messages: their parts one after another.
-use Rattle.std.proofs.Common.{◌≡◌, ℕ, ◌+◌, Bool, List, ◌++◌, drop, Option, Some, None, IfSome, refl, sym, ap, subst, ◌∙◌, arith}
+use Rattle.std.proofs.Common.{◌≡◌, ℕ, ◌+◌, Bool, List, ◌++◌, drop, Some, None, refl, sym, ap, subst, ◌∙◌, arith}
 use Rattle.octets.specs.Rules.{first_failing}
 use Rattle.octets.specs.declared.refused.Refused.{Refused}
 use Rattle.octets.proofs.RuleLemmas.{first_failing-append, first_failing-append_refused}
@@ -10,12 +10,8 @@ use Rattle.ip_headers.specs.declared.header.IpHeader.{IpHeader}
 use Rattle.ip_headers.specs.declared.header.IpHeader.TheVariants.{V4, V6}
 use Rattle.ip_headers.specs.declared.packet.IpPacket.{IpPacket}
 use Rattle.ip_headers.specs.Udp.{payload_in}
-use Rattle.map_messages.specs.Control.{carried_rules, ecm_rules, ecm_size, inner_header, inner_packet, inner_payload, udp_of, word_rules, Carries}
+use Rattle.map_messages.specs.Control.{carried_rules, ecm_rules, ecm_size, inner_header, inner_packet, inner_payload, udp_of, word_rules}
 use Rattle.map_messages.specs.Plain.{plain_size}
-use Rattle.map_messages.specs.Range.{InRangePlain, InRangeReply, InRangeRequest}
-use Rattle.map_messages.specs.declared.message.MapReply.{MapReply}
-use Rattle.map_messages.specs.declared.message.MapRequest.{MapRequest}
-use Rattle.map_messages.specs.declared.plain.Plain.{Plain}
 
 -- the rules behind the word
 abbrev pub packet_rules : ℕ → List ℕ → List (Bool × Refused)
@@ -91,11 +87,3 @@ ecm_end base octets packet size is size_is =
 pub one_family : (header : IpHeader) → width (source_of header) ≡ width (dest_of header)
 one_family (V4 header) = refl
 one_family (V6 header) = refl
-
--- the message that is carried is in range
-pub carried_range : (request : Option MapRequest) (reply : Option MapReply) (plain : Plain) → Carries (λ held. held ≡ plain) request reply → InRangePlain plain
-    → IfSome request InRangeRequest × IfSome reply InRangeReply
-carried_range (Some request) None plain is range = (subst InRangePlain (sym is) range, tt)
-carried_range None (Some reply) plain is range = (tt, subst InRangePlain (sym is) range)
-carried_range (Some request) (Some reply) plain is range = absurd is
-carried_range None None plain is range = absurd is

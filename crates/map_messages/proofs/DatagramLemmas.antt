@@ -1,5 +1,5 @@
 -- The first rule by which a datagram carries no control message.
-use Rattle.std.proofs.Common.{◌≡◌, ◌≢◌, ◌≤◌, ◌<◌, ◌^◌, ℕ, ◌+◌, ◌-◌, ◌==◌, true, List, ◌∷◌, Option, Some, None, Ok, length, drop, refl, sym, ap, subst, ◌∙◌, arith, length-drop}
+use Rattle.std.proofs.Common.{◌≡◌, ◌≢◌, ◌≤◌, ◌<◌, ◌^◌, ℕ, ◌+◌, ◌-◌, ◌==◌, true, List, ◌∷◌, Option, Some, None, Result, Ok, Err, IfOk, length, drop, refl, sym, ap, subst, ◌∙◌, arith, length-drop}
 use Rattle.std.proofs.lemmas.Bool.{eq-eqb, ne_eqb}
 use Rattle.std.proofs.lemmas.List.{length-take}
 use Rattle.octets.specs.Rules.{first_failing}
@@ -14,6 +14,8 @@ use Rattle.ip_headers.proofs.UdpLemmas.{udp_read-within}
 use Rattle.mapping_records.specs.Address.{refused}
 use Rattle.map_messages.specs.Control.{carried_rules, datagram_rules, is_datagram, udp_of}
 use Rattle.map_messages.specs.Plain.{plain_rules}
+use Rattle.map_messages.specs.declared.message.Ecm.{Ecm}
+use Rattle.mapping_records.specs.declared.fault.RecordFault.{RecordFault}
 
 -- a reader that answers a value met no refusal
 no_refusal : {T : Type 0} (refusal : Option Refused) (value given : T) → answer_of refusal value ≡ Ok given → refusal ≡ None
@@ -77,6 +79,12 @@ message_inside packet udp payload size read is inside =
     let place : udp.at ≡ payload_place packet.header = ap (λ (u : UdpHeader). u.at) (same_udp packet udp read) in
     let size_is : length payload ≡ length (payload_in packet.octets.now udp) = ap (λ (p : List ℕ). length p) is in
     omega (arith, place, size_is, inside, within.whole, within.least, length-take (udp.length - 8) rest, length-drop (udp.at + 8) packet.octets.now)
+
+-- whatever message was read ends in the packet
+pub messages_inside : (packet : IpPacket) (udp : UdpHeader) (payload : List ℕ) (result : Result (Ecm × ℕ) RecordFault) → udp_read packet ≡ Ok udp → payload ≡ payload_in packet.octets.now udp
+    → IfOk result (λ read. read.1 ≤ length payload) → IfOk result (λ read. payload_place packet.header + 8 + read.1 ≤ length packet.octets.now)
+messages_inside packet udp payload (Ok read) ok is inside = message_inside packet udp payload read.1 ok is inside
+messages_inside packet udp payload (Err fault) ok is inside = tt
 
 -- the datagram is refused
 pub datagram_refused : (packet : IpPacket) (r : Refused) → first_failing (datagram_rules packet.base packet.header packet.octets.now) ≡ Some r

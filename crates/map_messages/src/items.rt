@@ -9,6 +9,9 @@ use crate::{MessageFault, NoMemory, Octets};
 use octets::Items;
 use std::alloc::Global;
 
+/// The octets of the least item, an ITR-RLOC: a count that lies takes no memory that isn't sent.
+const LEAST: usize = 6;
+
 /// What stands in a message as often as a count says.
 pub(crate) trait Item: Drop {
     ghost rules: { ℕ → List ℕ → List (Bool × Refused) };
@@ -73,7 +76,7 @@ fn read_each<T: Item>(
     ensures size { IfOk result (λ read. read.1 ≡ items_size T.size count octets.now) }
     ensures inside { IfOk result (λ read. read.1 ≤ length octets.now) }
 {
-    let mut items = Items::new(alloc);
+    let mut items = Items::with_capacity(alloc, usize::from(count).min(octets.len() / LEAST))?;
     let mut at = 0;
     for _ in 0..count {
         let (_, rest) = octets.split_at(at as usize);

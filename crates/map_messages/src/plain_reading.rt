@@ -2,45 +2,20 @@
 ghost use Rattle.std.specs.Prelude.{◌≡◌, ◌≤◌, ◌<◌, ◌+◌, ◌^◌, length, IfOk};
 ghost use Rattle.octets.specs.Rules.{first_failing};
 ghost use Rattle.mapping_records.specs.Record.{RefusesBy};
-ghost use Rattle.map_messages.specs.Plain.{front_rules, plain_rules, plain_size, IsPlainAt};
-ghost use Rattle.map_messages.specs.Range.{InRangePlain, InRangeReply};
+ghost use Rattle.map_messages.specs.Plain.{front_rules};
+ghost use Rattle.map_messages.specs.Range.{InRangeReply};
 ghost use Rattle.map_messages.specs.Reply.{reply_rules, reply_size, IsReplyAt};
 ghost use Rattle.map_messages.specs.Words.{kind};
 
 use crate::items::read_items;
 use crate::places::{bit, kind, nonce_at};
-use crate::plain::Plain;
-use crate::request_reading::read_request;
 use crate::{MapReply, MessageFault};
 use mapping_records::refused;
 use octets::{Refused, Why};
 use std::alloc::Global;
 
-/// The Map-Request or Map-Reply at the front of the octets, and the octets consumed.
-pub(crate) fn read_plain(
-    alloc: Global,
-    octets: &[u8],
-    base: u32,
-) -> Result<(Plain, u32), MessageFault>
-    requires { base + length octets.now < 2 ^ 32 }
-    ensures refused { RefusesBy (first_failing (plain_rules base octets.now)) result }
-    ensures value { IfOk result (λ read. IsPlainAt octets.now read.0) }
-    ensures range { IfOk result (λ read. InRangePlain read.0) }
-    ensures size { IfOk result (λ read. read.1 ≡ plain_size octets.now) }
-    ensures inside { IfOk result (λ read. read.1 ≤ length octets.now) }
-{
-    if let Some(refused) = front_refusal(octets, base) {
-        return Err(MessageFault::Refused(refused));
-    }
-    if kind(octets) == 1 {
-        let (request, size) = read_request(alloc, octets, base)?;
-        return Ok((Plain::Request(request), size));
-    }
-    let (reply, size) = read_reply(alloc, octets, base)?;
-    Ok((Plain::Reply(reply), size))
-}
-
-fn front_refusal(octets: &[u8], base: u32) -> Option<Refused>
+/// The first of the rules up to the nonce that fails.
+pub(crate) fn front_refusal(octets: &[u8], base: u32) -> Option<Refused>
     requires { base + length octets.now < 2 ^ 32 }
     ensures { result ≡ first_failing (front_rules base octets.now) }
 {
@@ -60,8 +35,12 @@ fn front_refusal(octets: &[u8], base: u32) -> Option<Refused>
     None
 }
 
-// The Map-Reply whose nonce is there, and the octets consumed.
-fn read_reply(alloc: Global, octets: &[u8], base: u32) -> Result<(MapReply, u32), MessageFault>
+/// The Map-Reply whose nonce is there, and the octets consumed.
+pub(crate) fn read_reply(
+    alloc: Global,
+    octets: &[u8],
+    base: u32,
+) -> Result<(MapReply, u32), MessageFault>
     requires room { base + length octets.now < 2 ^ 32 }
     requires head { 12 ≤ length octets.now }
     requires kind { kind octets.now ≡ 2 }

@@ -10,6 +10,9 @@ use crate::{Locator, Locators, RecordFault};
 use octets::{Refused, Why, big_16};
 use std::alloc::Global;
 
+/// The octets of the least locator: a count that lies takes no memory that isn't sent.
+const LEAST: usize = 12;
+
 /// So many locators at the front of the octets, and the octets consumed.
 pub(crate) fn read_locators(
     alloc: Global,
@@ -23,7 +26,8 @@ pub(crate) fn read_locators(
     ensures count { IfOk result (λ read. length read.0 ≡ count) }
     ensures inside { IfOk result (λ read. read.1 ≤ length octets.now) }
 {
-    let mut locators = Locators::new(alloc);
+    let room = usize::from(count).min(octets.len() / LEAST);
+    let mut locators = Locators::with_capacity(alloc, room)?;
     let mut at = 0;
     for _ in 0..count {
         let (_, rest) = octets.split_at(at as usize);

@@ -9,7 +9,7 @@ use Rattle.map_messages.proofs.items.read_each.Goals as goal
 
 pub returns-in_err-item-clause-refused : goal.returns-in_err-item-clause-refused
 returns-in_err-item-clause-refused g c =
-    let p = err_from_is_err_and c.from_residual.result c.from_residual.ensures.1 in
+    let p = err_from_is_err_and c.from_residual-in_err-item.result c.from_residual-in_err-item.ensures.1 in
     let octets = c.args.octets.now in
     let place = c.args.base + c.loop.at in
     let fault = c.in_err-item.field-0.0 in

@@ -8,7 +8,7 @@ use Rattle.mapping_records.proofs.locator_reading.read_locators.Goals as goal
 
 pub returns-in_err-locator-clause-refused : goal.returns-in_err-locator-clause-refused
 returns-in_err-locator-clause-refused c =
-    let p = err_from_is_err_and c.from_residual.result c.from_residual.ensures.1 in
+    let p = err_from_is_err_and c.from_residual-in_err-locator.result c.from_residual-in_err-locator.ensures.1 in
     let octets = c.args.octets.now in
     let place = c.args.base + c.loop.at in
     let some : first_failing (locator_rules place (drop c.loop.at octets)) ≡ Some c.in_err-locator.field-0.0 =
