@@ -54,7 +54,7 @@ def own_nonce(site, link, frame):
         if dest == DATA_PORT or CONTROL_PORT not in (source, dest):
             return None
         packet.check(checksum, datagram, False)
-        _, message, _ = message_of(datagram[8:], place + packet.at + 8)
+        _, message, _ = message_of(datagram[8:], place)
     except Refused:
         return None
     return message.nonce if isinstance(message, Request) else None
@@ -77,7 +77,7 @@ def audited(site, frames, records, lifts):
     return compared(due_packets(site, frames), [record_packet(link, frame) for _, link, frame in records])
 
 
-def audit(settings, capture, sent, lifts=False):
+def audit(settings, capture, sent, lifts):
     """Audits what was sent, with the nonces of the settings, or with those that are lifted out of it."""
     kind = "capture"
     try:

@@ -3,7 +3,8 @@ import struct
 
 # The units of a second and the nanoseconds of a unit, by the magic.
 UNITS = {0xA1B2C3D4: (10**6, 1000), 0xA1B23C4D: (10**9, 1)}
-MOST_OCTETS, MOST_SPAN, MOST_RECORDS = 262144, 10**6 * 10**9, 10**9
+MOST_OCTETS, MOST_SPAN = 262144, 10**6 * 10**9
+MOST_RECORDS = 1_000_000_000
 
 
 class CaptureFault(Exception):

@@ -12,10 +12,11 @@ from commands import Format
 
 SECTION, INTERFACE, OBSOLETE, SIMPLE, ENHANCED = 0x0A0D0D0A, 1, 2, 3, 6
 PACKETS = SIMPLE, ENHANCED
-# The least total length of the blocks that are read; other blocks are passed over.
-LEAST, LEAST_OTHER = {SECTION: 28, INTERFACE: 20, SIMPLE: 16, ENHANCED: 32}, 12
+# The least total length of the blocks that are read, in fours of octets; other blocks are passed over.
+LEAST, LEAST_OTHER = {SECTION: 7, INTERFACE: 5, SIMPLE: 4, ENHANCED: 8}, 3
 MAGIC, ORDERS = 0x1A2B3C4D, ("little", "big")
-MOST_BLOCK, MOST_BLOCKS, MOST_INTERFACES = 2**20, 4 * 10**9, 4095
+MOST_BLOCK, MOST_INTERFACES = 2**20, 4095
+MOST_BLOCKS = 4_000_000_000
 # Codes of options, and the largest exponents of a unit of time.
 UNIT, ADDED, MOST_DECIMAL, MOST_BINARY = 9, 14, 19, 63
 ETHERNET, RAW, TAG = 1, 101, 0x8100
@@ -68,7 +69,7 @@ def order_of(magic):
 def options_of(block):
     """The options of an interface, each a code and its value."""
     at = 16
-    while at + 4 <= block.end and block.number(at, 2) != 0:
+    while at < block.end and block.number(at, 2) != 0:
         code, size = block.number(at, 2), block.number(at + 2, 2)
         block.need(at + 4 + size <= block.end, "bad-option")
         yield code, block.octets[at + 4:at + 4 + size]
@@ -85,7 +86,7 @@ def interface_of(block):
     units, added = 10**6, 0
     for code, value in options_of(block):
         if code == UNIT:
-            units = units_of(value[0]) if len(value) == 1 else None
+            units = units_of(*value) if len(value) == 1 else None
             block.need(units is not None, "bad-option")
         elif code == ADDED:
             block.need(len(value) == 8, "bad-option")
@@ -145,11 +146,11 @@ class Reader:
         """The block that begins at a place, which is whole and isn't obsolete."""
         kind, order = self.front_at(at)
         size = int.from_bytes(self.octets[at + 4:at + 8], order)
-        need(size % 4 == 0 and size >= LEAST.get(kind, LEAST_OTHER), "bad-length", at)
+        need(size % 4 == 0 and size // 4 >= LEAST.get(kind, LEAST_OTHER), "bad-length", at)
         need(kind not in LEAST or size <= MOST_BLOCK, "too-long", at, size)
         block = Block(at, kind, order, self.octets[at:at + size])
         block.need(len(block.octets) == size, "cut-block")
-        block.need(block.number(block.end, 4) == size, "bad-length")
+        block.need(block.octets[block.end:] == block.octets[4:8], "bad-length")
         block.need(kind != OBSOLETE, "old-packet")
         self.blocks += 1
         return block
@@ -199,7 +200,7 @@ class Reader:
         self.latest = moment if self.latest is None else max(self.latest, moment)
 
 
-def frames_of(path, vlans=False):
+def frames_of(path, vlans):
     """The frames with their moments and link layers. Nothing is judged before the first one is asked for."""
     with open(path, "rb") as file:
         octets = file.read()

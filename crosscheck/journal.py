@@ -12,7 +12,6 @@ PROBE_OPEN, PROBE_AGAIN, PROBE_COUNTS = 3 * SECOND, 60 * SECOND, 600 * SECOND
 # How long an echo is asked for, and how long that counts; how long one that a peer wants is given; how long a
 # solicitation isn't made again.
 ECHO_ON, ECHO_COUNTS, WANTED, SOLICITED = 10 * SECOND, 60 * SECOND, 2 * SECOND, 10 * SECOND
-MOST_PROBES = 9600
 # Echoes asked for, echoes wanted, and solicitations, each.
 MOST_ECHOES = 4096
 
@@ -190,9 +189,8 @@ class Journal(list):
 
     def due(self, moment):
         """The open requests that are to be sent again, in the order in which they were asked."""
-        now, waiting = self.now(moment), self.open_requests(moment)
-        times = self.times() if waiting else {}
-        return [entry for nonce, entry in waiting.items()
+        now, times = self.now(moment), self.times()
+        return [entry for nonce, entry in self.open_requests(moment).items()
                 if times[nonce] < len(AGAIN) and now - entry.moment >= AGAIN[times[nonce]]]
 
     def drawn(self):
@@ -260,10 +258,6 @@ class Journal(list):
         now = self.now(moment)
         last = {entry.address: entry.moment for entry in self.of(Probed)}
         return {address: start for address, start in last.items() if now - start < PROBE_COUNTS}
-
-    def may_probe(self, moment):
-        """How many probes more can count."""
-        return MOST_PROBES - len(self.younger(Probed, PROBE_COUNTS, moment))
 
     @by_entries
     def echoes(self):

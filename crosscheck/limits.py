@@ -12,8 +12,8 @@ TEXTS, PACKETS, _ = tables_of(SHARED)
 MILLI, MICRO = 10**6, 1000
 # Requests of an instance that are open; echoes asked for, echoes wanted and peers solicited; mappings that live; limits.
 MOST_OPEN, MOST, MOST_MAPPINGS, MOST_LIMITS = 1024, 4096, 65536, 4096
-# Of a frame; 64 times as many are 16 MiB.
-MOST_OCTETS = 262144
+# Of a frame, of which 64 are 16 MiB; and of settings.
+MOST_OCTETS, MOST_SETTINGS = 262144, 2**24
 LISTED = 0x0102030405060708
 DELIVERED = "delivered 0"
 
@@ -225,6 +225,20 @@ def started_echoes():
                frames, packets, 2 + 2 * MOST, settings)
 
 
+# Settings.
+
+
+def longest_settings():
+    """Settings that a comment fills up to the most octets, and past them by one."""
+    text, captured = TEXTS["site"].encode() + b"#", capture_of([(0, shared("packet"))])
+    report = f"1 {START // SECOND}.000000000 n=1 encapsulated 192.0.2.1 198.51.100.7 64519\n"
+    report += "end frames=1 written=1 entries=1\n"
+    full, more = ({"settings": text.ljust(size, b"#"), "in": captured} for size in (MOST_SETTINGS, MOST_SETTINGS + 1))
+    return Row("limits.py", "the longest settings, and those with an octet more", "A comment has most of them.", [
+        Run(REPLAY.split(), full, 0, report, capture_of([(0, shared("sent"))])),
+        Run(REPLAY.split(), more, 2, "settings too-long\n", None)])
+
+
 # Changes of own locators.
 
 
@@ -265,6 +279,33 @@ def most_told():
     return row("as many are told of a change as count",
                "64 locators of 64 prefixes each; so nobody can be told behind that until 10 s are over, of a change or a "
                "version, and then they are told again.", frames, packets, 6 + 2 * MOST, settings)
+
+
+# Nonces that are lifted.
+
+
+def probe(i, nonce):
+    """The probe of the numbered locator, of which 32 are of a mapping."""
+    octets = bytearray(shared("probe"))
+    octets[16:20], octets[32:40], octets[49] = locator(i), struct.pack(">Q", nonce), 24
+    octets[52:56] = bytes([10, 2, i // 32, 0])
+    ip_summed(octets, 0)
+    udp_summed(octets, 0)
+    return bytes(octets)
+
+
+def lifted_nonces():
+    """960 locators, 16 of which are probed at a second, and each again after a minute: in 257 seconds 4,112 probes."""
+    settings = "probe = true\n" + TEXTS["fixed"].partition("[[mapping]]")[0]
+    for i in range(960):
+        settings += f'[[mapping]]\niid = 0\nprefix = "10.2.{i // 32}.0/24"\n' * (i % 32 == 0)
+        settings += f'[[mapping.locator]]\naddress = "198.51.{i // 256}.{i % 256}"\n'
+    count, nothing = 16 * 257, bytes([0])
+    sent = [((1 + i // 16) * SECOND, probe(i % 960, 2**63 + i)) for i in range(count)]
+    files = {"settings": settings.encode(), "in": capture_of([(0, nothing), (257 * SECOND, nothing)]), "sent": capture_of(sent)}
+    words = "audit --settings settings --in in --sent sent --nonces sent"
+    return Row("limits.py", "more than 4,096 nonces are lifted", "Each probe has a nonce of another router than that of the "
+               "settings' seed.", [Run(words.split(), files, 0, f"audit same packets={count}\n", None)])
 
 
 # Rounds.
@@ -338,5 +379,5 @@ def rounds_by_halves():
 
 def rows():
     return [open_requests(), live_mappings(), requests_of_two(), *most_limits(), wanted_echoes(), solicited_peers(),
-            started_echoes(), most_changes(), most_told(),
+            started_echoes(), longest_settings(), most_changes(), most_told(), lifted_nonces(),
             *rounds_by_size(), *rounds_by_octets(), *rounds_by_halves()]

@@ -21,10 +21,10 @@ class Header(NamedTuple):
 
 def header_of(octets):
     first, field, last = octets[0], number(octets, 1, 3), number(octets, 4, 4)
-    has_nonce, has_instance = first & NONCE > 0, first & INSTANCE > 0
+    has_nonce, has_instance = bool(first & NONCE), bool(first & INSTANCE)
     source, dest = divmod(field, 4096) if first & VERSIONS and not has_nonce else (0, 0)
     status, width, iid = (last & 0xFF, 8, last >> 8) if has_instance else (last, 32, 0)
-    return Header(field if has_nonce else None, has_nonce and first & ECHO > 0, source, dest,
+    return Header(field if has_nonce else None, has_nonce and bool(first & ECHO), source, dest,
                   status if first & STATUS else None, width, iid)
 
 

@@ -11,7 +11,7 @@ from captures_ng import (ADDED, ENHANCED, ETHERNET, INTERFACE, MAGIC, MOST_BLOCK
 # Blocks to pass over: names, statistics, a bus, a journal, secrets, custom ones; and other options of interfaces.
 OTHERS, OPTIONS = [4, 5, 7, 9, 10, 0xBAD, 0x40000BAD, 0x80000001, 0], [1, 2, 3, 8, 10, 11, 12, 13, 15, 2988, 0x8009]
 UNITS = [None] * 10 + [6, 9] * 5 + [*range(20), *range(128, 192)]
-SNAPS, LINKS = [0, 0, 0, 262144, 65535, 64, 1], [0, 105, 113, 127, 0x165]
+SNAPS, LINKS = [0, 0, 0, 262144, 65535, 64, 1], [0, 105, 113, 127, 228, 229, 0x165]
 EARLIER = [0, 1, 1000, SECOND, 86_400 * SECOND, 10**18]
 
 

@@ -165,7 +165,7 @@ def plain_message(octets, base):
 
 def message_of(octets, base):
     """The inner source port of a message that is encapsulated, or None; the message; the number of octets left."""
-    if not octets[:1] or octets[0] >> 4 != 8:
+    if not octets or octets[0] >> 4 != 8:
         message, size = plain_message(octets, base)
         return None, message, len(octets) - size
     need(len(octets) >= 4, "message", base, "short")

@@ -3,6 +3,7 @@ import functools
 import struct
 
 CONSTANTS = struct.unpack("<4I", b"expand 32-byte k")
+DOUBLE_ROUNDS = 4
 QUARTERS = [(0, 4, 8, 12), (1, 5, 9, 13), (2, 6, 10, 14), (3, 7, 11, 15),
             (0, 5, 10, 15), (1, 6, 11, 12), (2, 7, 8, 13), (3, 4, 9, 14)]
 
@@ -15,11 +16,11 @@ def quarter(words, a, b, c, d):
 
 
 @functools.cache
-def block(seed, position, rounds=8):
+def block(seed, position):
     """The 16 words of a block of stream 0."""
-    start = [*CONSTANTS, *struct.unpack("<8I", seed), position & 0xFFFFFFFF, position >> 32, 0, 0]
+    start = [*CONSTANTS, *struct.unpack("<8I", seed), *struct.unpack("<4I", struct.pack("<QQ", position, 0))]
     words = list(start)
-    for _ in range(rounds // 2):
+    for _ in range(DOUBLE_ROUNDS):
         for places in QUARTERS:
             quarter(words, *places)
     return [(a + b) & 0xFFFFFFFF for a, b in zip(words, start)]

@@ -88,8 +88,7 @@ class Noting:
             HeardEcho: self.heard_echo, HeardData: self.heard_data, Solicit: self.solicited, EchoDue: self.started}
 
     def stand(self):
-        changes = self.journal.changes()
-        self.site = self.as_set.standing(changes) if changes else self.as_set
+        self.site = self.as_set.standing(self.journal.changes())
 
     def note(self, moment, notice):
         """What is sent for a notice."""
@@ -101,7 +100,8 @@ class Noting:
         return [nonce_at(self.site.nonces, self.site.seed, drawn + i) for i in range(count)]
 
     def nonce(self):
-        return self.nonces(1)[0]
+        nonce, = self.nonces(1)
+        return nonce
 
     # Requests.
 
@@ -118,8 +118,7 @@ class Noting:
             return self.asked(moment, eid, source)
 
     def refreshed(self, moment, eid):
-        entry = self.journal.live(moment).get(eid)
-        if entry and not entry.fixed:
+        if eid in self.journal.live(moment):
             return self.asked(moment, eid)
 
     def solicited(self, moment, address, eid):
@@ -158,5 +157,5 @@ class Noting:
             self.journal.append(DataFrom(moment, address))
 
     def started(self, moment, address):
-        if self.site.echo and self.journal.may_start(moment, address):
+        if self.journal.may_start(moment, address):
             self.journal.append(EchoStarted(moment, address, self.nonce() & 0xFFFFFF))

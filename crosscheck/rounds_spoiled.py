@@ -71,6 +71,10 @@ def worked(folder):
     return made(folder, worked_rounds.SIZE, worked_rounds.SETTINGS, worked_rounds.FRAMES)
 
 
+def alike(folder):
+    return made(folder, worked_rounds.ALIKE_SIZE, worked_rounds.SETTINGS, worked_rounds.ALIKE_FRAMES)
+
+
 def sent_again(folder):
     """Two rounds of misses, and a third in which at 3 s and 5 s all their requests are sent again, amid packets."""
     misses = [(at, to(bytes([10, 2, 0, i]))) for i, at in enumerate([900, 950, 1100, 1200, 1210, 1220, 1230, 1240])]
@@ -276,6 +280,7 @@ def main():
     counts, wrong = collections.Counter(), 0
     with tempfile.TemporaryDirectory() as folder:
         wrong += judged(worked(folder), [("lawful: worked", end) for end in worked_rounds.ends()], "worked", counts)
+        wrong += judged(alike(folder), [("lawful: worked", end) for end in worked_rounds.alike_ends()], "alike", counts)
         for make in [worked, sent_again, ended_before, uplink] * 5:
             case, r = make(folder), random.Random(f"{seed} {sum(counts.values())}")
             ends = [*lawful(case, r), *spoiled(case, r), *of_other_sizes(case, r)]

@@ -11,7 +11,8 @@ from wire import Packet, Refused, link_payload, need, text_of
 ACTIONS = {0: "14 no-action", 2: "15 send-request", 4: "17 drop-policy", 5: "18 drop-auth"}
 ECN = {(0, 0): 0, (0, 2): 0, (0, 1): 0, (2, 0): 2, (2, 2): 2, (2, 1): 1, (2, 3): 3,
        (1, 0): 1, (1, 2): 1, (1, 1): 1, (1, 3): 3, (3, 0): 3, (3, 2): 3, (3, 1): 3, (3, 3): 3}
-# How many locators are probed at a second, and how many are told of a change.
+# How many locators are probed at a second, and how many are told of a change. That no more than 9,600 probes count needs
+# no test: each counts for less than 600 seconds behind its own.
 MOST_AT_ONCE, MOST_TOLD = 16, 64
 
 
@@ -45,7 +46,7 @@ class Router(Noting):
 
     def next_second(self, second):
         """Behind a second in which nothing was sent: the first one in which something may be to be done, or None."""
-        found = [self.journal.next_second(second), *(change.at for change in self.waiting()[:1])]
+        found = [self.journal.next_second(second), *(change.at for change in self.waiting())]
         return min((at for at in found if at is not None), default=None)
 
     def ticked(self, moment):
@@ -83,8 +84,8 @@ class Router(Noting):
         last, named, sent = self.journal.last_probes(moment), self.named(moment), []
         waiting = [address for address in named
                    if address not in last or self.journal.now(moment) - last[address] >= PROBE_AGAIN]
-        waiting.sort(key=lambda address: (last.get(address, -1), by_address(address)))
-        waiting = waiting[:min(MOST_AT_ONCE, self.journal.may_probe(moment))]
+        waiting.sort(key=lambda address: (address in last, last.get(address), by_address(address)))
+        waiting = waiting[:MOST_AT_ONCE]
         for address, nonce in zip(waiting, self.nonces(len(waiting))):
             self.journal.append(Probed(moment, address, nonce))
             sent.append(probe_packet(self.site, address, nonce, named[address]))

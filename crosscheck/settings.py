@@ -62,9 +62,9 @@ def prefix(value):
     """The octets and the length of a prefix, or None."""
     if not isinstance(value, str):
         return None
-    front, slash, length = value.partition("/")
+    front, _, length = value.partition("/")
     octets = address(front)
-    if octets is None or not slash or not decimal(length, 8 * len(octets)):
+    if octets is None or not decimal(length, 8 * len(octets)):
         return None
     return ipaddress.ip_network(value, strict=False).network_address.packed, int(length)
 
@@ -94,11 +94,11 @@ def whole(greatest):
     return lambda value: value if good(value) else None
 
 
-def items(table, key, most, read, path, least=0):
+def items(table, key, most, read, path, is_needed=False):
     tables = table.get(key, [])
     if not isinstance(tables, list) or not all(isinstance(item, dict) for item in tables):
         fail("bad-value", [*path, key])
-    if len(tables) < least:
+    if is_needed and not tables:
         fail("missing", [*path, key])
     if len(tables) > most:
         fail("too-many", [*path, key])
@@ -165,8 +165,7 @@ def change(owns):
 def limit(instances):
     """What reads a limit of one of these instances."""
     def attached(value):
-        iid = whole(2**24 - 1)(value)
-        return iid if iid in instances else None
+        return value if type(value) is int and value in instances else None
 
     def read(table, path):
         only(table, ("iid", "mappings", "requests"), path)
@@ -204,7 +203,7 @@ def check(top):
     optional(top, "ttl", number(1, 2**32 - 2), [])
     optional(top, "probe", truth, [])
     optional(top, "echo", truth, [])
-    items(top, "locator", 32, locator, [], 1)
+    items(top, "locator", 32, locator, [], is_needed=True)
     items(top, "attachment", 4096, attachment, [])
     items(top, "database", 64, database, [])
     items(top, "mapping", MOST_MAPPINGS, mapping, [])

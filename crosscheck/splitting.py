@@ -22,9 +22,9 @@ def options_of(octets):
     while at < len(octets) and octets[at] != END:
         size = 1
         if octets[at] != NOTHING:
-            size = octets[at + 1] if at + 1 < len(octets) else 0
-            if size < 2 or at + size > len(octets):
+            if at + 1 == len(octets) or not 2 <= octets[at + 1] <= len(octets) - at:
                 return None
+            size = octets[at + 1]
         options.append(octets[at:at + size])
         at += size
     return options

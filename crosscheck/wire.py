@@ -40,7 +40,7 @@ def number(octets, at, size):
 def text_of(address):
     if len(address) == 4:
         return ".".join(map(str, address))
-    return ":".join(address[i:i + 2].hex() for i in range(0, 16, 2))
+    return address.hex(":", 2)
 
 
 # Headers.
@@ -68,8 +68,9 @@ class Packet:
         self.base = base
         if version == 4:
             need(len(octets) >= 20, "ip", base, "short")
-            self.at = 4 * (octets[0] & 15)
-            need(self.at >= 20, "ip", base, "header-length")
+            words = octets[0] & 15
+            need(words >= 5, "ip", base, "header-length")
+            self.at = 4 * words
             need(len(octets) >= self.at, "ip", base + 20, "short")
             total = number(octets, 2, 2)
             need(self.at <= total <= len(octets), "ip", base + 2, "total-length")
