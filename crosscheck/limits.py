@@ -239,6 +239,19 @@ def longest_settings():
         Run(REPLAY.split(), more, 2, "settings too-long\n", None)])
 
 
+def most_listed():
+    """As many nonces as there may be; and one more of them, or of attachments, of which none is judged then."""
+    nonce = '"0102030405060708"'
+    full, more = (TEXTS["tenant"].replace(nonce, f"{nonce}," * count) for count in (MOST, MOST + 1))
+    attached = f'attachment = [{"{}," * (MOST + 1)}]\n[[locator]]\naddress = "192.0.2.1"\n'
+    yield row("4,096 nonces", "As many as there may be.", [(0, shared("packet"), "n=0 drop 13 miss")],
+              [(0, shared("asked"))], 1, full)
+    captured = capture_of([(0, shared("packet"))])
+    yield Row("limits.py", "4,097 nonces, and 4,097 attachments", "One too many of each, before any is judged.", [
+        Run(REPLAY.split(), {"settings": text.encode(), "in": captured}, 2, f"settings too-many {key}\n", None)
+        for key, text in (("nonces", more), ("attachment", attached))])
+
+
 # Changes of own locators.
 
 
@@ -379,5 +392,5 @@ def rounds_by_halves():
 
 def rows():
     return [open_requests(), live_mappings(), requests_of_two(), *most_limits(), wanted_echoes(), solicited_peers(),
-            started_echoes(), longest_settings(), most_changes(), most_told(), lifted_nonces(),
+            started_echoes(), longest_settings(), *most_listed(), most_changes(), most_told(), lifted_nonces(),
             *rounds_by_size(), *rounds_by_octets(), *rounds_by_halves()]

@@ -5,11 +5,12 @@ usage: mutants.py [STEP [WORKERS]]
 A change is another operator, a number one more or one less, the other truth, an operand of `and` or `or`, a `not` or a
 condition of a comprehension that is left out, or one side of a conditional expression always. Each changed router runs
 the rows of crates/conformance/data, limits.py and limits_ng.py that reach the place, until one ends otherwise, fails or
-takes seconds longer. What no row may refuse, because the changed router is the same router, stands in mutants.toml, each
-group with the reason why. With STEP only each change of that number is made. There are as many workers as processors,
-if no number is given. It prints each change that no row refuses and that isn't listed, as it would have to be listed,
-each listed one that a row refuses, and those of which there is none; then a line for each file and one for all. It ends
-with status 1 where it prints such a change, and 2 where the words are wrong.
+takes seconds longer. What no row can refuse stands in mutants.toml, each group with the reason: mostly the changed
+router is the same router. With STEP 100 each hundredth change is made, and without it each. There are as many workers as
+processors, if no number is given; on four a whole run takes some ten minutes. It prints each change that no row refuses
+and that isn't listed, as it would have to be listed, each listed one that a row refuses, and those of which there is
+none; then a line for each file and one for all. It ends with status 1 where it prints such a change, and 2 where the
+words are wrong.
 
 Changed is all that replays, shows or audits, and that reads the words for it: what rows judge. Left out are the makers of
 captures and the judges, and here what these alone call, for no row says anything of them; and texts, of which each that
@@ -54,8 +55,7 @@ SLOW = {"a locator more than may be asked for an echo": "may_start", "a peer mor
 MORE_SECONDS, MOST_MEMORY = 2, 4 * 2**30
 # Where the folders of runs are made, if it is there.
 IN_MEMORY = "/dev/shm"
-
-
+# What comes of a change that no row refuses, and of one that a row does.
 STANDS, REFUSED = 0, 1
 
 
@@ -204,7 +204,7 @@ def pooled(workers, call, count):
 
 
 def listed():
-    """The changes that no row may refuse."""
+    """The changes that no row can refuse."""
     with open(LISTED, "rb") as file:
         groups = tomllib.load(file)["group"]
     return {tuple(change) for group in groups for change in group["changes"]}
@@ -259,4 +259,7 @@ def main():
 
 
 if __name__ == "__main__":
-    sys.exit(main())
+    try:
+        sys.exit(main())
+    except BadRow as fault:
+        sys.exit(f"{fault}")
