@@ -26,8 +26,7 @@ use std::thread::Threads;
 
 /// A run of the words over a desk. Where the desk tells its octets, status, report and output are
 /// those of the router that decides each frame by its journal. With forwarders, each data packet is decided
-/// by the journal's first entries, of which its line has the number. After `Host` or `Memory` nothing
-/// more is said.
+/// by the journal's first entries, of which its line has the number.
 ///
 /// With forwarders it starts threads, and waits for them. A forwarder calls the gate before each decision.
 pub fn run<R: Threads + Wait + Sync, D: Desk, G: Gate>(
