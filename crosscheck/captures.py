@@ -17,9 +17,13 @@ def need(test, *fault):
 
 
 def frames_of(path):
-    """The frames with their moments and the link layer. The header is judged at once, each record when it is due."""
+    """The frames of a file."""
     with open(path, "rb") as file:
-        octets = file.read()
+        return frames_in(file.read())
+
+
+def frames_in(octets):
+    """The frames with their moments and the link layer. The header is judged at once, each record when it is due."""
     need(len(octets) >= 24, "cut-header", len(octets))
     order = next((order for order in "<>" if struct.unpack(order + "I", octets[:4])[0] in UNITS), None)
     need(order is not None, "bad-magic")

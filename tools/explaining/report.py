@@ -1,0 +1,76 @@
+"""The proved program's own lines for a capture."""
+import os
+import re
+import subprocess
+import sys
+from typing import NamedTuple
+
+from explaining.texts import Fault
+
+TOP = os.path.dirname(os.path.dirname(os.path.dirname(os.path.realpath(__file__))))
+SCRIPT, HELP = os.path.join(TOP, "lispr"), os.path.join(TOP, "tools", "help", "main.py")
+END = re.compile(r"end frames=(\d+) written=(\d+) entries=(\d+)")
+
+
+class Line(NamedTuple):
+    """A line of a frame: its number, the journal's length by which it was decided, its verdict, and the whole."""
+    number: int
+    known: int
+    verdict: str
+    text: str
+
+
+class End(NamedTuple):
+    """The last line; how many packets were written and entries made where the capture was read to its end."""
+    text: str
+    written: int = None
+    entries: int = None
+
+    @property
+    def known(self):
+        return self.entries
+
+
+def command_of(program):
+    """How the program is called: as the script does it, with help on standard error."""
+    if program is None or os.path.exists(SCRIPT) and os.path.samefile(program, SCRIPT):
+        return [SCRIPT]
+    return [sys.executable, "-I", "-S", "-B", "-X", "utf8", HELP, os.path.abspath(program)]
+
+
+def parsed(text):
+    if text[:1].isdigit():
+        number, _, known, verdict = text.split(" ", 3)
+        return Line(int(number), int(known[2:]), verdict, text)
+    end = END.fullmatch(text)
+    return End(text, int(end[2]), int(end[3])) if end else End(text)
+
+
+class Report:
+    """A run of the program, whose lines are read while it runs."""
+
+    def __init__(self, program, settings, capture, way):
+        words = ["replay", "--settings", settings, "--in", capture, "--out", os.devnull, *way.words()]
+        try:
+            self.run = subprocess.Popen([*command_of(program), *words], stdin=subprocess.DEVNULL,
+                                        stdout=subprocess.PIPE, text=True, bufsize=1 << 16)
+        except OSError as error:
+            raise Fault(f"the program can't be run: {error.strerror}") from None
+
+    def __enter__(self):
+        return self
+
+    def __exit__(self, *_):
+        self.run.stdout.close()
+        if self.run.poll() is None:
+            self.run.terminate()
+        self.run.wait()
+
+    def lines(self):
+        """The lines of frames, and then the last one."""
+        last = None
+        for text in self.run.stdout:
+            last = parsed(text.rstrip("\n"))
+            yield last
+        if not isinstance(last, End):
+            raise Fault(f"the program ended with status {self.run.wait()}, without a last line")
