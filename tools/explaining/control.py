@@ -1,5 +1,5 @@
 """Control messages: each record with learned or passed over and why, each EID with what is answered or asked for."""
-from journal import Asked, Learned, OPEN, PROBE_OPEN, Probed
+from journal import OPEN, PROBE_OPEN, Asked, Learned
 from messages import Request, message_of
 from wire import Refused
 

@@ -3,12 +3,12 @@ from choice import chosen, flow_hash
 from messages import Eid
 from router import is_group
 
-from explaining.mappings import locator_text, mapping_lines, origin, lasting, state_lines, states
-from explaining.packets import has_ports, ports_of, sent_lines
+from explaining.mappings import lasting, mapping_lines, origin, state_lines, states
+from explaining.packets import has_ports, ports_of
 from explaining.requests import earlier, wanting
 from explaining.texts import address, counted, family, placed, prefix
 
-FIRST_PORT, PORTS, MOST = 0xC000, 0x4000, 1500
+MOST = 1500
 LISTED = 6
 
 
@@ -62,8 +62,8 @@ def nearest_lines(play, eid, moment):
     alive = [one for one in play.journal.live(moment).values()
              if (one.mapping.eid.iid, one.mapping.eid.width) == (eid.iid, eid.width)]
     near = max(alive, key=lambda one: common_bits(one.mapping.eid, eid), default=None)
-    if near:
-        bits = common_bits(near.mapping.eid, eid)
+    bits = common_bits(near.mapping.eid, eid) if near else 0
+    if bits:
         lines.append(f"nearest of its instance: {placed(near.mapping.eid)}, {origin(play, near)}, which has the first "
                      f"{counted(bits, 'bit')} of the destination and not all of its own {near.mapping.eid.length}")
     return lines or [f"the map-cache has no mapping of instance {eid.iid} and {family(eid.width // 8)}"]
@@ -96,8 +96,21 @@ def choice_lines(packet, found, locator):
     state = next(state for state in found if state.locator == locator and state.whole)
     at, last = value % state.whole, state.first + state.part - 1
     span = f"share {state.first}" if state.part == 1 else f"the shares {state.first} to {last}"
+    if state.whole == 1:
+        return [flow_text(packet, value), f"{address(locator.address)} alone can be used of its priority"]
     return [flow_text(packet, value),
-            f"it is {at} modulo {state.whole}, and {address(locator.address)} has {span} of {state.whole}"]
+            f"it is {at} modulo {state.whole}, and {address(locator.address)} has {span} of {state.whole}, counted from 0"]
+
+
+def header_lines(play, to, moment):
+    """Why the header of a tunnel packet has a nonce or an echo."""
+    wish, echo = play.journal.wanted(moment, to), play.journal.echo_on(moment, to)
+    if wish is not None:
+        return [f"N gives back the nonce {wish:06x}, which {address(to)} wants to see (RFC 9300, section 10.1)"]
+    if echo:
+        return [f"N and E ask {address(to)} to echo {echo.start.nonce:06x}, since {play.maker(echo.start)} (RFC 9300, section "
+                "10.1)"]
+    return []
 
 
 def mapped_sections(scene, entry, packet):
@@ -114,6 +127,9 @@ def mapped_sections(scene, entry, packet):
     if locator is None:
         return
     yield "choice", choice_lines(packet, found, locator)
+    lines = header_lines(play, locator.address, moment)
+    if lines and scene.verdict.startswith("encapsulated"):
+        yield "header", lines
     size = (36 if len(locator.address) == 4 else 56) + len(packet.octets)
     if scene.verdict.startswith("drop 20"):
         yield "size", [f"{counted(len(packet.octets), 'octet')} and the {size - len(packet.octets)} of the tunnel's headers "

@@ -1,10 +1,10 @@
 """Mappings of a router's map-cache: where each came from, when it ends, and which of its locators can be used."""
 from typing import NamedTuple
 
-from journal import PROBE_COUNTS, PROBE_OPEN, ECHO_COUNTS, ECHO_ON, Bits, Learned, ends
+from journal import ECHO_COUNTS, ECHO_ON, PROBE_COUNTS, PROBE_OPEN, Bits, Learned, ends
 from messages import Locator
 
-from explaining.texts import address, counted, duration, family, placed, utc
+from explaining.texts import address, duration, family, placed, utc
 
 UNTOLD = 0xFFFFFFFF
 ACTIONS = {0: "No-Action", 1: "Natively-Forward", 2: "Send-Map-Request", 3: "Drop/No-Reason", 4: "Drop/Policy-Denied",
@@ -24,7 +24,7 @@ class State(NamedTuple):
             return ""
         if not self.whole:
             return "a locator of lesser priority is used before it"
-        return f"{self.part} of {counted(self.whole, 'share')} of the flows"
+        return "all flows" if self.part == self.whole else f"{self.part} of {self.whole} shares of the flows"
 
 
 def origin(play, entry):

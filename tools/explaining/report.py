@@ -13,8 +13,7 @@ END = re.compile(r"end frames=(\d+) written=(\d+) entries=(\d+)")
 
 
 class Line(NamedTuple):
-    """A line of a frame: its number, the journal's length by which it was decided, its verdict, and the whole."""
-    number: int
+    """A line of a frame: the journal's length by which it was decided, its verdict, and the whole."""
     known: int
     verdict: str
     text: str
@@ -40,8 +39,8 @@ def command_of(program):
 
 def parsed(text):
     if text[:1].isdigit():
-        number, _, known, verdict = text.split(" ", 3)
-        return Line(int(number), int(known[2:]), verdict, text)
+        _, _, known, verdict = text.split(" ", 3)
+        return Line(int(known[2:]), verdict, text)
     end = END.fullmatch(text)
     return End(text, int(end[2]), int(end[3])) if end else End(text)
 

@@ -1,12 +1,14 @@
 """Packets to the router's own locators on port 4341: what comes out of a tunnel, or why nothing does."""
-from lisp import ECHO, NONCE, header_of
+from journal import MOST_ECHOES, SOLICITED, Solicited
+from lisp import ECHO, NONCE, header_of, is_ahead, newer
 from messages import Eid
 from wire import Packet, Refused
 
 from explaining.leaving import site_line
 from explaining.mappings import mapping_lines
 from explaining.packets import MARKS, lisp_text, packet_text
-from explaining.texts import address, placed
+from explaining.requests import wanting
+from explaining.texts import address, family, placed
 
 
 def payload_of(packet):
@@ -57,11 +59,35 @@ def nonce_lines(play, octets, header, outer, moment):
     return [f"{address(outer)} sends a packet without {asked}"]
 
 
+def old_lines(play, header, home, outer, moment):
+    """What is done where the sender of a packet knows an old version of the site's prefix."""
+    if header.dest_version == 0 or not newer(play.site.versions[home], header.dest_version):
+        return []
+    text = f"{address(outer)} knows an old version of {placed(home)} (RFC 9302, section 7.1): "
+    if play.site.ours(len(outer)) is None:
+        return [text + f"no SMR goes to it, since no own locator of {family(len(outer))} is up"]
+    if play.journal.may_solicit(moment, [(outer, home)]):
+        return [text + "an SMR goes to it"]
+    made = play.journal.younger(Solicited, SOLICITED, moment)
+    last = next((entry for entry in reversed(made) if (entry.address, entry.eid) == (outer, home)), None)
+    return [text + (f"no SMR goes to it, since one did at {play.maker(last)}, less than 10 s before" if last else
+                    f"no SMR goes to it, since {MOST_ECHOES:,} went out within 10 s")]
+
+
+def newer_lines(play, header, known, moment):
+    """What is done where the sender of a packet has a newer version of its own prefix than was learned."""
+    if not known or known.fixed or not is_ahead(header.source_version, known.mapping.version):
+        return []
+    why = wanting(play, known.mapping.eid, moment)
+    return [f"the site of {placed(known.mapping.eid)} has a newer version (RFC 9302, section 7.2): "
+            + (why or "a Map-Request for it goes to the resolver")]
+
+
 def told_lines(scene, octets, header, home, known, outer):
     """What a delivered packet tells the router."""
     play, moment = scene.play, scene.moment
     return (bits_lines(play, header, known, outer, moment) + nonce_lines(play, octets, header, outer, moment)
-            or ["nothing"])
+            + old_lines(play, header, home, outer, moment) + newer_lines(play, header, known, moment) or ["nothing"])
 
 
 def sections(scene, packet):
