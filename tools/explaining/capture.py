@@ -130,20 +130,17 @@ def read(octets, way):
 
 
 def frames_of(octets, way, site):
-    """The frames as they come to the router, up to the capture's fault where it has one."""
+    """The frames as they come to the router; the capture's fault comes when it is due."""
     least, number = split_size(site) if way.split else len(octets), 0
-    try:
-        for whole, (moment, link, frame) in enumerate(read(octets, way), 1):
-            pair = halves(site, link, frame) if len(frame) > least else None
-            if pair is None:
-                number += 1
-                yield Frame(number, moment, link, frame, whole, 0)
-                continue
-            for half, one in enumerate(pair, 1):
-                number += 1
-                yield Frame(number, moment, link, one, whole, half)
-    except CaptureFault:
-        return
+    for whole, (moment, link, frame) in enumerate(read(octets, way), 1):
+        pair = halves(site, link, frame) if len(frame) > least else None
+        if pair is None:
+            number += 1
+            yield Frame(number, moment, link, frame, whole, 0)
+            continue
+        for half, one in enumerate(pair, 1):
+            number += 1
+            yield Frame(number, moment, link, one, whole, half)
 
 
 def frames_until(octets, way, moment):

@@ -12,7 +12,7 @@ from explaining.capture import cut, frames_of, octets_of, settled, way_of
 from explaining.moments import Asking, place_of
 from explaining.play import Play
 from explaining.report import Report
-from explaining.texts import Differs, Fault
+from explaining.texts import Differs, Fault, Refused
 
 DIFFERS, WRONG = 1, 2
 
@@ -105,7 +105,7 @@ class Run:
                 text = next(report.lines()).text
             if text != f"settings {fault}":
                 raise Differs(f"proved {text}\nplain  settings {fault}") from None
-            raise Fault(f"the settings are refused: {text}") from None
+            raise Refused(f"the settings are refused: {text}") from None
 
     def report(self, path):
         return Report(self.words.program, self.words.settings, path, self.way)
@@ -114,11 +114,13 @@ class Run:
         """The router behind so many of the capture's frames (None for all), and what is seen of each step."""
         path = self.path if count is None else cut(self.path, self.octets, self.way, count, self.folder)
         play = Play(self.site, self.tell)
-        with self.report(path) as report:
-            for step in play.steps(frames_of(octets_of(path), self.way, self.site), report.lines()):
-                see(play, step)
-        if self.tell:
-            self.tell("")
+        try:
+            with self.report(path) as report:
+                for step in play.steps(frames_of(octets_of(path), self.way, self.site), report.lines()):
+                    see(play, step)
+        finally:
+            if self.tell:
+                self.tell("")
         return play
 
 

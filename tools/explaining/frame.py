@@ -1,5 +1,5 @@
 """A frame explained: what it is, which rule settled it, and all that the rule rests on."""
-from wire import Packet, number, ones_sum
+from wire import Packet, Refused, link_payload, number, ones_sum
 
 from explaining import control, leaving, tunnels
 from explaining.entries import entry_text
@@ -28,6 +28,17 @@ class Scene:
 # Refused frames.
 
 
+def bases(frame):
+    """Where the packet of a frame begins, and one inside that packet, of a tunnel or of a message."""
+    try:
+        _, place, octets = link_payload(frame.link, frame.octets)
+        yield place
+        behind = place + Packet(octets, place).at + 8
+    except Refused:
+        return
+    yield from (base for base in (behind + 8, behind + 4) if base < len(frame.octets))
+
+
 def wrong_value(frame, layer, place, why):
     """What stands in a field beside what should, where that is one number."""
     octets = frame.octets
@@ -37,9 +48,9 @@ def wrong_value(frame, layer, place, why):
         right = 0xFFFF - ones_sum(header[:10] + bytes(2) + header[12:])
         return [f"the header's sum would be {right:04x}"]
     if (layer, why) == ("ip", "total-length"):
-        is_v4 = octets[place - 2] >> 4 == 4
-        start, more = (place - 2, 0) if is_v4 else (place - 4, 40)
-        return [f"it says {counted(more + number(octets, place, 2), 'octet')} of packet, and the frame has "
+        start = next(base for base in bases(frame) if place - base == {4: 2, 6: 4}.get(octets[base] >> 4))
+        header = 40 if octets[start] >> 4 == 6 else 0
+        return [f"it says {counted(header + number(octets, place, 2), 'octet')} of packet, and the frame has "
                 f"{counted(len(octets) - start, 'octet')} there"]
     if (layer, why) == ("udp", "udp-checksum"):
         return ["where the capturing machine sent the packet itself, checksum offload may be the cause"]
@@ -51,11 +62,10 @@ def refusal_sections(scene):
     layer, place, why = scene.verdict.split(" ")[3:6]
     octets, at = scene.step.frame.octets, int(place)
     field, size, section = FIELDS[layer, why]
-    if layer == "ip" and why in ("version", "total-length") and at < len(octets):
-        size = 1 if why == "version" else 2
     there = octets[at:at + size]
-    lines = [f"octet {at} of the frame, counted from 0: {field} ({section})"]
-    lines.append(f"there stands {octets_text(there)}" if there else f"the frame ends there, behind {counted(len(octets), 'octet')}")
+    lines = [f"octet {at} of the frame, counted from 0: {field} ({section})",
+             f"there stands {octets_text(there)}" if there else
+             f"the frame ends there, behind {counted(len(octets), 'octet')}"]
     if why == "short" and there:
         lines.append(f"the frame's octets or those of its datagram end too soon for it: the frame has "
                      f"{counted(len(octets), 'octet')}")

@@ -52,7 +52,9 @@ def nearest_lines(play, eid, moment):
     for iid in sorted({one.iid for one in learned} - {eid.iid}):
         entry = play.journal.in_force(moment, eid._replace(iid=iid))
         if entry:
-            lines.append(f"in another instance: {placed(entry.mapping.eid)}, {origin(play, entry)}")
+            vlans = listed(str(vlan) for vlan, one in sorted(play.site.attachments.items()) if one == iid)
+            lines.append(f"in another instance: {placed(entry.mapping.eid)}, {origin(play, entry)}; "
+                         + (f"of that instance is VLAN {vlans}" if vlans else "no VLAN is of that instance"))
     covering = [entry for one, entry in learned.items() if one.covers(eid)]
     for entry in sorted(covering, key=lambda entry: -entry.mapping.eid.length):
         if entry.mapping.ttl == 0:

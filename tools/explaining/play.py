@@ -2,6 +2,7 @@
 import time
 from typing import NamedTuple
 
+from captures import CaptureFault
 from journal import Asked, Probed, Retried, Solicited
 from plain import frame_line
 from router import Router
@@ -9,7 +10,7 @@ from router import Router
 from explaining.capture import Frame
 from explaining.kept import Kept
 from explaining.report import End, Line
-from explaining.texts import Differs, Fault, utc
+from explaining.texts import Differs, utc
 
 SETTINGS, A_SECOND = 0, None
 WRITING = "encapsulated ", "delivered ", "native", "control request "
@@ -41,7 +42,7 @@ class Play:
         self.router = Router(site)
         self.router.journal = Kept(self.router.journal)
         self.origins = [SETTINGS] * len(self.journal)
-        self.moment = self.latest = self.end = None
+        self.moment = self.latest = self.fault = None
         self.frames = self.written = self.taken_number = 0
         self.indexes = {}
         self.tell, self.told = tell, time.monotonic()
@@ -60,9 +61,9 @@ class Play:
         """The frames with their lines. The journal is as it was before each frame that changed it, and behind it
         where the next one is asked for; `work` brings it before any other one."""
         line = next(lines)
-        for frame in frames:
-            if not isinstance(line, Line):
-                break
+        for frame in self.until_fault(frames):
+            if isinstance(line, End):
+                raise Differs(f"proved {line.text}\nplain  there is a frame {frame.number}")
             following = next(lines)
             if self.moment is None:
                 self.come_to(frame.moment)
@@ -73,6 +74,13 @@ class Play:
             self.settle(step)
             line = following
         self.close(line)
+
+    def until_fault(self, frames):
+        """The frames up to the capture's fault, which is kept."""
+        try:
+            yield from frames
+        except CaptureFault as fault:
+            self.fault = f"capture {fault}"
 
     def settle(self, step):
         """Takes a frame that changed the journal, unless it was taken."""
@@ -113,14 +121,13 @@ class Play:
 
     def close(self, last):
         """Holds the last line against what was played."""
-        if not isinstance(last, End):
-            return
-        self.end = last
-        if last.text.split(" ")[0] not in ("end", "capture"):
-            raise Fault(f"the program says: {last.text}")
+        if isinstance(last, Line) or last.text.split(" ")[0] != (self.fault or "end").split(" ")[0]:
+            raise Differs(f"proved {last.text}\nplain  {self.fault or f'the capture ends behind frame {self.frames}'}")
+        if self.fault not in (None, last.text):
+            raise Differs(f"proved {last.text}\nplain  {self.fault}")
         if self.latest is not None:
             self.come_to(self.latest)
-        self.need_known(last.entries, "at the end", last.text)
+        self.need_known(last.known, "at the end", last.text)
         written = self.written + sum(len(self.journal.of(kind)) for kind in SENT)
         if last.written not in (None, written):
             raise Differs(f"proved {last.text}\nplain  written={written}")
@@ -152,6 +159,5 @@ class Play:
         return self.made_by(self.index_of(entry))
 
     def fault_text(self):
-        """That the capture has a fault, where the program says so."""
-        is_whole = self.end is None or self.end.text.startswith("end ")
-        return "" if is_whole else f", up to its fault: {self.end.text}"
+        """That the capture has a fault, where it has one."""
+        return f", up to its fault: {self.fault}" if self.fault else ""

@@ -32,8 +32,10 @@ class End(NamedTuple):
 
 def command_of(program):
     """How the program is called: as the script does it, with help on standard error."""
-    if program is None or os.path.exists(SCRIPT) and os.path.samefile(program, SCRIPT):
+    if program is None or os.path.exists(program) and os.path.samefile(program, SCRIPT):
         return [SCRIPT]
+    if not os.path.isfile(program) or not os.access(program, os.X_OK):
+        raise Fault(f"--program {program} is no file that can be run")
     return [sys.executable, "-I", "-S", "-B", "-X", "utf8", HELP, os.path.abspath(program)]
 
 
@@ -50,11 +52,8 @@ class Report:
 
     def __init__(self, program, settings, capture, way):
         words = ["replay", "--settings", settings, "--in", capture, "--out", os.devnull, *way.words()]
-        try:
-            self.run = subprocess.Popen([*command_of(program), *words], stdin=subprocess.DEVNULL,
-                                        stdout=subprocess.PIPE, text=True, bufsize=1 << 16)
-        except OSError as error:
-            raise Fault(f"the program can't be run: {error.strerror}") from None
+        self.run = subprocess.Popen([*command_of(program), *words], stdin=subprocess.DEVNULL, stdout=subprocess.PIPE,
+                                    text=True, bufsize=1 << 16)
 
     def __enter__(self):
         return self

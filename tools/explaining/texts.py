@@ -11,6 +11,10 @@ class Fault(Exception):
     """Why nothing is explained: a sentence, and what to do."""
 
 
+class Refused(Fault):
+    """The settings are refused, as the proved program says too."""
+
+
 class Differs(Exception):
     """The plain router says otherwise than the proved program: both lines."""
 
