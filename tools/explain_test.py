@@ -21,13 +21,14 @@ sys.path.insert(0, os.path.join(TOP, "crosscheck"))
 
 import compare  # noqa: E402
 import nonces  # noqa: E402
+import settings as rules  # noqa: E402
 from makers import settings  # noqa: E402
 from makers_ng import written  # noqa: E402
 from wire import udp_packet  # noqa: E402
 
 from explaining import cache, frame, listing  # noqa: E402
 from explaining.command import Run  # noqa: E402
-from explaining.texts import Refused  # noqa: E402
+from explaining.texts import Refused, address  # noqa: E402
 
 ROUNDS, EVERY = 20, 100
 START = 1_700_000_000
@@ -207,13 +208,37 @@ def words_of(program, settings, capture, **more):
     return argparse.Namespace(program=program, settings=settings, capture=capture, **given)
 
 
+def need_coherent(step, found):
+    """What sections say of a frame must be what its line and its entries say."""
+    verdict, told = step.line.verdict, {}
+    for label, lines in found:
+        told.setdefault(label, []).extend(lines)
+    entries = [line.split(" ", 2)[1] for line in told["journal"]]
+    facts = [("a request", any(" goes to the resolver" in line for line in [*told.get("request", ()), *told.get("tells", ())]),
+              not verdict.startswith("control") and "Asked" in entries),
+             ("an SMR", any(line.endswith("an SMR goes to it") for line in told.get("tells", ())), "Solicited" in entries)]
+    if verdict.startswith("control reply"):
+        facts.append(("learned", sum(": learned" in line for line in told["records"]), entries.count("Learned")))
+    if verdict.startswith("control solicit"):
+        facts.append(("asked", sum(line.endswith("it is asked for again") for line in set(told["named"])),
+                      entries.count("Asked")))
+    if verdict.startswith("encapsulated"):
+        facts.append(("locator", told["choice"][-1].count(address(rules.address(verdict.split(" ")[2]))), 1))
+    if verdict.startswith("delivered"):
+        tells = told["tells"]
+        facts += [("bits", any("tell that" in line for line in tells), "Bits" in entries),
+                  ("echo", any(" gives the echo" in line for line in tells), "EchoHeard" in entries)]
+    wrong = [(name, said, is_so) for name, said, is_so in facts if said != is_so]
+    if wrong:
+        raise AssertionError(f"{wrong} in {step.line.text}: {found}")
+
+
 def explained(words, folder):
     """How many frames of a capture are explained; at the end the map-cache and the journal are."""
     counts, last = cache.Counts(), []
 
     def see(play, step):
-        if not frame.explained(play, step):
-            raise AssertionError(step)
+        need_coherent(step, frame.sections(play, step))
         counts.see(play, step)
         last[:] = [step.frame]
         if step.frame.number % EVERY == 0:

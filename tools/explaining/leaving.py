@@ -8,8 +8,7 @@ from explaining.packets import has_ports, ports_of
 from explaining.requests import earlier, wanting
 from explaining.texts import address, counted, family, placed, prefix
 
-MOST = 1500
-LISTED = 6
+MOST, LISTED, LISP_PORTS = 1500, 6, (4341, 4342)
 
 
 def listed(texts):
@@ -139,9 +138,21 @@ def mapped_sections(scene, entry, packet):
                        f"{MOST - size + len(packet.octets):,} fit"]
 
 
+def lisp_lines(site, packet):
+    """That a packet to a LISP port isn't to the router."""
+    if packet.protocol != 17 or not has_ports(packet) or ports_of(packet)[1] not in LISP_PORTS:
+        return []
+    own = listed(address(one.address) for one in site.locators)
+    return [f"{address(packet.dest)}, to whose UDP port {ports_of(packet)[1]} the packet goes, is no own locator, as {own} "
+            f"{'is' if len(site.locators) == 1 else 'are'}; so the packet is taken for one of the site"]
+
+
 def sections(scene, vlan, packet):
     """What a packet of the site meets, in the order in which it is judged."""
     play, site, moment = scene.play, scene.play.site, scene.moment
+    lines = lisp_lines(site, packet)
+    if lines:
+        yield "to", lines
     yield "instance", instance_lines(site, vlan)
     iid = site.attachments.get(vlan)
     if iid is None:

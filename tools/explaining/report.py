@@ -58,10 +58,14 @@ class Report:
     def __enter__(self):
         return self
 
-    def __exit__(self, *_):
-        self.run.stdout.close()
-        if self.run.poll() is None:
+    def __exit__(self, fault, *_):
+        """Lets the program end, with what it tells of that on standard error; behind a fault it is ended."""
+        if fault:
             self.run.terminate()
+        else:
+            for _ in self.run.stdout:
+                pass
+        self.run.stdout.close()
         self.run.wait()
 
     def lines(self):
