@@ -163,6 +163,7 @@ def worked(program, folder):
             raise AssertionError(f"frame {number}: status {status}, {error}")
         need_all(f"frame {number}", [(label, line.format(nonce=nonce)) for label, line in wanted], sections_of(text))
     caches(files)
+    cuts(files, os.path.join(folder, "cut"))
     refused(files, folder)
     return len(MADE)
 
@@ -180,6 +181,19 @@ def caches(files):
     if status or [line.split(": ")[1] for line in text.splitlines()] != [
             "the settings", "frame 1 at 2023-11-14 22:13:20 UTC", *2 * ["frame 2 at 2023-11-14 22:13:20.1 UTC"]]:
         raise AssertionError(text)
+
+
+def cuts(files, capture):
+    """Frames of a pcapng file behind which it is cut, of which large ones are halves of 764 and 756 octets."""
+    small, big = (udp_packet(HOST, DEST, (1000, 2000), bytes(size), False) for size in (0, 1472))
+    frames = [(START * 10**9 + i * 10**8, 101, octets) for i, octets in enumerate([small, big, small, big])]
+    compare.write_octets(capture, written(random.Random(1), frames).octets())
+    for number, split, wanted in (("3", "off", "raw IP, 28 octets"), ("3", "on", "raw IP, 756 octets; half 2 of frame 2 of the "
+                                  "capture, which was split (RFC 9300, section 7.1)")):
+        status, text, error = said("frame", number, "--split", split, *files[:3], capture, *files[4:])
+        if status:
+            raise AssertionError(error)
+        need_all(f"frame {number}, split {split}", [("frame", wanted)], sections_of(text))
 
 
 def refused(files, folder):

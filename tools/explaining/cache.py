@@ -123,8 +123,8 @@ def instance_lines(play, counts, iid, entries, moment):
     """The mappings of an instance, behind how many it may learn."""
     limit, journal = play.site.limit(iid), play.journal
     learned, opened = journal.learned_in(moment, iid), journal.open_in(moment, iid)
-    lines = ["", f"instance {iid}: {learned:,} learned of at most {limit.mappings:,}; {counted(opened, 'request')} open of at most "
-             f"{limit.requests:,}"]
+    lines = ["", f"instance {iid}: {learned:,} learned of at most {limit.mappings:,}; {counted(opened, 'request')} open "
+             f"of at most {limit.requests:,}"]
     for entry in entries:
         lines += mapping_lines(play, counts, entry, moment)
     return lines

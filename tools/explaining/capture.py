@@ -5,6 +5,7 @@ import os
 import shutil
 import stat
 import struct
+import tempfile
 from typing import NamedTuple
 
 from captures import CaptureFault, frames_in
@@ -111,7 +112,8 @@ def cut(path, octets, way, count, folder):
     end = next(itertools.islice(ends(octets), count - 1, None), len(octets))
     if end == len(octets):
         return path
-    copy = os.path.join(folder, "cut")
+    # Where it has the name of the capture, the line of progress names that.
+    copy = os.path.join(tempfile.mkdtemp(dir=folder), os.path.basename(path))
     with open(copy, "wb") as file:
         for at in range(0, end, PIECE):
             file.write(octets[at:min(end, at + PIECE)])

@@ -76,12 +76,6 @@ def positive(word):
 # The run.
 
 
-def tell(text):
-    """Tells how far it is, on one line of a terminal."""
-    sys.stderr.write(f"\r\x1b[Kexplain: {text}" if text else "\r\x1b[K")
-    sys.stderr.flush()
-
-
 class Run:
     """The files of a question, and the router that answers it."""
 
@@ -90,7 +84,6 @@ class Run:
         self.path = settled(words.capture, folder)
         self.octets = octets_of(self.path)
         self.way = way_of(self.octets, words.capture, words.format, words.interfaces, words.split == "on")
-        self.tell = tell if sys.stderr.isatty() else None
         self.site = self.site_of(words.settings)
 
     def site_of(self, path):
@@ -113,14 +106,10 @@ class Run:
     def played(self, count, see):
         """The router behind so many of the capture's frames (None for all), and what is seen of each step."""
         path = self.path if count is None else cut(self.path, self.octets, self.way, count, self.folder)
-        play = Play(self.site, self.tell)
-        try:
-            with self.report(path) as report:
-                for step in play.steps(frames_of(octets_of(path), self.way, self.site), report.lines()):
-                    see(play, step)
-        finally:
-            if self.tell:
-                self.tell("")
+        play = Play(self.site)
+        with self.report(path) as report:
+            for step in play.steps(frames_of(octets_of(path), self.way, self.site), report.lines()):
+                see(play, step)
         return play
 
 

@@ -32,7 +32,8 @@ def message_text(found):
     word = "an Encapsulated Control Message with " * (port is not None)
     more = f", {counted(left, 'octet')} behind it" if left else ""
     if isinstance(message, Request):
-        kind = "Map-Request" + " with P, a probe" * message.probe + " with S, an SMR" * (message.solicit and not message.probe)
+        is_smr = message.solicit and not message.probe
+        kind = "Map-Request" + " with P, a probe" * message.probe + " with S, an SMR" * is_smr
         return f"{word}{kind}, nonce {message.nonce:016x}, {counted(len(message.eids), 'EID')}{more}"
     kind = "Map-Reply" + " with P, to a probe" * message.probe
     return f"{word}{kind}, nonce {message.nonce:016x}, {counted(len(message.records), 'record')}{more}"
@@ -129,7 +130,8 @@ def home_lines(site, eids):
     lines = []
     for eid in eids:
         home = site.home(eid)
-        lines.append(f"{placed(eid)}: " + (f"in the site's {placed(home)}" if home else "no EID prefix of the site covers it"))
+        where = f"in the site's {placed(home)}" if home else "no EID prefix of the site covers it"
+        lines.append(f"{placed(eid)}: {where}")
     return lines or ["none"]
 
 

@@ -109,8 +109,8 @@ def header_lines(play, to, moment):
     if wish is not None:
         return [f"N gives back the nonce {wish:06x}, which {address(to)} wants to see (RFC 9300, section 10.1)"]
     if echo:
-        return [f"N and E ask {address(to)} to echo {echo.start.nonce:06x}, since {play.maker(echo.start)} (RFC 9300, section "
-                "10.1)"]
+        return [f"N and E ask {address(to)} to echo {echo.start.nonce:06x}, since {play.maker(echo.start)} (RFC 9300, "
+                "section 10.1)"]
     return []
 
 
@@ -133,8 +133,8 @@ def mapped_sections(scene, entry, packet):
         yield "header", lines
     size = (36 if len(locator.address) == 4 else 56) + len(packet.octets)
     if scene.verdict.startswith("drop 20"):
-        yield "size", [f"{counted(len(packet.octets), 'octet')} and the {size - len(packet.octets)} of the tunnel's headers "
-                       f"over {family(len(locator.address))} are {size:,}, more than {MOST:,}; "
+        yield "size", [f"{counted(len(packet.octets), 'octet')} and the {size - len(packet.octets)} of the tunnel's "
+                       f"headers over {family(len(locator.address))} are {size:,}, more than {MOST:,}; "
                        f"{MOST - size + len(packet.octets):,} fit"]
 
 

@@ -4,8 +4,8 @@ from wire import Packet, Refused, link_payload, number
 
 from explaining.texts import address, counted, family, octets_text
 
-PROTOCOLS = {1: "ICMP", 2: "IGMP", 4: "IPv4 in IP", 6: "TCP", 17: "UDP", 41: "IPv6 in IP", 47: "GRE", 50: "ESP", 58: "ICMPv6",
-             89: "OSPF", 132: "SCTP"}
+PROTOCOLS = {1: "ICMP", 2: "IGMP", 4: "IPv4 in IP", 6: "TCP", 17: "UDP", 41: "IPv6 in IP", 47: "GRE", 50: "ESP",
+             58: "ICMPv6", 89: "OSPF", 132: "SCTP"}
 MARKS = ("Not-ECT", "ECT(1)", "ECT(0)", "CE")
 ETHERNET, TAG = 1, 0x8100
 

@@ -1,5 +1,4 @@
 """The plain router over the frames and seconds that changed the journal, held against the proved program's lines."""
-import time
 from typing import NamedTuple
 
 from captures import CaptureFault
@@ -15,7 +14,6 @@ from explaining.texts import Differs, utc
 SETTINGS, A_SECOND = 0, None
 WRITING = "encapsulated ", "delivered ", "native", "control request "
 SENT = Asked, Retried, Probed, Solicited
-TOLD_EVERY = 1
 
 
 class Step(NamedTuple):
@@ -38,14 +36,13 @@ class Taken(NamedTuple):
 class Play:
     """A router whose journal is brought to where a question stands."""
 
-    def __init__(self, site, tell=None):
+    def __init__(self, site):
         self.router = Router(site)
         self.router.journal = Kept(self.router.journal)
         self.origins = [SETTINGS] * len(self.journal)
         self.moment = self.latest = self.fault = None
         self.frames = self.written = self.taken_number = 0
         self.indexes = {}
-        self.tell, self.told = tell, time.monotonic()
 
     @property
     def journal(self):
@@ -69,7 +66,6 @@ class Play:
                 self.come_to(frame.moment)
             step = Step(frame, line, following.known)
             self.frames, self.latest = self.frames + 1, frame.moment
-            self.show_progress()
             yield step
             self.settle(step)
             line = following
@@ -131,11 +127,6 @@ class Play:
         written = self.written + sum(len(self.journal.of(kind)) for kind in SENT)
         if last.written not in (None, written):
             raise Differs(f"proved {last.text}\nplain  written={written}")
-
-    def show_progress(self):
-        if self.tell and self.frames % 4096 == 0 and time.monotonic() - self.told > TOLD_EVERY:
-            self.told = time.monotonic()
-            self.tell(f"{self.frames:,} frames")
 
     # Where entries come from.
 

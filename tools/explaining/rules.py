@@ -4,12 +4,13 @@ ROUTER = "this router's choice"
 RULES = {
     "own": ("the source is an own locator: the router sent the packet itself", ROUTER),
     "local": ("the destination is in an EID prefix of the site, so the packet needs no tunnel", "RFC 9300, section 6"),
-    "encapsulated": ("the longest mapping of the map-cache that covers the destination has a locator that can be used, so the "
-                     "ITR encapsulates the packet", "RFC 9300, sections 5.3 and 6"),
-    "delivered": ("the ETR decapsulates the packet: its destination is an EID of the site", "RFC 9300, sections 4.2 and 5.3"),
+    "encapsulated": ("the longest mapping of the map-cache that covers the destination has a locator that can be used, so "
+                     "the ITR encapsulates the packet", "RFC 9300, sections 5.3 and 6"),
+    "delivered": ("the ETR decapsulates the packet: its destination is an EID of the site",
+                  "RFC 9300, sections 4.2 and 5.3"),
     "native": ("the mapping has no locators and ACT 1, Natively-Forward", "RFC 9301, section 5.4"),
-    "control reply": ("the nonce of the Map-Reply is that of a Map-Request that is outstanding, and a record covers its EID",
-                      "RFC 9301, section 5.3"),
+    "control reply": ("the nonce of the Map-Reply is that of a Map-Request that is outstanding, and a record covers its "
+                      "EID", "RFC 9301, section 5.3"),
     "control request": ("the ETR answers a Map-Request for its EID prefixes", "RFC 9301, section 5.5"),
     "control solicit": ("an SMR, a Map-Request with S: the mappings that it names are asked for again",
                         "RFC 9301, section 6.1"),
@@ -50,8 +51,8 @@ FIELDS = {
     ("ip", "short"): ("the IP header", 20, "RFC 791, section 3.1; RFC 8200, section 3"),
     ("ip", "version"): ("the Version, the first four bits, which is neither 4 nor 6", 1, "RFC 791, section 3.1"),
     ("ip", "header-length"): ("the IHL, the last four bits, which is less than 5", 1, "RFC 791, section 3.1"),
-    ("ip", "total-length"): ("the Total Length (IPv4) or Payload Length (IPv6), which the frame's octets don't have, or which is "
-                             "less than the header", 2, "RFC 791, section 3.1; RFC 8200, section 3"),
+    ("ip", "total-length"): ("the Total Length (IPv4) or Payload Length (IPv6), which the frame's octets don't have, or "
+                             "which is less than the header", 2, "RFC 791, section 3.1; RFC 8200, section 3"),
     ("ip", "checksum"): ("the Header Checksum, which is wrong", 2, "RFC 791, section 3.1"),
     ("udp", "short"): ("the UDP header", 8, "RFC 768"),
     ("udp", "udp-length"): ("the Length, which is less than 8 or more than the packet has", 2, "RFC 768"),
@@ -61,7 +62,8 @@ FIELDS = {
     ("message", "short"): ("a field of the message that needs more octets than are left", 8, "RFC 9301, section 5"),
     ("message", "message-type"): ("the Type, the first four bits, which is neither 1 (Map-Request), 2 (Map-Reply) nor 8 "
                                   "(Encapsulated Control Message)", 1, "RFC 9301, section 5.1"),
-    ("message", "authenticated"): ("the S bit, by which LISP-SEC data follow", 1, "RFC 9301, sections 5.4 and 5.8; RFC 9303"),
+    ("message", "authenticated"): ("the S bit, by which LISP-SEC data follow", 1,
+                                   "RFC 9301, sections 5.4 and 5.8; RFC 9303"),
     ("message", "afi"): ("the AFI, which isn't one that is read here: 1 (IPv4), 2 (IPv6), of an EID also 16387 (LCAF)", 2,
                          "RFC 9301, section 5; RFC 8060, section 3"),
     ("message", "lcaf-type"): ("the LCAF type, which isn't 2 (Instance ID)", 1, "RFC 8060, section 4.1"),
