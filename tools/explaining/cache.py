@@ -9,7 +9,7 @@ from wire import number, text_of
 from explaining.mappings import ACTIONS, lasting, locator_text, origin, states
 from explaining.packets import TAG
 from explaining.requests import open_text
-from explaining.texts import Differs, Fault, address, counted, duration, placed, prefix, seconds, utc
+from explaining.texts import Differs, Fault, address, counted, duration, prefix, seconds, utc
 from journal import ends
 
 VERDICT = "encapsulated "
@@ -68,6 +68,12 @@ def picked(words):
         wanted = Eid.of(eid.iid, octets, length)
         return words.iid in (None, eid.iid) and (eid.covers(wanted) or wanted.covers(eid))
     return is_picked
+
+
+def picking(words):
+    """By which words mappings and requests are picked."""
+    by = [word for word in (words.prefix, None if words.iid is None else f"--iid {words.iid}") if word is not None]
+    return f", picked by {' '.join(by)}" if by else ""
 
 
 # Facts, as JSON has them.
@@ -141,7 +147,7 @@ def lines(words, counts, play, frame, moment):
             "mappings": [mapping_fact(play, counts, entry, moment) for entry in live],
             "requests": [request_fact(play, entry) for entry in requests]}, indent=1)]
     told = [f"the map-cache behind frame {frame.number}, at {utc(moment)} ({seconds(moment)} s), n={len(journal)}: "
-            f"{counted(len(live), 'mapping')}, {counted(len(requests), 'open request')}"]
+            f"{counted(len(live), 'mapping')}, {counted(len(requests), 'open request')}" + picking(words)]
     for iid in sorted({entry.mapping.eid.iid for entry in live} | {entry.eid.iid for entry in requests}):
         told += instance_lines(play, counts, iid, [one for one in live if one.mapping.eid.iid == iid], moment)
         told += [f"  {open_text(play, one, moment)}" for one in requests if one.eid.iid == iid]

@@ -18,7 +18,10 @@ DIFFERS, WRONG = 1, 2
 
 
 class Words(argparse.ArgumentParser):
-    """A parser that tells a fault of the words in one sentence."""
+    """A parser that takes whole words, and tells a fault of them in one sentence."""
+
+    def __init__(self, **given):
+        super().__init__(allow_abbrev=False, **given)
 
     def error(self, message):
         self.exit(WRONG, f"explain: {message}\n{self.format_usage()}")
