@@ -76,7 +76,8 @@ address = "198.51.100.7"
 """
 RESOLVER = 'resolver = "203.0.113.9"\nnonces = ["0102030405060708"]\n'
 HOST, DEST, OWN, OTHER = (bytes(map(int, text.split("."))) for text in ("10.1.0.5", "10.2.0.9", "192.0.2.1", "198.51.100.7"))
-# Of frames that are made here: at once; 0.1 s later the reply, for a minute; 0.2 s later; two minutes later, twice.
+# Of frames that are made here: at once; 0.1 s later the reply, for a minute; 0.2 s later; two minutes later, twice, and
+# once more ten seconds behind that.
 MADE = {
     1: [("nearest", "in another instance: 10.2.0.0/16 of instance 7, static, of the settings; no VLAN is of that "
          "instance"),
@@ -91,6 +92,9 @@ MADE = {
     5: [("request", "no further Map-Request is made: a Map-Request for 10.2.0.9/32 of instance 0 is open since frame 4 at "
          "2023-11-14 22:15:20 UTC, 0.5 s ago, with nonce {nonce}; it was sent 1 time, goes again at the second 2023-11-14 "
          "22:15:21 UTC at the earliest, and is over at 2023-11-14 22:15:27 UTC")],
+    6: [("request", "a Map-Request for 10.2.0.9/32 of instance 0 goes to the resolver 203.0.113.9"),
+        ("request", "earlier: the Map-Request for 10.2.0.9/32 of instance 0 of frame 4 at 2023-11-14 22:15:20 UTC wasn't "
+         "answered, and was over at 2023-11-14 22:15:27 UTC")],
 }
 
 
@@ -151,10 +155,10 @@ def worked(program, folder):
     """Explains frames that are made here, each by a run of its own, and refuses wrong words and lines."""
     leaving = udp_packet(HOST, DEST, (1000, 2000), b"", False)
     ten = START * 10**9
-    moments = [ten, ten + 10**8, ten + 2 * 10**8, ten + 120 * 10**9, ten + 1205 * 10**8]
+    moments = [ten, ten + 10**8, ten + 2 * 10**8, ten + 120 * 10**9, ten + 1205 * 10**8, ten + 130 * 10**9]
     settings, capture = (os.path.join(folder, name) for name in ("settings.toml", "capture.pcap"))
     compare.write(settings, RESOLVER + OTHER_INSTANCE)
-    compare.write_records(capture, 101, list(zip(moments, [leaving, reply(), leaving, leaving, leaving])))
+    compare.write_records(capture, 101, list(zip(moments, [leaving, reply(), *4 * [leaving]])))
     files = "--settings", settings, "--in", capture, "--program", program
     for number, wanted in MADE.items():
         status, text, error = said("frame", str(number), *files)
@@ -177,6 +181,10 @@ def caches(files):
         by = "frame 2 at 2023-11-14 22:13:20.1 UTC"
         if status or found != ([("10.2.0.0/16", by, sent, 64)] if sent else []):
             raise AssertionError(f"--at {at}: {found}")
+    status, text, _ = said("cache", "--json", *files)
+    wanted = [{"iid": 0, "eid": "10.2.0.9/32", "times": 1, "last": "frame 4 at 2023-11-14 22:15:20 UTC"}]
+    if status or json.loads(text)["unanswered"] != wanted:
+        raise AssertionError(text)
     status, text, _ = said("journal", "--at", "2", *files)
     if status or [line.split(": ")[1] for line in text.splitlines()] != [
             "the settings", "frame 1 at 2023-11-14 22:13:20 UTC", *2 * ["frame 2 at 2023-11-14 22:13:20.1 UTC"]]:
@@ -198,7 +206,7 @@ def cuts(files, capture):
 
 def refused(files, folder):
     """Wrong words and files have status 2 and one sentence; a program that says otherwise than the plain router 1."""
-    wrong = [("frame", "0", *files), ("frame", "6", *files), ("cache", "--at", "noon", *files), ("cache", "10.2", *files),
+    wrong = [("frame", "0", *files), ("frame", "7", *files), ("cache", "--at", "noon", *files), ("cache", "10.2", *files),
              ("frame", "1", *files[:3], os.path.join(folder, "none"), *files[4:]),
              ("frame", "1", files[0], files[3], *files[2:]), ("frame", "1", "--interfaces", "vlan", *files), ("lose",)]
     for words in wrong:

@@ -3,6 +3,7 @@ import json
 from collections import Counter
 
 import settings as rules
+from journal import OPEN, ends
 from messages import Eid
 from wire import number, text_of
 
@@ -10,7 +11,6 @@ from explaining.mappings import ACTIONS, lasting, locator_text, origin, states
 from explaining.packets import TAG
 from explaining.requests import open_text
 from explaining.texts import Differs, Fault, address, counted, duration, prefix, seconds, utc
-from journal import ends
 
 VERDICT = "encapsulated "
 
@@ -104,6 +104,19 @@ def request_fact(play, entry):
         "nonce": f"{entry.nonce:016x}", "sent": 1 + play.journal.times()[entry.nonce]}
 
 
+def unanswered(journal, moment, is_picked):
+    """By EID the Map-Requests that were over without an answer."""
+    found = {}
+    for entry in journal.unanswered().values():
+        if moment - entry.moment >= OPEN and is_picked(entry.eid):
+            found.setdefault(entry.eid, []).append(entry)
+    return found
+
+
+def unanswered_fact(play, eid, entries):
+    return {"iid": eid.iid, "eid": prefix(eid), "times": len(entries), "last": play.maker(entries[-1])}
+
+
 # Lines.
 
 
@@ -125,6 +138,11 @@ def mapping_lines(play, counts, entry, moment):
     return lines + [state_text(counts, mapping.eid, state) for state in states(play, entry, moment)]
 
 
+def unanswered_text(play, eid, entries):
+    return (f"  {prefix(eid)} was asked for {counted(len(entries), 'time')} without an answer, the last time by "
+            f"{play.maker(entries[-1])}")
+
+
 def instance_lines(play, counts, iid, entries, moment):
     """The mappings of an instance, behind how many it may learn."""
     limit, journal = play.site.limit(iid), play.journal
@@ -139,16 +157,20 @@ def instance_lines(play, counts, iid, entries, moment):
 def lines(words, counts, play, frame, moment):
     """The map-cache behind a frame, at a moment."""
     is_picked, journal = picked(words), play.journal
+    over = unanswered(journal, moment, is_picked)
     live = [entry for eid, entry in sorted(journal.live(moment).items()) if is_picked(eid)]
     requests = [entry for entry in journal.open_requests(moment).values() if is_picked(entry.eid)]
     if words.json:
         return [json.dumps({
             "frame": frame.number, "moment": seconds(moment), "utc": utc(moment), "entries": len(journal),
             "mappings": [mapping_fact(play, counts, entry, moment) for entry in live],
-            "requests": [request_fact(play, entry) for entry in requests]}, indent=1)]
+            "requests": [request_fact(play, entry) for entry in requests],
+            "unanswered": [unanswered_fact(play, eid, entries) for eid, entries in over.items()]}, indent=1)]
     told = [f"the map-cache behind frame {frame.number}, at {utc(moment)} ({seconds(moment)} s), n={len(journal)}: "
             f"{counted(len(live), 'mapping')}, {counted(len(requests), 'open request')}" + picking(words)]
-    for iid in sorted({entry.mapping.eid.iid for entry in live} | {entry.eid.iid for entry in requests}):
+    eids = [*(one.mapping.eid for one in live), *(one.eid for one in requests), *over]
+    for iid in sorted({eid.iid for eid in eids}):
         told += instance_lines(play, counts, iid, [one for one in live if one.mapping.eid.iid == iid], moment)
         told += [f"  {open_text(play, one, moment)}" for one in requests if one.eid.iid == iid]
+        told += [unanswered_text(play, eid, entries) for eid, entries in over.items() if eid.iid == iid]
     return told
