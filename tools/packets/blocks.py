@@ -122,9 +122,9 @@ def options_at(block, at):
     """Where each option of a block stands from a place on: its code, and the places of its value and of its end."""
     while at + 4 <= len(block.octets) - 4:
         code, size = block.numbers("HH", at)
-        need(at + 4 + size <= len(block.octets) - 4, f"the block at octet {block.place} has an option that doesn't fit")
         if code == END:
             return
+        need(at + 4 + size <= len(block.octets) - 4, f"the block at octet {block.place} has an option that doesn't fit")
         yield code, at + 4, at + 4 + size
         at += 4 + size + -size % 4
 

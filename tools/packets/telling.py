@@ -52,9 +52,9 @@ class Tally:
             self.add(MISSING if due else EXTRA, place_of(due, sent, described(packet.read()), ()))
 
     def take_turned(self, turned):
-        for greatest, due, sent in turned:
+        for greatest, number, moment, sent in turned:
             values = f"before {greatest}", f"behind {greatest}"
-            self.add(ORDER, place_of(due, sent, described(due.read()), values))
+            self.add(ORDER, Place(number, moment, number, sent, "", values))
 
     def end(self):
         self.take_turned(self.order.rest())
@@ -79,17 +79,17 @@ class Order:
 
     def turned(self, due, sent):
         """Of the pairs whose turn it is those that were sent behind one that was due later, which is told."""
-        heapq.heappush(self.waiting, (sent.number, due.number, due, sent))
+        heapq.heappush(self.waiting, (sent.number, sent.moment, due.number, due.moment))
         return list(self.until(sent.moment - self.within))
 
     def rest(self):
         return list(self.until(None))
 
     def until(self, moment):
-        while self.waiting and (moment is None or self.waiting[0][3].moment < moment):
-            _, number, due, sent = heapq.heappop(self.waiting)
+        while self.waiting and (moment is None or self.waiting[0][1] < moment):
+            sent, _, number, due_moment = heapq.heappop(self.waiting)
             if number < self.greatest:
-                yield self.greatest, due, sent
+                yield self.greatest, number, due_moment, sent
             self.greatest = max(self.greatest, number)
 
 
@@ -113,7 +113,8 @@ def place_lines(place, frames):
     due, sent = place.due and f"due {place.due} ({frames})", place.sent and f"sent {place.sent}"
     values = place.values and ": due {}, sent {}".format(*place.values)
     yield f"  {', '.join(filter(None, (due, sent)))}, {time_of(place.moment)}{values or ''}"
-    yield f"    {place.what}"
+    if place.what:
+        yield f"    {place.what}"
 
 
 def frames_text(place, frames):
