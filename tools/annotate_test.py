@@ -2,12 +2,12 @@
 """Holds the files of `annotate` against their captures and reports.
 
 usage: annotate_test.py PROGRAM [ROUNDS [SEED]]
-The comments of some examples are worked by hand. As many captures as there are rounds are made from a number, as pcap and
-as pcapng: of each new file the program must make the same report and the same output as of the one it is of, all blocks
-must be there as they were but for the comments, each comment must begin as its line does, and of the output each packet
-must be of a frame with its moment. Where tshark and capinfos are, they must read the files and find as many misses as the
-report has, and each colouring rule must be a filter. Files that don't belong together must be refused. It prints the
-count of each, and ends with status 1 where something differs.
+The comments of some examples are worked by hand. As many captures as there are rounds are made from a number, as pcap
+and as pcapng: of each new file the program must make the same report and the same output as of the one it is of, all
+blocks must be there as they were but for the comments, each comment must begin as its line does, and of the output
+each packet must be of a frame with its moment. Where tshark and capinfos are, they must read the files and find as
+many misses as the report has, and each colouring rule must be a filter. Files that don't belong together must be
+refused. It prints the count of each, and ends with status 1 where something differs.
 """
 import os
 import random
@@ -134,7 +134,8 @@ class Folder:
         return done.stdout, self.read("output") if os.path.exists(self.path("output")) else b""
 
     def annotate(self, *words):
-        done = subprocess.run([sys.executable, "-B", os.path.join(TOOLS, "annotate"), *words], capture_output=True, text=True)
+        done = subprocess.run([sys.executable, "-B", os.path.join(TOOLS, "annotate"), *words],
+                              capture_output=True, text=True)
         return done.returncode, done.stderr
 
     def annotate_files(self, capture_name, out, *words):
@@ -273,7 +274,8 @@ def try_tools(folder):
     failed += wrong("tshark, comments", list(comments_in(out)), texts)
     failed += wrong("tshark, misses", 6, len(tshark(out, "-Y", 'frame.comment contains "miss"')))
     said = subprocess.run(["capinfos", "-c", "-M", out], capture_output=True, text=True)
-    failed += wrong("capinfos", (0, True), (said.returncode, re.search(r"packets: +11$", said.stdout, re.M) is not None))
+    is_counted = re.search(r"packets: +11$", said.stdout, re.M) is not None
+    failed += wrong("capinfos", (0, True), (said.returncode, is_counted))
     with open(os.path.join(TOOLS, "wireshark", "colorfilters")) as file:
         # The first rule that is fulfilled gives the colour: a miss is also of the rule for all drops.
         rules = [line.split("@")[2] for line in file if line.startswith("@")]

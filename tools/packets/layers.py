@@ -105,8 +105,10 @@ def udp_fields(packet, at):
     """The fields of the UDP header at a place of a packet, and the size of the datagram that it says."""
     need(len(packet) >= at + 8)
     source, dest, said, checksum = struct.unpack_from(">HHHH", packet, at)
-    total = ones_sum(raw_addresses(packet) + struct.pack(">IHH", said, 0, UDP) + packet[at:at + said])
-    state = "none" if checksum == 0 else "right" if total == 0xFFFF else "wrong"
+    state = "none"
+    if checksum:
+        total = ones_sum(raw_addresses(packet) + struct.pack(">IHH", said, 0, UDP) + packet[at:at + said])
+        state = "right" if total == 0xFFFF else "wrong"
     return {"srcport": source, "dstport": dest, "checksum": state}, said
 
 

@@ -36,8 +36,8 @@ def noted(kept, comment):
 
 
 def enhanced(simple, packet, interface, comment):
-    """An enhanced packet block in the place of a simple one, which can't have a comment: at the moment that it has. Where
-    the clock of its interface doesn't come to that, the simple one stays."""
+    """An enhanced packet block in the place of a simple one, which can't have a comment: at the moment that it has.
+    Where the clock of its interface doesn't come to that, the simple one stays."""
     time = min(max(0, (packet.moment - interface.added * SECOND) * interface.units // SECOND), MOST_TIME)
     if not 0 <= time * SECOND // interface.units + interface.added * SECOND <= packet.moment:
         return simple.octets

@@ -24,11 +24,18 @@ class Reading(NamedTuple):
     rest: bytes
 
 
-def sizes_judged(sizes):
-    """Of several sizes of one thing, by how much each is beside the one that most have, or else the last."""
+def common_of(sizes):
+    """Of several sizes of one thing the one that most have, or else the last."""
+    *others, last = sizes.values()
+    if all(size == last for size in others):
+        return last
     counts = Counter(sizes.values())
-    last = list(sizes.values())[-1]
-    common = max(counts, key=lambda size: (counts[size], size == last))
+    return max(counts, key=lambda size: (counts[size], size == last))
+
+
+def sizes_judged(sizes):
+    """By how much each of several sizes of one thing is beside the common one."""
+    common = common_of(sizes)
     return {name: "fits" if size == common else f"{size - common:+} octets" for name, size in sizes.items()}
 
 
@@ -37,7 +44,7 @@ def tunnel_reading(fields, payload, sizes):
     need(len(payload) >= 8)
     inner, at, size = ip_fields(payload[8:])
     sizes["inner.len"] = 8 + size
-    (common, _), = Counter(sizes.values()).most_common(1)
+    common = common_of(sizes)
     need(8 + at <= common <= len(payload))
     fields |= named("inner", inner) | sizes_judged(sizes)
     return Reading(TUNNEL, fields, payload[:8], (), payload[8 + at:common])

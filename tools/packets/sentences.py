@@ -6,12 +6,16 @@ from reading import NONCES, TUNNEL, eids_of
 MOST_EIDS = 3
 # Of packets that leave the site: what is wrong, in which the EID with its instance may stand.
 LEAVING = {
-    9: "its hops ended on the way to {eid}", 10: "its VLAN, {vlan}, has no instance", 11: "its destination {dst} is a group",
+    9: "its hops ended on the way to {eid}", 10: "its VLAN, {vlan}, has no instance",
+    11: "its destination {dst} is a group",
     12: "its source {src} is in no prefix of the site{within}", 13: "no mapping covers {eid}",
-    14: "the mapping of {eid} has no locators, and action 0", 15: "the mapping of {eid} has no locators, and asks for a request",
-    16: "the mapping of {eid} has no locators, and says to drop", 17: "the mapping of {eid} has no locators, and drops by policy",
+    14: "the mapping of {eid} has no locators, and action 0",
+    15: "the mapping of {eid} has no locators, and the action to send a request",
+    16: "the mapping of {eid} has no locators, and the action to drop",
+    17: "the mapping of {eid} has no locators, and drops by policy",
     18: "the mapping of {eid} has no locators, since authentication failed",
-    19: "no locator of the mapping of {eid} can be used", 20: "to {eid} the tunnel packet would have more than 1,500 octets"}
+    19: "no locator of the mapping of {eid} can be used",
+    20: "to {eid} the tunnel packet would have more than 1,500 octets"}
 # Of packets to an own locator.
 ARRIVING = {
     2: "it came to own locator {dst}, and is no LISP", 3: "it came to own locator {dst}, and is an IPv4 fragment",
@@ -20,7 +24,8 @@ ARRIVING = {
     7: "its source version is older than that of the mapping of its source {inner_source}",
     8: "the mark of congestion of its tunnel can't be carried by the packet to {inner}",
     9: "its hops ended on the way to {inner}",
-    21: "its nonce {nonce} is of no open request and of no open probe", 22: "no record covers what request {nonce} asked for",
+    21: "its nonce {nonce} is of no open request and of no open probe",
+    22: "no record covers what request {nonce} asked for",
     23: "the probe {nonce} went to another locator than {src}", 24: "no reply address of it can be reached",
     25: "a Map-Reply in an encapsulated message"}
 WHY = {
@@ -54,7 +59,8 @@ def words_for(frame, settings):
         return {"vlan": frame.vlan}
     fields, reading = frame.reading.fields, frame.reading
     iid = settings.instances.get(frame.vlan) if settings else None
-    words = {"vlan": frame.vlan, "src": fields["ip.src"], "dst": fields["ip.dst"], "eid": eid_text(iid, fields["ip.dst"]),
+    words = {"vlan": frame.vlan, "src": fields["ip.src"], "dst": fields["ip.dst"],
+             "eid": eid_text(iid, fields["ip.dst"]),
              "within": "" if iid is None else f" in instance {iid}", "inner": "its EID", "inner_source": "EID",
              "nonce": fields.get(NONCES.get(reading.kind), "unknown")}
     if reading.kind == TUNNEL:
@@ -132,7 +138,8 @@ def sentence_of(verdict, frame, settings):
     """The verdict of a frame as a sentence, which begins with the report's own words for it."""
     words = words_for(frame, settings)
     if verdict.kind == "drop":
-        return drop_sentence(verdict, words, verdict.drop in ARRIVING and (verdict.drop != 9 or arrives(frame, settings)))
+        has_come = verdict.drop in ARRIVING and (verdict.drop != 9 or arrives(frame, settings))
+        return drop_sentence(verdict, words, has_come)
     return f"{verdict.kind}: {SENTENCES[verdict.kind](verdict, words, frame.reading)}"
 
 
