@@ -5,10 +5,12 @@ import stat
 import subprocess
 import threading
 
-from words import value_of
+from keys import key_sentence, value_sentence
+from pairs import value_of
 
 REPORT, TAIL, SECONDS = 1, 65_536, 3
-# The sentences, with the numbers that stand behind the word. A key may have one of its own, with N for its positions.
+# The sentences, with the numbers that stand behind the word. A key may have one of its own, with N for its positions;
+# what keys take, and what is meant by one that isn't known, stands in `keys`.
 SENTENCES = {
     "settings": {
         "not-toml": "the file isn't TOML",
@@ -16,9 +18,6 @@ SENTENCES = {
         "unknown-key": "this key isn't one that its table may have",
         "missing": "this key must be there, and isn't",
         "bad-value": "the value of this key isn't one that it takes",
-        "bad-value resolver": "it takes an address, of whose family an own locator is up",
-        "bad-value change.N.address": "it takes the address of an own locator",
-        "bad-value limit.N.iid": "it takes the instance of an attachment",
         "duplicate": "an earlier item of the list has the same address, VLAN, instance and prefix, second and address, or "
                      "instance",
         "too-many": "the list at this key has more items than it may have",
@@ -67,6 +66,8 @@ AUDITED = {
     "bad-magic": "the file doesn't begin as a capture in the pcap format does; of a pcapng file editcap -F nsecpcap "
                  "makes one",
 }
+# What is said of a key.
+OF_KEYS = {"bad-value": value_sentence, "unknown-key": key_sentence}
 # The words with which a last line of a status begins: an audit reads two captures.
 KINDS = {"settings": ("settings",), "capture": ("capture", "sent")}
 LINE = re.compile(rb"(?:^|\n)((?:settings|capture|sent) [^\n]*)\n$")
@@ -80,6 +81,10 @@ def sentence(line, words):
     word, *others = rest.split(" ")
     known = {**table(kind, words), **(AUDITED if is_audit(words) else {})}
     numbered = re.sub(r"\.\d+", ".N", rest)
+    of_key = OF_KEYS.get(word) if kind == "settings" and numbered not in known else None
+    said = of_key(rest.partition(" ")[2]) if of_key else None
+    if said:
+        return said
     try:
         return known.get(numbered, known.get(word, "")).format(*others) or None
     except IndexError:

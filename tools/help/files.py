@@ -3,8 +3,8 @@ import os
 import select
 import stat
 
+from pairs import value_of
 from text import shown
-from words import value_of
 
 REPORT = 1
 READ, WRITE = (os.O_RDONLY, os.R_OK), (os.O_WRONLY, os.W_OK)

@@ -2,9 +2,11 @@
 import json
 import re
 
+from keys import is_for_top
 from text import shown
+from toml_lines import fault_line
 
-MOST_SHOWN, MOST_JUDGED = 100, 1 << 20
+MOST_SHOWN = 100
 BLANK = re.compile(r"(?:[ \t\r\n]|#[^\n]*)*")
 SPACES = re.compile(r"[ \t]*")
 KEY = re.compile(r'[A-Za-z0-9_-]+|"(?:[^"\\\n]|\\.)*"|\'[^\'\n]*\'')
@@ -36,10 +38,14 @@ class Reader:
         self.text, self.wanted, self.at = text, wanted, 0
         self.line, self.counted = 1, 0
         self.lines, self.last = {}, {}
+        self.first = None
 
-    def note(self, path):
+    def count_lines(self):
         self.line += self.text.count("\n", self.counted, self.at)
         self.counted = self.at
+
+    def note(self, path):
+        self.count_lines()
         if path == self.wanted or self.wanted.startswith(path + "."):
             self.lines.setdefault(path, self.line)
 
@@ -71,6 +77,8 @@ class Reader:
 
     def table(self):
         """The path of the table whose header comes."""
+        self.count_lines()
+        self.first = self.first or self.line
         self.take("[")
         is_item = self.has("[")
         *front, name = self.key()
@@ -140,7 +148,8 @@ class Reader:
 
 
 def place_of(key, text):
-    """The line where a key is, and True; or where the nearest table begins that it is in, and False; or None."""
+    """The line where a key is, and True; or where the nearest table begins that it is in, and False; or None. Behind
+    these the line of the first table so far, or None."""
     reader = Reader(text, key)
     try:
         reader.read()
@@ -149,20 +158,7 @@ def place_of(key, text):
     if not reader.lines:
         return None
     nearest = max(reader.lines, key=len)
-    return reader.lines[nearest], nearest == key
-
-
-def fault_line(text):
-    """The line at which Python's own reader of TOML, where it has one, stops reading, or None."""
-    try:
-        import tomllib
-        tomllib.loads(text)
-    except ImportError:
-        return None
-    except ValueError as error:
-        found = re.search(r"line (\d+)", str(error))
-        return int(found.group(1)) if found else text.rstrip().count("\n") + 1
-    return None
+    return reader.lines[nearest], nearest == key, reader.first
 
 
 def line_text(name, text, number):
@@ -171,20 +167,24 @@ def line_text(name, text, number):
     return f"{shown(name)}:{number}: {shown(line) if line else ''}".rstrip()
 
 
-def key_texts(name, text, key, is_missing):
+def key_texts(name, text, word, key):
     """Where a key is, or where it should be, in a list."""
+    is_missing = word == "missing"
     place = place_of(key, text)
     if place is None:
         count = text.rstrip().count("\n") + 1
         return [f"{shown(name)}:{count}: it should be behind this line"] if is_missing else []
-    number, is_there = place
+    number, is_there, first = place
     more = "" if is_there or not is_missing else "  (it should be in the table that begins here)"
-    return [line_text(name, text, number) + more]
+    texts = [line_text(name, text, number) + more]
+    if word == "unknown-key" and is_there and first and is_for_top(key):
+        texts.append(f"move it up, before the first table: {line_text(name, text, first)}")
+    return texts
 
 
 def fault_texts(name, text):
     """Where a text is no TOML, in a list."""
-    number = fault_line(text) if len(text) <= MOST_JUDGED else None
+    number = fault_line(text)
     return [line_text(name, text, number)] if number else []
 
 
@@ -202,4 +202,4 @@ def place_texts(line, name):
         text = octets.decode()
     except UnicodeDecodeError as error:
         return [f"{shown(name)}:{octets.count(10, 0, error.start) + 1}: this line is no UTF-8"]
-    return key_texts(name, text, key[0], word == "missing") if key else fault_texts(name, text)
+    return key_texts(name, text, word, key[0]) if key else fault_texts(name, text)

@@ -3,13 +3,16 @@ import os
 
 from faults import is_audit, last_line, sentence
 from files import reasons
+from formats import format_sentence
+from pairs import value_of
 from places import place_texts
-from text import say, shown
-from words import forms, value_of, words_fault
+from text import TOP, shown, tell
+from words import forms, words_fault
 
-TOP = os.path.dirname(os.path.dirname(os.path.dirname(os.path.abspath(__file__))))
 REFUSED = {"settings": "the settings are refused", "capture": "the capture is refused"}
 USAGE, SETTINGS, CAPTURE, HOST, MEMORY, DIFFERS = range(1, 7)
+# The words of captures that may be of another format than the one by which they are read.
+FORMATS = "bad-magic", "cut-header", "cut-block"
 
 
 def usage_lines(program, words):
@@ -18,26 +21,31 @@ def usage_lines(program, words):
     return ([fault] if fault else []) + forms(words, TOP)
 
 
-def fault_lines(kind, status, program, words):
-    """The last line once more, a plain sentence, and for settings the place."""
-    line = last_line(kind, status, program, words)
-    if line is None:
-        return [REFUSED[kind] + "; the last line of the report says why"]
-    lines = [shown(line), sentence(line, words) or "docs/REPORT.md says more, at Statuses"]
-    if kind == "settings":
-        lines += place_texts(line, value_of("--settings", words))
-    elif is_audit(words):
-        name = "--sent" if line.startswith("sent ") else "--in"
-        lines.append(f"that is the file of {name}, {shown(value_of(name, words))}")
-    return lines
-
-
 def settings_lines(program, words):
-    return fault_lines("settings", SETTINGS, program, words)
+    """The last line once more, a plain sentence, and the place."""
+    line = last_line("settings", SETTINGS, program, words)
+    if line is None:
+        return [REFUSED["settings"] + "; the last line of the report says why"]
+    return [shown(line), *sentences(line, words), *place_texts(line, value_of("--settings", words))]
+
+
+def sentences(line, words):
+    """What a last line means, in a list."""
+    return [sentence(line, words) or "docs/REPORT.md says more, at Statuses"]
 
 
 def capture_lines(program, words):
-    return fault_lines("capture", CAPTURE, program, words)
+    """The last line once more, a plain sentence, which for another format says the words for it, and of an audit the
+    file."""
+    line = last_line("capture", CAPTURE, program, words)
+    if line is None:
+        other = format_sentence(value_of("--in", words), words)
+        return [REFUSED["capture"] + "; the last line of the report says why", *([other] if other else [])]
+    name = "--sent" if line.startswith("sent ") else "--in"
+    path = value_of(name, words)
+    other = format_sentence(path, words) if line.split(" ")[1] in FORMATS else None
+    lines = [shown(line), *([other] if other else sentences(line, words))]
+    return lines + ([f"that is the file of {name}, {shown(path)}"] if is_audit(words) else [])
 
 
 def host_lines(program, words):
@@ -63,13 +71,10 @@ LINES = {
 }
 
 
-def tell_end(status, program, words):
-    """Tells why a run failed, where it did and that can be said."""
+def tell_end(status, program, words, is_kept):
+    """Tells why a run failed, where it did and that can be said; and that an output was kept."""
     lines = LINES.get(os.WEXITSTATUS(status)) if os.WIFEXITED(status) else None
     if lines is None:
         return
-    try:
-        say("".join(line + "\n" if line.startswith(" ") else f"lispr: {line}\n" for line in lines(program, words)))
-    except Exception:
-        # Help never stands between a run and its status.
-        pass
+    kept = [f"--out {shown(value_of('--out', words))} stays as it was"] if is_kept else []
+    tell(lines(program, words) + kept)

@@ -11,6 +11,7 @@ import fcntl
 import os
 import pty
 import re
+import resource
 import shutil
 import signal
 import socket
@@ -37,6 +38,9 @@ from words import MAPPINGS, NUMBERS  # noqa: E402
 LOCATOR = '[[locator]]\naddress = "192.0.2.1"\n'
 OTHER, CHANGE = LOCATOR.replace("2.1", "2.2"), '[[change]]\nat = 1\naddress = "192.0.2.1"\nup = true\n'
 ATTACHED, LIMIT = "[[attachment]]\nvlan = 0\niid = 7\n", "[[limit]]\niid = 7\nmappings = 65536\nrequests = 1\n"
+MAPPING = '[[mapping]]\niid = 7\nprefix = "10.0.0.0/8"\n'
+# Of more than 4 MiB, in 180,002 lines.
+LONG = LOCATOR + 60_000 * "# a mapping, of which there are many, so that the file is long\n[[mapping]]\niid = 7\n"
 REPLAY = ["replay", "--settings", "s.toml", "--in", "i.pcap", "--out", "o.pcap"]
 AUDIT = ["audit", "--settings", "s.toml", "--in", "i.pcap", "--sent", "o.pcap"]
 wrong = []
@@ -101,9 +105,10 @@ def files():
 
 WORDS = [
     ([], "lispr show --in F"),
-    (["--help"], "docs/WORDS.md, and beside it SETTINGS.md and REPORT.md"),
-    (["-h"], "lispr trial N"),
-    (["replay", "--help"], "lispr trial N"),
+    (["show"], "docs/WORDS.md, and beside it SETTINGS.md and REPORT.md"),
+    (["help"], "lispr trial N"),
+    (["--version", "x"], "--version is no command"),
+    (["show", "--version"], "--version is no option of show"),
     (["replay"], "[--format classic|ng] [--interfaces none|vlan] [--split on|off]\n      [--workers W] [--round N]"),
     (["play"], "play is no command"),
     ([""], "'' is no command"),
@@ -114,6 +119,8 @@ WORDS = [
     (["show", "--in"], "--in has no value"),
     (["show", "--in", ""], "the value of --in is empty"),
     (["show", "--in", "-x"], "a file of that name is ./-x"),
+    (["show", "--in", "-"], "standard input is --in /dev/stdin, and a file of that name is ./-"),
+    ([*REPLAY[:-1], "-"], "a value doesn't begin with -: a file of that name is ./-"),
     (["show", "--in=x"], "the value is a word of its own, --in x"),
     (["show", "--out", "x"], "--out is no option of show"),
     (["show", "--", "x"], "-- is no option of show"),
@@ -176,6 +183,38 @@ def test_words():
     return len(WORDS)
 
 
+# Questions to the script.
+
+ASKED = [
+    (["--help"], ["lispr show --in F", "lispr trial N", "--split on|off ", "3 capture refused", "docs/WORDS.md"], []),
+    (["-h"], ["lispr audit --settings F", "lispr --version"], []),
+    (["show", "--help"], ["lispr show --in F", "--in F "], ["lispr trial", "--settings F", "--format"]),
+    (["replay", "--in", "-h", "x"], ["[--format classic|ng]", "--round N"], ["lispr show", "--sent"]),
+    (["trial", "-h"], ["lispr trial N"], ["options:"]),
+]
+
+
+def test_asked():
+    """Help and the version come on standard output, whether the program is built or not."""
+    with files() as folder:
+        for words, parts, others in ASKED:
+            for command in ([LISPR], HELP):
+                status, said, told = run([*command, *words], folder)
+                check((status, told) == (0, ""), words, status, told)
+                check(all(part in said.decode() for part in parts), words, said)
+                check(not any(part in said.decode() for part in others), words, said)
+        commit = run(["git", "describe", "--always", "--dirty", "--abbrev=12"], TOP)[1].decode().strip()
+        status, said, told = run([LISPR, "--version"], folder)
+        check((status, told) == (0, "") and re.fullmatch(rf"lispr {commit}, \S+\n", said.decode()), said, told)
+        for words in (["--help"], ["--version"]):
+            check(run([LISPR, *words], folder, **full(folder))[0] == 4, words, "on a full device")
+        with unbuilt(folder, "echo built >&2; exit 1") as (script, environment):
+            for words, part in ((["show", "-h"], "lispr show --in F"), (["--version"], "rattle-kit-9")):
+                status, said, told = run([script, *words], folder, env=environment)
+                check((status, told) == (0, "") and part in said.decode(), words, "unbuilt", status, said, told)
+    return len(ASKED)
+
+
 # Statuses.
 
 def test_right_runs():
@@ -208,7 +247,33 @@ SETTINGS = [
     ('"a\\u001bb" = 1\n' + LOCATOR, "unknown-key a", 's.toml:1: "a\\u001bb" = 1'),
     ('"a b.c" = 1\n' + LOCATOR, "unknown-key a b.c", 's.toml:1: "a b.c" = 1'),
     (LOCATOR + "up = 3\n", "bad-value locator.0.up", "s.toml:3: up = 3"),
-    ('resolver = "::1"\n' + LOCATOR, "bad-value resolver", "an own locator is up"),
+    (LOCATOR + "up = 3\n", "bad-value locator.0.up", "it takes true or false\n"),
+    (LOCATOR + "weight = -1\n", "bad-value locator.0.weight", "it takes a whole number from 0 to 255\n"),
+    ("ttl = 0\n" + LOCATOR, "bad-value ttl", "it takes a whole number from 1 to 4,294,967,294\n"),
+    ("seed = ''\n" + LOCATOR, "bad-value seed", "it takes a text of 64 hexadecimal digits\n"),
+    (LOCATOR.replace("2.1", "2.1/32"), "bad-value locator.0.address", 'an address as "192.0.2.1" or "2001:db8::1"\n'),
+    ('[locator]\naddress = "192.0.2.1"\n', "bad-value locator", "each behind a line [[locator]] of its own"),
+    (LOCATOR + "[[attachment]]\nvlan = 4096\niid = 7\n", "bad-value attachment.0.vlan", "number from 0 to 4,095\n"),
+    (LOCATOR + MAPPING.replace("/8", ""), "bad-value mapping.0.prefix", "a length of at most 32, of IPv6 128"),
+    (LOCATOR + MAPPING + "locator = 3\n", "bad-value mapping.0.locator", "a line [[mapping.locator]] of its own"),
+    (LOCATOR + MAPPING + "[[mapping.locator]]\naddress = 3\n", "bad-value mapping.0.locator.0.address",
+     "takes an address as"),
+    (LOCATOR + "adress = 3\n", "unknown-key locator.0.adress",
+     "[[locator]] has no such key: address is meant, perhaps\n"),
+    (LOCATOR + MAPPING + "locators = 3\n", "unknown-key mapping.0.locators", "locator is meant, perhaps\n"),
+    (LOCATOR + "prefix = 3\n", "unknown-key locator.0.prefix", "is a key of [[database]] and [[mapping]]\n"),
+    (LOCATOR + "zzz = 3\n", "unknown-key locator.0.zzz", "no such key; it has address, priority, weight, up\n"),
+    ("reslover = 3\n" + LOCATOR, "unknown-key reslover", "no such key: resolver is meant, perhaps\n"),
+    ("\n" + LOCATOR + "probe = true\n", "unknown-key locator.0.probe",
+     "probe belongs on top\nlispr: s.toml:4: probe = true\n"),
+    ("\n" + LOCATOR + "probe = true\n", "unknown-key locator.0.probe",
+     "move it up, before the first table: s.toml:2: [[locator]]"),
+    (LOCATOR + MAPPING + "[[mapping.locator]]\nreslover = 3\n", "unknown-key mapping.0.locator.0.reslover",
+     "before the first table: s.toml:1: "),
+    (LONG + "x =\n" + MAPPING, "not-toml", "s.toml:180003: x =\n"),
+    (LONG + "iid = 9\n" + MAPPING, "not-toml", "s.toml:180003: iid = 9\n"),
+    ("x =\n" + LONG, "not-toml", "s.toml:1: x =\n"),
+    ('resolver = "::1"\n' + LOCATOR, "bad-value resolver", "of whose family an own locator is up"),
     ('nonces = [ # "x"\n"0102030405060708",\n\n"1",]\n' + LOCATOR, "bad-value nonces.1", 's.toml:4: "1",]'),
     (LOCATOR + "\n" + LOCATOR, "duplicate locator.1", "s.toml:4: [[locator]]"),
     ('locator = [{address = "192.0.2.1", "weight" = 1},\n{priority = 1}]', "missing locator.1.address",
@@ -216,12 +281,12 @@ SETTINGS = [
     (LOCATOR + "[[mapping]]\niid = 1\nprefix = '''10.0.0.0/8'''\n[[mapping.locator]]\n# [[mapping]]\n",
      "missing mapping.0.locator.0.address", "s.toml:6: [[mapping.locator]]  (it should be"),
     (LOCATOR + "[[database]]\niid = 1\n" * 65, "too-many database", "s.toml:3: [[database]]"),
-    (OTHER + CHANGE, "bad-value change.0.address", "it takes the address of an own locator"),
+    (OTHER + CHANGE, "bad-value change.0.address", ", that of an own locator"),
     (OTHER + CHANGE, "bad-value change.0.address", 's.toml:5: address = "192.0.2.1"'),
     (LOCATOR + CHANGE * 2, "duplicate change.1", "s.toml:7: [[change]]"),
     (LOCATOR + CHANGE * 2, "duplicate change.1", "second and address, or"),
     ("change = [\n{at = 1, up = true}]\n" + LOCATOR, "missing change.0.address", "s.toml:2: {at = 1, up = true}]  (it should"),
-    (LOCATOR + LIMIT, "bad-value limit.0.iid", "it takes the instance of an attachment"),
+    (LOCATOR + LIMIT, "bad-value limit.0.iid", ", the instance of an attachment"),
     (LOCATOR + ATTACHED + LIMIT * 2, "duplicate limit.1", "s.toml:10: [[limit]]"),
     (LOCATOR + ATTACHED + LIMIT + '[[mapping]]\niid = 7\nprefix = "::/0"\n', "too-many limit", "s.toml:6: [[limit]]"),
     (LOCATOR + ATTACHED + LIMIT + '[[mapping]]\niid = 7\nprefix = "::/0"\n', "too-many limit", "more than 65,536 mappings"),
@@ -242,6 +307,63 @@ def test_settings():
     return len(SETTINGS)
 
 
+DATABASE = '[[database]]\niid = 7\nprefix = "10.0.0.0/8"\n'
+IPV6 = '[[{}]]\niid = 7\nprefix = "2001:db8:{}::/{}"\n'
+# Right settings, and what is warned of: the whole of standard error, without what stands before each line.
+WARNED = [
+    (LOCATOR, []),
+    (LOCATOR.replace("192.0.2.1", "224.0.0.1"), ["2: the own locator 224.0.0.1 is no unicast address"]),
+    ("ttl = 1 # a\n\n" + LOCATOR, []),
+    (LOCATOR.replace("192.0.2.1", "0.0.0.0"), ["own locator 0.0.0.0 is no unicast"]),
+    (LOCATOR.replace("192.0.2.1", "255.255.255.255"), ["own locator 255.255.255.255 is no unicast"]),
+    (LOCATOR.replace("192.0.2.1", "223.255.255.255"), []),
+    (LOCATOR.replace("192.0.2.1", "ff02::1"), ["own locator ff02::1 is no unicast"]),
+    (LOCATOR.replace("192.0.2.1", "::"), ["own locator :: is no unicast"]),
+    (LOCATOR.replace("192.0.2.1", "fe80::1"), []),
+    (OTHER + LOCATOR.replace("192.0.2.1", "239.1.1.1") + "up = false # it's so\n", ["4: the own locator 239.1.1.1 is"]),
+    (LOCATOR + DATABASE + MAPPING,
+     ["8: the mapping of 10.0.0.0/8 is hidden by the site's own prefix 10.0.0.0/8 of line 5: packets to it are local"]),
+    (LOCATOR + MAPPING.replace("0.0.0/8", "9.0.0/16") + DATABASE, ["5: the mapping of 10.9.0.0/16 is hidden by"]),
+    (LOCATOR + DATABASE + MAPPING.replace("10.0.0.0/8", "10.0.0.0/7"), []),
+    (LOCATOR + DATABASE + MAPPING.replace("10.0.0.0/8", "11.0.0.0/8"), []),
+    (LOCATOR + DATABASE + MAPPING.replace("iid = 7", "iid = 8"), []),
+    (LOCATOR + DATABASE + IPV6.format("mapping", 1, 48), []),
+    (LOCATOR + IPV6.format("database", 1, 48) + IPV6.format("mapping", 1, 64), ["of 2001:db8:1::/64 is hidden"]),
+    (LOCATOR + IPV6.format("database", 1, 48) + IPV6.format("mapping", 2, 64), []),
+    (LOCATOR + DATABASE + "".join(MAPPING.replace("0.0.0/8", f"{i}.0.0/16") for i in range(5)),
+     ["10.0.0.0/16 is", "10.1.0.0/16 is", "10.2.0.0/16 is", "s.toml: 2 mappings more are hidden"]),
+    ('nonces = [ # "]"\n"0102030405060708",\n]\n' + LOCATOR.replace("192.0.2.1", "224.0.0.1"), ["5: the own locator"]),
+    ("\n" + LOCATOR.replace("address", "weight = 3\naddress").replace("192.0.2.1", "224.0.0.1"), ["4: the own"]),
+    # In another form nothing is looked for.
+    ('locator = [{address = "224.0.0.1"}]\n', []),
+    (LOCATOR.replace("192.0.2.1", "224.0.0.1").replace('"', '"""'), []),
+    (LOCATOR.replace("192.0.2.1", "\\u0032\\u00324.0.0.1"), []),
+]
+
+
+def test_warnings():
+    with files() as folder:
+        write(os.path.join(folder, "i.pcap"), header())
+        write(os.path.join(folder, "o.pcap"), header())
+        for text, parts in WARNED:
+            write(os.path.join(folder, "s.toml"), text)
+            for words in (REPLAY, AUDIT):
+                alone, helped = run([PROGRAM, *words], folder), run([*HELP, *words], folder)
+                lines = helped[2].splitlines()
+                check(alone[:2] == helped[:2], text, words, alone, helped)
+                if alone[0] == 0:
+                    check(len(lines) == len(parts), text, words, helped[2])
+                    check(all(line.startswith("lispr: warning: s.toml:") and part in line
+                              for line, part in zip(lines, parts)), text, words, helped[2])
+                check(alone[0] == 0 or not any("warning" in line for line in lines), text, words, helped[2])
+        write(os.path.join(folder, "s.toml"), LOCATOR.replace("192.0.2.1", "224.0.0.1") + "x = 1\n")
+        check("warning" not in run([*HELP, *REPLAY], folder)[2], "warned of settings that are refused")
+        write(os.path.join(folder, "s.toml"), LOCATOR.replace("192.0.2.1", "224.0.0.1"))
+        shell = f'exec "{LISPR}" replay --settings <(cat s.toml) --in i.pcap --out o.pcap'
+        check(run(["bash", "-c", shell], folder)[::2] == (0, ""), "settings from a pipe")
+    return len(WARNED)
+
+
 def in_file(words, folder, status):
     """What the help lets the program say into a file behind other lines, and tells."""
     with open(os.path.join(folder, "report"), "w+b") as report:
@@ -254,6 +376,10 @@ def in_file(words, folder, status):
 
 CAPTURES = [
     (bytes(24), "bad-magic", "a pcapng file is replayed with --format ng"),
+    (b"\n\r\r\n" + bytes(24), "bad-magic", "i.pcap is a pcapng file"),
+    (b"\x1f\x8b\x08\0" + bytes(24), "bad-magic", "by gzip: gzip -dc i.pcap > FILE opens it, or in a pipe"),
+    (b"\xfd7zXZ\0", "cut-header 6", "xz -dc i.pcap > FILE opens it"),
+    (b"\x28\xb5\x2f\xfd" + bytes(24), "bad-magic", "zstd -dc i.pcap > FILE opens it"),
     (header(version=3), "bad-version", "another version of pcap than 2.4"),
     (header(link=9), "bad-link", "neither Ethernet nor raw IP"),
     (b"abc", "cut-header 3", "the file has 3 octets"),
@@ -298,7 +424,10 @@ def packet(size=0, time=0, number=0, kept=None):
 
 
 BLOCKS = [
-    (header(), "bad-magic", "in the pcap format is replayed without --format ng"),
+    (header(), "bad-magic", "i.pcap is in the pcap format: replay it without --format ng"),
+    (struct.pack(">IHHIIII", 0xA1B23C4D, 2, 4, 0, 0, 262144, 1), "bad-magic", "pcap format: replay it without"),
+    (bytes(28), "bad-magic", "in the pcap format is replayed without --format ng"),
+    (b"\x1f\x8b\x08\0" + bytes(24), "bad-magic", "i.pcap is compressed by gzip: gzip -dc i.pcap > FILE opens it"),
     (section() + b"abc", "cut-block 28", "ends within the block that begins at octet 28"),
     (section() + block(5, b"", 16), "bad-length 28", "at octet 28 has a wrong length, two that differ"),
     (section() + interface() + packet(kept=1), "bad-length 48", "at octet 48 has a wrong length"),
@@ -325,6 +454,42 @@ def test_blocks():
                 check(said.splitlines()[-1] == b"capture " + line.encode(), line, said[-100:])
                 check(f"lispr: capture {line}" in told and part in told, line, told)
     return len(BLOCKS)
+
+
+def test_kept():
+    """An output that is there isn't emptied by --format ng for a capture that is none, and all else is as it was."""
+    ng = [*REPLAY, "--format", "ng"]
+    kept = "--out o.pcap stays as it was"
+    with files() as folder:
+        out = os.path.join(folder, "o.pcap")
+        for octets in (header(), b"", b"\n\r\r", frames(1), b"\x1f\x8b\x08\0" + bytes(24)):
+            write(os.path.join(folder, "i.pcap"), octets)
+            alone = run([PROGRAM, *ng], folder)
+            for command in (HELP, [LISPR]):
+                write(out, "old")
+                done = run([*command, *ng], folder)
+                check(done[:2] == alone[:2] == (3, alone[1]) and kept in done[2], octets, alone, done)
+                check(read(out) == b"old", octets, "the output is another one", read(out))
+            os.remove(out)
+            check(kept not in run([*HELP, *ng], folder)[2] and read(out)[:4] == b"\x4d\x3c\xb2\xa1", octets, "made")
+            write(out, "")
+            check(kept not in run([*HELP, *ng], folder)[2], octets, "an output without octets")
+        write(out, "old")
+        # What is refused before is refused as it was: settings, words, an output that is another name of an input.
+        write(os.path.join(folder, "s.toml"), "x =")
+        check(run([*HELP, *ng], folder)[:2] == (2, b"settings not-toml\n"), "settings")
+        for words in ([*ng, "--split"], [*ng, "--format", "ng"], [*REPLAY[:-1], "i.pcap", "--format", "ng"],
+                      [*REPLAY[:-1], "-x", "--format", "ng"]):
+            check(run([*HELP, *words], folder)[:2] == (1, b"usage\n"), words)
+        check(read(out) == b"old", "the output is another one", read(out))
+    with files() as folder:
+        # A pcapng file that is refused later has the packets before in its output, and a right one all.
+        for octets, status in ((section() + b"abc", 3), (section() + interface(), 0)):
+            write(os.path.join(folder, "i.pcap"), octets)
+            write(os.path.join(folder, "o.pcap"), "old")
+            done = run([LISPR, *ng], folder)
+            check(done[0] == status and kept not in done[2], octets, done)
+            check(read(os.path.join(folder, "o.pcap")) == header(0xA1B23C4D), octets, "not the output of the program")
 
 
 def test_formats():
@@ -499,7 +664,8 @@ def without_python(folder, python=None):
     path = os.path.join(folder, "bin")
     shutil.rmtree(path, ignore_errors=True)
     os.mkdir(path)
-    for name in ("bash", "awk", "find", "sort", "xargs", "sha256sum", "cat", "dirname", "readlink", "env"):
+    for name in ("bash", "awk", "find", "sort", "xargs", "sha256sum", "cat", "readlink", "env", "stat", "cmp", "mkdir",
+                 "mv", "rm"):
         os.symlink(shutil.which(name), os.path.join(path, name))
     if python:
         write(os.path.join(path, "python3"), python)
@@ -588,6 +754,32 @@ def test_progress():
             check(re.search(part, told), part, told)
         check(re.search(r"\r +\r$", told) and "\n" not in told, "the line stays", told)
         check(max(map(len, told.split("\r"))) < 70, "wide lines", told)
+
+
+def quiet(gap):
+    """Settings of locators that are probed, and a capture of two frames so many seconds apart."""
+    table = '[[mapping]]\niid = 0\nprefix = "10.2.{0}.0/24"\n[[mapping.locator]]\naddress = "198.51.100.{0}"\n'
+    site = '[[attachment]]\nvlan = 0\niid = 0\n[[database]]\niid = 0\nprefix = "10.1.0.0/16"\n'
+    capture = read(os.path.join(FIRST, "capture.pcap"))
+    second, = struct.unpack_from("<I", capture, 24)
+    late = struct.pack("<I", second + gap) + capture[28:]
+    return "probe = true\n" + LOCATOR + site + "".join(map(table.format, range(256))), capture + late, second
+
+
+def test_progress_of_quiet_time():
+    """Between two frames the line has the second that is worked, by the packets that were sent."""
+    with files() as folder:
+        gap = 60_000
+        settings, capture, second = quiet(gap)
+        write(os.path.join(folder, "s.toml"), settings)
+        write(os.path.join(folder, "i.pcap"), capture)
+        terminal = Terminal()
+        with open(os.path.join(folder, "report"), "wb") as out:
+            status = run([LISPR, *REPLAY], folder, stdout=out, stderr=terminal.theirs)[0]
+        told = terminal.text()
+        seconds = [int(found) for found in re.findall(r"s, i\.pcap read, worked to (\d+) \(\d\d:\d\d:\d\d UTC\)", told)]
+        check(status == 0 and seconds and seconds == sorted(seconds), status, told)
+        check(all(second < found <= second + gap for found in seconds) and "100 %" not in told, seconds, told)
 
 
 def test_progress_of_a_pipe():
@@ -735,6 +927,7 @@ def test_key():
 # The build.
 
 RT = """#!/bin/bash
+[ "$1" = version ] && echo 'rattle-kit-9 logic 1' && exit
 echo 'crate octets:'
 echo 'logic=proved functions=1'
 sleep 1
@@ -782,6 +975,122 @@ def test_build():
         with unbuilt(folder, "echo wrong; exit 1") as (script, environment):
             done = run([script, *REPLAY], folder, env=environment)
             check(done[:2] == (4, b"") and "fn a: proved\n" in done[2] and "lispr: not built" in done[2], done)
+
+
+# A `sha256sum` and an `rt` that note that they ran.
+NOTING = """#!/bin/bash
+echo sum >>'{}'
+exec {} "$@"
+"""
+# Longer than what has just changed isn't noted; how much longer a call may take than the program, on a slow machine.
+LONG_AGO, MOST_MORE = 2.6, 0.15
+
+
+class Sources:
+    """A copy of the sources, and how often it was summed and built."""
+
+    def __init__(self, folder, script, environment):
+        self.folder, self.script, self.environment = folder, script, environment
+        self.log = os.path.join(folder, "log")
+        write(os.path.join(folder, "sha256sum"), NOTING.format(self.log, shutil.which("sha256sum")))
+        os.chmod(os.path.join(folder, "sha256sum"), 0o755)
+        self.crate = os.path.join(os.path.dirname(script), "crates", "octets")
+
+    def called(self, *what):
+        """Whether a call summed and built; it must run the program."""
+        write(self.log, "")
+        done = run([self.script, "trial", "3"], self.folder, env=self.environment)
+        check(done[0] == 0, "a call", *what, done)
+        words = read(self.log).decode().split()
+        return "sum" in words, "built" in words
+
+    def settle(self):
+        """Calls until the sources stand as noted."""
+        time.sleep(LONG_AGO)
+        self.called("to note")
+        check(self.called("noted") == (False, False), "summed though nothing changed")
+
+
+def rewritten(path, octets):
+    """Writes octets as many as were there, and leaves the time of the file as it was."""
+    times = os.stat(path)
+    with open(path, "r+b") as file:
+        file.write(octets)
+    os.utime(path, ns=(times.st_atime_ns, times.st_mtime_ns))
+    after = os.stat(path)
+    check((after.st_size, after.st_mtime_ns) == (times.st_size, times.st_mtime_ns), "it looks otherwise")
+
+
+def test_sources():
+    """The sources are summed where they may be others, and only there; built where they are."""
+    with files() as folder:
+        with unbuilt(folder, f"echo built >>'{folder}/log'; {MADE}") as (script, environment):
+            sources = Sources(folder, script, environment)
+            path, other = os.path.join(sources.crate, "file"), os.path.join(sources.crate, "other")
+            inner = os.path.join(sources.crate, "out", "more")
+            check(sources.called("first") == (True, True), "first")
+            check(sources.called("at once") == (True, False), "what has just changed is noted")
+            sources.settle()
+            rewritten(path, b"OCTETS")
+            check(sources.called("rewritten") == (True, True), "the same size and time")
+            # Behind the call at once, with the same size and time.
+            rewritten(path, b"octets")
+            check(sources.called("rewritten at once") == (True, True), "the same size and time, at once")
+            sources.settle()
+            octets = read(path)
+            os.remove(path)
+            write(path, octets)
+            check(sources.called("the same") == (True, False), "the same octets in another file")
+            sources.settle()
+            os.mkdir(os.path.dirname(inner))
+            write(inner, "x")
+            check(sources.called("an output")[1] is False, "an output of a crate")
+            sources.settle()
+            write(inner, "y")
+            check(sources.called("an output") == (False, False), "an output of a crate that changes")
+            write(other, "x")
+            check(sources.called("one more") == (True, True), "one file more")
+            sources.settle()
+            os.rename(other, path)
+            check(sources.called("one less") == (True, True), "one file less")
+            sources.settle()
+            # Notes that are damaged, or can't be made, and a program that is gone.
+            for name in ("seen", "names", "python"):
+                write(os.path.join(os.path.dirname(script), "out", f"lispr.{name}"), "x")
+                check(sources.called(name)[1] is False, "damaged", name)
+            os.remove(os.path.join(os.path.dirname(script), "out", "lispr"))
+            check(sources.called("gone") == (True, True), "the program is gone")
+
+
+def test_together():
+    """Calls at once, of which the first of all notes the sources."""
+    with files() as folder:
+        for name in ("names", "seen", "python"):
+            with contextlib.suppress(FileNotFoundError):
+                os.remove(f"{PROGRAM}.{name}")
+        calls = [subprocess.Popen([LISPR, "trial", "3"], cwd=folder, stdout=subprocess.PIPE, stderr=subprocess.STDOUT)
+                 for _ in range(6)]
+        said = {call.communicate(timeout=SECONDS)[0] for call in calls}
+        check(said == {run([PROGRAM, "trial", "3"], folder)[1]}, "calls at once", said)
+        left = [name for name in os.listdir(os.path.dirname(PROGRAM)) if re.search(r"\.\d+$", name)]
+        check(not left, "left", left)
+
+
+def test_quick():
+    """A call takes little longer than the program, by the time of processors, which a busy machine doesn't double."""
+    with files() as folder:
+        program, script = (min(processor_time([name, *REPLAY], folder) for _ in range(20)) for name in (PROGRAM, LISPR))
+        more = script - program
+        check(more < MOST_MORE, "a call takes", more, "s more than the program")
+    return f"{1000 * more:.0f} ms more than the program"
+
+
+def processor_time(command, folder):
+    """The seconds of processors that a command takes, with all that it starts."""
+    before = resource.getrusage(resource.RUSAGE_CHILDREN)
+    run(command, folder)
+    after = resource.getrusage(resource.RUSAGE_CHILDREN)
+    return after.ru_utime + after.ru_stime - before.ru_utime - before.ru_stime
 
 
 def test_shell():

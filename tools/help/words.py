@@ -2,6 +2,7 @@
 import os
 import re
 
+from pairs import value_of
 from text import shown
 
 # Each form, with what is done behind it, in lines.
@@ -21,16 +22,9 @@ CHOICES = {"replay": {"--format": ("classic", "ng"), "--interfaces": ("none", "v
            "show": {}, "audit": {"--nonces": ("settings", "sent")}}
 NUMBERS = {"replay": {"--workers": (0, 16), "--round": (1, 4096)}, "show": {}, "audit": {}}
 MAPPINGS = 1, 50_000
-HELP = "--help", "-h"
+# The options whose files are read.
+READ = "--settings", "--in", "--sent"
 NUMBER = re.compile(r"0|[1-9][0-9]*")
-
-
-def value_of(name, words):
-    """The value behind an option's name."""
-    for known, value in zip(words[1::2], words[2::2]):
-        if known == name:
-            return value
-    return None
 
 
 def are_text(words):
@@ -64,6 +58,8 @@ def name_fault(command, name, earlier):
 
 def value_fault(name, value):
     """Why a word is no option's value, or None."""
+    if value == "-" and name in READ:
+        return f"a value doesn't begin with -: standard input is {name} /dev/stdin, and a file of that name is ./-"
     if value is None:
         return f"{name} has no value"
     if value == "":
@@ -121,14 +117,9 @@ def trial_fault(words):
     return number_fault("N", words[0], *MAPPINGS)
 
 
-def is_asking(words):
-    """Whether the words ask for help."""
-    return any(word in HELP for word in words)
-
-
 def words_fault(words):
     """What is wrong with words, where that is plain, or None."""
-    if not words or is_asking(words):
+    if not words:
         return None
     if not are_text(words):
         return "a word is no UTF-8 text"
@@ -142,7 +133,7 @@ def words_fault(words):
 
 def forms(words, top):
     """The forms, and where more is said; of a command that is plain, its own form alone."""
-    named = words[0] if words and words[0] in FORMS and not is_asking(words) else None
+    named = words[0] if words and words[0] in FORMS else None
     lines = []
     for name, (first, *others) in FORMS.items():
         if named in (None, name):
