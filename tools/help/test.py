@@ -356,6 +356,16 @@ def test_warnings():
                     check(all(line.startswith("lispr: warning: s.toml:") and part in line
                               for line, part in zip(lines, parts)), text, words, helped[2])
                 check(alone[0] == 0 or not any("warning" in line for line in lines), text, words, helped[2])
+        # What is warned of is so: to a mapping that is hidden a packet is local, to another one it is encapsulated.
+        shutil.copy(os.path.join(FIRST, "capture.pcap"), os.path.join(folder, "i.pcap"))
+        own = '[[database]]\niid = 0\nprefix = "10.{}/16"\n'
+        for prefix, verdict, count in (("2.0.0", b"local", 1), ("1.0.0", b"encapsulated", 0)):
+            settings = read(os.path.join(FIRST, "settings.toml")).decode()
+            more = own.format(prefix) if prefix not in settings.split("[[mapping]]")[0] else ""
+            write(os.path.join(folder, "s.toml"), settings + "\n" + more)
+            done = run([*HELP, *REPLAY], folder)
+            check(done[1].split()[3] == verdict and done[2].count("is hidden") == count, prefix, done)
+        write(os.path.join(folder, "i.pcap"), header())
         write(os.path.join(folder, "s.toml"), LOCATOR.replace("192.0.2.1", "224.0.0.1") + "x = 1\n")
         check("warning" not in run([*HELP, *REPLAY], folder)[2], "warned of settings that are refused")
         write(os.path.join(folder, "s.toml"), LOCATOR.replace("192.0.2.1", "224.0.0.1"))
