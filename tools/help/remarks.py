@@ -150,7 +150,7 @@ def warnings(path):
 def search(words):
     """The warnings of the settings that words name; None between pieces of the work."""
     path = value_of("--settings", words)
-    if words[:1] in (["replay"], ["audit"]) and is_file(path):
+    if is_file(path):
         try:
             yield from (text and f"warning: {text}" for text in warnings(path))
         except (Unclear, OSError, ValueError, KeyError):

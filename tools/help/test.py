@@ -985,6 +985,7 @@ def test_build():
         with unbuilt(folder, "echo wrong; exit 1") as (script, environment):
             done = run([script, *REPLAY], folder, env=environment)
             check(done[:2] == (4, b"") and "fn a: proved\n" in done[2] and "lispr: not built" in done[2], done)
+            check(os.listdir(os.path.join(os.path.dirname(script), "out")) == [], "left behind a build that failed")
 
 
 # A `sha256sum` and an `rt` that note that they ran.
