@@ -1,10 +1,10 @@
 #!/usr/bin/env python3
-"""Explains each frame of all examples and of captures made from numbers, and holds worked sentences against `explain`.
+"""Explains each frame of all examples and of captures made from numbers, and holds stored sentences against `explain`.
 
 usage: explain_test.py PROGRAM [ROUNDS [SEED [FIRST]]]
 A round makes settings and a capture as `crosscheck/compare.py` does, mostly classic and else pcapng or with packets that
 are split; each frame is explained in one pass, with the map-cache and the journal behind it all, and no line of the
-plain router may differ from PROGRAM's. ROUNDS is 20 if it is left out. It ends with status 1 at the first difference.
+plain router may differ from PROGRAM's. The stored sentences were read beside settings and capture, not written before them. ROUNDS is 20 if it is left out. It ends with status 1 at the first difference.
 """
 import argparse
 import json
