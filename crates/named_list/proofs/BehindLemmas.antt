@@ -4,7 +4,8 @@ use Rattle.std.proofs.lemmas.List.{length-take-le, length-drop, take_at, drop_al
 use Rattle.std.specs.List.{insert, remove}
 use Rattle.std.proofs.lemmas.List.Edits.{insert-append_left, insert-append_right, remove-append_left, remove-append_right}
 use borrow.Rule.Slice.PartMut.{put_mid}
-use Rattle.named_list.specs.Rings.{ring_names, rolled, joined}
+use Rattle.named_list.specs.Limits.{ring_names}
+use Rattle.named_list.specs.Rings.{rolled, joined}
 use Rattle.named_list.proofs.RingsLemmas.{length-joined, joined-append, joined-ring, rolled_none}
 
 module _ (heads front behind : List ℕ) (fits : length front ≡ length heads * ring_names) where

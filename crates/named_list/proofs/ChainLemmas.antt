@@ -2,7 +2,8 @@
 use Rattle.std.proofs.Common.{◌≡◌, ℕ, ◌+◌, ◌-◌, ◌*◌, ◌<◌, ◌≤◌, List, [], ◌∷◌, ◌++◌, length, get_or, take, drop, set, sym, ap, subst, ◌∙◌, arith, append_assoc}
 use Rattle.std.proofs.lemmas.List.{length-take-le, length-drop, length-set, take-take, drop-drop, drop-take, take-append-drop, take_more_set, take_more, drop-set-lt, drop_more, drop-set, take-set, get_or-drop, get_or-take}
 use Rattle.std.proofs.lemmas.List.Elements.{All-set}
-use Rattle.named_list.specs.Rings.{ring_names, rolled, joined, AreHeads}
+use Rattle.named_list.specs.Limits.{ring_names}
+use Rattle.named_list.specs.Rings.{rolled, joined, AreHeads}
 use Rattle.named_list.proofs.RingsLemmas.{joined-ring, ring-joined, laid, take-laid, drop-laid, take-laid_with, drop-laid_behind, length-laid}
 
 -- after a name was pushed through the first rings: they let one out, and those behind are as they were

@@ -7,7 +7,7 @@ use Rattle.std.proofs.lemmas.List.Edits.{length-insert, length-remove}
 use Rattle.std.proofs.lemmas.List.Elements.{All-append, All-take, All-drop, All-cons, All-weaker}
 use Rattle.node_store.specs.Store.{Store, node_at, IsLive, Changes, SameNodes, with_node}
 use Rattle.named_list.specs.Named.{Named, before, items_at, times, named_of, IsNamedList}
-use Rattle.named_list.specs.Rings.{ring_names}
+use Rattle.named_list.specs.Limits.{ring_names}
 use Rattle.named_list.specs.Lends.{with_item}
 use Rattle.named_list.proofs.ItemsLemmas.{length-items_at, take-items_at, drop-items_at, items_at-append, items_at-same}
 use Rattle.named_list.proofs.NamesLemmas.{one_if, none_times, names_split, times-insert, times-remove, front_differs, behind_differs, others_differ}

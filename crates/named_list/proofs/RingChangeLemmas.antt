@@ -6,7 +6,8 @@ use Rattle.std.proofs.lemmas.List.Edits.{insert-append_left, insert-append_right
 use Rattle.std.proofs.lemmas.Slice.{put_mid-rotated}
 use Rattle.std.proofs.lemmas.List.Elements.{All-append, All-take, All-cons}
 use borrow.Rule.Slice.PartMut.{put_mid}
-use Rattle.named_list.specs.Rings.{ring_names, rolled, joined, AreHeads}
+use Rattle.named_list.specs.Limits.{ring_names}
+use Rattle.named_list.specs.Rings.{rolled, joined, AreHeads}
 use Rattle.named_list.proofs.RingsLemmas.{length-rolled, length-joined, joined-append, ring-joined, rolled_none, joined_split, laid, put_mid-laid, take-laid_with, drop-laid_behind, length-laid}
 
 -- and the same made anew, where that one is laid out straight

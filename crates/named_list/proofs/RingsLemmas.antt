@@ -2,7 +2,8 @@
 use Rattle.std.proofs.Common.{◌≡◌, ℕ, ◌+◌, ◌-◌, ◌*◌, ◌<◌, ◌≤◌, List, [], ◌∷◌, ◌++◌, length, get_or, take, drop, refl, sym, ap, ◌∙◌, arith, append_assoc, append-nil, length-append}
 use Rattle.std.proofs.lemmas.List.{length-take-le, length-drop, take-append-le, drop-append-le, take_at, drop_at, take_all, drop_all, drop-drop, take-append-drop, drop_more, get_or-drop, get_or-take, get_or_append_left, get_or-append_right}
 use borrow.Rule.Slice.PartMut.{put_mid}
-use Rattle.named_list.specs.Rings.{ring_names, rolled, joined}
+use Rattle.named_list.specs.Limits.{ring_names}
+use Rattle.named_list.specs.Rings.{rolled, joined}
 
 pub length-rolled : (head : ℕ) (ring : List ℕ) → length (rolled head ring) ≡ length ring
 length-rolled head ring =

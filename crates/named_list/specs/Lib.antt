@@ -1,3 +1,4 @@
 pub mod Named
 pub mod Lends
 pub mod Rings
+pub mod Limits

@@ -1,7 +1,7 @@
 -- A list whose items have names.
 use Rattle.std.specs.Prelude.{◌≡◌, ◌+◌, ◌/◌, ◌≤◌, ◌==◌, ℕ, List, [], ◌∷◌, length, All, Option, None, Some, count_by, if◌then◌else◌}
 use Rattle.node_store.specs.Store.{Store, node_at, IsLive}
-use Rattle.named_list.specs.Rings.{ring_names}
+use Rattle.named_list.specs.Limits.{ring_names}
 
 -- the items in order, their names in the same order, for how many more there is room, how many items
 -- its vectors have in all, and for how many names there is place

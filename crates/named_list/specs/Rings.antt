@@ -1,9 +1,6 @@
--- The order of names, in rings. No public clause cites this file, but for the names of a ring.
+-- The order of names, in rings. No public clause cites this file.
 use Rattle.std.specs.Prelude.{ℕ, ◌+◌, ◌*◌, ◌/◌, ◌≤◌, List, [], ◌∷◌, ◌++◌, All, length, take, drop}
-
--- so many names has a ring (this router's choice)
-abbrev pub ring_names : ℕ
-ring_names = 512
+use Rattle.named_list.specs.Limits.{ring_names}
 
 -- what a contract sees of names in order: the names, and for how many there is place
 pub record Order : Type 0 where

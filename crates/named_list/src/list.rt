@@ -6,7 +6,7 @@ ghost use Rattle.std.specs.List.{insert, remove};
 ghost use Rattle.std.specs.Option.{option_copied};
 ghost use Rattle.node_store.specs.Copies.{MakesCopies};
 ghost use Rattle.named_list.specs.Named.{item_named};
-ghost use Rattle.named_list.specs.Rings.{ring_names};
+ghost use Rattle.named_list.specs.Limits.{ring_names};
 
 use crate::names::Names;
 use node_store::{NoMemory, NodeStore, Reads};

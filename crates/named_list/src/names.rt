@@ -1,9 +1,11 @@
 // Names in order: full rings, and fewer names behind them, as they lie.
 ghost use Rattle.std.specs.Prelude.{◌≡◌, ◌≤◌, ◌<◌, ◌+◌, ◌*◌, [], length, max, slice_index_or, IfOk, OnOk, vec_len, vec_capacity};
 ghost use Rattle.std.specs.List.{insert, remove};
-ghost use Rattle.named_list.specs.Rings.{AreHeads, IsOrder, joined, ring_names};
+ghost use Rattle.named_list.specs.Limits.{ring_names};
+ghost use Rattle.named_list.specs.Rings.{AreHeads, IsOrder, joined};
 
-use crate::rings::{RING, insert_below, remove_below, straighten, turned};
+use crate::RING_NAMES;
+use crate::rings::{insert_below, remove_below, straighten, turned};
 use node_store::{NoMemory, copied};
 use std::alloc::Global;
 use std::marker::Model;
@@ -19,7 +21,8 @@ pub(crate) struct Names {
 
 impl Model for Names {
     ghost use Rattle.std.specs.Prelude.{vec_capacity};
-    ghost use Rattle.named_list.specs.Rings.{IsOrder, Order, joined, ring_names};
+    ghost use Rattle.named_list.specs.Limits.{ring_names};
+    ghost use Rattle.named_list.specs.Rings.{IsOrder, Order, joined};
 
     ghost Value = { Order };
 
@@ -42,7 +45,7 @@ fn close_last(slots: &Vec<u32>, heads: &mut Vec<usize>)
         (vec_capacity heads.new) }
     ensures last { length slots.now.items < length heads.new.items * ring_names + ring_names }
 {
-    if slots.len() == heads.len() * RING + RING {
+    if slots.len() == heads.len() * RING_NAMES + RING_NAMES {
         heads.push_reserved(0);
     }
 }
@@ -60,9 +63,9 @@ fn open_last(slots: &mut Vec<u32>, heads: &mut Vec<usize>)
     ensures len { length slots.new.items ≡ length slots.old.items }
     ensures places { vec_capacity slots.new ≡ vec_capacity slots.old }
 {
-    if slots.len() == heads.len() * RING {
+    if slots.len() == heads.len() * RING_NAMES {
         if let Some(head) = heads.pop() {
-            straighten(&mut slots[heads.len() * RING..], head);
+            straighten(&mut slots[heads.len() * RING_NAMES..], head);
         }
     }
 }
@@ -80,7 +83,7 @@ fn insert_name(slots: &mut Vec<u32>, heads: &mut [usize], index: usize, name: u3
     ensures len { length slots.new.items ≡ length slots.old.items + 1 }
     ensures places { vec_capacity slots.new ≡ vec_capacity slots.old }
 {
-    let full = heads.len() * RING;
+    let full = heads.len() * RING_NAMES;
     if index >= full {
         if slots.insert(index, name).is_err() {
             unreachable!();
@@ -107,7 +110,7 @@ fn remove_name(slots: &mut Vec<u32>, heads: &mut [usize], index: usize) -> u32
     ensures len { length slots.new.items + 1 ≡ length slots.old.items }
     ensures places { vec_capacity slots.new ≡ vec_capacity slots.old }
 {
-    let full = heads.len() * RING;
+    let full = heads.len() * RING_NAMES;
     if index >= full {
         return slots.remove(index);
     }
@@ -126,8 +129,8 @@ impl Names {
         }
     }
 
-    // Makes place for `n` further names. Where there isn't, what is made is at least as much as there
-    // are, so that all names are seldom moved.
+    // Makes place for `n` further names. Where there isn't, twice as much is made as is asked for in all, so that the
+    // names are seldom moved, also where more place is kept than there are names.
     pub(crate) fn reserve(&mut self, n: u32) -> Result<(), NoMemory>
         ensures names { self.new.names ≡ self.old.names }
         ensures ok { OnOk result (length self.old.names + n ≤ self.new.places) }
@@ -138,8 +141,9 @@ impl Names {
         let len = self.slots.len();
         let n = n as usize;
         if self.slots.capacity() - len < n {
-            let more = n.max(len);
-            self.heads.reserve((len + more) / RING - self.heads.len())?;
+            let more = 2 * n + len;
+            self.heads
+                .reserve((len + more) / RING_NAMES - self.heads.len())?;
             self.slots.reserve_exact(more)?;
         }
         Ok(())
@@ -158,12 +162,12 @@ impl Names {
         requires { index < length self.now.names }
         ensures { result ≡ slice_index_or self.now.names index result }
     {
-        if index >= self.heads.len() * RING {
+        if index >= self.heads.len() * RING_NAMES {
             return self.slots[index];
         }
-        let ring = index / RING;
-        let place = turned(self.heads[ring], index % RING);
-        self.slots[ring * RING + place]
+        let ring = index / RING_NAMES;
+        let place = turned(self.heads[ring], index % RING_NAMES);
+        self.slots[ring * RING_NAMES + place]
     }
 
     // Puts a name at a place, before the one that stands there. Takes no memory.

@@ -2,12 +2,11 @@
 // other, and moves none.
 ghost use Rattle.std.specs.Prelude.{◌≡◌, ◌≤◌, ◌<◌, ◌+◌, ◌*◌, ℕ, List, [], ◌∷◌, ◌++◌, length, slice_index_or};
 ghost use Rattle.std.specs.List.{insert, remove};
-ghost use Rattle.named_list.specs.Rings.{AreHeads, joined, ring_names, rolled};
+ghost use Rattle.named_list.specs.Limits.{ring_names};
+ghost use Rattle.named_list.specs.Rings.{AreHeads, joined, rolled};
 
+use crate::RING_NAMES;
 use std::mem;
-
-// So many names has a ring.
-pub(crate) const RING: usize = 512;
 
 // The place in a ring of the one that stands at a place from its head on.
 pub(crate) fn turned(head: usize, place: usize) -> usize
@@ -18,7 +17,11 @@ pub(crate) fn turned(head: usize, place: usize) -> usize
         → slice_index_or (rolled head ring) place name ≡ slice_index_or ring result name }
 {
     let turned = head + place;
-    if turned < RING { turned } else { turned - RING }
+    if turned < RING_NAMES {
+        turned
+    } else {
+        turned - RING_NAMES
+    }
 }
 
 // Puts a name before those of a ring. The last of them goes.
@@ -29,7 +32,7 @@ fn roll_on(ring: &mut [u32], head: &mut usize, name: u32) -> u32
     ensures len { length ring.new ≡ ring_names }
     ensures head { head.new ≤ ring_names }
 {
-    let end = if *head == 0 { RING } else { *head };
+    let end = if *head == 0 { RING_NAMES } else { *head };
     let last = end - 1;
     *head = last;
     mem::replace(&mut ring[last], name)
@@ -43,7 +46,7 @@ fn roll_back(ring: &mut [u32], head: &mut usize, name: u32) -> u32
     ensures len { length ring.new ≡ ring_names }
     ensures head { head.new ≤ ring_names }
 {
-    let first = if *head == RING { 0 } else { *head };
+    let first = if *head == RING_NAMES { 0 } else { *head };
     *head = first + 1;
     mem::replace(&mut ring[first], name)
 }
@@ -61,8 +64,12 @@ fn push_on(slots: &mut [u32], heads: &mut [usize], name: u32) -> u32
     let mut carried = name;
     let mut ring = 0;
     while ring < heads.len() {
-        let start = ring * RING;
-        carried = roll_on(&mut slots[start..start + RING], &mut heads[ring], carried);
+        let start = ring * RING_NAMES;
+        carried = roll_on(
+            &mut slots[start..start + RING_NAMES],
+            &mut heads[ring],
+            carried,
+        );
         ring += 1;
     }
     carried
@@ -82,8 +89,12 @@ fn pull_back(slots: &mut [u32], heads: &mut [usize], name: u32) -> u32
     let mut ring = heads.len();
     while 0 < ring {
         ring -= 1;
-        let start = ring * RING;
-        carried = roll_back(&mut slots[start..start + RING], &mut heads[ring], carried);
+        let start = ring * RING_NAMES;
+        carried = roll_back(
+            &mut slots[start..start + RING_NAMES],
+            &mut heads[ring],
+            carried,
+        );
     }
     carried
 }
@@ -135,9 +146,9 @@ pub(crate) fn insert_below(slots: &mut [u32], heads: &mut [usize], index: usize,
     ensures heads_len { length heads.new ≡ length heads.old }
     ensures heads { AreHeads heads.new }
 {
-    let ring = index / RING;
-    let start = ring * RING;
-    let end = start + RING;
+    let ring = index / RING_NAMES;
+    let start = ring * RING_NAMES;
+    let end = start + RING_NAMES;
     let head = heads[ring];
     heads[ring] = 0;
     let carried = put_in(&mut slots[start..end], head, index - start, name);
@@ -156,9 +167,9 @@ pub(crate) fn remove_below(slots: &mut [u32], heads: &mut [usize], index: usize,
     ensures heads_len { length heads.new ≡ length heads.old }
     ensures heads { AreHeads heads.new }
 {
-    let ring = index / RING;
-    let start = ring * RING;
-    let end = start + RING;
+    let ring = index / RING_NAMES;
+    let start = ring * RING_NAMES;
+    let end = start + RING_NAMES;
     let head = heads[ring];
     heads[ring] = 0;
     let carried = pull_back(&mut slots[end..], &mut heads[ring + 1..], name);

@@ -3,7 +3,7 @@ ghost use Rattle.std.specs.Prelude.{◌≡◌, ◌≤◌, ◌<◌, ◌+◌, ◌-
 ghost use Rattle.std.specs.Fn.{FnReturnsAt};
 ghost use Rattle.std.specs.Option.{option_copied};
 ghost use Rattle.std.specs.Ordering.{is_eq, is_lt};
-ghost use Rattle.named_list.specs.Rings.{ring_names};
+ghost use Rattle.named_list.specs.Limits.{ring_names};
 ghost use Rattle.ordered_set.specs.Keys.{Ascends, IsPlace, has, ties};
 
 use crate::{NoMemory, Ordered};

@@ -1,5 +1,6 @@
 use Rattle.std.proofs.Common.{arith, ap, ◌∙◌}
-use Rattle.named_list.specs.Rings.{joined, ring_names}
+use Rattle.named_list.specs.Limits.{ring_names}
+use Rattle.named_list.specs.Rings.{joined}
 use Rattle.named_list.proofs.BehindLemmas.{joined_closed}
 use Rattle.named_list.proofs.names.close_last.Goals as goal
 

@@ -1,7 +1,8 @@
 use Rattle.std.proofs.Common.{ℕ, List, arith, ap, sym, ◌≡◌, ◌∙◌, ◌-◌, ◌*◌, ◌++◌, ◌∷◌, [], length, take}
 use Rattle.std.proofs.lemmas.List.{length-take-le}
 use Rattle.std.specs.List.{insert}
-use Rattle.named_list.specs.Rings.{joined, ring_names}
+use Rattle.named_list.specs.Limits.{ring_names}
+use Rattle.named_list.specs.Rings.{joined}
 use Rattle.named_list.proofs.BehindLemmas.{insert_behind, insert_before, front_written}
 use Rattle.named_list.proofs.names.insert_name.Goals as goal
 

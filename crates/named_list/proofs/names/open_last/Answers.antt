@@ -1,6 +1,7 @@
 use Rattle.std.proofs.Common.{ℕ, List, arith, ap, sym, ◌≡◌, ◌∙◌, ◌+◌, ◌-◌, ◌*◌, ◌++◌, length, take, drop}
 use Rattle.std.proofs.lemmas.List.{take_rest, length-drop}
-use Rattle.named_list.specs.Rings.{joined, ring_names, rolled}
+use Rattle.named_list.specs.Limits.{ring_names}
+use Rattle.named_list.specs.Rings.{joined, rolled}
 use Rattle.named_list.proofs.BehindLemmas.{joined_opened, back_written}
 use Rattle.named_list.proofs.names.open_last.Goals as goal
 

@@ -1,7 +1,8 @@
 use Rattle.std.proofs.Common.{ℕ, suc, List, arith, ap, sym, ◌≡◌, ◌∙◌, ◌+◌, ◌-◌, ◌*◌, ◌≤◌, ◌++◌, ◌∷◌, [], length, take, drop, get_or}
 use Rattle.std.proofs.lemmas.List.{length-take-le, take_at, drop_at}
 use Rattle.std.specs.List.{remove}
-use Rattle.named_list.specs.Rings.{joined, ring_names}
+use Rattle.named_list.specs.Limits.{ring_names}
+use Rattle.named_list.specs.Rings.{joined}
 use Rattle.named_list.proofs.BehindLemmas.{remove_behind, get_or_behind, remove_before, get_or_before, front_written}
 use Rattle.named_list.proofs.names.remove_name.Goals as goal
 

@@ -2,7 +2,8 @@ use Rattle.std.proofs.Common.{ℕ, List, arith, ap, sym, subst, ◌≡◌, ◌�
 use Rattle.std.proofs.lemmas.List.{length-set, length-take-le, length-drop}
 use Rattle.std.specs.List.{insert}
 use borrow.Rule.Slice.PartMut.{put_mid}
-use Rattle.named_list.specs.Rings.{AreHeads, ring_names, rolled, joined}
+use Rattle.named_list.specs.Limits.{ring_names}
+use Rattle.named_list.specs.Rings.{AreHeads, rolled, joined}
 use Rattle.named_list.proofs.RingChangeLemmas.{are_heads_made, heads_made, slots_pushed, insert_joined, slots_lent, heads_lent, length-put_mid}
 use Rattle.named_list.proofs.rings.insert_below.Goals as goal
 

@@ -1,5 +1,6 @@
 use Rattle.std.proofs.Common.{ℕ, arith, sym, subst, ◌≡◌, ◌+◌, ◌-◌, ◌*◌, ◌∷◌, ◌++◌, [], take, drop, get_or, set}
-use Rattle.named_list.specs.Rings.{ring_names, rolled}
+use Rattle.named_list.specs.Limits.{ring_names}
+use Rattle.named_list.specs.Rings.{rolled}
 use Rattle.named_list.proofs.ChainLemmas.{Pulled, pulled-more}
 use Rattle.named_list.proofs.RingsLemmas.{put_mid-laid}
 use Rattle.named_list.proofs.rings.pull_back.Goals as goal

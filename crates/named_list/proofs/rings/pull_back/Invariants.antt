@@ -1,4 +1,4 @@
-use Rattle.named_list.specs.Rings.{ring_names}
+use Rattle.named_list.specs.Limits.{ring_names}
 use Rattle.named_list.proofs.ChainLemmas.{Pulled}
 use Rattle.named_list.proofs.rings.pull_back.Given as goal
 

@@ -1,5 +1,5 @@
 use Rattle.std.proofs.Common.{◌-◌, length}
-use Rattle.named_list.specs.Rings.{ring_names}
+use Rattle.named_list.specs.Limits.{ring_names}
 use Rattle.named_list.proofs.ChainLemmas.{Pushed}
 use Rattle.named_list.proofs.rings.push_on.Given as goal
 

@@ -1,6 +1,7 @@
 use Rattle.std.proofs.Common.{ℕ, List, arith, ap, sym, ◌≡◌, ◌∙◌, ◌+◌, ◌*◌, ◌/◌, ◌%◌, ◌<◌, ◌≤◌, length, take, drop, get_or}
 use Rattle.std.proofs.lemmas.List.{length-take-le, length-drop, get_or_read}
-use Rattle.named_list.specs.Rings.{joined, ring_names, rolled}
+use Rattle.named_list.specs.Limits.{ring_names}
+use Rattle.named_list.specs.Rings.{joined, rolled}
 use Rattle.named_list.proofs.RingsLemmas.{length-joined, get_or_ring, get_or_slot}
 use Rattle.named_list.proofs.BehindLemmas.{get_or_behind}
 use Rattle.named_list.proofs.names.Names.get.Goals as goal

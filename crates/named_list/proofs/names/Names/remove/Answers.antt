@@ -1,5 +1,5 @@
 use Rattle.std.proofs.Common.{arith}
-use Rattle.named_list.specs.Rings.{ring_names}
+use Rattle.named_list.specs.Limits.{ring_names}
 use Rattle.named_list.proofs.RingsLemmas.{length-joined}
 use Rattle.named_list.proofs.names.Names.remove.Goals as goal
 

@@ -1,0 +1,12 @@
+// The names of a ring.
+ghost use Rattle.std.specs.Prelude.{◌≡◌};
+ghost use Rattle.named_list.specs.Limits.{ring_names};
+ghost use Rattle.named_list.specs.declared.limits.TheConstants.{RING_NAMES};
+
+/// The names of a ring (this router's choice).
+pub const RING_NAMES: usize = 512;
+
+/// The number of names is the defined one.
+pub fn limits_are()
+    ensures { RING_NAMES ≡ ring_names }
+{}
