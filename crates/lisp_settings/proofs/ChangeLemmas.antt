@@ -9,6 +9,7 @@ use Rattle.mapping_records.proofs.OrderLemmas.{addr_order-total}
 use Rattle.lisp_settings.specs.AddressText.{address_of}
 use Rattle.lisp_settings.specs.Changes.{IsChangeOf, change_order, is_own, only_own, own_address}
 use Rattle.lisp_settings.specs.Fields.{required}
+use Rattle.lisp_settings.specs.Limits.{greatest_second}
 use Rattle.lisp_settings.specs.Settings.{change_in}
 use Rattle.lisp_settings.specs.Values.{address, number}
 use Rattle.lisp_settings.specs.Writing.{with_member}
@@ -21,9 +22,9 @@ pub change_order-total : IsTotalOrder change_order
 change_order-total = then_total (on_total (λ (key : ℕ × Addr). key.0) nat_cmp_total) (on_total (λ (key : ℕ × Addr). key.1) addr_order-total)
 
 -- the three keys of a change
-pub change_in-written : (locators : List OwnLocator) (change : Change) (text : List ℕ) (table : Members) → IsChangeOf locators change → address_of text ≡ Some change.address → change.at ≤ 4294967295 → table ≡ with_member (codes "up") (boolean change.up) (with_member (codes "address") (string text) (with_member (codes "at") (integer (pos change.at)) no_members)) → change_in locators table ≡ Ok change
+pub change_in-written : (locators : List OwnLocator) (change : Change) (text : List ℕ) (table : Members) → IsChangeOf locators change → address_of text ≡ Some change.address → change.at ≤ greatest_second → table ≡ with_member (codes "up") (boolean change.up) (with_member (codes "address") (string text) (with_member (codes "at") (integer (pos change.at)) no_members)) → change_in locators table ≡ Ok change
 change_in-written locators change text table own reads small is =
-    ap (change_in locators) is ∙ rw (zero_leb change.at, le-leb change.at 4294967295 small, reads, own) refl
+    ap (change_in locators) is ∙ rw (zero_leb change.at, le-leb change.at greatest_second small, reads, own) refl
 
 -- the address of an own locator
 abbrev HasOwn : List OwnLocator → Addr → Type 0
@@ -43,6 +44,6 @@ own_address-own locators value = only_own-of locators (address value)
 pub change_in-own : (locators : List OwnLocator) (table : Members) → IfOk (change_in locators table) (IsChangeOf locators)
 change_in-own locators table =
     pass (IsChangeOf locators) _ _ (λ known.
-    pass (IsChangeOf locators) (required (codes "at") (number 0 4294967295) table) _ (λ second.
+    pass (IsChangeOf locators) (required (codes "at") (number 0 greatest_second) table) _ (λ second.
     step (HasOwn locators) (IsChangeOf locators) _ _ (required-holds (HasOwn locators) (codes "address") (own_address locators) table (own_address-own locators)) (λ addr own.
     pass (IsChangeOf locators) (required (codes "up") as_bool table) (λ up. Ok (record { at = second; address = addr; up = up })) (λ up. own))))

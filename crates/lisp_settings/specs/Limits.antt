@@ -22,6 +22,10 @@ most_databases = 64
 abbrev pub most_changes : ℕ
 most_changes = 256
 
+-- the greatest second of a change, since seconds have 32 bits
+abbrev pub greatest_second : ℕ
+greatest_second = 4294967295
+
 -- limits of instances that are stated, at most
 abbrev pub most_limits : ℕ
 most_limits = 4096

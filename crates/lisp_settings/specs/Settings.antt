@@ -14,7 +14,7 @@ use Rattle.lisp_settings.specs.AddressText.{some_if}
 use Rattle.lisp_settings.specs.Changes.{change_key, change_order, own_address}
 use Rattle.lisp_settings.specs.Fields.{◌>>=◌, only_keys, taken, required, optional}
 use Rattle.lisp_settings.specs.Instances.{attached_instance, only_within}
-use Rattle.lisp_settings.specs.Limits.{default_minutes, most_attachments, most_changes, most_databases, most_limits, most_locators, most_mappings, most_nonces, most_requests, most_text_octets}
+use Rattle.lisp_settings.specs.Limits.{default_minutes, greatest_second, most_attachments, most_changes, most_databases, most_limits, most_locators, most_mappings, most_nonces, most_requests, most_text_octets}
 use Rattle.lisp_settings.specs.Lists.{any_ascending, any_number, one_or_more, ascending, nonces_at}
 use Rattle.mapping_records.specs.Orders.{addr_order, eid_order}
 use Rattle.lisp_settings.specs.Resolver.{resolver_in, only_reachable}
@@ -117,7 +117,7 @@ mapping_in table = do
 abbrev pub change_in : List OwnLocator → Members → Result Change SettingsFault
 change_in locators table = do
   known ← only_keys (codes "at" ∷ codes "address" ∷ codes "up" ∷ []) table
-  at ← required (codes "at") (number 0 4294967295) table
+  at ← required (codes "at") (number 0 greatest_second) table
   address ← required (codes "address") (own_address locators) table
   up ← required (codes "up") as_bool table
   Ok (record { at = at; address = address; up = up })

@@ -13,14 +13,11 @@ use crate::fields::{flag_at, needed, number_at, only_keys, taken};
 use crate::lists::Item;
 use crate::members::{put_flag, put_number, put_text};
 use crate::settings::{Change, OwnLocator, OwnLocators};
-use crate::values;
+use crate::{GREATEST_SECOND, values};
 use ip_headers::{Addr, same_address};
 use octets::NoMemory;
 use std::alloc::Global;
 use toml::{Table, Value};
-
-/// The greatest second.
-const GREATEST_SECOND: u32 = 4_294_967_295;
 
 /// A change of an own locator.
 impl Item for Change {

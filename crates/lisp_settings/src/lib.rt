@@ -29,8 +29,8 @@ pub use homes::home;
 pub use instances::{Limits, limits_of};
 pub use ip_headers::{Addr, Prefix};
 pub use limits::{
-    MOST_ATTACHMENTS, MOST_CHANGES, MOST_DATABASES, MOST_LIMITS, MOST_NONCES, MOST_OPEN,
-    MOST_REQUESTS, MOST_TEXT_OCTETS, limits_are,
+    GREATEST_SECOND, MOST_ATTACHMENTS, MOST_CHANGES, MOST_DATABASES, MOST_LIMITS, MOST_NONCES,
+    MOST_OPEN, MOST_REQUESTS, MOST_TEXT_OCTETS, limits_are,
 };
 pub use mapping_records::{Eid, Locator, Locators, Record};
 pub use nonces::nonce_at;

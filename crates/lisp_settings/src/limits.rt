@@ -1,7 +1,7 @@
 // The limits of a settings file, beside those of mappings.
 ghost use Rattle.std.specs.Prelude.{◌≡◌};
-ghost use Rattle.lisp_settings.specs.Limits.{most_attachments, most_changes, most_databases, most_limits, most_nonces, most_open, most_requests, most_text_octets};
-ghost use Rattle.lisp_settings.specs.declared.limits.TheConstants.{MOST_ATTACHMENTS, MOST_CHANGES, MOST_DATABASES, MOST_LIMITS, MOST_NONCES, MOST_OPEN, MOST_REQUESTS, MOST_TEXT_OCTETS};
+ghost use Rattle.lisp_settings.specs.Limits.{greatest_second, most_attachments, most_changes, most_databases, most_limits, most_nonces, most_open, most_requests, most_text_octets};
+ghost use Rattle.lisp_settings.specs.declared.limits.TheConstants.{GREATEST_SECOND, MOST_ATTACHMENTS, MOST_CHANGES, MOST_DATABASES, MOST_LIMITS, MOST_NONCES, MOST_OPEN, MOST_REQUESTS, MOST_TEXT_OCTETS};
 
 /// The most octets of the text.
 pub const MOST_TEXT_OCTETS: usize = 16_777_216;
@@ -17,6 +17,9 @@ pub const MOST_DATABASES: usize = 64;
 
 /// The most changes of own locators.
 pub const MOST_CHANGES: usize = 256;
+
+/// The greatest second of a change, since seconds have 32 bits.
+pub const GREATEST_SECOND: u32 = 4_294_967_295;
 
 /// The most limits of instances.
 pub const MOST_LIMITS: usize = 4096;
@@ -34,6 +37,7 @@ pub fn limits_are()
     ensures attachments { MOST_ATTACHMENTS ≡ most_attachments }
     ensures databases { MOST_DATABASES ≡ most_databases }
     ensures changes { MOST_CHANGES ≡ most_changes }
+    ensures second { GREATEST_SECOND ≡ greatest_second }
     ensures limits { MOST_LIMITS ≡ most_limits }
     ensures requests { MOST_REQUESTS ≡ most_requests }
     ensures open { MOST_OPEN ≡ most_open }
