@@ -64,6 +64,13 @@ pub record HasRoom (more others : ℕ) (now : Located) : Type 0 where
   pub wishes : others ≤ now.wish_room
   pub solicits : others ≤ now.solicit_room
 
+-- of no kind there is room for more than there was, or than for so many
+pub record HasAtMost (more others : ℕ) (old new : Located) : Type 0 where
+  pub probes : new.probe_room ≤ max old.probe_room more
+  pub starts : new.start_room ≤ max old.start_room others
+  pub wishes : new.wish_room ≤ max old.wish_room others
+  pub solicits : new.solicit_room ≤ max old.solicit_room others
+
 -- of no kind there is room for more
 pub record HasNoRoom (now : Located) : Type 0 where
   pub probes : now.probe_room ≡ 0
@@ -84,3 +91,10 @@ pub record UsesRoom (a b c d : ℕ) (old new : Located) : Type 0 where
   pub starts : old.start_room ≤ new.start_room + b
   pub wishes : old.wish_room ≤ new.wish_room + c
   pub solicits : old.solicit_room ≤ new.solicit_room + d
+
+-- of each kind items and room come to no more than they did, or than the items did with so many more
+pub record AddsNoRoom (a b c d : ℕ) (old new : Located) : Type 0 where
+  pub probes : length new.observed.probes + new.probe_room ≤ length old.observed.probes + max old.probe_room a
+  pub starts : length new.observed.starts + new.start_room ≤ length old.observed.starts + max old.start_room b
+  pub wishes : length new.observed.wishes + new.wish_room ≤ length old.observed.wishes + max old.wish_room c
+  pub solicits : length new.observed.solicits + new.solicit_room ≤ length old.observed.solicits + max old.solicit_room d

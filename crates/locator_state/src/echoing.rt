@@ -1,5 +1,5 @@
 // Which echoes count, which of them is meant, and what becomes of them.
-ghost use Rattle.std.specs.Prelude.{◌≡◌, ◌≤◌, ◌&&◌, count_by, map, nat_lt, true};
+ghost use Rattle.std.specs.Prelude.{◌≡◌, ◌≤◌, ◌+◌, ◌&&◌, count_by, length, map, nat_lt, true};
 ghost use Rattle.std.specs.List.{list_any};
 ghost use Rattle.std.specs.Option.{option_copied};
 ghost use Rattle.mapping_records.specs.Eids.{same_address};
@@ -183,6 +183,7 @@ fn come(start: &EchoStart) -> EchoStart
 /// The echo of a locator is heard.
 pub(crate) fn hear_all(rloc: &Addr, starts: &mut KeyedList<EchoStart>)
     ensures items { starts.new.items ≡ map (hear_from rloc.now) starts.old.items }
+    ensures len { length starts.new.items ≡ length starts.old.items }
     ensures room { starts.new.room ≡ starts.old.room }
     ensures places { starts.new.places ≡ starts.old.places }
 {
@@ -192,6 +193,7 @@ pub(crate) fn hear_all(rloc: &Addr, starts: &mut KeyedList<EchoStart>)
 /// A packet came from a locator.
 pub(crate) fn come_all(rloc: &Addr, starts: &mut KeyedList<EchoStart>)
     ensures items { starts.new.items ≡ map (come_from rloc.now) starts.old.items }
+    ensures len { length starts.new.items ≡ length starts.old.items }
     ensures room { starts.new.room ≡ starts.old.room }
     ensures places { starts.new.places ≡ starts.old.places }
 {
@@ -202,6 +204,8 @@ pub(crate) fn come_all(rloc: &Addr, starts: &mut KeyedList<EchoStart>)
 pub(crate) fn drop_starts(now: u64, starts: &mut KeyedList<EchoStart>)
     ensures items { starts.new.items ≡ counting_starts now starts.old.items }
     ensures room { starts.old.room ≤ starts.new.room }
+    ensures total { length starts.new.items + starts.new.room
+        ≤ length starts.old.items + starts.old.room }
     ensures places { starts.new.places ≡ starts.old.places }
 {
     starts.purge(now, START_LIFE);
@@ -211,6 +215,8 @@ pub(crate) fn drop_starts(now: u64, starts: &mut KeyedList<EchoStart>)
 pub(crate) fn drop_wishes(now: u64, wishes: &mut KeyedList<EchoWish>)
     ensures items { wishes.new.items ≡ counting_wishes now wishes.old.items }
     ensures room { wishes.old.room ≤ wishes.new.room }
+    ensures total { length wishes.new.items + wishes.new.room
+        ≤ length wishes.old.items + wishes.old.room }
     ensures places { wishes.new.places ≡ wishes.old.places }
 {
     wishes.purge(now, WISH_LIFE);

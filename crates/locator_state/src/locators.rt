@@ -3,7 +3,7 @@ ghost use Rattle.std.specs.Prelude.{◌≡◌, ◌≤◌, ◌<◌, ◌+◌, ◌*
 ghost use Rattle.keyed_list.specs.Limits.{ring_names};
 ghost use Rattle.locator_state.specs.Echoes.{data_from, echo_heard, echo_started, wanted};
 ghost use Rattle.locator_state.specs.Limits.{most_reserved};
-ghost use Rattle.locator_state.specs.Observed.{HasNoRoom, HasPlaces, HasRoom, UsesRoom, longest, recent, with_probes, with_solicits, with_starts, with_wishes};
+ghost use Rattle.locator_state.specs.Observed.{AddsNoRoom, HasAtMost, HasNoRoom, HasPlaces, HasRoom, UsesRoom, longest, recent, with_probes, with_solicits, with_starts, with_wishes};
 ghost use Rattle.locator_state.specs.Probes.{probe_answered, probed};
 ghost use Rattle.locator_state.specs.Solicits.{solicited};
 
@@ -102,6 +102,7 @@ impl LocatorState {
         ensures ok { OnOk result (HasRoom probes others self.new) }
         ensures memory { OnErr result (HasRoom probes others self.old → ⊥) }
         ensures room { UsesRoom 0 0 0 0 self.old self.new }
+        ensures at_most { HasAtMost probes others self.old self.new }
         ensures places { self.new.places
             ≤ max self.old.places (2 * (longest self.old.observed + max probes others)) }
     {
@@ -115,6 +116,7 @@ impl LocatorState {
     pub fn purge(&mut self, m: u64)
         ensures observed { self.new.observed ≡ recent m self.old.observed }
         ensures room { UsesRoom 0 0 0 0 self.old self.new }
+        ensures total { AddsNoRoom 0 0 0 0 self.old self.new }
         ensures places { self.new.places ≤ self.old.places }
     {
         drop_probes(m, &mut self.probes);
@@ -131,6 +133,7 @@ impl LocatorState {
         ensures err { OnErr result (self.new.observed ≡ self.old.observed) }
         ensures memory { OnErr result (self.old.probe_room ≡ 0) }
         ensures room { UsesRoom 1 0 0 0 self.old self.new }
+        ensures total { AddsNoRoom 1 0 0 0 self.old self.new }
         ensures places { self.new.places
             ≤ max self.old.places (2 * (longest self.old.observed + 1)) }
     {
@@ -151,6 +154,7 @@ impl LocatorState {
         ensures observed { self.new.observed
             ≡ with_probes m (probe_answered m nonce self.old.observed.probes) self.old.observed }
         ensures room { UsesRoom 0 0 0 0 self.old self.new }
+        ensures total { AddsNoRoom 0 0 0 0 self.old self.new }
         ensures places { self.new.places ≤ self.old.places }
     {
         self.purge(m);
@@ -164,6 +168,7 @@ impl LocatorState {
         ensures err { OnErr result (self.new.observed ≡ self.old.observed) }
         ensures memory { OnErr result (self.old.start_room ≡ 0) }
         ensures room { UsesRoom 0 1 0 0 self.old self.new }
+        ensures total { AddsNoRoom 0 1 0 0 self.old self.new }
         ensures places { self.new.places
             ≤ max self.old.places (2 * (longest self.old.observed + 1)) }
     {
@@ -184,6 +189,7 @@ impl LocatorState {
         ensures observed { self.new.observed
             ≡ with_starts m (echo_heard m rloc.now self.old.observed.starts) self.old.observed }
         ensures room { UsesRoom 0 0 0 0 self.old self.new }
+        ensures total { AddsNoRoom 0 0 0 0 self.old self.new }
         ensures places { self.new.places ≤ self.old.places }
     {
         self.purge(m);
@@ -195,6 +201,7 @@ impl LocatorState {
         ensures observed { self.new.observed
             ≡ with_starts m (data_from m rloc.now self.old.observed.starts) self.old.observed }
         ensures room { UsesRoom 0 0 0 0 self.old self.new }
+        ensures total { AddsNoRoom 0 0 0 0 self.old self.new }
         ensures places { self.new.places ≤ self.old.places }
     {
         self.purge(m);
@@ -208,6 +215,7 @@ impl LocatorState {
         ensures err { OnErr result (self.new.observed ≡ self.old.observed) }
         ensures memory { OnErr result (self.old.wish_room ≡ 0) }
         ensures room { UsesRoom 0 0 1 0 self.old self.new }
+        ensures total { AddsNoRoom 0 0 1 0 self.old self.new }
         ensures places { self.new.places
             ≤ max self.old.places (2 * (longest self.old.observed + 1)) }
     {
@@ -228,6 +236,7 @@ impl LocatorState {
         ensures err { OnErr result (self.new.observed ≡ self.old.observed) }
         ensures memory { OnErr result (self.old.solicit_room ≡ 0) }
         ensures room { UsesRoom 0 0 0 1 self.old self.new }
+        ensures total { AddsNoRoom 0 0 0 1 self.old self.new }
         ensures places { self.new.places
             ≤ max self.old.places (2 * (longest self.old.observed + 1)) }
     {

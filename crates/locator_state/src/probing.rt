@@ -1,5 +1,5 @@
 // Which probes count, which of them is meant, and what becomes of them.
-ghost use Rattle.std.specs.Prelude.{◌≡◌, ◌≤◌, ◌&&◌, ◌==◌};
+ghost use Rattle.std.specs.Prelude.{◌≡◌, ◌≤◌, ◌+◌, ◌&&◌, ◌==◌, length};
 ghost use Rattle.std.specs.Option.{option_copied};
 ghost use Rattle.mapping_records.specs.Eids.{same_address};
 ghost use Rattle.locator_state.specs.Lists.{last_where};
@@ -98,6 +98,7 @@ fn settle(state: ProbeState, probe: &Probe) -> Probe
 /// Settles the open probes with that nonce.
 pub(crate) fn settle_nonce(state: ProbeState, nonce: u64, probes: &mut KeyedList<Probe>)
     ensures items { probes.new.items ≡ settle_nonce state nonce probes.old.items }
+    ensures len { length probes.new.items ≡ length probes.old.items }
     ensures room { probes.new.room ≡ probes.old.room }
     ensures places { probes.new.places ≡ probes.old.places }
 {
@@ -108,6 +109,8 @@ pub(crate) fn settle_nonce(state: ProbeState, nonce: u64, probes: &mut KeyedList
 pub(crate) fn drop_probes(now: u64, probes: &mut KeyedList<Probe>)
     ensures items { probes.new.items ≡ counting_probes now probes.old.items }
     ensures room { probes.old.room ≤ probes.new.room }
+    ensures total { length probes.new.items + probes.new.room
+        ≤ length probes.old.items + probes.old.room }
     ensures places { probes.new.places ≡ probes.old.places }
 {
     probes.purge(now, PROBE_LIFE);

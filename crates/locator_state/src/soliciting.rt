@@ -1,5 +1,5 @@
 // Which solicitations count.
-ghost use Rattle.std.specs.Prelude.{◌≡◌, ◌≤◌, ◌&&◌, count_by, nat_lt};
+ghost use Rattle.std.specs.Prelude.{◌≡◌, ◌≤◌, ◌+◌, ◌&&◌, count_by, length, nat_lt};
 ghost use Rattle.std.specs.List.{list_any};
 ghost use Rattle.locator_state.specs.Limits.{most_solicits};
 ghost use Rattle.locator_state.specs.Solicits.{counting_solicits, is_of, solicit_counts};
@@ -46,6 +46,8 @@ pub(crate) fn few_solicits(now: u64, solicits: &KeyedList<Solicitation>) -> bool
 pub(crate) fn drop_solicits(now: u64, solicits: &mut KeyedList<Solicitation>)
     ensures items { solicits.new.items ≡ counting_solicits now solicits.old.items }
     ensures room { solicits.old.room ≤ solicits.new.room }
+    ensures total { length solicits.new.items + solicits.new.room
+        ≤ length solicits.old.items + solicits.old.room }
     ensures places { solicits.new.places ≡ solicits.old.places }
 {
     solicits.purge(now, SOLICIT_LIFE);

@@ -3,7 +3,7 @@ ghost use Rattle.std.specs.Prelude.{◌≡◌, ◌≤◌, ◌<◌, ◌+◌, ◌*
 ghost use Rattle.std.specs.Option.{option_copied};
 ghost use Rattle.lisp_settings.specs.Instances.{AreLimits, mappings_in};
 ghost use Rattle.prefix_table.specs.Limits.{most_nodes};
-ghost use Rattle.named_list.specs.Rings.{ring_names};
+ghost use Rattle.named_list.specs.Limits.{ring_names};
 ghost use Rattle.map_cache.specs.Cache.{bits_told, exact, has_room, in_force, lasting, learned, learned_in};
 ghost use Rattle.map_cache.specs.Limits.{most_locators, most_mappings};
 ghost use Rattle.map_cache.specs.Lists.{IsFew};
@@ -147,8 +147,11 @@ impl MapCache {
             ↔ IsFalse (has_room self.old.limits mapping fixed (lasting m self.old.mappings)) }
         ensures memory { 0 < self.old.spare → result ≢ Err Memory }
         ensures spare { self.old.spare ≤ self.new.spare + 1 }
-        ensures refused { OnErr result (length self.new.mappings + self.new.spare
-            ≤ max (length self.old.mappings + self.old.spare) (length self.new.mappings + 1)) }
+        ensures total { length self.new.mappings + self.new.spare
+            ≤ max (length self.old.mappings + self.old.spare)
+            (length (lasting m self.old.mappings) + 1) }
+        ensures taken { mapping.ttl ≡ 0 → length self.new.mappings + self.new.spare
+            ≤ length self.old.mappings + self.old.spare }
         ensures mapping_places { self.new.mapping_places
             ≤ max self.old.mapping_places (length self.old.mappings + 1) }
         ensures limits { self.new.limits ≡ self.old.limits }

@@ -2,7 +2,7 @@
 ghost use Rattle.std.specs.Prelude.{◌≡◌, ◌≤◌, ◌<◌, ◌+◌, ◌*◌, ◌/◌, [], false, length, max, is_some, IfOk, OnOk, IsOk};
 ghost use Rattle.mapping_records.specs.Orders.{eid_order, put_in_order};
 ghost use Rattle.lisp_settings.specs.Instances.{AreLimits};
-ghost use Rattle.named_list.specs.Rings.{ring_names};
+ghost use Rattle.named_list.specs.Limits.{ring_names};
 ghost use Rattle.map_cache.specs.Cache.{bits_told, exact, lasting, without_eid};
 ghost use Rattle.map_cache.specs.Limits.{most_mappings};
 ghost use Rattle.map_cache.specs.Lists.{AllFew, IsAscending};
@@ -30,14 +30,15 @@ pub(crate) struct Indexed {
 }
 
 impl Model for Indexed {
-    ghost use Rattle.std.specs.Prelude.{◌+◌, length, max, min};
+    ghost use Rattle.std.specs.Prelude.{◌+◌, ◌-◌, length, max, min};
     ghost use Rattle.map_cache.specs.Indexed.{IsIndexed, Listed};
 
     ghost Value = { Listed };
 
     ghost view = { λ indexed. record {
       mappings = indexed.by_eid.mappings;
-      spare = min indexed.by_eid.spare indexed.endings.spare;
+      spare = min indexed.by_eid.spare (length indexed.endings.keys + indexed.endings.spare
+          - length indexed.by_eid.mappings);
       mapping_places = max (length indexed.by_eid.mappings + indexed.by_eid.room)
           (length indexed.endings.keys + indexed.endings.spare);
       kept = indexed.by_eid.kept + (indexed.endings.kept
@@ -95,10 +96,14 @@ impl Indexed {
         ensures enough { n ≤ self.old.spare → IsOk result }
         ensures limits { self.new.limits ≡ self.old.limits }
     {
-        // The length says that no key is there twice, so that they are few.
-        let _ = self.endings.len();
+        if n == 0 {
+            return Ok(());
+        }
+        // The length says that no key is there twice, so that they are few. Each mapping has a place
+        // among the endings, also one that is fixed.
+        let fixed = self.by_eid.len() - self.endings.len();
         self.by_eid.reserve(n)?;
-        self.endings.reserve(n)
+        self.endings.reserve(n + fixed as u32)
     }
 
     /// The number of mappings.
@@ -138,6 +143,8 @@ impl Indexed {
         ensures mappings { self.new.mappings ≡ put_in_order (λ item. item.eid) eid_order mapping
             (without_eid mapping.eid self.old.mappings) }
         ensures spare { self.old.spare ≤ self.new.spare + 1 }
+        ensures total { length self.new.mappings + self.new.spare
+            ≤ length self.old.mappings + self.old.spare }
         ensures mapping_places { self.new.mapping_places ≤ self.old.mapping_places }
         ensures limits { self.new.limits ≡ self.old.limits }
     {
@@ -167,10 +174,14 @@ impl Indexed {
         requires new { is_some (exact self.old.mappings mapping.eid) ≡ false }
         ensures mappings { self.new.mappings ≡ put_in_order (λ item. item.eid) eid_order mapping
             self.old.mappings }
-        ensures spare { self.old.spare ≤ self.new.spare + 1 }
+        ensures spare { self.new.spare + 1 ≡ self.old.spare }
+        ensures total { length self.new.mappings + self.new.spare
+            ≡ length self.old.mappings + self.old.spare }
         ensures mapping_places { self.new.mapping_places ≤ self.old.mapping_places }
         ensures limits { self.new.limits ≡ self.old.limits }
     {
+        // The length says that no key is there twice, so that there is a place for one more.
+        let _ = self.endings.len();
         self.counts.add(&mapping);
         add_ending(&mapping, &mut self.endings);
         self.by_eid.put(mapping);

@@ -1,5 +1,5 @@
 -- Requests that are dropped one after another, until all that are left pass a test.
-use Rattle.std.proofs.Common.{◌≡◌, ℕ, ◌≤◌, ◌<◌, ◌+◌, ◌*◌, Bool, true, List, [], ◌∷◌, cond, filter, length, max, min, remove, slice_get, Option, None, Some, IfSome, false, refl, sym, subst, ap, ap₂, ◌∙◌, arith}
+use Rattle.std.proofs.Common.{◌≡◌, ℕ, ◌≤◌, ◌<◌, ◌+◌, ◌-◌, ◌*◌, Bool, true, List, [], ◌∷◌, cond, filter, length, max, min, remove, slice_get, Option, None, Some, IfSome, false, refl, sym, subst, ap, ap₂, ◌∙◌, arith}
 use Rattle.std.specs.List.{list_all}
 use Rattle.std.proofs.lemmas.Bool.{and_parts}
 use Rattle.std.proofs.lemmas.List.Edits.{length-remove}
@@ -7,7 +7,7 @@ use Rattle.std.proofs.lemmas.List.Sums.{count_by-le-length, length-filter}
 use Rattle.keyed_list.specs.Keyed.{Kept}
 use Rattle.keyed_list.proofs.FilterLemmas.{filter-remove}
 use Rattle.lisp_settings.specs.declared.settings.LimitItem.{LimitItem}
-use Rattle.request_queue.specs.Found.{places_of, spare_of, AreFound}
+use Rattle.request_queue.specs.Found.{least_of, places_of, AreFound}
 use Rattle.request_queue.specs.Lists.{all_rest, are_distinct, KeepsLimits}
 use Rattle.request_queue.specs.declared.index.Index.{Index}
 use Rattle.request_queue.specs.declared.request.Request.{Request}
@@ -29,10 +29,9 @@ module _ (test : Request → Bool) where
     pub found : AreFound are new.items
     pub room : old.room ≤ new.room
     pub places : new.places ≡ old.places
-    pub spare : spare_of were ≤ spare_of are
+    pub least : least_of are ≡ least_of were
     pub total : places_of are ≡ places_of were
     pub rooms : length new.items + new.room ≤ length old.items + old.room
-    pub spares : length new.items + spare_of are ≤ length old.items + spare_of were
 
   -- before any is dropped
   pub dropped-none : (old : Kept Request) (were : Index) → are_distinct old.items ≡ true → AreFound were old.items → Dropped old old were were
@@ -42,10 +41,9 @@ module _ (test : Request → Bool) where
     found = found;
     room = omega arith;
     places = refl;
-    spare = omega arith;
+    least = refl;
     total = refl;
     rooms = omega arith;
-    spares = omega arith;
   }
 
   pub filter-all : (requests : List Request) → list_all test requests ≡ true → filter test requests ≡ requests
@@ -73,17 +71,16 @@ module _ (test : Request → Bool) where
       by (Some x) at = distinct-left requests place x distinct at
 
   -- one more is dropped
-  pub dropped-step : (old mid new : Kept Request) (were between are : Index) (place : ℕ) → Dropped old mid were between → place < length mid.items → IfSome (slice_get mid.items place) (λ x. test x ≡ false) → new.items ≡ remove mid.items place → mid.room ≤ new.room → AreFound are new.items → new.places ≡ mid.places → spare_of between ≤ spare_of are → places_of are ≡ places_of between → length new.items + new.room ≤ length mid.items + mid.room → length new.items + spare_of are ≤ length mid.items + spare_of between → Dropped old new were are
-  dropped-step old mid new were between are place so within fails items room found places spare total rooms spares = record {
+  pub dropped-step : (old mid new : Kept Request) (were between are : Index) (place : ℕ) → Dropped old mid were between → place < length mid.items → IfSome (slice_get mid.items place) (λ x. test x ≡ false) → new.items ≡ remove mid.items place → mid.room ≤ new.room → AreFound are new.items → new.places ≡ mid.places → least_of are ≡ least_of between → places_of are ≡ places_of between → length new.items + new.room ≤ length mid.items + mid.room → Dropped old new were are
+  dropped-step old mid new were between are place so within fails items room found places least total rooms = record {
     same = ap (filter test) items ∙ filter-without mid.items place within fails ∙ so.same;
     distinct = ap are_distinct items ∙ distinct-without mid.items place within so.distinct;
     found = found;
     room = omega (arith, room, so.room);
     places = places ∙ so.places;
-    spare = omega (arith, spare, so.spare);
+    least = least ∙ so.least;
     total = total ∙ so.total;
     rooms = omega (arith, rooms, so.rooms);
-    spares = omega (arith, spares, so.spares);
   }
 
   module _ (old new : Kept Request) (were are : Index) (so : Dropped old new were are) where
@@ -98,11 +95,11 @@ module _ (test : Request → Bool) where
           (ap (all_rest wake) items ∙ all_rest-filter test wake old.items is.1.0, (so.distinct, so.found)),
         )
 
-    pub dropped-spare : min old.room (spare_of were) ≤ min new.room (spare_of are)
-    dropped-spare = omega (arith, so.room, so.spare)
+    pub dropped-spare : min old.room (least_of were - length old.items) ≤ min new.room (least_of are - length new.items)
+    dropped-spare = omega (arith, so.room, so.rooms, so.least)
 
-    pub dropped-total : length new.items + min new.room (spare_of are) ≤ length old.items + min old.room (spare_of were)
-    dropped-total = omega (arith, so.rooms, so.spares)
+    pub dropped-total : length new.items + min new.room (least_of are - length new.items) ≤ length old.items + min old.room (least_of were - length old.items)
+    dropped-total = omega (arith, so.room, so.rooms, so.least)
 
     pub dropped-places : max new.places (2 * places_of are) ≤ max old.places (2 * places_of were)
     dropped-places = omega (arith, so.places, so.total)

@@ -43,11 +43,11 @@ pub record AreFound (index : Index) (requests : List Request) : Type 0 where
   pub eids : AreEids index.eids.pairs requests
   pub terms : AreTerms index.terms.keys requests
 
--- for how many more requests it has room
-abbrev pub spare_of : Index → ℕ
-spare_of index = min index.eids.spare index.terms.spare
+-- for how many requests each part has place
+abbrev pub least_of : Index → ℕ
+least_of index = min (length index.eids.pairs + index.eids.spare) (length index.terms.keys + index.terms.spare)
 
--- for how many it has place
+-- for how many one of them has
 abbrev pub places_of : Index → ℕ
 places_of index = max (length index.eids.pairs + index.eids.spare) (length index.terms.keys + index.terms.spare)
 

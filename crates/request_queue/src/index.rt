@@ -2,7 +2,7 @@
 ghost use Rattle.std.specs.Prelude.{◌≡◌, ◌≤◌, ◌<◌, ◌+◌, ◌^◌, ◌++◌, ◌∷◌, [], true, length, max, IfOk, IsOk, OnOk};
 ghost use Rattle.std.specs.List.{remove};
 ghost use Rattle.prefix_table.specs.Limits.{most_pairs};
-ghost use Rattle.request_queue.specs.Found.{AreFound, places_of, spare_of};
+ghost use Rattle.request_queue.specs.Found.{AreFound, least_of, places_of};
 ghost use Rattle.request_queue.specs.Lists.{are_distinct};
 
 use crate::eids::{add_eid, tell_latest};
@@ -28,7 +28,7 @@ impl Index {
     pub(crate) fn new(alloc: Global) -> Index
         ensures eids { result.eids.pairs ≡ [] }
         ensures terms { result.terms.keys ≡ [] }
-        ensures spare { spare_of result ≡ 0 }
+        ensures least { least_of result ≡ 0 }
         ensures places { places_of result ≡ 0 }
     {
         Index {
@@ -46,21 +46,23 @@ impl Index {
         Ok(Index { eids, terms })
     }
 
-    /// Makes room for `n` further requests.
-    pub(crate) fn reserve(&mut self, n: u32) -> Result<(), NoMemory>
-        requires eids { length self.old.eids.pairs + n ≤ most_pairs }
-        requires terms { length self.old.terms.keys + n < 2 ^ 32 }
+    /// Makes place for so many requests in all.
+    pub(crate) fn reserve(&mut self, all: u32) -> Result<(), NoMemory>
+        requires eids { length self.old.eids.pairs ≤ all }
+        requires terms { length self.old.terms.keys ≤ all }
+        requires all { all ≤ most_pairs }
         ensures eids { self.new.eids.pairs ≡ self.old.eids.pairs }
         ensures terms { self.new.terms.keys ≡ self.old.terms.keys }
-        ensures spare { spare_of self.old ≤ spare_of self.new }
-        ensures at_most { spare_of self.new ≤ max (spare_of self.old) n }
-        ensures places { places_of self.new ≤ max (places_of self.old)
-            (max (length self.old.eids.pairs) (length self.old.terms.keys) + n) }
-        ensures ok { OnOk result (n ≤ spare_of self.new) }
-        ensures enough { n ≤ spare_of self.old → IsOk result }
+        ensures least { least_of self.old ≤ least_of self.new }
+        ensures at_most { least_of self.new ≤ max (least_of self.old) all }
+        ensures places { places_of self.new ≤ max (places_of self.old) all }
+        ensures ok { OnOk result (all ≤ least_of self.new) }
+        ensures enough { all ≤ least_of self.old → IsOk result }
     {
-        self.eids.reserve(n)?;
-        self.terms.reserve(n)
+        let eids = all - self.eids.len();
+        let terms = all - self.terms.len() as u32;
+        self.eids.reserve(eids)?;
+        self.terms.reserve(terms)
     }
 }
 
@@ -79,15 +81,18 @@ pub(crate) fn count_found(requests: &KeyedList<Request>, index: &Index) -> usize
 /// Adds a request at the end. Takes no memory.
 pub(crate) fn add_request(request: Request, requests: &mut KeyedList<Request>, index: &mut Index)
     requires room { 0 < requests.old.room }
-    requires spare { 0 < spare_of index.old }
+    requires least { length requests.old.items < least_of index.old }
     requires found { AreFound index.old requests.old.items }
     ensures requests { requests.new.items ≡ requests.old.items ++ request ∷ [] }
-    ensures room { requests.old.room ≤ requests.new.room + 1 }
+    ensures len { length requests.new.items ≡ length requests.old.items + 1 }
+    ensures room { requests.new.room + 1 ≡ requests.old.room }
     ensures found { AreFound index.new requests.new.items }
     ensures places { requests.new.places ≡ requests.old.places }
-    ensures spare { spare_of index.old ≤ spare_of index.new + 1 }
+    ensures least { least_of index.new ≡ least_of index.old }
     ensures total { places_of index.new ≡ places_of index.old }
 {
+    // There are no more EIDs and terms than requests, so that there is a place for one more.
+    let _ = count_found(requests, index);
     add_eid(&request, &mut index.eids);
     add_term(&request, &mut index.terms);
     requests.push(request);
@@ -102,11 +107,9 @@ pub(crate) fn drop_request(place: usize, requests: &mut KeyedList<Request>, inde
     ensures room { requests.old.room ≤ requests.new.room }
     ensures found { AreFound index.new requests.new.items }
     ensures places { requests.new.places ≡ requests.old.places }
-    ensures spare { spare_of index.old ≤ spare_of index.new }
     ensures rooms { length requests.new.items + requests.new.room
         ≤ length requests.old.items + requests.old.room }
-    ensures spares { length requests.new.items + spare_of index.new
-        ≤ length requests.old.items + spare_of index.old }
+    ensures least { least_of index.new ≡ least_of index.old }
     ensures total { places_of index.new ≡ places_of index.old }
 {
     let request = requests.remove(place);

@@ -38,8 +38,8 @@ pub struct RequestQueue {
 }
 
 impl Model for RequestQueue {
-    ghost use Rattle.std.specs.Prelude.{◌≡◌, ◌+◌, ◌*◌, length, max, min, true};
-    ghost use Rattle.request_queue.specs.Found.{AreFound, kept_of, places_of, spare_of};
+    ghost use Rattle.std.specs.Prelude.{◌≡◌, ◌+◌, ◌-◌, ◌*◌, length, max, min, true};
+    ghost use Rattle.request_queue.specs.Found.{AreFound, kept_of, least_of, places_of};
     ghost use Rattle.request_queue.specs.Lists.{KeepsLimits, all_rest, are_distinct};
     ghost use Rattle.request_queue.specs.Queue.{Queue};
 
@@ -47,7 +47,7 @@ impl Model for RequestQueue {
 
     ghost view = { λ queue. record {
       requests = queue.requests.items;
-      spare = min queue.requests.room (spare_of queue.index);
+      spare = min queue.requests.room (least_of queue.index - length queue.requests.items);
       places = max queue.requests.places (2 * places_of queue.index);
       kept = queue.requests.kept + (kept_of queue.index + length queue.limits);
       limits = queue.limits;
@@ -106,10 +106,14 @@ impl RequestQueue {
             ≤ max self.old.places (2 * (length self.old.requests + n)) }
         ensures limits { self.new.limits ≡ self.old.limits }
     {
-        // There are no more EIDs and terms than requests, so that they are few.
-        let _ = (self.len(), count_found(&self.requests, &self.index));
+        if n == 0 {
+            return Ok(());
+        }
+        // There are no more EIDs and terms than requests, and these are few.
+        let _ = self.len();
+        let len = count_found(&self.requests, &self.index);
         self.requests.reserve(n)?;
-        self.index.reserve(n)
+        self.index.reserve(len as u32 + n)
     }
 
     /// How many requests are kept. No two have one nonce. What all lists have in all is at most 9 items
@@ -159,8 +163,9 @@ impl RequestQueue {
             ↔ (requests_in self.old.limits eid.iid ≤ open_in eid.iid (waiting m self.old.requests)) }
         ensures memory { result ≡ Err Memory → self.old.spare ≡ 0 }
         ensures spare { self.old.spare ≤ self.new.spare + 1 }
-        ensures refused { OnErr result (length self.new.requests + self.new.spare
-            ≤ max (length self.old.requests + self.old.spare) (length self.new.requests + 1)) }
+        ensures total { length self.new.requests + self.new.spare
+            ≤ max (length self.old.requests + self.old.spare)
+            (length (waiting m self.old.requests) + 1) }
         ensures places { self.new.places
             ≤ max self.old.places (2 * (length self.old.requests + 1)) }
         ensures limits { self.new.limits ≡ self.old.limits }
@@ -241,7 +246,7 @@ impl RequestQueue {
         requires { IsTrue (may_send_again nonce self.old.requests) }
         ensures requests { self.new.requests ≡ sent_again nonce self.old.requests }
         ensures behind { behind nonce self.new.requests ≡ behind nonce self.old.requests }
-        ensures spare { self.old.spare ≤ self.new.spare }
+        ensures spare { self.new.spare ≡ self.old.spare }
         ensures places { self.new.places ≤ self.old.places }
         ensures limits { self.new.limits ≡ self.old.limits }
     {

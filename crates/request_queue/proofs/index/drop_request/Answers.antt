@@ -1,5 +1,4 @@
-use Rattle.std.proofs.Common.{None, length, subst, ap, ◌∙◌, arith}
-use Rattle.std.proofs.lemmas.List.Edits.{length-remove}
+use Rattle.std.proofs.Common.{None, subst, ap, ◌∙◌}
 use Rattle.keyed_list.specs.Keyed.{latest}
 use Rattle.prefix_table.specs.Pairs.{Ascends}
 use Rattle.request_queue.specs.Found.{latest_start, request_marks}
@@ -23,7 +22,3 @@ returns-clause-found c =
       eids = rw (c.tell_latest.ensures.pairs) (are-left c.args.index.now.eids.pairs c.args.requests.now.items c.requires.found.eids c.args.place c.remove-request.result c.remove-request.ensures.item c.latest-latest.result latest_is (subst Ascends c.tell_latest.ensures.pairs c.len.ensures.ascends));
       terms = c.drop_term.ensures.terms c.args.requests.now.items c.args.place c.requires.distinct c.remove-request.ensures.item c.requires.found.terms;
     })
-
-pub returns-clause-spares : goal.returns-clause-spares
-returns-clause-spares c =
-    omega (arith, c.tell_latest.ensures.one, c.drop_term.ensures.one, c.requires.place, length-remove c.args.requests.now.items c.args.place c.requires.place, ap length c.remove-request.ensures.items)

@@ -71,3 +71,13 @@ pub returns-clause-mapping_places : goal.returns-clause-mapping_places
 returns-clause-mapping_places c =
     let purged = rw (← c.self.view_is) at c.purge.ensures in
     omega (arith, length-lasting c.args.m c.args.self.now.mappings, ap length purged.mappings, purged.mapping_places, c.reserve.ensures.mapping_places, c.put.ensures.mapping_places)
+
+pub returns-clause-total : goal.returns-clause-total
+returns-clause-total c =
+    let purged = rw (← c.self.view_is) at c.purge.ensures in
+    omega (arith, ap length purged.mappings, purged.total, ap length c.reserve.ensures.mappings, c.reserve.ensures.at_most, c.put.ensures.total)
+
+pub returns-in_err-reserve-clause-total : goal.returns-in_err-reserve-clause-total
+returns-in_err-reserve-clause-total c =
+    let purged = rw (← c.self.view_is) at c.purge.ensures in
+    omega (arith, ap length purged.mappings, purged.total, ap length c.reserve.ensures.mappings, c.reserve.ensures.at_most)

@@ -1,8 +1,8 @@
-use Rattle.std.proofs.Common.{List, length, sym, ap, subst, ◌∙◌, arith}
+use Rattle.std.proofs.Common.{List, sym, subst, ◌∙◌, arith}
 use Rattle.map_cache.specs.Cache.{learned_in, without_eid}
 use Rattle.map_cache.specs.Indexed.{IsIndexed}
 use Rattle.map_cache.specs.declared.mapping.Mapping.{Mapping}
-use Rattle.map_cache.proofs.PlaceLemmas.{length-without_eid, without-none}
+use Rattle.map_cache.proofs.PlaceLemmas.{without-none}
 use Rattle.map_cache.proofs.IndexedLemmas.{counted-there, indexed-dropped}
 use Rattle.map_cache.proofs.indexed.Indexed.drop_eid.Goals as goal
 
@@ -23,6 +23,16 @@ invariant_of-self-in_default c =
 
 pub returns-in-Some-clause-total : goal.returns-in-Some-clause-total
 returns-in-Some-clause-total c =
-    let less = length-without_eid c.args.eid.now c.self.inside.by_eid.mappings in
-    let one = rw (← c.in-Some.ensures.taken) at less in
-    rw (← c.self.view_is) (omega (arith, one, ap length c.take.ensures.mappings, c.take.ensures.total, c.drop_ending.ensures.one))
+    rw (← c.self.view_is) (omega (arith, c.take.ensures.spare, c.take.ensures.total, c.drop_ending.ensures.total))
+
+pub returns-in-Some-clause-spare : goal.returns-in-Some-clause-spare
+returns-in-Some-clause-spare c =
+    rw (← c.self.view_is) (omega (arith, c.take.ensures.spare, c.take.ensures.total, c.drop_ending.ensures.total))
+
+pub returns-in_default-clause-spare : goal.returns-in_default-clause-spare
+returns-in_default-clause-spare c =
+    rw (← c.self.view_is) (omega (arith, c.take.ensures.spare, c.take.ensures.total))
+
+pub returns-in_default-clause-total : goal.returns-in_default-clause-total
+returns-in_default-clause-total c =
+    rw (← c.self.view_is) (omega (arith, c.take.ensures.spare, c.take.ensures.total))

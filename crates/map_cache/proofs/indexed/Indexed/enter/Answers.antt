@@ -2,6 +2,7 @@ use Rattle.std.proofs.Common.{length, ap, ◌∙◌, arith}
 use Rattle.mapping_records.specs.Orders.{eid_order}
 use Rattle.map_cache.proofs.FullLemmas.{length-put}
 use Rattle.map_cache.proofs.IndexedLemmas.{counted-few, indexed-entered}
+use Rattle.map_cache.proofs.RoomLemmas.{endings-few}
 use Rattle.map_cache.proofs.indexed.Indexed.enter.Goals as goal
 
 pub add-requires : goal.add-requires
@@ -17,3 +18,21 @@ pub returns-clause-mapping_places : goal.returns-clause-mapping_places
 returns-clause-mapping_places c =
     let more = ap length c.put.ensures.mappings ∙ length-put (λ item. item.eid) eid_order c.args.mapping c.self.inside.by_eid.mappings in
     rw (← c.self.view_is) (omega (arith, more, c.put.ensures.room, c.add_ending.ensures.total))
+
+pub add_ending-requires : goal.add_ending-requires
+add_ending-requires c =
+    let few = endings-few _ _ _ c.self.invariant c.len.ensures.ascends in
+    let room = rw (← c.self.view_is) at c.requires.spare in
+    omega (arith, few, room)
+
+pub returns-clause-spare : goal.returns-clause-spare
+returns-clause-spare c =
+    let more = ap length c.put.ensures.mappings ∙ length-put (λ item. item.eid) eid_order c.args.mapping c.self.inside.by_eid.mappings in
+    let room = rw (← c.self.view_is) at c.requires.spare in
+    rw (← c.self.view_is) (omega (arith, more, room, c.put.ensures.spare, c.add_ending.ensures.total))
+
+pub returns-clause-total : goal.returns-clause-total
+returns-clause-total c =
+    let more = ap length c.put.ensures.mappings ∙ length-put (λ item. item.eid) eid_order c.args.mapping c.self.inside.by_eid.mappings in
+    let room = rw (← c.self.view_is) at c.requires.spare in
+    rw (← c.self.view_is) (omega (arith, more, room, c.put.ensures.spare, c.add_ending.ensures.total))

@@ -30,7 +30,7 @@ pub loop-place-preserved : goal.loop-place-preserved
 loop-place-preserved c = (
   dropped-step (λ (request : Request). not (request.nonce == c.args.nonce)) c.self.inside.requests c.loop-place.self-inside.requests c.drop_request.new.requests c.self.inside.index c.loop-place.self-inside.index c.drop_request.new.index c.in-Some.place c.loop-place.invariant.0 c.in-Some.ensures.within
       (nonce-there c.args.nonce c.loop-place.self-inside.requests.items c.in-Some.place (c.in-Some.ensures.last ∙ ap (λ key. last_where (is_key request_marks key) c.loop-place.self-inside.requests.items) c.nonce.ensures))
-      c.drop_request.ensures.requests c.drop_request.ensures.room c.drop_request.ensures.found c.drop_request.ensures.places c.drop_request.ensures.spare c.drop_request.ensures.total c.drop_request.ensures.rooms c.drop_request.ensures.spares,
+      c.drop_request.ensures.requests c.drop_request.ensures.room c.drop_request.ensures.found c.drop_request.ensures.places c.drop_request.ensures.least c.drop_request.ensures.total c.drop_request.ensures.rooms,
   c.loop-place.invariant.1,
   c.loop-place.invariant.2,
   c.loop-place.invariant.3,

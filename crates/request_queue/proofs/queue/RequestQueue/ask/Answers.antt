@@ -53,3 +53,17 @@ pub returns-clause-places : goal.returns-clause-places
 returns-clause-places c =
     let fewer = length-filter_le (is_waiting c.args.m) c.args.self.now.requests in
     omega (arith, fewer, c.add_request.ensures.places, c.add_request.ensures.total, ap (λ (queue : Queue). queue.places) c.self.view_is, c.answer.ensures.places, c.reserve.ensures.places, c.purge.ensures.places, ap (λ (l : List Request). length l) c.purge.ensures.requests)
+
+pub returns-clause-spare : goal.returns-clause-spare
+returns-clause-spare c =
+    let added = c.add_request.ensures in
+    omega (arith, ap (λ (queue : Queue). queue.spare) c.self.view_is, added.len, added.room, added.least, c.in_ok-reserve.ensures.ok, c.answer.ensures.spare, c.reserve.ensures.spare, c.purge.ensures.spare)
+
+pub returns-clause-total : goal.returns-clause-total
+returns-clause-total c =
+    let added = c.add_request.ensures in
+    omega (arith, ap (λ (queue : Queue). queue.spare) c.self.view_is, ap (λ (queue : Queue). length queue.requests) c.self.view_is, added.len, added.room, added.least, c.in_ok-reserve.ensures.ok, c.answer.ensures.spare, c.answer.ensures.total, c.reserve.ensures.at_most, ap (λ (l : List Request). length l) c.reserve.ensures.requests, c.purge.ensures.total, ap (λ (l : List Request). length l) c.purge.ensures.requests)
+
+pub returns-in_err-reserve-clause-total : goal.returns-in_err-reserve-clause-total
+returns-in_err-reserve-clause-total c =
+    omega (arith, c.reserve.ensures.at_most, ap (λ (l : List Request). length l) c.reserve.ensures.requests, c.purge.ensures.total, ap (λ (l : List Request). length l) c.purge.ensures.requests)

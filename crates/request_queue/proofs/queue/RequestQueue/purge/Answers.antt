@@ -25,7 +25,7 @@ pub loop-place-preserved : goal.loop-place-preserved
 loop-place-preserved c = (
   dropped-step (is_waiting c.args.m) c.self.inside.requests c.loop-place.self-inside.requests c.drop_request.new.requests c.self.inside.index c.loop-place.self-inside.index c.drop_request.new.index c.in-Some.place c.loop-place.invariant.0 c.in-Some.ensures.within
       c.in-Some.ensures.old
-      c.drop_request.ensures.requests c.drop_request.ensures.room c.drop_request.ensures.found c.drop_request.ensures.places c.drop_request.ensures.spare c.drop_request.ensures.total c.drop_request.ensures.rooms c.drop_request.ensures.spares,
+      c.drop_request.ensures.requests c.drop_request.ensures.room c.drop_request.ensures.found c.drop_request.ensures.places c.drop_request.ensures.least c.drop_request.ensures.total c.drop_request.ensures.rooms,
   c.loop-place.invariant.1,
   c.loop-place.invariant.2,
   c.loop-place.invariant.3,

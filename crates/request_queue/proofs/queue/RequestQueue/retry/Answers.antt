@@ -1,5 +1,7 @@
-use Rattle.std.proofs.Common.{ap, ◌∙◌}
-use Rattle.request_queue.specs.Queue.{Queue, behind, may_send_again}
+use Rattle.std.proofs.Common.{◌==◌, cond, length, ap, ◌∙◌, arith}
+use Rattle.std.proofs.lemmas.List.{length-map}
+use Rattle.request_queue.specs.Queue.{Queue, behind, may_send_again, once_more}
+use Rattle.request_queue.specs.declared.request.Request.{Request}
 use Rattle.request_queue.proofs.AgainLemmas.{all_may, behind-sent_again}
 use Rattle.request_queue.proofs.DistinctLemmas.{distinct-sent_again}
 use Rattle.request_queue.proofs.IndexLemmas.{found-again}
@@ -28,3 +30,8 @@ returns-clause-behind c =
     ap (behind c.args.nonce) c.send_each_again.ensures.items
     ∙ behind-sent_again c.args.nonce c.self.inside.requests.items c.self.invariant.1.1.0
     ∙ ap (λ (queue : Queue). behind c.args.nonce queue.requests) c.self.view_is
+
+pub returns-clause-spare : goal.returns-clause-spare
+returns-clause-spare c =
+    let same = length-map c.self.inside.requests.items (λ (request : Request). cond (request.nonce == c.args.nonce) (once_more request) request) in
+    rw (← c.self.view_is) (omega (arith, same, ap length c.send_each_again.ensures.items, c.send_each_again.ensures.room))
