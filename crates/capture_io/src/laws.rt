@@ -20,7 +20,7 @@ pub fn frames_come_in_order()
 {}
 
 /// The moments of a file's frames don't fall, and there are no more frames than a capture may have
-/// records. In a file of octets no moment is of 2^32 seconds or more.
+/// records. In a file of octets no moment is of 2^32 seconds or more, and each frame is of octets.
 pub fn moments_do_not_fall()
     ensures later { (format : Format) (octets : List ℕ) →
         AreLater 0 (read_on format begin octets).frames }
@@ -28,4 +28,7 @@ pub fn moments_do_not_fall()
         length (read_on format begin octets).frames ≤ most_records }
     ensures early { (format : Format) (octets : List ℕ) → All (λ octet. octet < 256) octets →
         All (λ frame. frame.moment < 2 ^ 32 * 1000000000) (read_on format begin octets).frames }
+    ensures octets { (format : Format) (octets : List ℕ) → All (λ octet. octet < 256) octets →
+        All (λ frame. All (λ octet. octet < 256) frame.octets)
+        (read_on format begin octets).frames }
 {}

@@ -61,6 +61,7 @@ impl CaptureReader {
         ensures given { D.given desk.new ≡ D.given desk.old }
         ensures later { D.faults desk.old ≤ D.faults desk.new }
         ensures host { IsErrOf result Host → Rose (D.faults desk.old) (D.faults desk.new) }
+        ensures same { result ≢ Err Host → D.faults desk.new ≡ D.faults desk.old }
         ensures steady { StaysSteady (D.steady desk.old) (D.steady desk.new)
             (IsGiven id.number to_read (D.given desk.old)) (IsErrOf result Host) }
     {
@@ -104,6 +105,7 @@ impl CaptureReader {
         ensures later { D.faults desk.old ≤ D.faults desk.new }
         ensures host { IsErrOf result Host →
             (self.old.fault ≡ Some Host) ⊎ Rose (D.faults desk.old) (D.faults desk.new) }
+        ensures same { result ≢ Err Host → D.faults desk.new ≡ D.faults desk.old }
         ensures steady { StaysSteady (D.steady desk.old) (D.steady desk.new)
             (IsGiven self.old.id to_read (D.given desk.old))
             (IsErrOf result Host × (self.old.fault ≢ Some Host)) }

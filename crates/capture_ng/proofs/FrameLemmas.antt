@@ -17,7 +17,7 @@ use Rattle.capture_ng.specs.declared.head.Head.{Head}
 use Rattle.capture_ng.specs.declared.interface.Interface.{Interface}
 
 -- each number is below 256
-abbrev AreOctets : List ℕ → Type 0
+abbrev pub AreOctets : List ℕ → Type 0
 AreOctets octets = All (λ octet. octet < 256) octets
 
 -- octets by their type

@@ -7,6 +7,7 @@ pub mod FindingLemmas
 pub mod FrameLemmas
 pub mod Fronts
 pub mod MomentLemmas
+pub mod OctetLemmas
 pub mod OnLiterals
 pub mod OptionLemmas
 pub mod OrderLemmas

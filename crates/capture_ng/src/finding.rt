@@ -1,5 +1,5 @@
 // The next frame, behind blocks that keep none.
-ghost use Rattle.std.specs.Prelude.{◌≡◌, ◌≤◌, false, option_map, None, IfOk, IfErr, IfSome, IsErrOf};
+ghost use Rattle.std.specs.Prelude.{◌≡◌, ◌≢◌, ◌≤◌, false, option_map, None, Err, IfOk, IfErr, IfSome, IsErrOf};
 ghost use Rattle.octets.specs.Causes.{Rose};
 ghost use Rattle.desk.specs.Causes.{StaysSteady};
 ghost use Rattle.desk.specs.World.{left_of, to_read, shown, IsGiven};
@@ -37,6 +37,7 @@ pub fn find_frame<D: Desk>(
     ensures given { D.given desk.new ≡ D.given desk.old }
     ensures later { D.faults desk.old ≤ D.faults desk.new }
     ensures host { IsErrOf result Host → Rose (D.faults desk.old) (D.faults desk.new) }
+    ensures same { result ≢ Err Host → D.faults desk.new ≡ D.faults desk.old }
     ensures steady { StaysSteady (D.steady desk.old) (D.steady desk.new)
         (IsGiven id.number to_read (D.given desk.old)) (IsErrOf result Host) }
 {

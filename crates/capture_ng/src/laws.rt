@@ -23,13 +23,15 @@ pub fn blocks_are_read_one_by_one()
 {}
 
 /// The moments of a file's frames don't fall, and no moment is of 2^32 seconds or more. There are no more
-/// frames than a capture may have records.
+/// frames than a capture may have records. In a file of octets each frame is of octets.
 pub fn moments_do_not_fall()
     ensures later { (file : List ℕ) (vlans : Bool) → AreLater 0 (ng_frames file vlans) }
     ensures few { (file : List ℕ) (vlans : Bool) →
         length (ng_frames file vlans) ≤ most_records }
     ensures early { (file : List ℕ) (vlans : Bool) →
         All (λ frame. frame.moment < end_of_moments) (ng_frames file vlans) }
+    ensures octets { (file : List ℕ) (vlans : Bool) → All (λ octet. octet < 256) file →
+        All (λ frame. All (λ octet. octet < 256) frame.octets) (ng_frames file vlans) }
 {}
 
 /// Where all frames of a file have one link type, and interfaces are no VLANs, the classic capture with

@@ -21,7 +21,7 @@ pub const MOST_BINARY: u8 = 63;
 /// The nanoseconds since 1970 at which a frame comes too late.
 pub const END_OF_MOMENTS: u64 = 4_294_967_296_000_000_000;
 
-/// The limits are the defined ones.
+/// The limits are the defined ones, which are these.
 pub fn limits_are()
     ensures block { MOST_BLOCK_OCTETS ≡ most_block_octets }
     ensures interfaces { MOST_INTERFACES ≡ most_interfaces }
@@ -29,4 +29,8 @@ pub fn limits_are()
     ensures decimal { MOST_DECIMAL ≡ most_decimal }
     ensures binary { MOST_BINARY ≡ most_binary }
     ensures moments { END_OF_MOMENTS ≡ end_of_moments }
+    ensures worked_sizes { (most_block_octets ≡ 1048576)
+        × ((most_interfaces ≡ 4095) × (most_blocks ≡ 4000000000)) }
+    ensures worked_times { (most_decimal ≡ 19)
+        × ((most_binary ≡ 63) × (end_of_moments ≡ 4294967296000000000)) }
 {}

@@ -82,6 +82,7 @@ impl NgReader {
         ensures later { D.faults desk.old ≤ D.faults desk.new }
         ensures host { IsErrOf result Host →
             (self.old.fault ≡ Some Host) ⊎ Rose (D.faults desk.old) (D.faults desk.new) }
+        ensures same { result ≢ Err Host → D.faults desk.new ≡ D.faults desk.old }
         ensures steady { StaysSteady (D.steady desk.old) (D.steady desk.new)
             (IsGiven self.old.id to_read (D.given desk.old))
             (IsErrOf result Host × (self.old.fault ≢ Some Host)) }

@@ -7,7 +7,7 @@ ghost use Rattle.capture_events.specs.Events.{events_of, idle, steps_of, End};
 ghost use Rattle.playback.specs.Front.{CutRun, Goes};
 ghost use Rattle.playback.specs.Input.{beginning, left_in};
 ghost use Rattle.playback.specs.Limits.{most_arrival_octets, most_frames};
-ghost use Rattle.playback.specs.Playing.{HasPlayed, KeepsReaders, MayWrite};
+ghost use Rattle.playback.specs.Playing.{is_full, HasPlayed, KeepsReaders, MayWrite};
 
 use crate::machine::Machine;
 use crate::output::{Output, hand_on_full};
@@ -57,7 +57,8 @@ pub fn play<D: Desk, M: Machine, R: FrameReader>(
     }
 }
 
-/// Plays a frame behind the seconds before it. Answers that the machine is full.
+/// Plays a frame behind the seconds before it; less than a piece is left gathered. Answers that the
+/// machine is full.
 pub(crate) fn play_frame<D: Desk, M: Machine>(
     alloc: Global,
     desk: &mut D,
@@ -81,6 +82,7 @@ pub(crate) fn play_frame<D: Desk, M: Machine>(
     ensures goes { Goes M.Does (option_map (λ id. id.number) file)
         (M.state machine.old) (M.state machine.new) (steps_of (events_of progress.moment frame))
         output.old (D.told desk.old) result output.new (D.told desk.new) }
+    ensures piece { OnOk result (is_full output.new ≡ false) }
     ensures readers { OnOk result (KeepsReaders (D.told desk.old) (D.told desk.new)) }
     ensures cause { HasCause (D.faults desk.old) (D.faults desk.new) result }
     ensures given { D.given desk.new ≡ D.given desk.old }

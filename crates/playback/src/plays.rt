@@ -7,7 +7,7 @@ ghost use Rattle.playback.specs.Front.{Breaks};
 ghost use Rattle.playback.specs.Input.{beginning, left_in};
 ghost use Rattle.playback.specs.Limits.{most_frames};
 ghost use Rattle.playback.specs.Passing.{file_of, IfFull, IsBegun, IsBetween, IsSamePlay, PassesOn};
-ghost use Rattle.playback.specs.Playing.{handed_on, MayWrite};
+ghost use Rattle.playback.specs.Playing.{handed_on, is_full, MayWrite};
 ghost use Rattle.playback.specs.declared.progress.Progress.{Progress};
 
 use crate::fault::InputFault;
@@ -68,7 +68,8 @@ impl<R: FrameReader> Play<R> {
     }
 
     /// Plays frames, each behind the seconds before it, until the machine is full or none is left. What
-    /// is gathered goes out in pieces: lines are said, packets are written into the file.
+    /// is gathered goes out in pieces: lines are said, packets are written into the file. So less than a
+    /// piece is left gathered behind each frame.
     pub fn on<D: Desk, M: Machine>(
         &mut self,
         alloc: Global,
@@ -85,6 +86,8 @@ impl<R: FrameReader> Play<R> {
         ensures ready { OnOk result (M.IsReady self.new.progress self.new.output.written machine.new) }
         ensures full { IfOk result (λ turn. IfFull turn (M.full (M.state machine.new) ≡ true)) }
         ensures more { IfOk result (λ turn. IfFull turn (self.old.progress.frames < self.new.progress.frames)) }
+        ensures piece { is_full self.old.output ≡ false → OnOk result (is_full self.new.output ≡ false) }
+        ensures handed { IfOk result (λ turn. IfFull turn (is_full self.new.output ≡ false)) }
         ensures passes { PassesOn M.Does (left_in R.id R.run) self.old self.new (M.state machine.old) (M.state machine.new)
             (D.told desk.old) result (D.told desk.new) }
         ensures cause { HasCause (D.faults desk.old) (D.faults desk.new) result }

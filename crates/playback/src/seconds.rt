@@ -5,7 +5,7 @@ ghost use Rattle.desk.specs.Causes.{HasCause, StaysSteady};
 ghost use Rattle.capture_events.specs.Events.{second_of, steps_of, ticks, Happens, Tick};
 ghost use Rattle.playback.specs.Front.{Goes};
 ghost use Rattle.playback.specs.Limits.{most_frames};
-ghost use Rattle.playback.specs.Playing.{KeepsReaders, MayWrite};
+ghost use Rattle.playback.specs.Playing.{is_full, KeepsReaders, MayWrite};
 
 use crate::machine::Machine;
 use crate::output::{Output, hand_on_full};
@@ -36,6 +36,7 @@ pub(crate) fn play_seconds<D: Desk, M: Machine>(
     ensures goes { Goes M.Does (option_map (λ id. id.number) file)
         (M.state machine.old) (M.state machine.new) (steps_of (ticks progress.moment moment))
         output.old (D.told desk.old) result output.new (D.told desk.new) }
+    ensures piece { is_full output.old ≡ false → OnOk result (is_full output.new ≡ false) }
     ensures readers { OnOk result (KeepsReaders (D.told desk.old) (D.told desk.new)) }
     ensures cause { HasCause (D.faults desk.old) (D.faults desk.new) result }
     ensures given { D.given desk.new ≡ D.given desk.old }
@@ -76,6 +77,7 @@ fn play_second<D: Desk, M: Machine>(
     ensures goes { Goes M.Does (option_map (λ id. id.number) file)
         (M.state machine.old) (M.state machine.new) (Happens (Tick second) ∷ [])
         output.old (D.told desk.old) result output.new (D.told desk.new) }
+    ensures piece { OnOk result (is_full output.new ≡ false) }
     ensures readers { OnOk result (KeepsReaders (D.told desk.old) (D.told desk.new)) }
     ensures cause { HasCause (D.faults desk.old) (D.faults desk.new) result }
     ensures given { D.given desk.new ≡ D.given desk.old }

@@ -3,7 +3,7 @@ use Rattle.capture_ng.proofs.ComingLemmas.{all_came, more_came, none_came, nothi
 use Rattle.capture_ng.proofs.coming.skip.Goals as goal
 
 pub loop-passed-init : goal.loop-passed-init
-loop-passed-init g c = record { within = omega arith; so_far = nothing_came c.args.id.number (g.D.Desk.told c.args.desk.now); given = refl; shown = refl; steady = λ steady. steady; faults = omega arith }
+loop-passed-init g c = record { within = omega arith; so_far = nothing_came c.args.id.number (g.D.Desk.told c.args.desk.now); given = refl; shown = refl; steady = λ steady. steady; faults = refl }
 
 pub loop-passed-preserved : goal.loop-passed-preserved
 loop-passed-preserved g c = record {
@@ -12,7 +12,7 @@ loop-passed-preserved g c = record {
   given = c.in_ok-n.ensures.given ∙ c.loop-passed.invariant.given;
   shown = c.in_ok-n.ensures.shown ∙ c.loop-passed.invariant.shown;
   steady = λ steady. c.in_ok-n.ensures.steady.stays (c.loop-passed.invariant.steady steady);
-  faults = omega (arith, c.loop-passed.invariant.faults, c.in_ok-n.ensures.cause.later);
+  faults = c.in_ok-n.ensures.cause.ok ∙ c.loop-passed.invariant.faults;
 }
 
 pub returns-after-loop-passed-clause-come : goal.returns-after-loop-passed-clause-come

@@ -10,7 +10,7 @@ invariant-loop-passed g l = record {
   given : g.D.Desk.given l.desk ≡ g.D.Desk.given l.initial.desk;
   shown : shown (g.D.Desk.told l.desk) ≡ shown (g.D.Desk.told l.initial.desk);
   steady : IsTrue (g.D.Desk.steady l.initial.desk) → IsTrue (g.D.Desk.steady l.desk);
-  faults : g.D.Desk.faults l.initial.desk ≤ g.D.Desk.faults l.desk;
+  faults : g.D.Desk.faults l.desk ≡ g.D.Desk.faults l.initial.desk;
 }
 
 abbrev pub decreases-loop-passed : goal.decreases-loop-passed

@@ -1,4 +1,4 @@
-use Rattle.std.proofs.Common.{◌∙◌, ◌+◌, Option, Some, None, Ok, refl, subst, sym, ap, arith}
+use Rattle.std.proofs.Common.{◌∙◌, ◌+◌, Option, Some, None, Ok, refl, subst, sym, ap}
 use Rattle.std.proofs.lemmas.Result.{err_from_is_err_and}
 use Rattle.capture_io.specs.Frame.{Frame}
 use Rattle.desk.proofs.Reading.{reads_on}
@@ -9,7 +9,7 @@ use Rattle.capture_ng.proofs.FindingLemmas.{answers, end_found, fault_answers, f
 use Rattle.capture_ng.proofs.finding.find_frame.Goals as goal
 
 pub loop-head-init : goal.loop-head-init
-loop-head-init g c = record { past = past-start c.args.id.number c.args.vlans (g.D.Desk.told c.args.desk.now) c.args.at.now; given = refl; shown = refl; steady = λ steady. steady; faults = omega arith }
+loop-head-init g c = record { past = past-start c.args.id.number c.args.vlans (g.D.Desk.told c.args.desk.now) c.args.at.now; given = refl; shown = refl; steady = λ steady. steady; faults = refl }
 
 pub returns-in_err-head-clause-answer : goal.returns-in_err-head-clause-answer
 returns-in_err-head-clause-answer g c =
@@ -92,7 +92,7 @@ loop-head-preserved g c =
       given = c.in_ok-head.ensures.given ∙ c.loop-head.invariant.given;
       shown = c.in_ok-head.ensures.shown ∙ c.loop-head.invariant.shown;
       steady = λ steady. c.in_ok-head.ensures.steady.stays (c.loop-head.invariant.steady steady);
-      faults = omega (arith, c.loop-head.invariant.faults, c.in_ok-head.ensures.later);
+      faults = c.in_ok-head.ensures.same (λ is. cc) ∙ c.loop-head.invariant.faults;
     }
 
 pub returns-clause-answer : goal.returns-clause-answer

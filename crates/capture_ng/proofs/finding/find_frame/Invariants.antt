@@ -1,4 +1,4 @@
-use Rattle.std.proofs.Common.{◌-◌, ◌≡◌, ◌≤◌, IsTrue}
+use Rattle.std.proofs.Common.{◌-◌, ◌≡◌, IsTrue}
 use Rattle.desk.specs.World.{shown}
 use Rattle.capture_ng.specs.Finding.{IsPast}
 use Rattle.capture_ng.specs.Limits.{most_blocks}
@@ -10,7 +10,7 @@ invariant-loop-head g l = record {
   given : g.D.Desk.given l.desk ≡ g.D.Desk.given l.initial.desk;
   shown : shown (g.D.Desk.told l.desk) ≡ shown (g.D.Desk.told l.initial.desk);
   steady : IsTrue (g.D.Desk.steady l.initial.desk) → IsTrue (g.D.Desk.steady l.desk);
-  faults : g.D.Desk.faults l.initial.desk ≤ g.D.Desk.faults l.desk;
+  faults : g.D.Desk.faults l.desk ≡ g.D.Desk.faults l.initial.desk;
 }
 
 abbrev pub decreases-loop-head : goal.decreases-loop-head

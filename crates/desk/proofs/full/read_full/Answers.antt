@@ -3,7 +3,7 @@ use Rattle.std.proofs.Common.{arith, ◌∙◌, refl}
 use Rattle.desk.proofs.full.read_full.Goals as goal
 
 pub loop-filled-init : goal.loop-filled-init
-loop-filled-init g c = record { so_far = started c.args.id.number (g.D.Desk.told c.args.desk.now) c.args.buf.now; given = refl; steady = λ steady. steady; faults = omega arith }
+loop-filled-init g c = record { so_far = started c.args.id.number (g.D.Desk.told c.args.desk.now) c.args.buf.now; given = refl; steady = λ steady. steady; faults = refl }
 
 pub loop-filled-preserved : goal.loop-filled-preserved
 loop-filled-preserved g c = record {
@@ -11,7 +11,7 @@ loop-filled-preserved g c = record {
       c.loop-filled.invariant.so_far c.in_ok-n.ensures.bound (omega arith) c.in_ok-n.ensures.octets c.in_ok-n.ensures.told;
   given = c.in_ok-n.ensures.given ∙ c.loop-filled.invariant.given;
   steady = λ steady. c.in_ok-n.ensures.steady.stays (c.loop-filled.invariant.steady steady);
-  faults = omega (arith, c.loop-filled.invariant.faults, c.in_ok-n.ensures.cause.later);
+  faults = c.in_ok-n.ensures.cause.ok ∙ c.loop-filled.invariant.faults;
 }
 
 pub returns-then-n-eq0-clause-octets : goal.returns-then-n-eq0-clause-octets

@@ -22,7 +22,8 @@ loop-second-init g c =
       readers = refl;
       given = refl;
       steady = λ steady. steady;
-      faults = omega arith;
+      piece = λ less. less;
+      faults = refl;
     }
 
 pub loop-second-preserved : goal.loop-second-preserved
@@ -50,7 +51,8 @@ loop-second-preserved g c =
       readers = done.readers ∙ inv.readers;
       given = done.given ∙ inv.given;
       steady = λ steady. done.steady.stays (inv.steady steady);
-      faults = omega (arith, inv.faults, done.cause.later);
+      piece = λ less. done.piece;
+      faults = done.cause.ok ∙ inv.faults;
     }
 
 pub returns-in_err-play_second-clause-goes : goal.returns-in_err-play_second-clause-goes

@@ -3,7 +3,7 @@ use Rattle.std.specs.Option.{option_map}
 use Rattle.capture_events.specs.Events.{Step}
 use Rattle.desk.specs.World.{Shown}
 use Rattle.playback.specs.Front.{Stands}
-use Rattle.playback.specs.Playing.{KeepsReaders}
+use Rattle.playback.specs.Playing.{is_full, KeepsReaders}
 use Rattle.playback.proofs.FrontLemmas.{seconds_of}
 use Rattle.playback.proofs.seconds.play_seconds.Given as goal
 
@@ -21,5 +21,6 @@ invariant-loop-second g l = record {
   readers : KeepsReaders (g.D.Desk.told l.fn.desk) (g.D.Desk.told l.desk);
   given : g.D.Desk.given l.desk ≡ g.D.Desk.given l.fn.desk;
   steady : IsTrue (g.D.Desk.steady l.fn.desk) → IsTrue (g.D.Desk.steady l.desk);
-  faults : g.D.Desk.faults l.fn.desk ≤ g.D.Desk.faults l.desk;
+  piece : is_full l.fn.output ≡ false → is_full l.output ≡ false;
+  faults : g.D.Desk.faults l.desk ≡ g.D.Desk.faults l.fn.desk;
 }

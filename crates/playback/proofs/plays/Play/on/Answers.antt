@@ -15,7 +15,8 @@ loop-frame-init g c = record {
   passing = λ start run old is. is;
   given = refl;
   steady = λ steady. steady;
-  faults = omega arith;
+  piece = λ less. less;
+  faults = refl;
 }
 
 pub loop-frame-preserved : goal.loop-frame-preserved
@@ -52,7 +53,8 @@ loop-frame-preserved g c =
           (left_in-stays g.R.FrameReader.id g.R.FrameReader.run c.next_frame.new.self) next read.shown done.readers done.goes));
       given = done.given ∙ read.given ∙ inv.given;
       steady = λ steady. done.steady.stays (read.steady.stays (inv.steady steady));
-      faults = omega (arith, inv.faults, read.cause.later, done.cause.later);
+      piece = λ less. done.piece;
+      faults = done.cause.ok ∙ read.cause.ok ∙ inv.faults;
     }
 
 pub returns-then-is_full-clause-passes : goal.returns-then-is_full-clause-passes

@@ -3,6 +3,7 @@ use Rattle.desk.specs.World.{World}
 use Rattle.playback.specs.Input.{InputRun, left_in}
 use Rattle.playback.specs.Limits.{most_frames}
 use Rattle.playback.specs.Passing.{IsBetween, IsPassing, IsSamePlay}
+use Rattle.playback.specs.Playing.{is_full}
 use Rattle.playback.proofs.plays.Play.on.Given as goal
 
 abbrev pub invariant-loop-frame : goal.invariant-loop-frame
@@ -17,7 +18,8 @@ invariant-loop-frame g l = record {
       → IsPassing g.M.Machine.Does (left_in g.R.FrameReader.id g.R.FrameReader.run) start run l.self (g.M.Machine.state l.machine) old (g.D.Desk.told l.desk);
   given : g.D.Desk.given l.desk ≡ g.D.Desk.given l.fn.desk;
   steady : IsTrue (g.D.Desk.steady l.fn.desk) → IsTrue (g.D.Desk.steady l.desk);
-  faults : g.D.Desk.faults l.fn.desk ≤ g.D.Desk.faults l.desk;
+  piece : is_full l.fn.self.output ≡ false → is_full l.self.output ≡ false;
+  faults : g.D.Desk.faults l.desk ≡ g.D.Desk.faults l.fn.desk;
 }
 
 abbrev pub decreases-loop-frame : goal.decreases-loop-frame
