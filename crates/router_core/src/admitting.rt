@@ -10,15 +10,13 @@ ghost use Rattle.router_model.specs.Parts.{admits, view_in};
 ghost use Rattle.router_model.specs.Proper.{is_in_range, is_short, may_retry, suits};
 
 use crate::Table;
+use crate::limits::{MOST_RETRIES, MOST_VERSION};
 use ip_headers::Addr;
 use lisp_settings::{MOST_CHANGES, is_own};
 use map_cache::MOST_LOCATORS;
 use mapping_records::{Eid, Record};
 use request_queue::Request;
 use router_log::Entry;
-
-// How often a request is sent again, at most.
-const MOST_RETRIES: u8 = 2;
 
 impl Table {
     /// An entry may follow what the table stands for, but for its nonce: `apply` takes it then. Takes
@@ -180,7 +178,8 @@ fn moment_of(entry: &Entry) -> u64
 fn is_in_range(mapping: &Record) -> bool
     ensures { result ≡ is_in_range mapping.now }
 {
-    mapping.action <= 7 && (mapping.version <= 4095 && mapping.locators.len() <= MOST_LOCATORS)
+    mapping.action <= 7
+        && (mapping.version <= MOST_VERSION && mapping.locators.len() <= MOST_LOCATORS)
 }
 
 // The nonce has 24 bits.

@@ -8,6 +8,7 @@ ghost use Rattle.mapping_records.specs.Eids.{longer};
 ghost use Rattle.lisp_settings.specs.declared.settings.Settings.{Settings as SettingsValue};
 ghost use Rattle.router_model.specs.Changes.{unchanged};
 ghost use Rattle.router_model.specs.Hear.{answered, answering, first_path, own_record, path_back, replied, reply_of, reply_path};
+ghost use Rattle.router_model.specs.Limits.{most_version};
 ghost use Rattle.router_model.specs.Site.{database_of};
 ghost use Rattle.router_core.specs.Site.{IsSite};
 ghost use Rattle.lisp_settings.specs.Lawful.{IsLawfulDatabase};
@@ -209,7 +210,7 @@ fn add_records(
 // The record of a database, with its version as it stands.
 #[tactic(auto, unfolding(crate::specs::Answering::standing_record))]
 fn standing_record(alloc: Global, told: &Told<'_>, database: &Database) -> Result<Record, NoMemory>
-    requires { database.now.version ≤ 4095 }
+    requires { database.now.version ≤ most_version }
     ensures { IfOk result (λ mapping. mapping ≡ standing_record told.now.site.now told.now.steps
         told.now.probed database.now) }
 {

@@ -6,7 +6,7 @@ ghost use Rattle.map_cache.specs.Cache.{has_room, lasting, learned};
 ghost use Rattle.request_queue.specs.Queue.{open_in, waiting};
 ghost use Rattle.router_log.specs.declared.entry.Entry.TheVariants.{Asked, EchoStarted, EchoWanted, Learned, Probed, Solicited};
 ghost use Rattle.router_model.specs.Journal.{Journal};
-ghost use Rattle.router_model.specs.Limits.{most_locators, most_probes};
+ghost use Rattle.router_model.specs.Limits.{most_locators, most_probes, most_version};
 ghost use Rattle.router_model.specs.Parts.{Stands, absorbed, admits, view_in, with_entry};
 ghost use Rattle.router_model.specs.Proper.{fits};
 ghost use Rattle.router_core.specs.Bounded.{KeepLimits};
@@ -110,7 +110,7 @@ impl Table {
     fn apply_learned(&mut self, m: u64, mapping: &Record) -> Result<(), NoMemory>
         requires may { MayEnter 1 m self.old.parts }
         requires locators { length mapping.now.locators ≤ most_locators }
-        requires version { mapping.now.version ≤ 4095 }
+        requires version { mapping.now.version ≤ most_version }
         requires place { IsTrue (has_room self.old.parts.limits mapping.now false
             (lasting m self.old.parts.mappings)) }
         requires keeps { KeepLimits self.old.parts.limits

@@ -12,6 +12,7 @@ ghost use Rattle.router_model.specs.Cache.{held_of};
 ghost use Rattle.router_model.specs.Decide.{asking, by_action, echo_notice, from_ours, hash_of, home_version, mapped, natively, routed, sent};
 ghost use Rattle.router_model.specs.Hosts.{host_eid};
 ghost use Rattle.router_model.specs.Lifting.{AreSound};
+ghost use Rattle.router_model.specs.Limits.{most_version};
 ghost use Rattle.router_model.specs.Plain.{FitsRecord};
 ghost use Rattle.router_model.specs.Site.{ours};
 ghost use Rattle.router_log.specs.declared.verdict.Verdict.TheVariants.{Drop};
@@ -87,7 +88,7 @@ fn mapped(
     requires instance { iid < 2 ^ 24 }
     requires source { version
         ≡ home_version (home_of view.now.site.databases iid (source_of packet.now.header)) }
-    requires bits { version ≤ 4095 }
+    requires bits { version ≤ most_version }
     requires few { IsFew mapping.now }
     requires version { IsVersioned mapping.now }
     ensures decision { IfOk result (λ decision. decision

@@ -1,5 +1,5 @@
 // A control message, heard.
-ghost use Rattle.std.specs.Prelude.{◌≡◌, ◌<◌, ◌+◌, ◌^◌, [], length, IfOk};
+ghost use Rattle.std.specs.Prelude.{◌≡◌, ◌<◌, ◌+◌, ◌^◌, [], Some, ℕ, length, IfOk};
 ghost use Rattle.lisp_settings.specs.Lawful.{IsLawful};
 ghost use Rattle.lisp_settings.specs.declared.settings.Settings.{Settings as SettingsValue};
 ghost use Rattle.map_messages.specs.Range.{InRange, InRangeEcm, InRangeReply, InRangeRequest};
@@ -7,10 +7,12 @@ ghost use Rattle.router_log.specs.declared.verdict.Reason.{Reason as ReasonValue
 ghost use Rattle.router_log.specs.declared.verdict.Verdict.TheVariants.{Drop};
 ghost use Rattle.router_model.specs.Changes.{unchanged};
 ghost use Rattle.router_model.specs.Hear.{carried, course_heard, datagram_heard, drops, hear, hear_by, message_heard, payload_heard, probe_replied, reply_heard, requested, route_of};
+ghost use Rattle.router_model.specs.Isolation.{of_instance};
 ghost use Rattle.router_model.specs.Journal.{Journal};
 ghost use Rattle.router_model.specs.Lifting.{AreOctets, Follows, MayGo};
 ghost use Rattle.router_model.specs.Limits.{most_heard};
 ghost use Rattle.router_model.specs.Parts.{Stands, table, view_in, standing_in};
+ghost use Rattle.router_model.specs.Tenants.{AreAlike, NoncesDiffer, heard_instance};
 ghost use Rattle.router_core.specs.Site.{IsSite};
 ghost use Rattle.router_core.specs.Seen.{asker_seen, course_seen, datagram_seen, route_seen};
 ghost use Rattle.router_core.specs.Steps.{AreSent, IsStep, MayStep};
@@ -65,6 +67,12 @@ impl Table {
             → Stands settings.now self.old.parts journal → MayGo journal m
             → Follows settings.now (change_of self.new.parts heard.entries heard.emits)
             (hear settings.now journal m frame.now).change) }
+        ensures isolated { IfOk result (λ heard. (journal : Journal) (i : ℕ)
+            → Stands settings.now self.old.parts journal → MayGo journal m
+            → NoncesDiffer m journal → heard_instance (standing_in settings.now self.old.parts)
+            (view_in self.old.parts m) frame.now ≡ Some i
+            → AreAlike (heard_seen self.new.parts heard)
+            (hear settings.now (of_instance journal i) m frame.now)) }
         ensures drop { IfOk result (λ heard. (why : ReasonValue) → heard.verdict ≡ Drop why
             → heard_seen self.new.parts heard ≡ drops why (unchanged self.old.parts)) }
         ensures sent { IfOk result (λ heard. AreSent (standing_in settings.now self.new.parts)

@@ -23,6 +23,7 @@ mod hearing;
 mod hosts;
 mod learning;
 mod leaving;
+mod limits;
 mod noting;
 mod noting_echoes;
 mod noting_versions;
@@ -53,7 +54,9 @@ pub use courses::{Course, Settled, arriving, course_of, frame_packet, is_control
 pub use datagram::Datagram;
 pub use emitting::emit_octets;
 pub use leaving::leaving_from;
+pub use limits::{MOST_RETRIES, MOST_TOLD, MOST_VERSION, limits_are};
 pub use lisp_settings::Settings;
 pub use router_log::{Decision, Reason, Verdict};
 pub use router_model::Own;
+pub use stepping::stood_version;
 pub use table::Table;

@@ -1,13 +1,16 @@
 // What is noticed, noted.
-ghost use Rattle.std.specs.Prelude.{◌≡◌, ◌==◌, ◌||◌, [], true, IfOk};
+ghost use Rattle.std.specs.Prelude.{◌≡◌, ◌==◌, ◌||◌, [], true, Some, ℕ, IfOk};
 ghost use Rattle.lisp_settings.specs.declared.settings.Settings.{Settings as SettingsValue};
 ghost use Rattle.router_log.specs.declared.notice.Notice.TheVariants.{Ask, Bits};
+ghost use Rattle.router_model.specs.Apart.{AreApart};
 ghost use Rattle.router_model.specs.Changes.{unchanged};
+ghost use Rattle.router_model.specs.Isolation.{of_instance};
 ghost use Rattle.router_model.specs.Journal.{Journal};
 ghost use Rattle.router_model.specs.Lifting.{Follows, MayGo, is_sound};
 ghost use Rattle.router_model.specs.Note.{is_missing, is_news, is_wanting, note, noted};
 ghost use Rattle.router_model.specs.Mappings.{exact, force};
 ghost use Rattle.router_model.specs.Parts.{Stands, table, view_in, standing_in};
+ghost use Rattle.router_model.specs.Tenants.{NoncesDiffer, notice_instance};
 ghost use Rattle.router_core.specs.Steps.{AreSent, IsStep, MayStep};
 ghost use Rattle.router_core.specs.Table.{changed_seen};
 
@@ -39,6 +42,11 @@ impl Table {
             → Stands settings.now self.old.parts journal → MayGo journal m
             → Follows settings.now (changed_seen self.new.parts changed)
             (note settings.now journal m notice.now)) }
+        ensures isolated { IfOk result (λ changed. (journal : Journal) (i : ℕ)
+            → Stands settings.now self.old.parts journal → MayGo journal m
+            → NoncesDiffer m journal → notice_instance notice.now ≡ Some i
+            → AreApart (changed_seen self.new.parts changed)
+            (note settings.now (of_instance journal i) m notice.now)) }
         ensures sent { IfOk result (λ changed. AreSent (standing_in settings.now self.new.parts) 1
             changed.emits) }
         ensures step { IsStep 1 m self.old.parts self.new.parts result }

@@ -10,13 +10,11 @@ ghost use Rattle.router_model.specs.Tick.{first_told, is_told, named, with_addre
 ghost use Rattle.router_core.specs.Telling.{is_at, named_by, told_with};
 
 use crate::Table;
+use crate::limits::MOST_TOLD;
 use crate::site::Site;
 use ip_headers::{Addr, is_below, same_address};
 use lisp_settings::Locator;
 use map_cache::lasts;
-
-/// The locators that are told of changes in one second, at most.
-pub(crate) const MOST_TOLD: usize = 64;
 
 impl Table {
     /// The locators that are told of changes: the first ones in order that live mappings name.

@@ -9,7 +9,7 @@ ghost use Rattle.lisp_settings.specs.Home.{home_of};
 ghost use Rattle.lisp_settings.specs.Lawful.{IsLawfulDatabase};
 ghost use Rattle.lisp_settings.specs.Nonces.{nonce_of};
 ghost use Rattle.router_model.specs.Decide.{home_version, site_cases};
-ghost use Rattle.router_model.specs.Limits.{most_locators};
+ghost use Rattle.router_model.specs.Limits.{most_locators, most_version};
 ghost use Rattle.router_model.specs.Mappings.{bit};
 ghost use Rattle.router_model.specs.Plain.{packet_of};
 ghost use Rattle.router_model.specs.Site.{instance_of, is_own, ours, own_bits, reaches_resolver};
@@ -126,7 +126,7 @@ impl<'s> Site<'s> {
             first_failing (site_cases self.now iid header.now) ≡ None) }
         ensures version { IfOk result (λ version. version
             ≡ home_version (home_of self.now.databases iid (source_of header.now))) }
-        ensures bits { IfOk result (λ version. version ≤ 4095) }
+        ensures bits { IfOk result (λ version. version ≤ most_version) }
         ensures stays { IfErr result (λ verdict.
             first_failing (site_cases self.now iid header.now) ≡ Some verdict) }
         ensures quiet { IfErr result (λ verdict. packet_of verdict ≡ None) }

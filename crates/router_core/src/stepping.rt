@@ -1,16 +1,16 @@
 // Map-Versions that step on with each change of the own locators (RFC 9302, section 6.1).
 ghost use Rattle.std.specs.Prelude.{◌≡◌, ◌≤◌};
+ghost use Rattle.router_model.specs.Limits.{most_version};
 ghost use Rattle.router_model.specs.Standing as standing;
 
+use crate::limits::MOST_VERSION;
 use lisp_settings::Database;
 use router_model::Own;
 
-// Versions but 0, which is none.
-const VERSIONS: u64 = 4_095;
-
-/// The Map-Version of a prefix of the site after so many changes of its own locators. 0, none, stays.
-pub(crate) fn stood_version(database: &Database, own: &Own) -> u16
-    requires { database.now.version ≤ 4095 }
+/// The Map-Version of a prefix of the site after the changes of its own locators: so many steps on, round among 1
+/// to 4,095. A version of 0 is none, and stays.
+pub fn stood_version(database: &Database, own: &Own) -> u16
+    requires { database.now.version ≤ most_version }
     ensures { result ≡ standing.stood_version own.now.steps database.now.version }
 {
     stepped(database.version, own.steps)
@@ -18,7 +18,7 @@ pub(crate) fn stood_version(database: &Database, own: &Own) -> u16
 
 /// A prefix of the site, with its version so many steps on.
 pub(crate) fn stood(database: &Database, steps: u32) -> Database
-    requires { database.now.version ≤ 4095 }
+    requires { database.now.version ≤ most_version }
     ensures { result ≡ standing.stood steps database.now }
 {
     Database {
@@ -29,11 +29,11 @@ pub(crate) fn stood(database: &Database, steps: u32) -> Database
 
 // A version so many steps on, round among 1 to 4,095.
 fn stepped(version: u16, steps: u32) -> u16
-    requires { version ≤ 4095 }
+    requires { version ≤ most_version }
     ensures { result ≡ standing.stood_version steps version }
 {
     if version == 0 {
         return 0;
     }
-    (1 + (u64::from(version) - 1 + u64::from(steps)) % VERSIONS) as u16
+    (1 + (u64::from(version) - 1 + u64::from(steps)) % MOST_VERSION as u64) as u16
 }

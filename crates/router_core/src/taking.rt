@@ -6,7 +6,7 @@ ghost use Rattle.map_cache.specs.Cache.{has_room, lasting, learned};
 ghost use Rattle.lisp_settings.specs.Instances.{requests_in};
 ghost use Rattle.request_queue.specs.Queue.{may_send_again, open_in, waiting};
 ghost use Rattle.router_log.specs.declared.entry.Entry.TheVariants.{Answered, Asked, Bits, Changed, DataFrom, EchoHeard, EchoStarted, EchoWanted, Learned, ProbeAnswered, Probed, Retried, Solicited};
-ghost use Rattle.router_model.specs.Limits.{most_changes, most_locators, most_probes};
+ghost use Rattle.router_model.specs.Limits.{most_changes, most_locators, most_probes, most_version};
 ghost use Rattle.router_model.specs.Parts.{view_in, with_entry};
 ghost use Rattle.router_core.specs.Bounded.{KeepLimits};
 ghost use Rattle.router_core.specs.Steps.{MayEnter};
@@ -22,7 +22,7 @@ impl Table {
     pub(crate) fn learn(&mut self, m: u64, mapping: Record, fixed: bool)
         requires may { MayEnter 1 m self.old.parts }
         requires locators { length mapping.locators ≤ most_locators }
-        requires version { mapping.version ≤ 4095 }
+        requires version { mapping.version ≤ most_version }
         requires fixed { IsTrue fixed → mapping.ttl ≢ 0 }
         requires place { IsTrue (has_room self.old.parts.limits mapping fixed
             (lasting m self.old.parts.mappings)) }

@@ -19,7 +19,7 @@ ghost use Rattle.router_core.specs.Telling.{HaveNone, IsEmptyFor, is_some_due, m
 ghost use Rattle.router_core.specs.Ticking.{AreOwed};
 
 use crate::changing::moment_of;
-use crate::peers::MOST_TOLD;
+use crate::limits::MOST_TOLD;
 use crate::resting::rest_until;
 use crate::site::Site;
 use crate::{Changed, Table};

@@ -2,6 +2,7 @@
 ghost use Rattle.std.specs.Prelude.{◌≡◌, ◌≢◌, ◌<◌, ◌≤◌, ◌%◌, ◌^◌, ◌==◌, None, Some, if◌then◌else◌};
 ghost use Rattle.lisp_header.specs.Header.{InRange};
 ghost use Rattle.router_model.specs.Decide.{asks_echo, echo_nonce, lisp_header, versions_of};
+ghost use Rattle.router_model.specs.Limits.{most_version};
 ghost use Rattle.router_model.specs.Site.{own_bits};
 ghost use Rattle.router_core.specs.Site.{IsSite};
 ghost use Rattle.router_core.specs.Bounded.{IsShortOut};
@@ -19,8 +20,8 @@ use router_log::EchoOut;
 pub(crate) fn header_to(view: &View<'_>, iid: u32, to: Addr, versions: (u16, u16)) -> LispHeader
     requires lawful { IsSite view.now.site }
     requires instance { iid < 2 ^ 24 }
-    requires source { versions.0 ≤ 4095 }
-    requires dest { versions.1 ≤ 4095 }
+    requires source { versions.0 ≤ most_version }
+    requires dest { versions.1 ≤ most_version }
     ensures header { result ≡ lisp_header view.now.site iid ((seen view.now).echo_out to)
         versions.0 versions.1 }
     ensures range { InRange result }
@@ -33,8 +34,8 @@ fn lisp_header(site: &Site<'_>, iid: u32, out: EchoOut, versions: (u16, u16)) ->
     requires lawful { IsSite site.now }
     requires instance { iid < 2 ^ 24 }
     requires short { IsShortOut out }
-    requires source { versions.0 ≤ 4095 }
-    requires dest { versions.1 ≤ 4095 }
+    requires source { versions.0 ≤ most_version }
+    requires dest { versions.1 ≤ most_version }
     ensures header { result ≡ lisp_header site.now iid out versions.0 versions.1 }
     ensures range { InRange result }
 {

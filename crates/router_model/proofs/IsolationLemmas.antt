@@ -19,12 +19,12 @@ use Rattle.router_log.specs.declared.kept.Probe.{Probe}
 use Rattle.router_log.specs.declared.entry.Entry.TheVariants.{Learned, Probed, ProbeAnswered, Bits, EchoStarted, EchoHeard, DataFrom, EchoWanted, Solicited, Changed}
 use Rattle.router_model.specs.Cache.{begun_mapping, held_of, mapping_kind, mapping_step}
 use Rattle.router_model.specs.Decide.{decide_by}
-use Rattle.router_model.specs.Isolation.{AgreesIn, DecisionIsolated, MomentIsolated, RisingIsolated, TableIsolated, TablesAlike, counts_in, of_instance, told_of}
+use Rattle.router_model.specs.Isolation.{AgreesIn, DecisionIsolated, MomentIsolated, RisingIsolated, TableIsolated, counts_in, of_instance, told_of}
 use Rattle.router_model.specs.Journal.{Journal, IsRising, at, changed, is_changed, last_moment, moment_of}
 use Rattle.router_model.specs.Kept.{Kind, any, counting, placed}
 use Rattle.router_model.specs.Mappings.{Held, force, live_mappings}
 use Rattle.router_model.specs.Observed.{begun_probe, begun_solicit, begun_start, begun_wish, observed, probe_kind, probe_step, start_step, solicit_kind, start_kind, wish_kind}
-use Rattle.router_model.specs.Parts.{parts_in, standing_in, view_in}
+use Rattle.router_model.specs.Parts.{parts_in, view_in}
 use Rattle.router_model.specs.Standing.{changed_by, own_after, standing, standing_with}
 use Rattle.router_model.specs.View.{seen_at, view}
 use Rattle.router_model.proofs.EchoLemmas.{solicits-scanned, starts-scanned, wishes-scanned}
@@ -142,7 +142,7 @@ module _ (settings : Settings) (i : ℕ) where
       by true is h = ap (changed_by entry) h
       by false is h = h ∙ sym (still-own entry older (own_after settings older) is)
 
-  all-steps : (journal : Journal) → changed (of_instance journal i) ≡ changed journal
+  pub all-steps : (journal : Journal) → changed (of_instance journal i) ≡ changed journal
   all-steps [] = refl
   all-steps (entry ∷ older) = by (counts_in i (told_of entry older)) refl (all-steps older)
     where
@@ -293,7 +293,7 @@ mine-before i (entry ∷ older) rising = by (counts_in i (told_of entry older)) 
     by false h = let later = rising.0 in omega (arith, h, later)
 
 -- and its moments don't fall
-mine-rises : (i : ℕ) (journal : Journal) → IsRising journal → IsRising (of_instance journal i)
+pub mine-rises : (i : ℕ) (journal : Journal) → IsRising journal → IsRising (of_instance journal i)
 mine-rises i [] rising = tt
 mine-rises i (entry ∷ older) rising = by (counts_in i (told_of entry older)) (mine-rises i older rising.1)
   where
@@ -316,10 +316,3 @@ table-isolated settings parts journal i m frame stands is =
     ∙ ap (λ v. decide_by (standing settings (of_instance journal i)) v frame) (sym (answers settings (of_instance journal i) (at journal m) (mine-rises i journal rising)))
     ∙ ap (λ p. decide_by (standing settings (of_instance journal i)) (view_in (parts_in settings (of_instance journal i)) (max m p.now)) frame) (sym stands.whole)
     ∙ ap (λ s. decide_by s (view_in (parts_in settings (of_instance journal i)) (max m parts.now)) frame) (sym (stands-in settings (of_instance journal i)))
-
-pub tables-alike : TablesAlike
-tables-alike settings one other mine theirs i m n frame stands stands' same moment is =
-    table-isolated settings one mine i m frame stands is
-    ∙ ap (λ now. decide_by (standing_in settings (parts_in settings (of_instance mine i))) (view_in (parts_in settings (of_instance mine i)) now) frame) moment
-    ∙ ap (λ j. decide_by (standing_in settings (parts_in settings j)) (view_in (parts_in settings j) (max n other.now)) frame) same
-    ∙ sym (table-isolated settings other theirs i n frame stands' is)

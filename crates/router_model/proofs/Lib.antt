@@ -1,4 +1,10 @@
 pub mod AgedLemmas
+pub mod ApartLemmas
+pub mod ApartNotedLemmas
+pub mod ApartNoticeLemmas
+pub mod ApartOtherLemmas
+pub mod ApartSecondLemmas
+pub mod ApartTableLemmas
 pub mod BitLemmas
 pub mod CutLemmas
 pub mod DropLemmas
@@ -39,6 +45,7 @@ pub mod StayLemmas
 pub mod StillLemmas
 pub mod StoodLemmas
 pub mod TellLemmas
+pub mod TenantFrameLemmas
 pub mod TenantLemmas
 pub mod TenantTableLemmas
 pub mod TickLemmas

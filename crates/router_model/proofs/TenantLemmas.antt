@@ -23,10 +23,10 @@ use Rattle.router_model.specs.Isolation.{asked_in, counts_in, of_instance, told_
 use Rattle.router_model.specs.Journal.{Journal, IsRising, last_moment, moment_of}
 use Rattle.router_model.specs.Kept.{counting, last_put, placed}
 use Rattle.router_model.specs.Mappings.{Held, exact, force, live_mappings}
-use Rattle.router_model.specs.Note.{is_learned, is_wanting}
+use Rattle.router_model.specs.Note.{is_learned, is_missing, is_wanting}
 use Rattle.router_model.specs.Requests.{begun_request, open_requests, request_kind, request_step}
 use Rattle.router_model.specs.Site.{reaches_resolver}
-use Rattle.router_model.specs.Tenants.{AskingIsolated, NoncesDiffer, RequestsIsolated, asked_since, asks, notice_eid}
+use Rattle.router_model.specs.Tenants.{NoncesDiffer, RequestsIsolated, asked_since, notice_eid}
 use Rattle.router_model.specs.View.{View, seen_at}
 use Rattle.router_model.proofs.FewLemmas.{step-keeps}
 use Rattle.router_model.proofs.IsolationLemmas.{mine-force, mine-live}
@@ -37,11 +37,11 @@ use Rattle.router_model.proofs.RequestLemmas.{nonce_of, requests-open}
 
 -- ### what is known of open requests
 
-younger-later : (t a b : ℕ) → a ≤ b → younger t 7 a ≡ true → younger t 7 b ≡ true
+pub younger-later : (t a b : ℕ) → a ≤ b → younger t 7 a ≡ true → younger t 7 b ≡ true
 younger-later t a b later young = grind (arith, nat_tests)
 
 -- where a young request is, the last entry is young
-young-last : (t n : ℕ) (journal : Journal) → IsRising journal → asked_since t n journal ≡ true → younger t 7 (last_moment journal) ≡ true
+pub young-last : (t n : ℕ) (journal : Journal) → IsRising journal → asked_since t n journal ≡ true → younger t 7 (last_moment journal) ≡ true
 young-last t n [] rising is = cc
 young-last t n (entry ∷ older) rising is = by entry rising.0 is (young-last t n older rising.1)
   where
@@ -71,7 +71,7 @@ each-put : (Q : Request → Type 0) (x : Request) (l : List Request) → Each Q 
 each-put Q x [] each one = (one, tt)
 each-put Q x (r ∷ l) each one = (each.0, each-put Q x l each.1 one)
 
-same-number : (n : ℕ) → (n == n) ≡ true
+pub same-number : (n : ℕ) → (n == n) ≡ true
 same-number n = grind (arith, nat_tests)
 
 module _ (t : ℕ) where
@@ -293,6 +293,12 @@ nonces-isolated journal i now nonce request rising differ = (here, there (find t
 
 -- ### what is asked
 
+-- a notice makes the router ask
+abbrev pub asks : Settings → List LimitItem → View → Notice → Bool
+asks settings limits v (notice.Ask eid source) = is_missing settings limits v eid
+asks settings limits v (notice.Refresh eid) = is_learned (exact v.mappings eid) && may_ask settings limits v eid
+asks settings limits v _ = false
+
 module _ (journal : Journal) (i now : ℕ) where
   abbrev all : View
   all = seen_at journal now
@@ -303,7 +309,7 @@ module _ (journal : Journal) (i now : ℕ) where
   same-iid : (k n : ℕ) → n ≡ i → (k == n) ≡ true → (k == i) ≡ true
   same-iid k n is same = ap (λ n. k == n) (sym is) ∙ same
 
-  exact-mine : (eid : Eid) → eid.iid ≡ i → exact all.mappings eid ≡ exact mine.mappings eid
+  pub exact-mine : (eid : Eid) → eid.iid ≡ i → exact all.mappings eid ≡ exact mine.mappings eid
   exact-mine eid is =
       sym (find-within (λ (held : Held). same_eid held.eid eid) (λ held. held.eid.iid == i) (λ held same. same-iid held.eid.iid eid.iid is (and_both (held.eid.iid == eid.iid) _ same).0) (live_mappings now journal))
       ∙ ap (λ l. exact l eid) (mine-live i now journal)
@@ -338,11 +344,11 @@ module _ (journal : Journal) (i now : ℕ) where
         sym (count-within (is_mine i now) (λ r. r.eid.iid == n) (λ r same. same-iid r.eid.iid n is same) (open_requests now journal))
         ∙ ap (open_in n) (requests-isolated journal i now rising differ)
 
-    may_ask-mine : (settings : Settings) (limits : List LimitItem) (eid : Eid) → eid.iid ≡ i → may_ask settings limits all eid ≡ may_ask settings limits mine eid
+    pub may_ask-mine : (settings : Settings) (limits : List LimitItem) (eid : Eid) → eid.iid ≡ i → may_ask settings limits all eid ≡ may_ask settings limits mine eid
     may_ask-mine settings limits eid is =
         ap₂ (λ a n. reaches_resolver settings && (not a && nat_lt n (requests_in limits eid.iid))) (covered-mine eid is) (open-mine eid.iid is)
 
-    asks-mine : (settings : Settings) (limits : List LimitItem) (told : Notice) (eid : Eid) → notice_eid told ≡ Some eid → eid.iid ≡ i → asks settings limits all told ≡ asks settings limits mine told
+    pub asks-mine : (settings : Settings) (limits : List LimitItem) (told : Notice) (eid : Eid) → notice_eid told ≡ Some eid → eid.iid ≡ i → asks settings limits all told ≡ asks settings limits mine told
     asks-mine settings limits (notice.Ask k source) eid names is =
         let its = ap (λ (e : Eid). e.iid) (same_Some k eid names) ∙ is in
         ap₂ (λ b o. b && is_wanting o) (may_ask-mine settings limits k its) (force-mine k its)
@@ -350,6 +356,3 @@ module _ (journal : Journal) (i now : ℕ) where
         let its = ap (λ (e : Eid). e.iid) (same_Some k eid names) ∙ is in
         ap₂ (λ o b. is_learned o && b) (exact-mine k its) (may_ask-mine settings limits k its)
     asks-mine settings limits _ eid names is = refl
-
-pub asking-isolated : AskingIsolated
-asking-isolated settings limits journal i now told eid rising differ names is = asks-mine journal i now rising differ settings limits told eid names is

@@ -1,5 +1,5 @@
--- What an instance learns is the same in a journal and in its part, and tables that stand for journals ask and learn alike.
-use Rattle.std.proofs.Common.{◌≡◌, ℕ, suc, ◌+◌, max, ◌≤◌, ◌==◌, ◌||◌, ◌&&◌, not, Bool, true, false, cond, List, [], ◌∷◌, ◌++◌, Some, None, length, refl, sym, ap, ap₂, subst, ◌∙◌, arith}
+-- What an instance learns is the same by a journal and by its part.
+use Rattle.std.proofs.Common.{◌≡◌, ℕ, max, ◌≤◌, ◌==◌, ◌||◌, ◌&&◌, not, Bool, true, false, cond, List, [], ◌∷◌, ◌++◌, Some, refl, sym, ap, subst, ◌∙◌, arith}
 use Rattle.std.proofs.lemmas.Bool.{eq-eqb, eqb-true}
 use Rattle.ip_headers.specs.declared.addr.Addr.{Addr}
 use Rattle.mapping_records.specs.declared.eid.Eid.{Eid}
@@ -12,33 +12,23 @@ use Rattle.request_queue.specs.Queue.{with_nonce}
 use Rattle.request_queue.specs.declared.request.Request.{Request}
 use Rattle.router_log.specs.declared.entry.Entry.{Entry}
 use Rattle.router_log.specs.declared.entry.Entry.TheVariants.{Learned, Answered}
-use Rattle.router_log.specs.declared.notice.Notice.{Notice}
-use Rattle.router_log.specs.declared.notice.Notice.TheVariants as notice
-use Rattle.router_model.specs.Changes.{Change, asked, each, entered, has_room, journal as of_journal, may_ask, unchanged}
+use Rattle.router_model.specs.Changes.{Change, asked, each, entered, has_room, journal as of_journal, unchanged}
 use Rattle.router_log.specs.declared.verdict.Reason.TheVariants.{Unfit}
-use Rattle.router_model.specs.Hear.{Heard, drops, is_asked_for, is_fit, is_static, probe_replied, replied_to, reply_heard, shortened, tallied, taught}
+use Rattle.router_model.specs.Hear.{drops, is_asked_for, is_fit, is_static, probe_replied, replied_to, reply_heard, shortened, tallied, taught}
 use Rattle.router_model.specs.Isolation.{asked_in, counts_in, of_instance}
-use Rattle.router_model.specs.Journal.{Journal, changed, last_moment}
-use Rattle.router_model.specs.Lifting.{MayGo, Ready}
-use Rattle.router_model.specs.Mappings.{exact}
-use Rattle.router_model.specs.Note.{is_learned, is_missing, noted}
-use Rattle.router_model.specs.Parts.{Parts, Stands, parts_in, standing_in, table, view_in}
+use Rattle.router_model.specs.Journal.{Journal, last_moment}
 use Rattle.router_model.specs.Requests.{open_requests}
-use Rattle.router_model.specs.Standing.{own_after, standing}
-use Rattle.router_model.specs.Tenants.{AreAlike, IsRead, LearningIsolated, NoncesDiffer, TablesAsk, TablesLearn, asks, notice_eid}
+use Rattle.router_model.specs.Tenants.{AreAlike, LearningIsolated}
 use Rattle.router_model.specs.View.{View, seen_at, view}
-use Rattle.router_model.proofs.HearLemmas.{reply_heard-alike}
-use Rattle.router_model.proofs.IsolationLemmas.{all-standing, mine-before}
+use Rattle.router_model.proofs.IsolationLemmas.{mine-before}
 use Rattle.router_model.proofs.PartsLemmas.{and_both}
 use Rattle.router_model.proofs.RequestLemmas.{requests-open}
-use Rattle.router_model.proofs.StandsLemmas.{proper-rises, standing-sees}
-use Rattle.router_model.proofs.UpsLemmas.{stands-in}
-use Rattle.router_model.proofs.TenantLemmas.{Each, Known, all-known, asking-isolated, find-each, nonces-isolated, room-mine}
+use Rattle.router_model.proofs.TenantLemmas.{Each, Known, all-known, find-each, nonces-isolated, room-mine}
 
 -- ### what is learned
 
 -- a record that was asked for is of the instance of the EID
-asked-iid : (asked : Eid) (mapping : Record) (mappings : List Record) → is_asked_for asked mappings mapping ≡ true → mapping.eid.iid ≡ asked.iid
+pub asked-iid : (asked : Eid) (mapping : Record) (mappings : List Record) → is_asked_for asked mappings mapping ≡ true → mapping.eid.iid ≡ asked.iid
 asked-iid asked mapping [] is = cc
 asked-iid asked mapping (wider ∷ mappings) is = by (covers_eid wider.eid asked && covers_eid wider.eid mapping.eid) refl is (asked-iid asked mapping mappings)
   where
@@ -50,7 +40,7 @@ asked-iid asked mapping (wider ∷ mappings) is = by (covers_eid wider.eid asked
     by false both is h = h is
 
 -- seen at a moment that isn't before the last entry's
-seen-then : (journal : Journal) (m : ℕ) → last_moment journal ≤ m → view journal m ≡ seen_at journal m
+pub seen-then : (journal : Journal) (m : ℕ) → last_moment journal ≤ m → view journal m ≡ seen_at journal m
 unfolding view
 seen-then journal m last = ap (seen_at journal) (at-then (last_moment journal) last)
   where
@@ -140,86 +130,18 @@ module _ (settings : Settings) (i m : ℕ) where
       by true = tallied-alike _ _ learned.entries
       by false = record { verdict = refl; entries = refl }
 
--- ### tables
-
--- two that are alike to one another, and on
-alike-then : {S T U : Type 0} (a : Heard S) (b : Heard T) (c : Heard U) → AreAlike a b → AreAlike b c → AreAlike a c
-alike-then a b c one other = record { verdict = one.verdict ∙ other.verdict; entries = one.entries ∙ other.entries }
-
-alike-back : {S T : Type 0} (a : Heard S) (b : Heard T) → AreAlike a b → AreAlike b a
-alike-back a b one = record { verdict = sym one.verdict; entries = sym one.entries }
-
--- the moment of a table that may be asked
-seen-now : (settings : Settings) (p : Parts) (journal : Journal) (m : ℕ) → Stands settings p journal → MayGo journal m → view_in p m ≡ seen_at journal m
-seen-now settings p journal m stands may = standing-sees settings p journal m stands ∙ seen-then journal m may.0
-
--- whether a notice makes a table ask
-asked-if : (settings : Settings) (p : Parts) (m : ℕ) (told : Notice) (eid : Eid) → notice_eid told ≡ Some eid → length (noted table settings m told (unchanged p)).entries ≡ cond (asks settings p.limits (view_in p m) told) 1 0
-unfolding noted
-asked-if settings p m (notice.Ask k source) eid names = by (is_missing settings p.limits (view_in p m) k)
-  where
-    by : (b : Bool) → length (cond b (asked table settings m k source false (unchanged p)) (unchanged p)).entries ≡ cond b 1 0
-    by true = refl
-    by false = refl
-asked-if settings p m (notice.Refresh k) eid names = by (is_learned (exact (view_in p m).mappings k) && may_ask settings p.limits (view_in p m) k)
-  where
-    by : (b : Bool) → length (cond b (asked table settings m k None false (unchanged p)) (unchanged p)).entries ≡ cond b 1 0
-    by true = refl
-    by false = refl
-asked-if settings p m _ eid names = cc
-
 -- a reply that answers no probe
-reply-plain : (settings : Settings) (m : ℕ) (from : Addr) (reply : MapReply) (journal : Journal) → reply.probe ≡ false → reply_heard of_journal settings m from reply (unchanged journal) ≡ replied_to of_journal settings m reply (with_nonce (view journal m).requests reply.nonce) (unchanged journal)
+pub reply-plain : (settings : Settings) (m : ℕ) (from : Addr) (reply : MapReply) (journal : Journal) → reply.probe ≡ false → reply_heard of_journal settings m from reply (unchanged journal) ≡ replied_to of_journal settings m reply (with_nonce (view journal m).requests reply.nonce) (unchanged journal)
 unfolding reply_heard
 reply-plain settings m from reply journal plain =
     ap (λ b. cond b (probe_replied of_journal settings m from reply ((view journal m).probe_open reply.nonce) (unchanged journal)) (replied_to of_journal settings m reply (with_nonce (view journal m).requests reply.nonce) (unchanged journal))) plain
 
 module _ (settings : Settings) (i m : ℕ) where
-  -- a table asks as the journal of the instance would
-  asks-as : (p : Parts) (journal : Journal) (told : Notice) (eid : Eid) → Stands settings p journal → MayGo journal m → NoncesDiffer m journal → notice_eid told ≡ Some eid → eid.iid ≡ i → asks (standing_in settings p) p.limits (view_in p m) told ≡ asks (standing settings (of_instance journal i)) (limits_in settings) (seen_at (of_instance journal i) m) told
-  asks-as p journal told eid stands may differ names is =
-      ap (λ q. asks (standing_in settings q) q.limits (view_in p m) told) stands.whole
-      ∙ ap₂ (λ s v. asks s (limits_in settings) v told) (stands-in settings journal ∙ sym (all-standing settings i journal)) (seen-now settings p journal m stands may)
-      ∙ asking-isolated (standing settings (of_instance journal i)) (limits_in settings) journal i m told eid (proper-rises settings journal stands.proper) differ names is
-
   -- what is known of an open request
-  known-now : (journal : Journal) (nonce : ℕ) (request : Request) → with_nonce (open_requests m journal) nonce ≡ Some request → asked_in nonce journal ≡ Some request.eid.iid
+  pub known-now : (journal : Journal) (nonce : ℕ) (request : Request) → with_nonce (open_requests m journal) nonce ≡ Some request → asked_in nonce journal ≡ Some request.eid.iid
   known-now journal nonce request found =
       let known = find-each (Known m journal) (λ r. r.nonce == nonce) (open_requests m journal) request (subst (Each (Known m journal)) (requests-open m journal) (all-known m journal)) found in
       ap (λ n. asked_in n journal) (sym (eqb-true request.nonce nonce known.1)) ∙ known.0.0
-
-  module _ (from : Addr) (reply : MapReply) (request : Request) (read : IsRead reply) (plain : reply.probe ≡ false) (is : request.eid.iid ≡ i) where
-    -- what the journal of the instance would make of the reply
-    abbrev by_instance : Journal → Heard Journal
-    by_instance journal = replied_to of_journal (standing settings (of_instance journal i)) m reply (Some request) (unchanged (of_instance journal i))
-
-    -- a table hears it so
-    hears-as : (p : Parts) (journal : Journal) → Stands settings p journal → MayGo journal m → with_nonce (open_requests m journal) reply.nonce ≡ Some request → AreAlike (reply_heard table (standing_in settings p) m from reply (unchanged p)) (by_instance journal)
-    hears-as p journal stands may found =
-        let rising = proper-rises settings journal stands.proper in
-        let last = may.0 in
-        let mine_last = mine-before i journal rising in
-        let asked = known-now journal reply.nonce request found in
-        let own : standing settings (of_instance journal i) ≡ standing settings journal = all-standing settings i journal in
-        alike-then _ _ _
-        (subst (λ q. AreAlike (reply_heard table (standing_in settings q) m from reply (unchanged q)) (reply_heard of_journal (standing settings journal) m from reply (unchanged journal))) (sym stands.whole)
-        (subst (λ s. AreAlike (reply_heard table s m from reply (unchanged (parts_in settings journal))) (reply_heard of_journal (standing settings journal) m from reply (unchanged journal))) (sym (stands-in settings journal)) tabled-so))
-        (subst (λ s. AreAlike (reply_heard of_journal (standing settings journal) m from reply (unchanged journal)) (replied_to of_journal s m reply (Some request) (unchanged (of_instance journal i)))) (sym own)
-        (subst (λ h. AreAlike h (replied_to of_journal (standing settings journal) m reply (Some request) (unchanged (of_instance journal i)))) (sym replied)
-        (replied-apart (standing settings journal) i m reply request journal is asked last (omega (arith, mine_last, last)))))
-      where
-        ready : Ready settings m (suc (0 + length reply.mappings)) journal
-        ready = record { proper = stands.proper; last = may.0; room = (let room = may.1 in let few = read.few in omega (arith, room, few)) }
-
-        tabled-so : AreAlike (reply_heard table (standing settings journal) m from reply (unchanged (parts_in settings journal))) (reply_heard of_journal (standing settings journal) m from reply (unchanged journal))
-        tabled-so =
-            let hears = reply_heard-alike settings (own_after settings journal) (changed journal) m 0 from reply (unchanged journal) read.bounded ready in
-            record { verdict = ap (λ (h : Heard Parts). h.verdict) hears.same; entries = ap (λ (h : Heard Parts). h.change.entries) hears.same }
-
-        replied : reply_heard of_journal (standing settings journal) m from reply (unchanged journal) ≡ replied_to of_journal (standing settings journal) m reply (Some request) (unchanged journal)
-        replied =
-            reply-plain (standing settings journal) m from reply journal plain
-            ∙ ap (λ o. replied_to of_journal (standing settings journal) m reply o (unchanged journal)) (ap (λ (v : View). with_nonce v.requests reply.nonce) (seen-then journal m may.0) ∙ found)
 
 -- ### what is promised
 
@@ -239,30 +161,3 @@ learning-isolated settings journal i m from reply request rising last differ pla
     replied j before waits =
         reply-plain settings m from reply j plain
         ∙ ap (λ o. replied_to of_journal settings m reply o (unchanged j)) (ap (λ (v : View). with_nonce v.requests reply.nonce) (seen-then j m before) ∙ waits)
-
-pub tables-ask : TablesAsk
-tables-ask settings i m one other mine theirs told eid both names is =
-    asked-if (standing_in settings one) one m told eid names
-    ∙ ap (λ b. cond b 1 0)
-    (asks-as settings i m one mine told eid both.stand.0 both.may.0 both.differ.0 names is
-    ∙ ap (λ j. asks (standing settings j) (limits_in settings) (seen_at j m) told) both.same
-    ∙ sym (asks-as settings i m other theirs told eid both.stand.1 both.may.1 both.differ.1 names is))
-    ∙ sym (asked-if (standing_in settings other) other m told eid names)
-
-pub tables-learn : TablesLearn
-tables-learn settings i m one other mine theirs from reply request both read plain found is =
-    alike-then _ _ _
-    (subst (λ j. AreAlike (reply_heard table (standing_in settings one) m from reply (unchanged one)) (replied_to of_journal (standing settings j) m reply (Some request) (unchanged j))) both.same
-    (hears-as settings i m from reply request read plain is one mine both.stand.0 both.may.0 here))
-    (alike-back _ _ (hears-as settings i m from reply request read plain is other theirs both.stand.1 both.may.1 there))
-  where
-    here : with_nonce (open_requests m mine) reply.nonce ≡ Some request
-    here = ap (λ (v : View). with_nonce v.requests reply.nonce) (sym (seen-now settings one mine m both.stand.0 both.may.0)) ∙ found
-
-    own : with_nonce (open_requests m (of_instance mine i)) reply.nonce ≡ Some request
-    own = (nonces-isolated mine i m reply.nonce request (proper-rises settings mine both.stand.0.proper) both.differ.0).0 here is
-
-    there : with_nonce (open_requests m theirs) reply.nonce ≡ Some request
-    there =
-        (nonces-isolated theirs i m reply.nonce request (proper-rises settings theirs both.stand.1.proper) both.differ.1).1
-        (ap (λ j. with_nonce (open_requests m j) reply.nonce) (sym both.same) ∙ own)

@@ -98,7 +98,3 @@ RisingIsolated = (settings : Settings) (journal : Journal) (i m : ℕ) (frame : 
 -- a table that stands for a journal decides as the parts of the journal of an instance
 abbrev pub TableIsolated : Type 0
 TableIsolated = (settings : Settings) (parts : Parts) (journal : Journal) (i m : ℕ) (frame : Frame) → Stands settings parts journal → frame_instance settings frame ≡ Some i → let mine = parts_in settings (of_instance journal i) in decide_by (standing_in settings parts) (view_in parts m) frame ≡ decide_by (standing_in settings mine) (view_in mine (max m parts.now)) frame
-
--- two tables that stand for journals that are one to an instance decide alike, asked as of one moment
-abbrev pub TablesAlike : Type 0
-TablesAlike = (settings : Settings) (one other : Parts) (mine theirs : Journal) (i m n : ℕ) (frame : Frame) → Stands settings one mine → Stands settings other theirs → of_instance mine i ≡ of_instance theirs i → max m one.now ≡ max n other.now → frame_instance settings frame ≡ Some i → decide_by (standing_in settings one) (view_in one m) frame ≡ decide_by (standing_in settings other) (view_in other n) frame

@@ -1,3 +1,5 @@
+pub mod Alone
+pub mod Apart
 pub mod Cache
 pub mod Changes
 pub mod Choice

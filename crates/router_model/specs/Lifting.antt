@@ -27,7 +27,7 @@ use Rattle.router_model.specs.Course.{Control, Datagram, course_of}
 use Rattle.router_model.specs.Decide.{decide, decide_by}
 use Rattle.router_model.specs.Hear.{Heard, Route, hear, hear_by, message_heard, ranges_of}
 use Rattle.router_model.specs.Journal.{Journal, IsRising, changed, last_moment, moment_of, statics}
-use Rattle.router_model.specs.Limits.{most_entries, most_notices, most_open, most_targets, most_told}
+use Rattle.router_model.specs.Limits.{most_entries, most_notices, most_open, most_targets, most_told, most_version}
 use Rattle.router_model.specs.Mappings.{bit, bit_told, exact, held, live, live_mappings}
 use Rattle.router_model.specs.Note.{note, noted}
 use Rattle.router_model.specs.Parts.{Parts, Stands, absorbed, admits, parts_in, parts_of, standing_in, table, view_in}
@@ -124,7 +124,7 @@ pub record Hears (settings : Settings) (m more : ℕ) (by_table : Heard Parts) (
 
 -- action and version have their bits, as in each record that is read
 abbrev pub is_bounded : Record → Bool
-is_bounded mapping = nat_le mapping.action 7 && nat_le mapping.version 4095
+is_bounded mapping = nat_le mapping.action 7 && nat_le mapping.version most_version
 
 -- the records of a message that may be learned have theirs
 abbrev pub is_sound_message : Message → Bool
@@ -272,7 +272,7 @@ NotesStill = (settings : Settings) (journal : Journal) (m : ℕ) (notice : Notic
 
 -- a version goes round among 1 to 4,095, and 0 stays
 abbrev pub VersionsStep : Type 0
-VersionsStep = (steps : ℕ) → (stood_version steps 0 ≡ 0) × ((version : ℕ) → 1 ≤ version → version ≤ 4095 → stood_version steps version ≡ suc ((version - 1 + steps) % 4095))
+VersionsStep = (steps : ℕ) → (stood_version steps 0 ≡ 0) × ((version : ℕ) → 1 ≤ version → version ≤ most_version → stood_version steps version ≡ suc ((version - 1 + steps) % most_version))
 
 -- two numbers tell which settings stand
 abbrev pub OwnTells : Type 0

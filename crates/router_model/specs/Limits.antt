@@ -13,6 +13,10 @@ data_port = 4341
 abbrev pub control_port : ℕ
 control_port = 4342
 
+-- the greatest Map-Version (RFC 9302, section 6: 12 bits)
+abbrev pub most_version : ℕ
+most_version = 4095
+
 -- records of a Map-Reply or of a Map-Request, at most (RFC 9301, sections 5.2 and 5.4: a count of 8 bits)
 abbrev pub most_message_records : ℕ
 most_message_records = 255

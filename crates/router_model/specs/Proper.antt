@@ -11,7 +11,7 @@ use Rattle.router_log.specs.declared.entry.Entry.{Entry}
 use Rattle.router_log.specs.declared.entry.Entry.TheVariants.{Learned, Asked, Retried, Answered, Probed, ProbeAnswered, Bits, EchoStarted, EchoHeard, DataFrom, EchoWanted, Solicited, Changed}
 use Rattle.router_model.specs.Changes.{has_room, may_open}
 use Rattle.router_model.specs.Journal.{Journal, changed, drawn, last_moment, moment_of, statics}
-use Rattle.router_model.specs.Limits.{most_changes, most_databases, most_locators, most_mappings, most_probes, most_retries}
+use Rattle.router_model.specs.Limits.{most_changes, most_databases, most_locators, most_mappings, most_probes, most_retries, most_version}
 use Rattle.router_model.specs.Mappings.{exact}
 use Rattle.request_queue.specs.Queue.{with_nonce}
 use Rattle.request_queue.specs.declared.request.Request.{Request}
@@ -21,7 +21,7 @@ use Rattle.router_model.specs.View.{View, view}
 
 -- action and version of a record have their bits, and its locators are no more than a mapping may have
 abbrev pub is_in_range : Record → Bool
-is_in_range mapping = nat_le mapping.action 7 && (nat_le mapping.version 4095 && nat_le (length mapping.locators) most_locators)
+is_in_range mapping = nat_le mapping.action 7 && (nat_le mapping.version most_version && nat_le (length mapping.locators) most_locators)
 
 -- an open request may be sent again once more
 abbrev pub may_retry : Option Request → Bool

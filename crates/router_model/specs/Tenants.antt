@@ -1,11 +1,17 @@
 -- Limits of an instance keep instances apart: what is asked and what is learned for one of them is so by its own part of the
 -- journal alone.
-use Rattle.std.specs.Prelude.{◌≡◌, ℕ, ◌≤◌, ◌==◌, ◌||◌, ◌&&◌, Bool, false, true, List, [], ◌∷◌, filter, length, Option, Some, None}
+use Rattle.std.specs.Prelude.{◌≡◌, ℕ, ◌+◌, ◌≤◌, ◌==◌, ◌||◌, ◌&&◌, Bool, false, true, [], ◌∷◌, filter, length, Option, Some, None, is_some, option_and_then, option_map, if◌then◌else◌}
 use Rattle.std.specs.List.{list_all}
+use Rattle.std.specs.Option.{option_or}
+use Rattle.octets.specs.Rules.{first_failing}
+use Rattle.ip_headers.specs.Udp.{payload_in, sum_rules}
 use Rattle.ip_headers.specs.declared.addr.Addr.{Addr}
+use Rattle.capture_io.specs.Frame.{Frame}
 use Rattle.mapping_records.specs.declared.eid.Eid.{Eid}
+use Rattle.map_messages.specs.Message.{message_rules}
 use Rattle.map_messages.specs.declared.message.MapReply.{MapReply}
-use Rattle.lisp_settings.specs.declared.settings.LimitItem.{LimitItem}
+use Rattle.map_messages.specs.declared.message.Message.{Message}
+use Rattle.map_messages.specs.declared.message.Message.TheVariants as message
 use Rattle.lisp_settings.specs.declared.settings.Settings.{Settings}
 use Rattle.request_queue.specs.Limits.{request_seconds}
 use Rattle.request_queue.specs.Queue.{with_nonce}
@@ -14,17 +20,19 @@ use Rattle.router_log.specs.Moments.{younger}
 use Rattle.router_log.specs.declared.entry.Entry.TheVariants.{Asked}
 use Rattle.router_log.specs.declared.notice.Notice.{Notice}
 use Rattle.router_log.specs.declared.notice.Notice.TheVariants as notice
-use Rattle.router_model.specs.Changes.{journal as of_journal, may_ask, unchanged}
-use Rattle.router_model.specs.Hear.{Heard, reply_heard}
+use Rattle.router_model.specs.Apart.{AreApart}
+use Rattle.router_model.specs.Changes.{journal as of_journal, unchanged}
+use Rattle.router_model.specs.Course.{Course, Control, Datagram, course_of}
+use Rattle.router_model.specs.Hear.{Heard, hear, reply_heard}
 use Rattle.router_model.specs.Isolation.{of_instance}
 use Rattle.router_model.specs.Journal.{Journal, last_moment, IsRising}
-use Rattle.router_model.specs.Lifting.{MayGo, is_bounded}
+use Rattle.router_model.specs.Lifting.{is_bounded}
 use Rattle.router_model.specs.Limits.{most_message_records}
-use Rattle.router_model.specs.Mappings.{exact}
-use Rattle.router_model.specs.Note.{is_learned, is_missing, noted}
-use Rattle.router_model.specs.Parts.{Parts, Stands, standing_in, table, view_in}
+use Rattle.router_model.specs.Note.{note}
+use Rattle.router_model.specs.Received.{message_in}
 use Rattle.router_model.specs.Requests.{open_requests}
-use Rattle.router_model.specs.View.{View, seen_at}
+use Rattle.router_model.specs.Standing.{standing}
+use Rattle.router_model.specs.View.{View, view}
 
 -- ### the premise on nonces
 
@@ -44,17 +52,40 @@ NoncesDiffer now (_ ∷ before) = NoncesDiffer now before
 
 -- ### what is asked and what is learned
 
--- the EID that a notice may make the router ask for
+-- the EID that a notice is of: that may be asked for, or of whose locators it tells
 abbrev pub notice_eid : Notice → Option Eid
 notice_eid (notice.Ask eid source) = Some eid
 notice_eid (notice.Refresh eid) = Some eid
+notice_eid (notice.Bits eid rloc bits width) = Some eid
 notice_eid _ = None
 
--- a notice makes the router ask
-abbrev pub asks : Settings → List LimitItem → View → Notice → Bool
-asks settings limits v (notice.Ask eid source) = is_missing settings limits v eid
-asks settings limits v (notice.Refresh eid) = is_learned (exact v.mappings eid) && may_ask settings limits v eid
-asks settings limits v _ = false
+-- the instance of the EID that a notice is for. One that tells of a locator is of none, as all instances share what is known of
+-- locators.
+abbrev pub notice_instance : Notice → Option ℕ
+notice_instance told = option_map (λ (eid : Eid). eid.iid) (notice_eid told)
+
+-- the message of a datagram, if its checksum and its octets keep their rules
+abbrev pub message_of : Datagram → Option Message
+message_of d =
+    let payload = payload_in d.packet.octets d.udp in
+    let sum = first_failing (sum_rules d.packet.base d.packet.header d.packet.octets d.udp false) in
+    let rules = first_failing (message_rules (d.packet.base + d.udp.at + 8) payload) in
+    if is_some (option_or sum rules) then None else message_in payload
+
+-- the instance of the open request that a message answers; what answers a probe is of none
+abbrev pub answered_instance : View → Message → Option ℕ
+answered_instance v (message.Reply reply) =
+    if reply.probe then None else option_map (λ (request : Request). request.eid.iid) (with_nonce v.requests reply.nonce)
+answered_instance v _ = None
+
+-- the same of what a frame is
+abbrev pub course_instance : View → Course → Option ℕ
+course_instance v (Control d) = option_and_then (answered_instance v) (message_of d)
+course_instance v _ = None
+
+-- the instance of the open request that a frame answers
+abbrev pub heard_instance : Settings → View → Frame → Option ℕ
+heard_instance settings v frame = course_instance v (course_of settings frame)
 
 -- two messages were heard alike: the same verdict, and the same entries
 pub record AreAlike {S T : Type 0} (one : Heard S) (other : Heard T) : Type 0 where
@@ -72,28 +103,14 @@ pub record IsRead (reply : MapReply) : Type 0 where
 abbrev pub RequestsIsolated : Type 0
 RequestsIsolated = (journal : Journal) (i now : ℕ) → IsRising journal → NoncesDiffer now journal → filter (λ (request : Request). request.eid.iid == i) (open_requests now journal) ≡ open_requests now (of_instance journal i)
 
--- a notice for an EID of an instance makes the router ask exactly if it does so by the journal of the instance
-abbrev pub AskingIsolated : Type 0
-AskingIsolated = (settings : Settings) (limits : List LimitItem) (journal : Journal) (i now : ℕ) (told : Notice) (eid : Eid) → IsRising journal → NoncesDiffer now journal → notice_eid told ≡ Some eid → eid.iid ≡ i → asks settings limits (seen_at journal now) told ≡ asks settings limits (seen_at (of_instance journal i) now) told
+-- a notice for an EID of an instance makes the same entries and packets as by the journal of the instance, but for nonces
+abbrev pub NotesIsolated : Type 0
+NotesIsolated = (settings : Settings) (journal : Journal) (i m : ℕ) (told : Notice) → IsRising journal → last_moment journal ≤ m → NoncesDiffer m journal → notice_instance told ≡ Some i → AreApart (note settings journal m told) (note settings (of_instance journal i) m told)
 
 -- a reply to an open request of an instance is heard as by the journal of the instance: the same records are learned
 abbrev pub LearningIsolated : Type 0
 LearningIsolated = (settings : Settings) (journal : Journal) (i m : ℕ) (from : Addr) (reply : MapReply) (request : Request) → IsRising journal → last_moment journal ≤ m → NoncesDiffer m journal → reply.probe ≡ false → with_nonce (open_requests m journal) reply.nonce ≡ Some request → request.eid.iid ≡ i → AreAlike (reply_heard of_journal settings m from reply (unchanged journal)) (reply_heard of_journal settings m from reply (unchanged (of_instance journal i)))
 
--- ### what is promised of tables
-
--- two tables that stand for journals that are one to an instance, asked as of one moment, by which no two young requests of
--- either share a nonce
-pub record AreOneTo (settings : Settings) (i m : ℕ) (one other : Parts) (mine theirs : Journal) : Type 0 where
-  pub stand : Stands settings one mine × Stands settings other theirs
-  pub may : MayGo mine m × MayGo theirs m
-  pub same : of_instance mine i ≡ of_instance theirs i
-  pub differ : NoncesDiffer m mine × NoncesDiffer m theirs
-
--- ask alike for an EID of the instance: each makes a request of a notice, or neither does
-abbrev pub TablesAsk : Type 0
-TablesAsk = (settings : Settings) (i m : ℕ) (one other : Parts) (mine theirs : Journal) (told : Notice) (eid : Eid) → AreOneTo settings i m one other mine theirs → notice_eid told ≡ Some eid → eid.iid ≡ i → length (noted table (standing_in settings one) m told (unchanged one)).entries ≡ length (noted table (standing_in settings other) m told (unchanged other)).entries
-
--- and learn alike of a reply to a request of the instance that is open for one of them: the same records, or none
-abbrev pub TablesLearn : Type 0
-TablesLearn = (settings : Settings) (i m : ℕ) (one other : Parts) (mine theirs : Journal) (from : Addr) (reply : MapReply) (request : Request) → AreOneTo settings i m one other mine theirs → IsRead reply → reply.probe ≡ false → with_nonce (view_in one m).requests reply.nonce ≡ Some request → request.eid.iid ≡ i → AreAlike (reply_heard table (standing_in settings one) m from reply (unchanged one)) (reply_heard table (standing_in settings other) m from reply (unchanged other))
+-- so is a frame that answers an open request of an instance: the same verdict, the same entries, and no packets
+abbrev pub HearsIsolated : Type 0
+HearsIsolated = (settings : Settings) (journal : Journal) (i m : ℕ) (frame : Frame) → IsRising journal → last_moment journal ≤ m → NoncesDiffer m journal → heard_instance (standing settings journal) (view journal m) frame ≡ Some i → let all = hear settings journal m frame in let mine = hear settings (of_instance journal i) m frame in AreAlike all mine × (all.change.emits ≡ []) × (mine.change.emits ≡ [])

@@ -1,8 +1,9 @@
 // Laws of the definitions. Each function only states its law.
-ghost use Rattle.std.specs.Prelude.{◌≡◌, ℕ, List, false, true, length, None, Some};
+ghost use Rattle.std.specs.Prelude.{◌≡◌, ◌<◌, ◌^◌, ℕ, List, false, true, length, None, Some};
 ghost use Rattle.ip_headers.specs.declared.addr.Addr.{Addr};
 ghost use Rattle.capture_io.specs.Frame.{Frame};
 ghost use Rattle.mapping_records.specs.Eids.{same_address};
+ghost use Rattle.mapping_records.specs.declared.eid.Eid.{Eid};
 ghost use Rattle.lisp_settings.specs.declared.settings.Settings.{Settings};
 ghost use Rattle.map_messages.specs.Message.{IsMessageAt};
 ghost use Rattle.map_messages.specs.declared.message.MapReply.{MapReply};
@@ -11,13 +12,14 @@ ghost use Rattle.request_queue.specs.Queue.{with_nonce};
 ghost use Rattle.router_log.specs.declared.verdict.Reason.{Reason};
 ghost use Rattle.router_log.specs.declared.verdict.Reason.TheVariants.{Foreign, Unsolicited};
 ghost use Rattle.router_log.specs.declared.verdict.Verdict.TheVariants.{Drop};
+ghost use Rattle.router_model.specs.Alone.{NotesStay, NoticesOfOne, NumberedDecides, NumberedRequests, OthersLearn, OthersNote, OthersSolicit, PartIsOne, RetriesApart, RetriesIsolated, SecondsStay, SolicitedApart, SolicitsStay, TablesAlike, TablesAsk, TablesLearn, TablesSolicited};
 ghost use Rattle.router_model.specs.Changes.{journal as of_journal, unchanged};
 ghost use Rattle.router_model.specs.Decide.{decide_by};
 ghost use Rattle.router_model.specs.Hear.{drops, hear, reply_heard};
-ghost use Rattle.router_model.specs.Isolation.{AgreesDecides, DecisionIsolated, MomentIsolated, NoneAsks, RisingIsolated, TableIsolated, TablesAlike};
+ghost use Rattle.router_model.specs.Isolation.{AgreesDecides, DecisionIsolated, MomentIsolated, NoneAsks, RisingIsolated, TableIsolated};
 ghost use Rattle.router_model.specs.Journal.{Journal, statics};
 ghost use Rattle.router_model.specs.Lifting.{AllAbsorbed, BitsKept, CameFits, CameInOrder, CaptureReplays, ChangesComeOnce, CourseStands, EntryAbsorbed, EventsInOrder, HearsStill, LawfulMayChange, LiveIsExact, NotesStill, NoticesSound, OwnTells, PartsAnswer, ProperRises, StandingAbsorbs, StandingAdmits, StandingSees, StaticsStand, TableDecides, TableHears, TableNotes, TableReplays, TableTicks, VersionsStep};
-ghost use Rattle.router_model.specs.Tenants.{AskingIsolated, LearningIsolated, RequestsIsolated, TablesAsk, TablesLearn};
+ghost use Rattle.router_model.specs.Tenants.{HearsIsolated, LearningIsolated, NotesIsolated, RequestsIsolated};
 ghost use Rattle.router_model.specs.Received.{message_in};
 ghost use Rattle.router_model.specs.View.{Agrees, View, view};
 
@@ -150,10 +152,11 @@ pub fn the_live_mapping_was_learned_last()
 {}
 
 /// A decision on a frame of an instance asks a view only for mappings of that instance, and for what is known of
-/// locators. One on a frame of no instance asks nothing.
+/// locators, and its notices are of EIDs of that instance alone. One on a frame of no instance asks nothing.
 pub fn decisions_ask_of_one_instance()
     ensures one { AgreesDecides }
     ensures none { NoneAsks }
+    ensures notices { NoticesOfOne }
 {}
 
 /// What a journal tells of other instances counts in no decision on a frame of an instance.
@@ -163,23 +166,60 @@ pub fn decisions_are_isolated()
     ensures rising { RisingIsolated }
 {}
 
-/// So it is for tables that stand for journals.
+/// Nonces count in no decision, and requests with numbers in place of nonces are the same requests. So two journals may
+/// be one to an instance though other tenants drew nonces in between; a journal and its part are one so.
+pub fn nonces_are_numbered()
+    ensures decides { NumberedDecides }
+    ensures requests { NumberedRequests }
+    ensures part { PartIsOne }
+{}
+
+/// So it is for tables that stand for journals. Two tables whose journals are one to an instance, but for nonces, decide
+/// alike on its frames.
 pub fn tables_are_isolated()
     ensures one { TableIsolated }
     ensures two { TablesAlike }
 {}
 
 /// With limits of its own, an instance asks and learns by its own journal, where no two young requests share a nonce:
-/// its open requests are those of that journal.
+/// its open requests are those of that journal, and so are those of them that a second sends again. A notice for its EID
+/// and a frame that answers its request are noted and heard as by that journal.
 pub fn limits_are_isolated()
     ensures requests { RequestsIsolated }
-    ensures asking { AskingIsolated }
     ensures learning { LearningIsolated }
+    ensures retries { RetriesIsolated }
+    ensures notes { NotesIsolated }
+    ensures hears { HearsIsolated }
 {}
 
-/// Two tables that stand for journals that are one to an instance, by which no two young requests share a nonce, ask
-/// alike for its EIDs, and learn the same of a reply to its request.
+/// What a second sends again of a tenant's requests, and what an SMR of its prefixes leads to, is the same by journals that
+/// are one to its instance, nonces apart.
+pub fn requests_go_apart()
+    ensures retries { RetriesApart }
+    ensures solicited { SolicitedApart }
+{}
+
+/// A tenant asks and learns as if the others weren't there, nonces apart. Two tables that stand for journals that are
+/// one to its instance, by which no two young requests share a nonce, ask alike for its EIDs, and learn the same of
+/// replies to its request; then their journals are one to it again. So it is of an SMR of its prefixes, of a second
+/// without probes, and of whatever is noted of its frames without echoes.
 pub fn tables_ask_and_learn_apart()
     ensures ask { TablesAsk }
     ensures learn { TablesLearn }
+    ensures solicited { TablesSolicited }
+    ensures seconds { SecondsStay }
+    ensures notes { NotesStay }
+{}
+
+/// What is asked, learned and solicited for other tenants leaves a table's journal as it was to a tenant.
+pub fn others_leave_a_tenant_alone()
+    ensures note { OthersNote }
+    ensures learn { OthersLearn }
+    ensures solicit { OthersSolicit }
+    ensures smr { SolicitsStay }
+{}
+
+/// The instance of each EID of the definitions has 24 bits: its type has that as a field.
+pub fn instances_are_short()
+    ensures { (eid : Eid) → eid.iid < 2 ^ 24 }
 {}

@@ -11,10 +11,11 @@ pub use laws::{
     captures_replay_plainly, changes_come_once, closed_probes_hear_nothing,
     closed_requests_hear_nothing, decisions_are_isolated, decisions_ask_of_one_instance,
     decisions_give_sound_notices, dropped_messages_change_nothing, entries_are_absorbed,
-    limits_are_isolated, messages_are_read, own_and_steps, parts_answer, proper_journals_rise,
-    seconds_alone_change_own_locators, tables_are_isolated, tables_ask_and_learn_apart,
-    tables_go_as_journals, tables_replay_plainly, the_journal_has_the_static_mappings,
-    the_live_mapping_was_learned_last, views_that_agree_decide_alike, what_stands_goes_on,
+    instances_are_short, limits_are_isolated, messages_are_read, own_and_steps, parts_answer,
+    proper_journals_rise, seconds_alone_change_own_locators, tables_are_isolated,
+    tables_ask_and_learn_apart, tables_go_as_journals, tables_replay_plainly,
+    the_journal_has_the_static_mappings, the_live_mapping_was_learned_last,
+    views_that_agree_decide_alike, what_stands_goes_on,
 };
 pub use own::Own;
 pub use rounds::{

@@ -1,4 +1,5 @@
-use Rattle.router_model.proofs.IsolationLemmas.{table-isolated, tables-alike}
+use Rattle.router_model.proofs.ApartLemmas.{tables-alike}
+use Rattle.router_model.proofs.IsolationLemmas.{table-isolated}
 use Rattle.router_model.proofs.laws.tables_are_isolated.Goals as goal
 
 pub returns-clause-one : goal.returns-clause-one
