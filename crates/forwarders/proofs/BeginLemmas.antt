@@ -3,6 +3,7 @@ use Rattle.std.proofs.Common.{◌≡◌, ◌∙◌, ℕ, suc, ◌+◌, ◌-◌, 
 use Rattle.std.specs.List.{range_with_len}
 use Rattle.std.proofs.lemmas.List.{length-append, length-map}
 use Rattle.std.proofs.lemmas.List.FromFn.{length-range_with_len}
+use Rattle.command_words.specs.Limits.{most_round_frames}
 use Rattle.capture_io.specs.Frame.{Frame}
 use Rattle.lisp_settings.specs.declared.settings.Settings.{Settings}
 use Rattle.capture_events.specs.Events.{Event, Tick, Arrival, events_after, second_of, ticks}
@@ -65,7 +66,7 @@ events-order (Some from) frame frames order = round-in-order (Some from) (frame 
 
 -- a round may begin
 pub may-begin : (settings : Settings) (previous : Option ℕ) (frame : Frame) (frames : List Frame) (parts : Parts) (journal : Journal)
-    → Stands settings parts journal → parts.now ≤ begun_at previous (frame ∷ frames) → parts.count < 2 ^ 60 → length (frame ∷ frames) ≤ 4096
+    → Stands settings parts journal → parts.now ≤ begun_at previous (frame ∷ frames) → parts.count < 2 ^ 60 → length (frame ∷ frames) ≤ most_round_frames
     → FramesInOrder (begun_at previous (frame ∷ frames)) (frame ∷ frames) → All (λ (f : Frame). f.moment < 2 ^ 32 * 1000000000) (frame ∷ frames)
     → MayBegin settings (begun_at previous (frame ∷ frames)) journal (events_after previous (frame ∷ frames))
 may-begin settings previous frame frames parts journal stands later room number order moments =

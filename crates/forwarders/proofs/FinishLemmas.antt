@@ -3,6 +3,7 @@ use Rattle.std.proofs.Common.{◌≡◌, ◌∙◌, ℕ, ◌≤◌, List, [], �
 use Rattle.std.specs.Result.{OnOk}
 use Rattle.std.proofs.lemmas.List.Elements.{All-weaker}
 use Rattle.lisp_settings.specs.declared.settings.Settings.{Settings}
+use Rattle.router_model.specs.Limits.{most_notices}
 use Rattle.router_model.specs.Parts.{Parts, standing_in}
 use Rattle.router_model.specs.Plain.{emit_packets}
 use Rattle.router_model.specs.Sharing.{filled}
@@ -30,7 +31,7 @@ module _ (settings : Settings) (moment : ℕ) (ruled : List Ruled) (before after
       → new ≡ with_batch ruled → done.lines ≡ undone.lines ++ lines_in items ruled → done.written ≡ undone.written ++ packets_in items ruled
       → Finishes settings moment ruled before old written undone after new done
   finishes given notes published lines packets =
-      let few = notices-few ruled (All-weaker (λ (one : Ruled). IsGiven one.decision) (λ (one : Ruled). length one.decision.notices ≤ 5) (λ one g. g.notices.1) ruled given) in
+      let few = notices-few ruled (All-weaker (λ (one : Ruled). IsGiven one.decision) (λ (one : Ruled). length one.decision.notices ≤ most_notices) (λ one g. g.notices.1) ruled given) in
       let gathered = notes.few in
       let own = notes.entered.own in
       let steps = notes.entered.steps in

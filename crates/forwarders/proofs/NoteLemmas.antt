@@ -11,6 +11,7 @@ use Rattle.router_log.specs.declared.entry.Entry.{Entry}
 use Rattle.router_log.specs.declared.notice.Notice.{Notice}
 use Rattle.router_model.specs.Changes.{Change, each, unchanged}
 use Rattle.router_model.specs.Emits.{emit_packet}
+use Rattle.router_model.specs.Limits.{most_notices}
 use Rattle.router_model.specs.Note.{noted}
 use Rattle.router_model.specs.Parts.{Parts, own_of, standing_in, table}
 use Rattle.router_model.specs.Plain.{emit_packets}
@@ -136,17 +137,17 @@ notices-more ruled i one within is =
     ∙ (notices-append (map ruling_of (take i ruled)) (map ruling_of (one ∷ []))
     ∙ ap (λ (l : List Notice). notices_of (map ruling_of (take i ruled)) ++ l) (append-nil one.decision.notices))))
 
-pub notices-few : (ruled : List Ruled) → All (λ (one : Ruled). length one.decision.notices ≤ 5) ruled → length (notices_of (map ruling_of ruled)) ≤ 5 * length ruled
+pub notices-few : (ruled : List Ruled) → All (λ (one : Ruled). length one.decision.notices ≤ most_notices) ruled → length (notices_of (map ruling_of ruled)) ≤ most_notices * length ruled
 notices-few [] few = omega arith
 notices-few (one ∷ ruled) few =
-    let here : length one.decision.notices ≤ 5 = few 0 one (omega arith) in
+    let here : length one.decision.notices ≤ most_notices = few 0 one (omega arith) in
     let rest = notices-few ruled (λ k d below. few (suc k) d (omega (arith, below))) in
     let both = length-append one.decision.notices (notices_of (map ruling_of ruled)) in
     omega (arith, here, rest, both)
 
 -- of the first so many
-pub given-few : (ruled : List Ruled) (i : ℕ) → All (λ (one : Ruled). IsGiven one.decision) ruled → i < length ruled → length (notices_of (map ruling_of (take i ruled))) ≤ 5 * i
+pub given-few : (ruled : List Ruled) (i : ℕ) → All (λ (one : Ruled). IsGiven one.decision) ruled → i < length ruled → length (notices_of (map ruling_of (take i ruled))) ≤ most_notices * i
 given-few ruled i given below =
-    let few = notices-few (take i ruled) (All-weaker (λ (one : Ruled). IsGiven one.decision) (λ (one : Ruled). length one.decision.notices ≤ 5) (λ one g. g.notices.1) (take i ruled) (All-take (λ (one : Ruled). IsGiven one.decision) i ruled given)) in
+    let few = notices-few (take i ruled) (All-weaker (λ (one : Ruled). IsGiven one.decision) (λ (one : Ruled). length one.decision.notices ≤ most_notices) (λ one g. g.notices.1) (take i ruled) (All-take (λ (one : Ruled). IsGiven one.decision) i ruled given)) in
     let long = length-take i ruled in
     omega (arith, few, long, below)

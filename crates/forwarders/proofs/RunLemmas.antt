@@ -1,12 +1,13 @@
 -- A round with forwarders, from what its call asks for.
 use Rattle.std.proofs.Common.{◌≡◌, ◌∙◌, ℕ, ◌+◌, ◌*◌, ◌^◌, ◌≤◌, ◌<◌, List, [], ◌∷◌, ◌++◌, length, take, Option, All, ap, sym, subst, arith}
+use Rattle.command_words.specs.Limits.{most_round_frames}
 use Rattle.capture_io.specs.Frame.{Frame}
 use Rattle.lisp_settings.specs.declared.settings.Settings.{Settings}
 use Rattle.capture_events.specs.Events.{events_after}
 use Rattle.router_log.specs.declared.entry.Entry.{Entry}
 use Rattle.router_model.specs.Journal.{extended}
 use Rattle.router_model.specs.Lifting.{FramesInOrder}
-use Rattle.router_model.specs.Limits.{most_ticked}
+use Rattle.router_model.specs.Limits.{most_notices, most_ticked}
 use Rattle.router_model.specs.Parts.{Parts, Stands}
 use Rattle.router_model.specs.Proper.{IsProper}
 use Rattle.router_model.specs.Rounds.{closing_moment}
@@ -28,7 +29,7 @@ use Rattle.forwarders.proofs.RoundLemmas.{notices-proper, places-few, published-
 pub record MayRun (settings : Settings) (previous : Option ℕ) (frames : List Frame) (parts : Parts) (before : List (List Entry)) : Type 0 where
   pub stands : Stands settings parts (journal_of before)
   pub some : 1 ≤ length frames
-  pub number : length frames ≤ 4096
+  pub number : length frames ≤ most_round_frames
   pub order : FramesInOrder (begun_at previous frames) frames
   pub moments : All (λ (f : Frame). f.moment < 2 ^ 32 * 1000000000) frames
   pub later : parts.now ≤ begun_at previous frames
@@ -70,7 +71,7 @@ module _ (settings : Settings) (previous : Option ℕ) (parts : Parts) (before :
           ∙ sym (ruled-data settings previous frame frames parts before may.stands (begins-of frame frames may) from written is ruled are))
 
       -- there is room for what the notices add
-      pub notices-room : (frames : List Frame) (after : Parts) → MayRun settings previous frames parts before → IsWritten settings previous frames parts from written → Ruling-of frames → after.count ≤ parts.count + most_ticked * length (events_after previous frames) → after.count + 5 * length ruled < 2 ^ 61
+      pub notices-room : (frames : List Frame) (after : Parts) → MayRun settings previous frames parts before → IsWritten settings previous frames parts from written → Ruling-of frames → after.count ≤ parts.count + most_ticked * length (events_after previous frames) → after.count + most_notices * length ruled < 2 ^ 61
       notices-room [] after may is are few = absurd (none-run may)
       notices-room (frame ∷ frames) after may is are few =
           let rulings = ruled-few settings previous frame frames parts before may.stands (begins-of frame frames may) from written is ruled are in

@@ -1,5 +1,5 @@
 -- What forwarders decide in a round, and what becomes of its data packets.
-use Rattle.std.specs.Prelude.{◌≡◌, ℕ, ◌<◌, Option, List, [], length, slice_index, slice_index_or, All, IfSome}
+use Rattle.std.specs.Prelude.{◌≡◌, ℕ, ◌+◌, ◌*◌, ◌<◌, Option, List, [], length, slice_index, slice_index_or, All, IfSome}
 use Rattle.capture_io.specs.Frame.{Frame}
 use Rattle.lisp_settings.specs.declared.settings.Settings.{Settings}
 use Rattle.router_log.specs.declared.entry.Entry.{Entry}
@@ -46,6 +46,22 @@ IsHired p worker = (worker.answers.items ≡ []) × (worker.tally ≡ 0) × HasS
 abbrev pub HaveAnswered : Settings → List (List Entry) → List (List Entry) → List Frame → List ℕ → List Worker → Type 0
 HaveAnswered settings first plan frames places workers = (i : ℕ) (d : Worker) → i < length workers → All (IsAnswer settings first plan frames places) (slice_index_or workers i d).answers.items
 
+-- the answers of a worker are those on the data packet at a place of its own, and on others so much further each
+abbrev pub AreDealt : ℕ → ℕ → List Answer → Type 0
+AreDealt start step answers = (k : ℕ) (d : Answer) → k < length answers → (slice_index_or answers k d).index ≡ k * step + start
+
+-- data packets fell to the workers in turn
+abbrev pub AreAllDealt : List Worker → Type 0
+AreAllDealt workers = (i : ℕ) (d : Worker) → i < length workers → AreDealt i (length workers) (slice_index_or workers i d).answers.items
+
+-- each answer on the data packet at an index is this one
+abbrev pub IsSole : ℕ → Option Forwarded → List Answer → Type 0
+IsSole index forwarded answers = All (λ answer. answer.index ≡ index → forwarded ≡ answer.forwarded) answers
+
+-- so is each answer of all workers
+abbrev pub IsSoleOfAll : ℕ → Option Forwarded → List Worker → Type 0
+IsSoleOfAll index forwarded workers = (i : ℕ) (d : Worker) → i < length workers → IsSole index forwarded (slice_index_or workers i d).answers.items
+
 -- what became of a data packet: it was decided by published batches, the first ones among them
 pub record IsDecided (settings : Settings) (first published : List (List Entry)) (frame : Frame) (one : Ruling) : Type 0 where
   pub front : List (List Entry)
@@ -53,10 +69,16 @@ pub record IsDecided (settings : Settings) (first published : List (List Entry))
   pub within : Begins front published
   pub is : one ≡ record { n = count_of front; decision = decide settings (journal_of front) frame.moment frame }
 
--- from answers that for the data packet at an index is taken, whatever they are answers to
-abbrev pub IsTaken : List Answer → ℕ → Option Forwarded → List Answer → Type 0
-IsTaken before index forwarded after = (settings : Settings) (first plan : List (List Entry)) (frames : List Frame) (places : List ℕ) → All (IsAnswer settings first plan frames places) before → All (IsAnswer settings first plan frames places) after × ((d : Frame) → IfSome forwarded (Decides settings first plan (slice_index_or frames (slice_index places index) d)))
+-- from answers the one at a place is taken, if it is on the data packet at an index, whatever they are answers to
+pub record IsTaken (before : List Answer) (place index : ℕ) (forwarded : Option Forwarded) (after : List Answer) : Type 0 where
+  pub answered : (settings : Settings) (first plan : List (List Entry)) (frames : List Frame) (places : List ℕ) → All (IsAnswer settings first plan frames places) before → All (IsAnswer settings first plan frames places) after × ((d : Frame) → IfSome forwarded (Decides settings first plan (slice_index_or frames (slice_index places index) d)))
+  pub found : (d : Answer) → place < length before → (slice_index_or before place d).index ≡ index → forwarded ≡ (slice_index_or before place d).forwarded
+  pub others : (other : ℕ) (told : Option Forwarded) → (other ≡ index → ⊥) → IsSole other told after → IsSole other told before
+  pub dealt : (start step : ℕ) → AreDealt start step before → AreDealt start step after
 
--- the same from those of all workers
-abbrev pub IsTakenOfAll : List Worker → ℕ → Option Forwarded → List Worker → Type 0
-IsTakenOfAll before index forwarded after = (settings : Settings) (first plan : List (List Entry)) (frames : List Frame) (places : List ℕ) → HaveAnswered settings first plan frames places before → HaveAnswered settings first plan frames places after × ((d : Frame) → IfSome forwarded (Decides settings first plan (slice_index_or frames (slice_index places index) d)))
+-- from the answers of all workers the one on the data packet at an index is taken, if there is one; those on others stay
+pub record IsTakenOfAll (before : List Worker) (index : ℕ) (forwarded : Option Forwarded) (after : List Worker) : Type 0 where
+  pub answered : (settings : Settings) (first plan : List (List Entry)) (frames : List Frame) (places : List ℕ) → HaveAnswered settings first plan frames places before → HaveAnswered settings first plan frames places after × ((d : Frame) → IfSome forwarded (Decides settings first plan (slice_index_or frames (slice_index places index) d)))
+  pub found : IsSoleOfAll index forwarded before
+  pub others : (other : ℕ) (told : Option Forwarded) → (other ≡ index → ⊥) → IsSoleOfAll other told after → IsSoleOfAll other told before
+  pub dealt : AreAllDealt after

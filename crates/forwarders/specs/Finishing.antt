@@ -2,6 +2,7 @@
 use Rattle.std.specs.Prelude.{◌≡◌, ℕ, ◌+◌, ◌*◌, ◌≤◌, List, [], ◌∷◌, ◌++◌, length, map, All}
 use Rattle.lisp_settings.specs.declared.settings.Settings.{Settings}
 use Rattle.router_model.specs.Changes.{Change}
+use Rattle.router_model.specs.Limits.{most_notices}
 use Rattle.router_model.specs.Parts.{Parts, standing_in, table}
 use Rattle.router_model.specs.Plain.{emit_packets}
 use Rattle.router_model.specs.Sharing.{filled}
@@ -33,4 +34,4 @@ pub record Finishes (settings : Settings) (moment : ℕ) (ruled : List Ruled) (b
   pub lines : done.lines ≡ undone.lines ++ lines_in (with_noted settings moment before ruled written.items.items) ruled
   pub packets : done.written ≡ undone.written ++ packets_in (with_noted settings moment before ruled written.items.items) ruled
   pub fits : All IsFit written.items.items → All IsFit (with_noted settings moment before ruled written.items.items)
-  pub few : length (with_noted settings moment before ruled written.items.items) ≤ length written.items.items + 5 * length ruled
+  pub few : length (with_noted settings moment before ruled written.items.items) ≤ length written.items.items + most_notices * length ruled

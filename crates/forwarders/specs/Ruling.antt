@@ -1,5 +1,5 @@
 -- What becomes of a round's data packets, by its batches.
-use Rattle.std.specs.Prelude.{◌≡◌, ℕ, List, ◌++◌, drop, take, slice_index_or, All, IfNone, IfSome}
+use Rattle.std.specs.Prelude.{◌≡◌, ℕ, ◌<◌, ◌≤◌, List, ◌++◌, drop, length, take, slice_index_or, All, IfNone, IfSome, Option, Some}
 use Rattle.std.specs.List.{AllZip}
 use Rattle.capture_io.specs.Frame.{Frame}
 use Rattle.lisp_settings.specs.declared.settings.Settings.{Settings}
@@ -8,7 +8,9 @@ use Rattle.router_log.specs.declared.entry.Entry.{Entry}
 use Rattle.router_model.specs.Parts.{Parts, Stands, table}
 use Rattle.router_model.specs.Sharing.{IsRuled, MayBegin, filled, opening}
 use Rattle.router_model.specs.Sides.{Ruling, writing}
+use Rattle.forwarders.specs.declared.door.looks.Forwarded.{Forwarded}
 use Rattle.forwarders.specs.declared.ruled.Ruled.{Ruled}
+use Rattle.forwarders.specs.declared.workers.Worker.{Worker}
 use Rattle.forwarders.specs.Batches.{journal_of}
 use Rattle.forwarders.specs.Deciding.{IsDecided}
 use Rattle.forwarders.specs.Given.{IsGiven}
@@ -47,3 +49,11 @@ pub record HasLooked (last : ℕ) (one : Ruled) : Type 0 where
 
 abbrev pub HaveLooked : ℕ → List Ruled → Type 0
 HaveLooked last ruled = All (HasLooked last) ruled
+
+-- a decision of a forwarder, by no more entries than are published, is what became of its data packet, with the look
+abbrev pub IsByAnswer : ℕ → Option Forwarded → Ruled → Type 0
+IsByAnswer last forwarded one = IfSome forwarded (λ f. f.look ≤ last → one ≡ record { n = f.look; decision = f.decision; look = Some f.look })
+
+-- so is each that the workers had
+abbrev pub AreByAnswers : ℕ → List Worker → List Ruled → Type 0
+AreByAnswers last workers ruled = (i : ℕ) (d : Worker) → i < length workers → All (λ answer. (e : Ruled) → answer.index < length ruled → IsByAnswer last answer.forwarded (slice_index_or ruled answer.index e)) (slice_index_or workers i d).answers.items

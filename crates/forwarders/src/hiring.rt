@@ -1,11 +1,12 @@
 // Forwarders for a round, and batches published beside them.
 ghost use Rattle.std.specs.Prelude.{◌≡◌, ◌+◌, ◌^◌, ◌<◌, ◌≤◌, List, [], ◌++◌, length, All, IfOk, OnOk};
 ghost use Rattle.std.specs.Thread.{IsSync};
+ghost use Rattle.command_words.specs.Limits.{most_workers};
 ghost use Rattle.lisp_settings.specs.Lawful.{IsLawful};
 ghost use Rattle.router_log.specs.declared.entry.Entry.{Entry as EntryValue};
 ghost use Rattle.router_model.specs.Proper.{IsProper};
 ghost use Rattle.forwarders.specs.Batches.{Begins, journal_of};
-ghost use Rattle.forwarders.specs.Deciding.{AreWithin, HasSeen, HaveAnswered, IsFresh, IsHired};
+ghost use Rattle.forwarders.specs.Deciding.{AreAllDealt, AreWithin, HasSeen, HaveAnswered, IsFresh, IsHired};
 
 use crate::batches::publish_all;
 use crate::door::{Published, Tally};
@@ -59,7 +60,7 @@ pub(crate) fn beside<R: Threads + Wait + Sync, G: Gate>(
 ) -> Result<(), NoMemory>
     requires lawful { IsLawful settings.now }
     requires places { AreWithin frames.now places.now }
-    requires number { (length workers.old ≤ 16) × (length places.now < 2 ^ 61) }
+    requires number { (length workers.old ≤ most_workers) × (length places.now < 2 ^ 61) }
     requires fresh { All (IsFresh settings.now) workers.old }
     requires none { published.old.pending ≡ [] }
     requires stands { IsProper published.old.settings (journal_of published.old.batches) }
@@ -70,6 +71,7 @@ pub(crate) fn beside<R: Threads + Wait + Sync, G: Gate>(
     ensures decided { (first plan : List (List EntryValue))
         → All (HasSeen settings.now first plan) workers.old
         → HaveAnswered settings.now first plan frames.now places.now workers.new }
+    ensures dealt { AreAllDealt workers.new }
     ensures published { OnOk result (published.new
         ≡ record published.old { batches = published.old.batches ++ batches.now }) }
 {
@@ -77,13 +79,14 @@ pub(crate) fn beside<R: Threads + Wait + Sync, G: Gate>(
         rt,
         &mut ||
             requires { IsSync R.row × IsLawful settings.now × AreWithin frames.now places.now
-                × (length workers.now ≤ 16) × (length places.now < 2 ^ 61)
+                × (length workers.now ≤ most_workers) × (length places.now < 2 ^ 61)
                 × All (IsFresh settings.now) workers.now }
             ensures { (length workers.exit.now ≡ length workers.entry.now)
                 × ((first plan : List (List EntryValue))
                 → All (HasSeen settings.entry.now first plan) workers.entry.now
                 → HaveAnswered settings.entry.now first plan frames.entry.now places.entry.now
-                workers.exit.now) }
+                workers.exit.now)
+                × AreAllDealt workers.exit.now }
         { work_all(rt, workers, settings, frames, places, gate) },
         &mut || publish_all(rt, published, batches),
     );

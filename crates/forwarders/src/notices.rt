@@ -5,6 +5,7 @@ ghost use Rattle.lisp_settings.specs.Lawful.{IsLawful};
 ghost use Rattle.router_core.specs.Steps.{MayStep};
 ghost use Rattle.router_model.specs.Journal.{extended};
 ghost use Rattle.router_model.specs.Lifting.{is_sound};
+ghost use Rattle.router_model.specs.Limits.{most_notices};
 ghost use Rattle.router_model.specs.Parts.{standing_in};
 ghost use Rattle.router_model.specs.Proper.{IsProper};
 ghost use Rattle.router_model.specs.Sharing.{filled};
@@ -104,7 +105,7 @@ fn note_all(
     requires lawful { IsLawful settings.now }
     requires given { All (λ one. IsGiven one.decision) ruled.now }
     requires later { table.old.parts.now ≤ moment }
-    requires count { table.old.parts.count + 5 * length ruled.now < 2 ^ 61 }
+    requires count { table.old.parts.count + most_notices * length ruled.now < 2 ^ 61 }
     requires moment { moment < 2 ^ 32 * 1000000000 }
     ensures { OnOk result (Notes (standing_in settings.now table.old.parts) moment
         (notices_of (map ruling_of ruled.now)) table.old.parts
@@ -156,7 +157,7 @@ pub(crate) fn note_round<R: Wait>(
     requires settings { published.old.settings ≡ settings.now }
     requires given { All (λ one. IsGiven one.decision) ruled.now }
     requires later { table.old.parts.now ≤ moment }
-    requires count { table.old.parts.count + 5 * length ruled.now < 2 ^ 61 }
+    requires count { table.old.parts.count + most_notices * length ruled.now < 2 ^ 61 }
     requires moment { moment < 2 ^ 32 * 1000000000 }
     requires none { published.old.pending ≡ [] }
     requires plan { published.old.plan ≡ published.old.batches }

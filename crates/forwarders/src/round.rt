@@ -1,12 +1,13 @@
 // A round of a replay.
 ghost use Rattle.std.specs.Prelude.{◌≡◌, ◌+◌, ◌*◌, ◌^◌, ◌<◌, ◌≤◌, [], ◌++◌, length, map, take, All, IfOk, OnOk};
 ghost use Rattle.std.specs.List.{AllZip};
+ghost use Rattle.command_words.specs.Limits.{most_round_frames, most_workers};
 ghost use Rattle.lisp_settings.specs.Lawful.{IsLawful};
 ghost use Rattle.capture_events.specs.Events.{events_after};
 ghost use Rattle.router_core.specs.Steps.{HasTicked};
 ghost use Rattle.router_model.specs.Journal.{extended};
 ghost use Rattle.router_model.specs.Lifting.{FramesInOrder};
-ghost use Rattle.router_model.specs.Limits.{most_entries};
+ghost use Rattle.router_model.specs.Limits.{most_entries, most_notices};
 ghost use Rattle.router_model.specs.Parts.{Stands};
 ghost use Rattle.router_model.specs.Proper.{IsProper};
 ghost use Rattle.router_model.specs.Rounds.{closing_moment};
@@ -61,7 +62,7 @@ fn decide_round<R: Threads + Wait + Sync, G: Gate>(
 ) -> Result<Vec<Ruled>, NoMemory>
     requires lawful { IsLawful settings.now }
     requires settings { published.old.settings ≡ settings.now }
-    requires workers { workers ≤ 16 }
+    requires workers { workers ≤ most_workers }
     requires places { AreWithin frames.now written.now.places }
     requires number { length written.now.places < 2 ^ 61 }
     requires from { from ≤ length written.now.batches }
@@ -116,7 +117,7 @@ fn finish_round<R: Wait>(
     requires given { All (λ one. IsGiven one.decision) ruled.items }
     requires left { left_in written.old.items.items ≡ length ruled.items }
     requires later { table.old.parts.now ≤ moment }
-    requires count { table.old.parts.count + 5 * length ruled.items < 2 ^ 61 }
+    requires count { table.old.parts.count + most_notices * length ruled.items < 2 ^ 61 }
     requires moment { moment < 2 ^ 32 * 1000000000 }
     requires none { published.old.pending ≡ [] }
     requires plan { published.old.plan ≡ published.old.batches }
@@ -156,11 +157,11 @@ fn work_round<R: Threads + Wait + Sync, G: Gate>(
 ) -> Result<(), NoMemory>
     requires lawful { IsLawful settings.now }
     requires settings { published.old.settings ≡ settings.now }
-    requires workers { workers ≤ 16 }
+    requires workers { workers ≤ most_workers }
     requires stands { Stands settings.now table.old.parts (journal_of published.old.batches) }
     requires none { published.old.pending ≡ [] }
     requires plan { published.old.plan ≡ published.old.batches }
-    requires number { (1 ≤ length frames.now) × (length frames.now ≤ 4096) }
+    requires number { (1 ≤ length frames.now) × (length frames.now ≤ most_round_frames) }
     requires order { FramesInOrder (begun_at previous frames.now) frames.now }
     requires moments { All (λ frame. frame.moment < 2 ^ 32 * 1000000000) frames.now }
     requires later { table.old.parts.now ≤ begun_at previous frames.now }
@@ -204,11 +205,11 @@ pub fn run_round<R: Threads + Wait + Sync, G: Gate>(
 ) -> Result<RoundDone, NoMemory>
     requires lawful { IsLawful settings.now }
     requires settings { published.old.settings ≡ settings.now }
-    requires workers { workers ≤ 16 }
+    requires workers { workers ≤ most_workers }
     requires stands { Stands settings.now table.old.parts (journal_of published.old.batches) }
     requires none { published.old.pending ≡ [] }
     requires plan { published.old.plan ≡ published.old.batches }
-    requires number { (1 ≤ length frames.now) × (length frames.now ≤ 4096) }
+    requires number { (1 ≤ length frames.now) × (length frames.now ≤ most_round_frames) }
     requires order { FramesInOrder (begun_at previous frames.now) frames.now }
     requires moments { All (λ frame. frame.moment < 2 ^ 32 * 1000000000) frames.now }
     requires later { table.old.parts.now ≤ begun_at previous frames.now }

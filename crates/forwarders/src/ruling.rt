@@ -1,12 +1,12 @@
 // What becomes of the data packets of a round.
-ghost use Rattle.std.specs.Prelude.{◌≡◌, List, IfOk, IfSome, IfNone};
+ghost use Rattle.std.specs.Prelude.{◌≡◌, List, IfOk, IfSome, Some};
 ghost use Rattle.lisp_settings.specs.Lawful.{IsLawful};
 ghost use Rattle.router_log.specs.declared.entry.Entry.{Entry as EntryValue};
 ghost use Rattle.router_model.specs.Parts.{Stands};
 ghost use Rattle.forwarders.specs.Batches.{Begins, count_of, journal_of};
 ghost use Rattle.forwarders.specs.Deciding.{Decides, IsDecided};
 ghost use Rattle.forwarders.specs.Given.{IsGiven};
-ghost use Rattle.forwarders.specs.Ruling.{HasLooked, ruling_of};
+ghost use Rattle.forwarders.specs.Ruling.{HasLooked, IsByAnswer, ruling_of};
 
 use crate::door::{Forwarded, Published};
 use crate::ruled::Ruled;
@@ -17,10 +17,11 @@ use router_core::Table;
 
 // What a forwarder decided.
 fn by_look(forwarded: Forwarded) -> Ruled
-    ensures ruling { ruling_of result
-        ≡ record { n = forwarded.look; decision = forwarded.decision } }
-    ensures look { IfSome result.look (λ look. look ≡ result.n) }
-    ensures some { IfNone result.look ⊥ }
+    ensures { result ≡ record {
+      n = forwarded.look;
+      decision = forwarded.decision;
+      look = Some forwarded.look;
+    } }
 {
     let Forwarded { look, decision } = forwarded;
     Ruled {
@@ -48,6 +49,7 @@ pub(crate) fn ruled(
         → IsDecided settings.now first published.now.batches frame.now (ruling_of ruled)) }
     ensures given { IfOk result (λ ruled.
         IfSome forwarded (λ forwarded. IsGiven forwarded.decision) → IsGiven ruled.decision) }
+    ensures answer { IfOk result (IsByAnswer (count_of published.now.batches) forwarded) }
     ensures looked { IfOk result (HasLooked (count_of published.now.batches)) }
 {
     if let Some(forwarded) = forwarded {

@@ -1,12 +1,13 @@
 // What becomes of all data packets of a round.
 ghost use Rattle.std.specs.Prelude.{◌≡◌, ◌+◌, ◌^◌, ◌<◌, ◌≤◌, List, [], ◌++◌, length, take, All, IfOk, OnOk};
+ghost use Rattle.command_words.specs.Limits.{most_workers};
 ghost use Rattle.lisp_settings.specs.Lawful.{IsLawful};
 ghost use Rattle.router_log.specs.declared.entry.Entry.{Entry as EntryValue};
 ghost use Rattle.router_model.specs.Parts.{Stands};
 ghost use Rattle.router_model.specs.Proper.{IsProper};
 ghost use Rattle.forwarders.specs.Batches.{Begins, count_of, journal_of};
-ghost use Rattle.forwarders.specs.Deciding.{AreWithin, HasSeen, HaveAnswered, IsFresh};
-ghost use Rattle.forwarders.specs.Ruling.{AreRuled, HaveLooked};
+ghost use Rattle.forwarders.specs.Deciding.{AreAllDealt, AreWithin, HasSeen, HaveAnswered, IsFresh};
+ghost use Rattle.forwarders.specs.Ruling.{AreByAnswers, AreRuled, HaveLooked};
 
 use crate::batches::publish_all;
 use crate::door::{Published, Tally};
@@ -38,7 +39,7 @@ fn publish_beside<R: Threads + Wait + Sync, G: Gate>(
 ) -> Result<(), NoMemory>
     requires lawful { IsLawful settings.now }
     requires places { AreWithin frames.now places.now }
-    requires number { (length workers.old.items ≤ 16) × (length places.now < 2 ^ 61) }
+    requires number { (length workers.old.items ≤ most_workers) × (length places.now < 2 ^ 61) }
     requires fresh { All (IsFresh settings.now) workers.old.items }
     requires none { published.old.pending ≡ [] }
     requires stands { IsProper published.old.settings (journal_of published.old.batches) }
@@ -48,6 +49,7 @@ fn publish_beside<R: Threads + Wait + Sync, G: Gate>(
     ensures decided { (first plan : List (List EntryValue))
         → All (HasSeen settings.now first plan) workers.old.items
         → HaveAnswered settings.now first plan frames.now places.now workers.new.items }
+    ensures dealt { AreAllDealt workers.new.items }
     ensures published { OnOk result (published.new
         ≡ record published.old { batches = published.old.batches ++ batches.now }) }
 {
@@ -77,7 +79,7 @@ pub(crate) fn publish_round<R: Threads + Wait + Sync, G: Gate>(
     requires lawful { IsLawful settings.now }
     requires settings { published.old.settings ≡ settings.now }
     requires places { AreWithin frames.now places.now }
-    requires number { (workers ≤ 16) × (length places.now < 2 ^ 61) }
+    requires number { (workers ≤ most_workers) × (length places.now < 2 ^ 61) }
     requires from { from ≤ length batches.now }
     requires none { published.old.pending ≡ [] }
     requires plan { published.old.plan ≡ published.old.batches ++ batches.now }
@@ -88,6 +90,7 @@ pub(crate) fn publish_round<R: Threads + Wait + Sync, G: Gate>(
     ensures answered { IfOk result (λ workers. HaveAnswered settings.now
         (published.old.batches ++ take from batches.now) (published.old.batches ++ batches.now)
         frames.now places.now workers.items) }
+    ensures dealt { IfOk result (λ workers. AreAllDealt workers.items) }
 {
     let (first, others) = batches.split_at(from);
     publish_all(rt, published, first)?;
@@ -119,10 +122,13 @@ pub(crate) fn rule_all(
     requires lawful { IsLawful settings.now }
     requires stands { Stands settings.now table.now.parts (journal_of published.now.batches) }
     requires places { AreWithin frames.now places.now }
+    requires dealt { AreAllDealt workers.old }
     ensures ruled { IfOk result (λ ruled. (first : List (List EntryValue))
         → Begins first published.now.batches
         → HaveAnswered settings.now first published.now.batches frames.now places.now workers.old
         → AreRuled settings.now first published.now.batches frames.now places.now ruled.items) }
+    ensures answers { IfOk result (λ ruled.
+        AreByAnswers (count_of published.now.batches) workers.old ruled.items) }
     ensures looked { IfOk result (λ ruled.
         HaveLooked (count_of published.now.batches) ruled.items) }
 {

@@ -1,20 +1,20 @@
 // The answers of workers, taken in the order of the data packets.
 ghost use Rattle.std.specs.Prelude.{◌≡◌, length};
-ghost use Rattle.forwarders.specs.Deciding.{IsTaken, IsTakenOfAll};
+ghost use Rattle.forwarders.specs.Deciding.{AreAllDealt, IsTaken, IsTakenOfAll};
 
 use crate::door::Forwarded;
 use crate::workers::{Answer, Worker};
 
 // What a worker decided at this place, if it is for the data packet at this index.
 fn take_of(worker: &mut Worker, place: usize, index: usize) -> Option<Forwarded>
-    ensures { IsTaken worker.old.answers.items index result worker.new.answers.items }
+    ensures { IsTaken worker.old.answers.items place index result worker.new.answers.items }
 {
     take_answer(worker.answers.as_mut_slice(), place, index)
 }
 
 // The same of its answers.
 fn take_answer(answers: &mut [Answer], place: usize, index: usize) -> Option<Forwarded>
-    ensures { IsTaken answers.old index result answers.new }
+    ensures { IsTaken answers.old place index result answers.new }
 {
     if place < answers.len() && answers[place].index == index {
         answers[place].forwarded.take()
@@ -23,8 +23,9 @@ fn take_answer(answers: &mut [Answer], place: usize, index: usize) -> Option<For
     }
 }
 
-/// What the worker decided to whom a data packet fell.
+/// What the worker decided to whom a data packet fell: its answer, which is then taken.
 pub(crate) fn take_forwarded(workers: &mut [Worker], index: usize) -> Option<Forwarded>
+    requires dealt { AreAllDealt workers.old }
     ensures length { length workers.new ≡ length workers.old }
     ensures taken { IsTakenOfAll workers.old index result workers.new }
 {

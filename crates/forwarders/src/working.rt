@@ -1,9 +1,10 @@
 // Forwarders decide the data packets of a round, each in its turns.
 ghost use Rattle.std.specs.Prelude.{◌≡◌, ◌+◌, ◌^◌, ◌<◌, ◌≤◌, List, length, All, IfSome};
+ghost use Rattle.command_words.specs.Limits.{most_workers};
 ghost use Rattle.lisp_settings.specs.Lawful.{IsLawful};
 ghost use Rattle.router_log.specs.declared.entry.Entry.{Entry as EntryValue};
 ghost use Rattle.forwarders.specs.Batches.{Begins};
-ghost use Rattle.forwarders.specs.Deciding.{AreWithin, Decides, HasSeen, HaveAnswered, IsAnswer, IsFresh};
+ghost use Rattle.forwarders.specs.Deciding.{AreAllDealt, AreDealt, AreWithin, Decides, HasSeen, HaveAnswered, IsAnswer, IsFresh};
 
 use crate::door::{Forwarded, Forwarder, Tally};
 use crate::gate::Gate;
@@ -48,11 +49,12 @@ fn work<G: Gate>(
 )
     requires lawful { IsLawful settings.now }
     requires places { AreWithin frames.now places.now }
-    requires numbers { (start < 16) × (0 < step) × (step ≤ 16)
+    requires numbers { (start < most_workers) × (0 < step) × (step ≤ most_workers)
         × (length places.now < 2 ^ 61) }
     requires fresh { IsFresh settings.now worker.old }
-    ensures { All (IsAnswer settings.now worker.old.forwarder.seen worker.old.forwarder.plan
-        frames.now places.now) worker.new.answers.items }
+    ensures decided { All (IsAnswer settings.now worker.old.forwarder.seen
+        worker.old.forwarder.plan frames.now places.now) worker.new.answers.items }
+    ensures dealt { AreDealt start step worker.new.answers.items }
 {
     let mut index = start;
     while index < places.len() {
@@ -77,12 +79,13 @@ pub(crate) fn work_all<R: Threads + Sync, G: Gate>(
 )
     requires lawful { IsLawful settings.now }
     requires places { AreWithin frames.now places.now }
-    requires number { (length workers.old ≤ 16) × (length places.now < 2 ^ 61) }
+    requires number { (length workers.old ≤ most_workers) × (length places.now < 2 ^ 61) }
     requires fresh { All (IsFresh settings.now) workers.old }
     ensures length { length workers.new ≡ length workers.old }
     ensures decided { (first plan : List (List EntryValue))
         → All (HasSeen settings.now first plan) workers.old
         → HaveAnswered settings.now first plan frames.now places.now workers.new }
+    ensures dealt { AreAllDealt workers.new }
 {
     let step = workers.len();
     if step > 0 {
@@ -92,11 +95,12 @@ pub(crate) fn work_all<R: Threads + Sync, G: Gate>(
             step,
             &|start, worker|
                 requires { IsLawful settings.now × AreWithin frames.now places.now
-                    × (start < 16) × (0 < step) × (step ≤ 16) × (length places.now < 2 ^ 61)
+                    × (start < most_workers) × (0 < step) × (step ≤ most_workers) × (length places.now < 2 ^ 61)
                     × IsFresh settings.now worker.now }
                 ensures { All (IsAnswer settings.entry.now worker.entry.now.forwarder.seen
                     worker.entry.now.forwarder.plan frames.entry.now places.entry.now)
-                    worker.exit.now.answers.items }
+                    worker.exit.now.answers.items
+                    × AreDealt start step worker.exit.now.answers.items }
             { work(worker, settings, frames, places, start, step, gate) },
         );
     }

@@ -1,6 +1,7 @@
 // The writer's side of a round: its seconds and control messages in order. Data packets are left for
 // later.
 ghost use Rattle.std.specs.Prelude.{◌≡◌, ◌+◌, ◌*◌, ◌^◌, ◌<◌, ◌≤◌, List, [], ◌∷◌, ◌++◌, length, slice_index_or, unwrap_or, true, All, IfOk, OnOk, Option, Some};
+ghost use Rattle.command_words.specs.Limits.{most_round_frames};
 ghost use Rattle.capture_io.specs.Frame.{Frame as FrameValue};
 ghost use Rattle.lisp_settings.specs.Lawful.{IsLawful};
 ghost use Rattle.capture_events.specs.Events.{Arrival, Tick, events_after, second_of, ticks};
@@ -199,7 +200,7 @@ fn write_frames(
     requires own { without_ups table.old.parts.own ≡ without_ups settings.now.locators }
     requires later { table.old.parts.now ≤ from }
     requires from { from < 2 ^ 32 * 1000000000 }
-    requires number { length frames.now ≤ 4096 }
+    requires number { length frames.now ≤ most_round_frames }
     requires order { FramesInOrder from frames.now }
     requires moments { All (λ frame. frame.moment < 2 ^ 32 * 1000000000) frames.now }
     requires count { table.old.parts.count < 2 ^ 60 + most_ticked * 2 ^ 32 }
@@ -230,7 +231,7 @@ pub(crate) fn write_round(
     requires lawful { IsLawful settings.now }
     requires own { without_ups table.old.parts.own ≡ without_ups settings.now.locators }
     requires later { table.old.parts.now ≤ begun_at previous frames.now }
-    requires number { (1 ≤ length frames.now) × (length frames.now ≤ 4096) }
+    requires number { (1 ≤ length frames.now) × (length frames.now ≤ most_round_frames) }
     requires order { FramesInOrder (begun_at previous frames.now) frames.now }
     requires moments { All (λ frame. frame.moment < 2 ^ 32 * 1000000000) frames.now }
     requires count { table.old.parts.count < 2 ^ 60 }

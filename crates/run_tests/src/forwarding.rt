@@ -87,12 +87,14 @@ fn words_of(alloc: Global, words: &[&str]) -> Result<Vec<Word>, NoMemory> {
     Ok(owned)
 }
 
-// What a run of two workers through the gate ends with.
+// A run over a settings file and frames by two workers, which go through the gate.
 fn ran_through<R: Threads + Wait + Sync, G: Gate>(
     rt: &R,
     alloc: Global,
+    settings: &str,
+    frames: &[Arrival<'_>],
     gate: &G,
-) -> Result<Status, NoMemory> {
+) -> Result<(Status, MemoryDesk), NoMemory> {
     let words = words_of(
         alloc,
         &[
@@ -107,17 +109,116 @@ fn ran_through<R: Threads + Wait + Sync, G: Gate>(
             "2",
         ],
     )?;
-    let capture = capture_of(alloc, &RAW, &TWO)?;
-    let mut desk = desk_with(alloc, SITE, capture, Calls::new(alloc))?;
-    Ok(run(rt, alloc, &words, &mut desk, gate))
+    let capture = capture_of(alloc, &RAW, frames)?;
+    let mut desk = desk_with(alloc, settings, capture, Calls::new(alloc))?;
+    let status = run(rt, alloc, &words, &mut desk, gate);
+    Ok((status, desk))
 }
 
 #[test]
 fn forwarders_run_side_by_side(rt: HostRuntime) -> Result<(), Fail> {
     let gate = Meeting::new();
-    let status = ran_through(&rt, rt.alloc(), &gate)?;
+    let (status, _) = ran_through(&rt, rt.alloc(), SITE, &TWO, &gate)?;
     assert_eq!(rt; status, Status::Done);
     gate.was_kept(&rt);
+    Ok(())
+}
+
+/// A site with one mapping, whose locator is probed once a minute.
+const PROBING: &str = r#"
+probe = true
+[[locator]]
+address = "192.0.2.1"
+[[attachment]]
+vlan = 0
+iid = 0
+[[database]]
+iid = 0
+prefix = "10.1.0.0/16"
+[[mapping]]
+iid = 0
+prefix = "10.2.0.0/16"
+[[mapping.locator]]
+address = "198.51.100.7"
+"#;
+
+/// Five packets to it, of which the last comes days later: each minute in between is a batch.
+const FIVE: [Arrival<'static>; 5] = [
+    (0, 0, &PACKET, ""),
+    (0, 0, &PACKET, ""),
+    (0, 0, &PACKET, ""),
+    (0, 0, &PACKET, ""),
+    (300_000, 0, &PACKET, ""),
+];
+
+/// The turns for which the first packet is held: some hundredths of a second.
+const PAUSE: u32 = 20_000_000;
+
+/// A gate for five packets that fall to two workers in turn. It holds the first packet for a while, and the
+/// second one until the fifth comes, before which the third was decided.
+#[derive(Drop)]
+struct Overtaking {
+    fifth: AtomicU64,
+    missed: AtomicU64,
+}
+
+impl Overtaking {
+    fn new() -> Overtaking {
+        Overtaking {
+            fifth: AtomicU64::new(0),
+            missed: AtomicU64::new(0),
+        }
+    }
+
+    // Waits for the fifth packet, for so many turns at most, and returns whether it came.
+    fn waits(&self, turns: u32) -> bool {
+        for _ in 0..turns {
+            if self.fifth.load(Ordering::SeqCst) == 1 {
+                return true;
+            }
+        }
+        false
+    }
+}
+
+impl Gate for Overtaking {
+    fn before(&self, _worker: u32, number: u32) {
+        if number == 1 {
+            let _ = self.waits(PAUSE);
+        }
+        if number == 2 && !self.waits(TURNS) {
+            self.missed.store(1, Ordering::SeqCst);
+        }
+        if number == 5 {
+            self.fifth.store(1, Ordering::SeqCst);
+        }
+    }
+}
+
+// The number of entries in the line of a frame, the first one at 0.
+fn count_in(report: &str, place: usize) -> u64 {
+    let line = report.lines().nth(place).unwrap_or("");
+    let word = line.splitn(4, ' ').nth(2).unwrap_or("");
+    match word.strip_prefix("n=") {
+        Some(digits) => digits.parse::<u64>().unwrap_or(0),
+        None => 0,
+    }
+}
+
+// The second packet is decided behind its gate, so after the third, and by no fewer entries. One that is
+// decided before its gate is called is decided at the start of the round, long before the third.
+#[test]
+fn a_packet_that_its_gate_holds_is_decided_after_those_that_pass(
+    rt: HostRuntime,
+) -> Result<(), Fail> {
+    let gate = Overtaking::new();
+    let (status, desk) = ran_through(&rt, rt.alloc(), PROBING, &FIVE, &gate)?;
+    assert_eq!(rt; status, Status::Done);
+    assert_eq!(rt; gate.fifth.load(Ordering::SeqCst), 1);
+    assert_eq!(rt; gate.missed.load(Ordering::SeqCst), 0);
+    let report = said(&desk)?;
+    let (second, third) = (count_in(report, 1), count_in(report, 2));
+    assert!(rt; 1 <= third && third <= second, "{second} {third}");
     Ok(())
 }
 

@@ -1,5 +1,6 @@
 // How a publication begins.
 ghost use Rattle.std.specs.Prelude.{◌≡◌, ◌<◌, ◌≤◌, false, [], ◌∷◌, drop, IfOk};
+ghost use Rattle.command_words.specs.Limits.{most_workers};
 ghost use Rattle.left_right.specs.Sides.{view as known};
 ghost use Rattle.router_model.specs.Journal.{statics};
 ghost use Rattle.router_model.specs.Parts.{Stands};
@@ -88,7 +89,7 @@ pub fn open_hall<R: Wait>(
     table: &Table,
     readers: u32,
 ) -> Result<Published, NoMemory>
-    requires readers { (1 ≤ readers) × (readers ≤ 16) }
+    requires readers { (1 ≤ readers) × (readers ≤ most_workers) }
     requires stands { Stands settings.now table.now.parts (statics settings.now) }
     ensures { IfOk result (λ published. published ≡ record {
       settings = settings.now;
