@@ -1,5 +1,5 @@
 // Two captures, of which one is played, and its packets held against the other.
-ghost use Rattle.std.specs.Prelude.{◌≡◌, ◌≢◌, ◌≤◌, false, IfOk, IfSome, IsErrOf};
+ghost use Rattle.std.specs.Prelude.{◌≡◌, ◌≢◌, ◌≤◌, false, Err, IfOk, IfSome, IsErrOf};
 ghost use Rattle.std.specs.Result.{MatchResult};
 ghost use Rattle.octets.specs.Causes.{Rose};
 ghost use Rattle.desk.specs.declared.fault.DeskFault.TheVariants.{Failed};
@@ -69,6 +69,7 @@ fn audit_both<D: Desk, M: Machine>(
     ensures given { D.given desk.new ≡ D.given desk.old }
     ensures later { D.faults desk.old ≤ D.faults desk.new }
     ensures host { IsErrOf result Host → Rose (D.faults desk.old) (D.faults desk.new) }
+    ensures same { result ≢ Err Host → D.faults desk.new ≡ D.faults desk.old }
     ensures steady { StaysSteady (D.steady desk.old) (D.steady desk.new)
         (IsGiven input.id to_read (D.given desk.old) × IsGiven sent.id to_read (D.given desk.old))
         (IsErrOf result Host) }

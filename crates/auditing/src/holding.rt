@@ -1,5 +1,5 @@
 // Packets, held against the records of a capture one by one.
-ghost use Rattle.std.specs.Prelude.{◌≡◌, ◌≤◌, ◌<◌, ◌^◌, ℕ, List, [], ◌∷◌, None, IfSome, IsErrOf, IsSomeAnd, OnOk, length};
+ghost use Rattle.std.specs.Prelude.{◌≡◌, ◌≢◌, ◌≤◌, ◌<◌, ◌^◌, ℕ, List, [], ◌∷◌, None, Err, IfSome, IsErrOf, IsSomeAnd, OnOk, length};
 ghost use Rattle.std.specs.Result.{MatchResult};
 ghost use Rattle.octets.specs.Causes.{Rose};
 ghost use Rattle.desk.specs.Causes.{StaysSteady};
@@ -62,6 +62,7 @@ impl Holding {
         ensures given { D.given desk.new ≡ D.given desk.old }
         ensures later { D.faults desk.old ≤ D.faults desk.new }
         ensures host { IsErrOf result Host → Rose (D.faults desk.old) (D.faults desk.new) }
+        ensures same { result ≢ Err Host → D.faults desk.new ≡ D.faults desk.old }
         ensures steady { StaysSteady (D.steady desk.old) (D.steady desk.new)
             (IsGiven self.old.sent.id to_read (D.given desk.old)) (IsErrOf result Host) }
     {
@@ -91,6 +92,7 @@ impl Holding {
         ensures given { D.given desk.new ≡ D.given desk.old }
         ensures later { D.faults desk.old ≤ D.faults desk.new }
         ensures host { IsErrOf result Host → Rose (D.faults desk.old) (D.faults desk.new) }
+        ensures same { result ≢ Err Host → D.faults desk.new ≡ D.faults desk.old }
         ensures steady { StaysSteady (D.steady desk.old) (D.steady desk.new)
             (IsGiven self.old.sent.id to_read (D.given desk.old)) (IsErrOf result Host) }
     {
@@ -119,6 +121,7 @@ impl Holding {
         ensures given { D.given desk.new ≡ D.given desk.old }
         ensures later { D.faults desk.old ≤ D.faults desk.new }
         ensures host { IsErrOf result Host → Rose (D.faults desk.old) (D.faults desk.new) }
+        ensures same { result ≢ Err Host → D.faults desk.new ≡ D.faults desk.old }
         ensures steady { StaysSteady (D.steady desk.old) (D.steady desk.new)
             (IsGiven self.old.sent.id to_read (D.given desk.old)) (IsErrOf result Host) }
     {
@@ -140,6 +143,7 @@ impl Holding {
         ensures given { D.given desk.new ≡ D.given desk.old }
         ensures later { D.faults desk.old ≤ D.faults desk.new }
         ensures host { IsErrOf result Host → Rose (D.faults desk.old) (D.faults desk.new) }
+        ensures same { result ≢ Err Host → D.faults desk.new ≡ D.faults desk.old }
         ensures steady { StaysSteady (D.steady desk.old) (D.steady desk.new)
             (IsGiven self.sent.id to_read (D.given desk.old)) (IsErrOf result Host) }
     {

@@ -1,5 +1,5 @@
 // The nonces that a router sent, out of a whole capture.
-ghost use Rattle.std.specs.Prelude.{◌≡◌, ◌≤◌, IfOk, IfSome, IsErrOf, OnOk, Ok};
+ghost use Rattle.std.specs.Prelude.{◌≡◌, ◌≢◌, ◌≤◌, Err, IfOk, IfSome, IsErrOf, OnOk, Ok};
 ghost use Rattle.std.specs.Result.{MatchResult};
 ghost use Rattle.octets.specs.Causes.{Rose};
 ghost use Rattle.desk.specs.declared.fault.DeskFault.TheVariants.{Failed};
@@ -55,6 +55,7 @@ fn lift_all<D: Desk>(
     ensures given { D.given desk.new ≡ D.given desk.old }
     ensures later { D.faults desk.old ≤ D.faults desk.new }
     ensures host { IsErrOf result Host → Rose (D.faults desk.old) (D.faults desk.new) }
+    ensures same { result ≢ Err Host → D.faults desk.new ≡ D.faults desk.old }
     ensures steady { StaysSteady (D.steady desk.old) (D.steady desk.new)
         (IsGiven sent.id to_read (D.given desk.old)) (IsErrOf result Host) }
 {

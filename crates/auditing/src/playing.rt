@@ -1,5 +1,5 @@
 // The frames of a capture, one after another, and the packets of each.
-ghost use Rattle.std.specs.Prelude.{◌≡◌, ◌≢◌, ◌<◌, ◌≤◌, ◌+◌, ◌*◌, ◌^◌, [], false, Some, IfOk, IfSome, IsErrOf, IsSomeAnd, MatchOption, OnOk, length, unwrap_or};
+ghost use Rattle.std.specs.Prelude.{◌≡◌, ◌≢◌, ◌<◌, ◌≤◌, ◌+◌, ◌*◌, ◌^◌, [], false, Some, Err, IfOk, IfSome, IsErrOf, IsSomeAnd, MatchOption, OnOk, length, unwrap_or};
 ghost use Rattle.std.specs.Result.{MatchResult};
 ghost use Rattle.octets.specs.Causes.{Rose};
 ghost use Rattle.desk.specs.Causes.{StaysSteady};
@@ -48,6 +48,7 @@ pub(crate) fn audit_input<D: Desk, M: Machine>(
     ensures given { D.given desk.new ≡ D.given desk.old }
     ensures later { D.faults desk.old ≤ D.faults desk.new }
     ensures host { IsErrOf result Host → Rose (D.faults desk.old) (D.faults desk.new) }
+    ensures same { result ≢ Err Host → D.faults desk.new ≡ D.faults desk.old }
     ensures steady { StaysSteady (D.steady desk.old) (D.steady desk.new)
         (IsGiven input.id to_read (D.given desk.old)
         × IsGiven holding.old.sent.id to_read (D.given desk.old))
@@ -107,6 +108,7 @@ fn audit_frame<D: Desk, M: Machine>(
     ensures given { D.given desk.new ≡ D.given desk.old }
     ensures later_faults { D.faults desk.old ≤ D.faults desk.new }
     ensures host { IsErrOf result Host → Rose (D.faults desk.old) (D.faults desk.new) }
+    ensures same { result ≢ Err Host → D.faults desk.new ≡ D.faults desk.old }
     ensures steady { StaysSteady (D.steady desk.old) (D.steady desk.new)
         (IsGiven holding.old.sent.id to_read (D.given desk.old)) (IsErrOf result Host) }
 {

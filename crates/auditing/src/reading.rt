@@ -1,5 +1,5 @@
 // A capture, read frame by frame, and to its end.
-ghost use Rattle.std.specs.Prelude.{◌≡◌, ◌≤◌, false, None, Some, IfOk, IfSome, IsErrOf, MatchOption, OnOk};
+ghost use Rattle.std.specs.Prelude.{◌≡◌, ◌≢◌, ◌≤◌, false, None, Some, Err, IfOk, IfSome, IsErrOf, MatchOption, OnOk};
 ghost use Rattle.std.specs.Result.{MatchResult};
 ghost use Rattle.octets.specs.Causes.{Rose};
 ghost use Rattle.desk.specs.declared.fault.DeskFault.TheVariants.{Failed};
@@ -56,6 +56,7 @@ pub(crate) fn read_next<D: Desk>(
     ensures given { D.given desk.new ≡ D.given desk.old }
     ensures later { D.faults desk.old ≤ D.faults desk.new }
     ensures host { IsErrOf result Host → Rose (D.faults desk.old) (D.faults desk.new) }
+    ensures same { result ≢ Err Host → D.faults desk.new ≡ D.faults desk.old }
     ensures steady { StaysSteady (D.steady desk.old) (D.steady desk.new)
         (IsGiven reader.old.id to_read (D.given desk.old)) (IsErrOf result Host) }
 {
@@ -76,6 +77,7 @@ pub(crate) fn read_to_end<D: Desk>(
     ensures given { D.given desk.new ≡ D.given desk.old }
     ensures later { D.faults desk.old ≤ D.faults desk.new }
     ensures host { IsErrOf result Host → Rose (D.faults desk.old) (D.faults desk.new) }
+    ensures same { result ≢ Err Host → D.faults desk.new ≡ D.faults desk.old }
     ensures steady { StaysSteady (D.steady desk.old) (D.steady desk.new)
         (IsGiven capture.id to_read (D.given desk.old)) (IsErrOf result Host) }
 {

@@ -1,5 +1,5 @@
 // The seconds between the frames of a capture, one after another, and the packets of each.
-ghost use Rattle.std.specs.Prelude.{◌≡◌, ◌<◌, ◌≤◌, ◌+◌, ◌*◌, ◌^◌, ◌∷◌, [], false, Some, IfOk, IsErrOf, OnOk, unwrap_or};
+ghost use Rattle.std.specs.Prelude.{◌≡◌, ◌≢◌, ◌<◌, ◌≤◌, ◌+◌, ◌*◌, ◌^◌, ◌∷◌, [], false, Some, Err, IfOk, IsErrOf, OnOk, unwrap_or};
 ghost use Rattle.octets.specs.Causes.{Rose};
 ghost use Rattle.desk.specs.Causes.{StaysSteady};
 ghost use Rattle.desk.specs.World.{to_read, shown, IsGiven};
@@ -45,6 +45,7 @@ pub(crate) fn audit_seconds<D: Desk, M: Machine>(
     ensures given { D.given desk.new ≡ D.given desk.old }
     ensures later_faults { D.faults desk.old ≤ D.faults desk.new }
     ensures host { IsErrOf result Host → Rose (D.faults desk.old) (D.faults desk.new) }
+    ensures same { result ≢ Err Host → D.faults desk.new ≡ D.faults desk.old }
     ensures steady { StaysSteady (D.steady desk.old) (D.steady desk.new)
         (IsGiven holding.old.sent.id to_read (D.given desk.old)) (IsErrOf result Host) }
 {
@@ -98,6 +99,7 @@ fn audit_second<D: Desk, M: Machine>(
     ensures given { D.given desk.new ≡ D.given desk.old }
     ensures later_faults { D.faults desk.old ≤ D.faults desk.new }
     ensures host { IsErrOf result Host → Rose (D.faults desk.old) (D.faults desk.new) }
+    ensures same { result ≢ Err Host → D.faults desk.new ≡ D.faults desk.old }
     ensures steady { StaysSteady (D.steady desk.old) (D.steady desk.new)
         (IsGiven holding.old.sent.id to_read (D.given desk.old)) (IsErrOf result Host) }
 {

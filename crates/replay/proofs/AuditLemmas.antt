@@ -15,7 +15,7 @@ use Rattle.capture_io.specs.Run.{Run}
 use Rattle.capture_io.specs.declared.fault.CaptureFault.{CaptureFault}
 use Rattle.command_words.specs.declared.nonce_source.NonceSource.TheVariants.{Settings as FromSettings, Sent as FromSent}
 use Rattle.command_words.specs.declared.intake.InputFormat.TheVariants.{Classic}
-use Rattle.desk.specs.World.{World, Direction, after_open, after_read, changed_at, content, found_at, left_of, to_read, IsGiven, IsThere}
+use Rattle.desk.specs.World.{World, Direction, after_open, after_read, changed_at, content, found_at, left_of, to_read, IsGiven}
 use Rattle.lisp_settings.specs.Lawful.{IsLawful}
 use Rattle.lisp_settings.specs.declared.settings.Settings.{Settings}
 use Rattle.playback.proofs.DeterminedLemmas.{determined-played}
@@ -27,7 +27,6 @@ use Rattle.playback.specs.Input.{input_run}
 use Rattle.playback.specs.declared.fault.InputFault.{InputFault}
 use Rattle.playback.specs.declared.fault.InputFault.TheVariants as of
 use Rattle.replay.proofs.ArrivalLemmas.{arrived-replays}
-use Rattle.replay.specs.Answer.{AreThere}
 use Rattle.replay.specs.Audit.{AuditsAs, LiftsFrom, comparison, fault_in, found, refused, whole}
 use Rattle.replay.specs.Opening.{KeepsGiven, Opened, OpensClassic, opened}
 use Rattle.replay.specs.Taking.{router_of}
@@ -158,7 +157,3 @@ lifts-from settings what r nonces (Some w) (Some v) opens lifts =
 pub refused-own : (input : Result (List Frame) InputFault) (own fault : InputFault) → Some own ≡ fault_in input → finding.Input own ≡ refused input fault
 refused-own (Ok frames) own fault is = cc
 refused-own (Err other) own fault is = cc
-
--- three files that are there
-pub three-there : (first second third : List ℕ) (told : Option World) → AreThere (first ∷ second ∷ third ∷ []) told → IsThere first told × (IsThere second told × IsThere third told)
-three-there first second third told all = (all 0 [] (omega arith), (all 1 [] (omega arith), all 2 [] (omega arith)))

@@ -81,6 +81,7 @@ front_none a parts w new zeros same = rw same (record {
   output = tt;
   reported = front-same (parts 0).said [] zeros;
   written = tt;
+  closed = inl (0, ((parts 0).said, refl));
 })
 
 -- the same where something may be told
@@ -89,11 +90,11 @@ pub front_still : (a : World → Answer) (parts : World → ℕ → Part) (old n
 front_still a parts None new zeros same = tt
 front_still a parts (Some w) new zeros same = front_none (a w) (parts w) w new (zeros w) same
 
--- a part of the only line
-pub front_line : (a : Answer) (parts : ℕ → Part) (line : List ℕ) (w : World) (old new : Option World) → (parts 0).said ≡ [] → a.said ≡ line → shown old ≡ Some (shown_of w) → SaysPart line old new
+-- a part of the only line, where no file is made
+pub front_line : (a : Answer) (parts : ℕ → Part) (line : List ℕ) (w : World) (old new : Option World) → (parts 0).said ≡ [] → a.said ≡ line → a.made ≡ [] → shown old ≡ Some (shown_of w) → SaysPart line old new
     → EndsFront a parts (shown_of w) new
-front_line a parts line w None new zeros is same says = cc
-front_line a parts line w (Some v) new zeros is same says =
+front_line a parts line w None new zeros is none same says = cc
+front_line a parts line w (Some v) new zeros is none same says =
     let e : shown_of v ≡ shown_of w = cc in
     rw says.1 (record {
       lines = take says.0 line;
@@ -106,6 +107,7 @@ front_line a parts line w (Some v) new zeros is same says =
       output = tt;
       reported = (take says.0 line, ap (λ (l : List ℕ). l ++ take says.0 line) zeros);
       written = tt;
+      closed = inr (sym none);
     })
 
 -- the events of the first frames begin those of all
@@ -136,13 +138,13 @@ pub made-more : (id : ℕ) (file : NamedFile) (writers : List (ℕ × NamedFile)
 made-more id file writers = map-append (λ (x : ℕ × NamedFile). x.1) writers ((id, file) ∷ [])
 
 -- frames whose output was made, by what is said and written for them, and for so many of their parts
-pub frames_front : (outcome : Outcome (Router Journal)) (parts : ℕ → Outcome (Router Journal)) (count : ℕ) (name : List ℕ) (run : InputRun) (id : ℕ) (w : World) (new : Option World) (lines octets : List ℕ)
-    → found_at id w.writers ≡ None
+pub frames_front : (outcome : Outcome (Router Journal)) (parts : ℕ → Outcome (Router Journal)) (count all : ℕ) (name : List ℕ) (run : InputRun) (id : ℕ) (w : World) (new : Option World) (lines octets : List ℕ)
+    → parts all ≡ outcome → found_at id w.writers ≡ None
     → shown new ≡ Some (with_output (Some id) lines octets (shown_of (after_write id out_header (after_make id name w))))
     → IsFront lines outcome.lines → IsFront octets (records_of outcome.packets)
     → IsFront (parts count).lines lines → IsFront octets (records_of (parts count).packets)
     → EndsFront (answer_by outcome name run) (λ k. part_by (parts k) name) (shown_of w) new
-frames_front outcome parts count name run id w new lines octets fresh is said sent reported written =
+frames_front outcome parts count all name run id w new lines octets whole fresh is said sent reported written =
     let file : NamedFile = record { name = name; octets = out_header ++ octets } in
     let aim : Shown = record (shown_of w) { said = w.said ++ lines; writers = w.writers ++ (id, file) ∷ [] } in
     let same : shown new ≡ Some aim = is ∙ ap Some (part-shown id name lines out_header octets w fresh) in
@@ -157,6 +159,7 @@ frames_front outcome parts count name run id w new lines octets fresh is said se
       output = (refl, (front-behind out_header octets (records_of outcome.packets) _ refl sent, tt));
       reported = reported;
       written = (refl, (front-behind out_header octets (records_of (parts count).packets) _ refl written, tt));
+      closed = inl (all, rw whole said);
     })
 
 -- the output was made only in part, or not at all
@@ -181,6 +184,7 @@ make_front outcome parts name run w new zero (inr (id, k, fresh, is)) =
       output = (refl, (front _, tt));
       reported = front-same (parts 0).lines [] zero;
       written = (refl, (front _, tt));
+      closed = inl (0, ((parts 0).lines, refl));
     })
 
 -- a file of that name was made, and then its header was written in part
@@ -194,10 +198,10 @@ makes_part id name header old made new is fresh makes writes = inr (id, writes.0
 
 -- a part of a line, behind reading
 pub front_says : (a : World → Answer) (parts : World → ℕ → Part) (line : List ℕ) (old mid new : Option World) → ((w : World) → (parts w 0).said ≡ []) → shown mid ≡ shown old
-    → IfSome old (λ w. (a w).said ≡ line) → SaysPart line mid new
+    → IfSome old (λ w. (a w).said ≡ line) → IfSome old (λ w. (a w).made ≡ []) → SaysPart line mid new
     → IfSome old (λ w. EndsFront (a w) (parts w) (shown_of w) new)
-front_says a parts line None mid new zeros same is says = tt
-front_says a parts line (Some w) mid new zeros same is says = front_line (a w) (parts w) line w mid new (zeros w) is same says
+front_says a parts line None mid new zeros same is none says = tt
+front_says a parts line (Some w) mid new zeros same is none says = front_line (a w) (parts w) line w mid new (zeros w) is none same says
 
 -- a part of the last line of frames
 pub last_line_front : (outcome : Outcome (Router Journal)) (parts : ℕ → Outcome (Router Journal)) (count : ℕ) (output : List ℕ) (run : InputRun) (counts : Counts) (w : World) (mid new : Option World) → parts count ≡ outcome
@@ -219,6 +223,7 @@ last_line_front outcome parts count output run counts w (Some v) new whole has s
       output = fronts-all (file ∷ []);
       reported = rw whole (front-more outcome.lines (take says.0 last));
       written = rw whole (fronts-all (file ∷ []));
+      closed = inr refl;
     })
 
 -- memory was wanting for a last line: none of it was said

@@ -36,7 +36,9 @@ replay_front settings name run id w new first lines octets fresh is within said 
     let named : take (length first) (events run.frames) ≡ first = by-count first (events run.frames) within in
     let packets = front-octets plain (started settings) first (events run.frames) within in
     let whole = front-front octets (records_of (played plain (started settings) first).packets) (records_of outcome.packets) written packets in
-    frames_front outcome (λ k. played plain (started settings) (take k (events run.frames))) (length first) name run id w new lines octets fresh is said whole
+    let all = events run.frames in
+    frames_front outcome (λ k. played plain (started settings) (take k all)) (length first) (length all) name run id w new lines octets
+    (ap (played plain (started settings)) (by-count all all (front-all all))) fresh is said whole
     (rw named reported) (rw named written)
 
 -- a play by the table that was cut short

@@ -107,7 +107,10 @@ unfolding shared shared_part
 run_part settings size id name run w new fresh part = record {
   ns = part.ns;
   lawful = part.lawful;
-  ends = frames_front (rounds settings run.frames size part.ns) (first_rounds settings run.frames size part.ns) part.count name run id w new part.lines part.octets fresh part.shown
+  ends =
+      let cuts = cut size run.frames in
+      frames_front (rounds settings run.frames size part.ns) (first_rounds settings run.frames size part.ns) part.count (length cuts) name run id w new part.lines part.octets
+      (ap (λ (l : List (List Frame)). rounds_from (started settings) None l part.ns) (by-count cuts cuts (front-all cuts))) fresh part.shown
       part.said part.sent part.reported part.written;
 }
 
@@ -189,7 +192,7 @@ file_fault workers size settings output what fault (Some w) mid new has says = b
     by (Err other) done = record {
       ns = [];
       lawful = chosen-fault workers size settings other;
-      ends = front_line (told_off status.Capture (fault_line other)) _ (fault_line fault) w mid new refl (ap fault_line (sym done.0)) done.1 says;
+      ends = front_line (told_off status.Capture (fault_line other)) _ (fault_line fault) w mid new refl (ap fault_line (sym done.0)) refl done.1 says;
     }
 
 -- ### settings
@@ -224,7 +227,8 @@ ends_refused workers size output what text fault old mid new same value says =
     (λ w. chosen-numbers workers size (what w) (settings_of (content text w.files)))
     (λ pick. front_says (λ w. after_settings_by (frames_by workers size (pick w) output) (what w) (settings_of (content text w.files))) (λ w. part_after_settings_by (parts_by workers size (pick w) output) (what w) (settings_of (content text w.files)))
     (settings_line fault) old mid new (λ w. chosen-zero workers size (pick w) output (what w) (settings_of (content text w.files))) same
-    (IfSome_then old value (λ w is. ap (λ (r : Result Settings SettingsFault). (after_settings_by (frames_by workers size (pick w) output) (what w) r).said) (sym is))) says)
+    (IfSome_then old value (λ w is. ap (λ (r : Result Settings SettingsFault). (after_settings_by (frames_by workers size (pick w) output) (what w) r).said) (sym is)))
+    (IfSome_then old value (λ w is. ap (λ (r : Result Settings SettingsFault). (after_settings_by (frames_by workers size (pick w) output) (what w) r).made) (sym is))) says)
 
 -- ### by the words
 

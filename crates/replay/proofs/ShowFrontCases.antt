@@ -1,5 +1,5 @@
 -- A show that is cut short.
-use Rattle.std.proofs.Common.{◌≡◌, ℕ, List, [], ◌++◌, length, take, Option, Some, None, append_assoc, refl, sym, ap, ◌∙◌}
+use Rattle.std.proofs.Common.{◌≡◌, ℕ, List, [], ◌++◌, length, take, Option, Some, None, append_assoc, refl, sym, ap, ◌∙◌, inr}
 use Rattle.std.specs.Option.{IfSome}
 use Rattle.std.proofs.lemmas.List.{append-nil}
 use Rattle.desk.specs.World.{World, Shown, shown, shown_of}
@@ -34,6 +34,7 @@ shown_front run w new first lines octets same within said reported =
       output = tt;
       reported = rw named reported;
       written = tt;
+      closed = inr refl;
     })
 
 pub messages_front : (left : World → InputRun) (old new : Option World)
@@ -71,6 +72,7 @@ last_front run w (Some v) new ending ends frames says =
       output = tt;
       reported = rw whole (front-more outcome.lines (take says.0 last));
       written = tt;
+      closed = inr refl;
     })
 
 pub line_front : (left : World → InputRun) (old mid new : Option World) (ending : Ending)

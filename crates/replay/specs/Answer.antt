@@ -1,11 +1,10 @@
 -- What a run answers, by its words and the files.
 use Rattle.std.specs.Prelude.{◌≡◌, ℕ, Bool, true, false, List, [], ◌∷◌, ◌++◌, codes, length, map, Option, Some, None, Result, Ok, Err, IsSomeAnd}
-use Rattle.std.specs.List.{All}
 use Rattle.command_words.specs.Words.{words_of}
 use Rattle.command_words.specs.declared.words.Words.{Words}
 use Rattle.command_words.specs.declared.words.Words.TheVariants.{Replay, Show, Trial, Audit}
 use Rattle.desk.specs.declared.file.NamedFile.{NamedFile}
-use Rattle.desk.specs.World.{World, Shown, content, IsThere}
+use Rattle.desk.specs.World.{Shown, content}
 use Rattle.capture_io.specs.Output.{out_header}
 use Rattle.lisp_settings.specs.Settings.{settings_of}
 use Rattle.lisp_settings.specs.declared.fault.SettingsFault.{SettingsFault}
@@ -96,17 +95,6 @@ after_words files (Some (Audit settings input sent nonces)) =
 -- the answer to words, where these files are there
 unfoldable pub answer : List (List ℕ) → List NamedFile → Answer
 answer words files = after_words files (words_of words)
-
--- the files that words name to be read
-abbrev pub names_read : Option Words → List (List ℕ)
-names_read (Some (Replay settings input output intake workers round)) = settings ∷ input ∷ []
-names_read (Some (Show input)) = input ∷ []
-names_read (Some (Audit settings input sent nonces)) = settings ∷ input ∷ sent ∷ []
-names_read _ = []
-
--- the desk tells its files, and these are among them
-abbrev pub AreThere : List (List ℕ) → Option World → Type 0
-AreThere names told = All (λ name. IsThere name told) names
 
 -- the status tells of the desk or of memory, and not of words and files
 abbrev pub is_outside : Status → Bool

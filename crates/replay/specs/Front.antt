@@ -75,7 +75,7 @@ AreFronts (file ∷ files) (other ∷ others) =
 
 -- what a run leaves that is cut short: the files that were there, and behind what was said and made before a
 -- beginning of its report and of its made file, or no file. All lines of so many events were said, and no
--- packet but theirs was written
+-- packet but theirs was written; and no octet of the last line was said, or the file is whole
 pub record LeavesFront (a : Answer) (parts : ℕ → Part) (old new : Shown) : Type 0 where
   pub lines : List ℕ
   pub made : List NamedFile
@@ -87,6 +87,7 @@ pub record LeavesFront (a : Answer) (parts : ℕ → Part) (old new : Shown) : T
   pub output : AreFronts made a.made
   pub reported : IsFront (parts count).said lines
   pub written : AreFronts made (parts count).made
+  pub closed : ((n : ℕ) × IsFront lines (parts n).said) ⊎ (made ≡ a.made)
 
 -- the same of a desk that may tell its octets
 abbrev pub EndsFront : Answer → (ℕ → Part) → Shown → Option World → Type 0

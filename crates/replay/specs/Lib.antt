@@ -4,6 +4,7 @@ pub mod Front
 pub mod Lines
 pub mod Messages
 pub mod Opening
+pub mod Owed
 pub mod Readings
 pub mod Shared
 pub mod Show

@@ -15,6 +15,7 @@ ghost use Rattle.replay.specs.Answer.{after_finding, is_of_form, Gives};
 ghost use Rattle.replay.specs.Audit.{found, found_by, lifts_echoes, whole};
 ghost use Rattle.replay.specs.Front.{no_part, EndsFront};
 ghost use Rattle.replay.specs.Opening.{opened};
+ghost use Rattle.replay.specs.Owed.{AreAudited, AreHeld};
 
 use crate::Status;
 use crate::comparing::{compare, lift_from, refuse_sent};
@@ -48,9 +49,7 @@ pub(crate) fn audit_capture<D: Desk>(
         no_part (shown_of w) (D.told desk.new))) }
     ensures cause { HasCause (D.faults desk.old) (D.faults desk.new) result }
     ensures steady { StaysSteady (D.steady desk.old) (D.steady desk.new)
-        (IsThere settings.now (D.told desk.old)
-        × (IsThere input.now (D.told desk.old) × IsThere sent.now (D.told desk.old)))
-        (IsErrOf result Failed) }
+        (AreAudited source settings.now input.now sent.now (D.told desk.old)) (IsErrOf result Failed) }
 {
     let finding = find(alloc, desk, settings, input, sent, source)?;
     let line = finding_line(alloc, &finding)?;
@@ -73,9 +72,7 @@ fn find<D: Desk>(
     ensures shown { shown (D.told desk.new) ≡ shown (D.told desk.old) }
     ensures cause { HasCause (D.faults desk.old) (D.faults desk.new) result }
     ensures steady { StaysSteady (D.steady desk.old) (D.steady desk.new)
-        (IsThere settings.now (D.told desk.old)
-        × (IsThere input.now (D.told desk.old) × IsThere sent.now (D.told desk.old)))
-        (IsErrOf result Failed) }
+        (AreAudited source settings.now input.now sent.now (D.told desk.old)) (IsErrOf result Failed) }
 {
     match load_settings(alloc, desk, settings)? {
         Ok(settings) => find_by(alloc, desk, settings, input, sent, source),
@@ -99,8 +96,7 @@ fn find_by<D: Desk>(
     ensures shown { shown (D.told desk.new) ≡ shown (D.told desk.old) }
     ensures cause { HasCause (D.faults desk.old) (D.faults desk.new) result }
     ensures steady { StaysSteady (D.steady desk.old) (D.steady desk.new)
-        (IsThere input.now (D.told desk.old) × IsThere sent.now (D.told desk.old))
-        (IsErrOf result Failed) }
+        (AreHeld source input.now sent.now (D.told desk.old) settings) (IsErrOf result Failed) }
 {
     if lifts_echoes(source, &settings) {
         return Ok(Finding::Echo);

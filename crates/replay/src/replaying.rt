@@ -9,6 +9,7 @@ ghost use Rattle.playback.specs.Input.{beginning, left_in};
 ghost use Rattle.playback.specs.Limits.{most_frames};
 ghost use Rattle.replay.specs.Answer.{is_end, is_of_form};
 ghost use Rattle.replay.specs.Opening.{arriving, id_of, progress_of, run_in, IsOpen};
+ghost use Rattle.replay.specs.Owed.{AreReplayed};
 ghost use Rattle.replay.specs.Readings.{HasReplayedFile, HasReplayedFor};
 ghost use Rattle.replay.specs.Shared.{GivesFor, GivesOf};
 ghost use Rattle.replay.specs.SharedFront.{EndsFor, EndsOf};
@@ -52,7 +53,7 @@ pub(crate) fn replay_capture<R: Threads + Wait + Sync, D: Desk, G: Gate>(
         (shown_of w) (D.told desk.new))) }
     ensures cause { HasCause (D.faults desk.old) (D.faults desk.new) result }
     ensures steady { StaysSteady (D.steady desk.old) (D.steady desk.new)
-        (IsThere settings.now (D.told desk.old) × IsThere input.now (D.told desk.old)) (IsErrOf result Failed) }
+        (AreReplayed settings.now input.now (D.told desk.old)) (IsErrOf result Failed) }
 {
     match load_settings(alloc, desk, settings)? {
         Ok(settings) => replay_by(crew, alloc, desk, &settings, intake, input, output),

@@ -1,12 +1,13 @@
 // The run: the top call.
-ghost use Rattle.std.specs.Prelude.{◌≡◌, ◌↔◌, ◌⊎◌, None, Some, false, true, map, string_bytes, IfOk, IfSome, IsErrOf, IsSomeAnd, IsTrue, OnErr, OnOk};
+ghost use Rattle.std.specs.Prelude.{◌≡◌, ◌≢◌, ◌↔◌, ◌⊎◌, None, Some, false, true, map, string_bytes, IfOk, IfSome, IsErrOf, IsSomeAnd, IsTrue, OnErr, OnOk};
 ghost use Rattle.octets.specs.Causes.{Rose};
 ghost use Rattle.desk.specs.declared.fault.DeskFault.TheVariants.{Failed};
 ghost use Rattle.desk.specs.Causes.{HasCause, StaysSteady};
 ghost use Rattle.desk.specs.World.{shown, shown_of};
 ghost use Rattle.replay.specs.declared.status.Status.TheVariants.{Usage, Host, Memory};
 ghost use Rattle.command_words.specs.Words.{words_of, AreWithinLimits};
-ghost use Rattle.replay.specs.Answer.{answer, is_lawful_end, is_of_form, is_outside, names_read, AreThere, Leaves};
+ghost use Rattle.replay.specs.Answer.{answer, is_lawful_end, is_of_form, is_outside, Leaves};
+ghost use Rattle.replay.specs.Owed.{AreThere};
 ghost use Rattle.replay.specs.Shared.{has_workers, GivesAfter, GivesWith};
 ghost use Rattle.replay.specs.Front.{part, EndsFront, LeavesFront};
 ghost use Rattle.replay.specs.SharedFront.{EndsAfter, EndsWith};
@@ -62,10 +63,12 @@ pub fn run<R: Threads + Wait + Sync, D: Desk, G: Gate>(
     ensures usage { is_outside result ≡ false
         → ((result ≡ Usage) ↔ (words_of (map string_bytes words.now) ≡ None)) }
     ensures host { result ≡ Host → Rose (D.faults desk.old) (D.faults desk.new) }
+    ensures kept { result ≢ Host → D.faults desk.new ≡ D.faults desk.old }
 
-    // A steady desk stays one, and where the files to be read are there it is no cause of `Host`.
+    // A steady desk stays one, and where the files are there that the words read, one after another, it is no
+    // cause of `Host`.
     ensures steady { StaysSteady (D.steady desk.old) (D.steady desk.new)
-        (AreThere (names_read (words_of (map string_bytes words.now))) (D.told desk.old))
+        (AreThere (words_of (map string_bytes words.now)) (D.told desk.old))
         (result ≡ Host) }
 
     // Where words, settings and captures are lawful, and no call fails or none can, only memory can
@@ -74,7 +77,7 @@ pub fn run<R: Threads + Wait + Sync, D: Desk, G: Gate>(
         IsTrue (is_lawful_end (answer (map string_bytes words.now) w.files).status)
         → ((¬ Rose (D.faults desk.old) (D.faults desk.new))
         ⊎ (IsTrue (D.steady desk.old)
-        × AreThere (names_read (words_of (map string_bytes words.now))) (D.told desk.old)))
+        × AreThere (words_of (map string_bytes words.now)) (D.told desk.old)))
         → (result ≡ (answer (map string_bytes words.now) w.files).status) ⊎ (result ≡ Memory)) }
 {
     match answer_words(rt, alloc, words, desk, gate) {
@@ -109,7 +112,7 @@ fn answer_words<R: Threads + Wait + Sync, D: Desk, G: Gate>(
         (s ≡ Usage) ↔ (words_of (map string_bytes words.now) ≡ None)) }
     ensures cause { HasCause (D.faults desk.old) (D.faults desk.new) result }
     ensures steady { StaysSteady (D.steady desk.old) (D.steady desk.new)
-        (AreThere (names_read (words_of (map string_bytes words.now))) (D.told desk.old)) (IsErrOf result Failed) }
+        (AreThere (words_of (map string_bytes words.now)) (D.told desk.old)) (IsErrOf result Failed) }
 {
     match read_words(alloc, words) {
         Ok(words) => do_words(rt, alloc, desk, &words, gate),
@@ -134,7 +137,7 @@ fn do_words<R: Threads + Wait + Sync, D: Desk, G: Gate>(
     ensures form { IfOk result (λ s. IsTrue (is_of_form s)) }
     ensures cause { HasCause (D.faults desk.old) (D.faults desk.new) result }
     ensures steady { StaysSteady (D.steady desk.old) (D.steady desk.new)
-        (AreThere (names_read (Some words.now)) (D.told desk.old)) (IsErrOf result Failed) }
+        (AreThere (Some words.now) (D.told desk.old)) (IsErrOf result Failed) }
 {
     match words {
         Words::Replay {

@@ -1,4 +1,4 @@
-use Rattle.std.proofs.Common.{◌≤◌, ◌∙◌, sym, subst, arith}
+use Rattle.std.proofs.Common.{◌≤◌, ◌∙◌, sym, subst}
 use Rattle.capture_io.specs.Limits.{most_records}
 use Rattle.capture_io.specs.Reading.{Reading}
 use Rattle.auditing.proofs.LiftLemmas.{lifting-on}
@@ -22,5 +22,5 @@ loop-reader-preserved g c =
       shown = read.shown ∙ inv.shown;
       given = read.given ∙ inv.given;
       steady = λ steady. read.steady.stays (inv.steady steady);
-      faults = omega (arith, inv.faults, read.later);
+      faults = read.same (λ is. cc) ∙ inv.faults;
     }

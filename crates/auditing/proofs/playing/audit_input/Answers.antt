@@ -22,7 +22,7 @@ loop-frame-init g c =
       shown = refl;
       given = refl;
       steady = λ steady. steady;
-      faults = omega arith;
+      faults = refl;
     }
 
 pub loop-frame-preserved : goal.loop-frame-preserved
@@ -56,7 +56,7 @@ loop-frame-preserved g c =
       shown = done.shown ∙ read.shown ∙ inv.shown;
       given = done.given ∙ read.given ∙ inv.given;
       steady = λ steady. done.steady.stays (read.steady.stays (inv.steady steady));
-      faults = omega (arith, inv.faults, read.later, done.later_faults);
+      faults = done.same (λ is. cc) ∙ read.same (λ is. cc) ∙ inv.faults;
     }
 
 pub returns-in_err-audit_frame-in-Ok-Some-clause-over : goal.returns-in_err-audit_frame-in-Ok-Some-clause-over

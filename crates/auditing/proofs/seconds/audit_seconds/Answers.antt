@@ -22,7 +22,7 @@ loop-second-init g c =
       shown = refl;
       given = refl;
       steady = λ steady. steady;
-      faults = omega arith;
+      faults = refl;
     }
 
 pub loop-second-preserved : goal.loop-second-preserved
@@ -52,7 +52,7 @@ loop-second-preserved g c =
       shown = done.shown ∙ inv.shown;
       given = done.given ∙ inv.given;
       steady = λ steady. done.steady.stays (inv.steady steady);
-      faults = omega (arith, inv.faults, done.later_faults);
+      faults = done.same (λ is. cc) ∙ inv.faults;
     }
 
 pub returns-in_err-audit_second-clause-proceeds : goal.returns-in_err-audit_second-clause-proceeds

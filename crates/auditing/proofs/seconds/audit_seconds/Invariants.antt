@@ -24,5 +24,5 @@ invariant-loop-second g l = record {
   shown : shown (g.D.Desk.told l.desk) ≡ shown (g.D.Desk.told l.fn.desk);
   given : g.D.Desk.given l.desk ≡ g.D.Desk.given l.fn.desk;
   steady : IsTrue (g.D.Desk.steady l.fn.desk) → IsTrue (g.D.Desk.steady l.desk);
-  faults : g.D.Desk.faults l.fn.desk ≤ g.D.Desk.faults l.desk;
+  faults : g.D.Desk.faults l.desk ≡ g.D.Desk.faults l.fn.desk;
 }

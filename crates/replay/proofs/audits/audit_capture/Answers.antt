@@ -9,7 +9,7 @@ use Rattle.replay.specs.Answer.{after_finding}
 use Rattle.replay.specs.Audit.{finding_line, found_by}
 use Rattle.replay.specs.Front.{no_part}
 use Rattle.replay.specs.Opening.{opened}
-use Rattle.replay.proofs.FrontCases.{front_says, front_still}
+use Rattle.replay.proofs.FrontCases.{always, front_says, front_still}
 use Rattle.replay.proofs.audits.audit_capture.Goals as goal
 
 pub returns-in_err-finding-clause-front : goal.returns-in_err-finding-clause-front
@@ -29,4 +29,4 @@ returns-in_err-say-clause-front g c =
     on_err_always c.from_residual-in_err-say.result
     (front_says (λ (w : World). after_finding (found_by c.args.source (settings_of (content c.args.settings.now w.files)) (opened Classic (content c.args.input.now w.files)) (opened Classic (content c.args.sent.now w.files)))) (λ (w : World). no_part)
     (finding_line c.in_ok-finding.finding) (g.D.Desk.told c.args.desk.now) (g.D.Desk.told c.find.new.desk) (g.D.Desk.told c.say.new.self) (λ w. refl) c.in_ok-finding.ensures.shown
-    (IfSome_then (g.D.Desk.told c.args.desk.now) c.in_ok-finding.ensures.found (λ w is. ap finding_line (sym is))) (rw (c.as_slice.ensures, c.in_ok-line.ensures) at c.in_err-say.ensures.err))
+    (IfSome_then (g.D.Desk.told c.args.desk.now) c.in_ok-finding.ensures.found (λ w is. ap finding_line (sym is))) (always (g.D.Desk.told c.args.desk.now) (λ w. refl)) (rw (c.as_slice.ensures, c.in_ok-line.ensures) at c.in_err-say.ensures.err))

@@ -1,6 +1,6 @@
 use Rattle.std.proofs.Common.{◌∙◌, sym, subst}
 use Rattle.std.proofs.lemmas.Result.{IfOk-weaker}
-use Rattle.desk.specs.World.{Shown, World, content, shown, shown_of}
+use Rattle.desk.specs.World.{Shown, World, content, shown, shown_of, IsThere}
 use Rattle.desk.proofs.Reading.{IfSome_both}
 use Rattle.replay.specs.Answer.{told_off, Gives}
 use Rattle.replay.specs.Lines.{settings_line}
@@ -15,6 +15,7 @@ use Rattle.std.proofs.lemmas.Result.{on_err_weaker}
 use Rattle.playback.proofs.FrontLemmas.{on_err_always}
 use Rattle.replay.specs.SharedFront.{EndsOf}
 use Rattle.replay.proofs.SharedFrontCases.{ends_refused, ends_settings, ends_unloaded}
+use Rattle.replay.proofs.SteadyLemmas.{owed-lawful, there-kept}
 use Rattle.replay.proofs.replaying.replay_capture.Goals as goal
 
 pub returns-in-Err-clause-answer : goal.returns-in-Err-clause-answer
@@ -66,3 +67,15 @@ returns-in-Ok-clause-front g c =
     let moved = shown_stays (λ (o : Shown). EndsOf workers size c.in-Ok.settings c.args.output.now (arriving c.args.intake (content c.args.input.now o.files) c.in-Ok.settings) o new) old (g.D.Desk.told c.load_settings.new.desk) c.in_ok-settings.ensures.shown ends in
     IfSome_both old c.in_ok-settings.ensures.value moved (λ w value given.
     ends_settings workers size c.in-Ok.settings c.args.output.now (arriving c.args.intake (content c.args.input.now w.files)) (content c.args.settings.now w.files) (shown_of w) new (sym c.in-Ok.is ∙ value) given)) c.replay_by.ensures.front
+
+pub returns-in-Ok-clause-steady : goal.returns-in-Ok-clause-steady
+returns-in-Ok-clause-steady g c =
+    let old = g.D.Desk.told c.args.desk.now in
+    let read = c.in_ok-settings.ensures in
+    let input = c.args.input.now in
+    record {
+      stays = λ was. c.replay_by.ensures.steady.stays (read.steady.stays was);
+      done = λ was owed failed.
+          let is = owed-lawful (λ _. IsThere input old) c.args.settings.now c.in-Ok.settings old owed.0 (IfSome_then old read.value (λ w value. sym c.in-Ok.is ∙ value)) owed.1 in
+          c.replay_by.ensures.steady.done (read.steady.stays was) (there-kept input old (g.D.Desk.told c.load_settings.new.desk) read.shown is) failed;
+    }

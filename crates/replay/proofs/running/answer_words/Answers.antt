@@ -7,7 +7,7 @@ use Rattle.command_words.specs.declared.words.Words.{Words}
 use Rattle.desk.specs.Causes.{StaysSteady}
 use Rattle.desk.specs.declared.fault.DeskFault.TheVariants.{Failed}
 use Rattle.desk.specs.World.{shown, shown_of}
-use Rattle.replay.specs.Answer.{names_read, AreThere}
+use Rattle.replay.specs.Owed.{AreThere}
 use Rattle.replay.specs.Shared.{GivesWith}
 use Rattle.replay.specs.declared.status.Status.{Status}
 use Rattle.replay.specs.declared.status.Status.TheVariants as status
@@ -38,7 +38,7 @@ returns-in-Ok-clause-left g c = λ none.
 pub returns-in-Ok-clause-steady : goal.returns-in-Ok-clause-steady
 returns-in-Ok-clause-steady g c =
     let new = c.do_words.new.desk in
-    subst (λ (o : Option Words). StaysSteady (g.D.Desk.steady c.args.desk.now) (g.D.Desk.steady new) (AreThere (names_read o) (g.D.Desk.told c.args.desk.now)) (IsErrOf c.do_words.result Failed)) (sym c.in-Ok.ensures.ok) c.do_words.ensures.steady
+    subst (λ (o : Option Words). StaysSteady (g.D.Desk.steady c.args.desk.now) (g.D.Desk.steady new) (AreThere o (g.D.Desk.told c.args.desk.now)) (IsErrOf c.do_words.result Failed)) (sym c.in-Ok.ensures.ok) c.do_words.ensures.steady
 
 pub returns-in-Err-Usage-clause-shared : goal.returns-in-Err-Usage-clause-shared
 returns-in-Err-Usage-clause-shared g c =
@@ -80,7 +80,7 @@ returns-in-Err-Usage-clause-shared_front g c =
     let new = g.D.Desk.told c.refuse_words.new.desk in
     let none : words_of words ≡ None = c.in-Err-Usage.ensures.usage (ap Err c.in-Err-Usage.field-0-is) in
     on_err_weaker c.refuse_words.result (λ says. IfSome_then old (
-    front_says (λ w. after_words w.files None) (λ w. part_after_words w.files None) (codes "usage\n") old old new (λ w. words-zero w.files None) refl (always old (λ w. refl)) says) (λ w ends.
+    front_says (λ w. after_words w.files None) (λ w. part_after_words w.files None) (codes "usage\n") old old new (λ w. words-zero w.files None) refl (always old (λ w. refl)) (always old (λ w. refl)) says) (λ w ends.
     ends_with words w.files None (shown_of w) new none (ends_after w.files None (shown_of w) new refl refl ends))) c.refuse_words.ensures.part
 
 pub returns-in-Err-Usage-clause-front : goal.returns-in-Err-Usage-clause-front

@@ -6,11 +6,11 @@ use Rattle.std.proofs.lemmas.Result.{IfOk-weaker, on_err_weaker}
 use Rattle.command_words.specs.declared.words.Words.{Words}
 use Rattle.command_words.specs.declared.words.Words.TheVariants.{Audit, Show, Trial}
 use Rattle.desk.specs.World.{shown, shown_of}
-use Rattle.replay.specs.Answer.{after_words, names_read, AreThere}
+use Rattle.replay.specs.Answer.{after_words}
 use Rattle.replay.specs.Front.{part_after_words}
+use Rattle.replay.specs.Owed.{AreThere}
 use Rattle.replay.specs.Shared.{GivesAfter}
 use Rattle.replay.specs.Trial.{trial_text}
-use Rattle.replay.proofs.AuditLemmas.{three-there}
 use Rattle.replay.proofs.FrontCases.{always, front_says, words-zero}
 use Rattle.replay.specs.SharedFront.{EndsAfter}
 use Rattle.replay.proofs.SharedCases.{by_plain}
@@ -23,7 +23,7 @@ returns-in-Trial-clause-front g c =
     let new = g.D.Desk.told c.try_number.new.desk in
     on_err_weaker c.try_number.result (λ says. IfSome_then old (
     front_says (λ w. after_words w.files (Some (Trial c.in-Trial.n))) (λ w. part_after_words w.files (Some (Trial c.in-Trial.n))) (trial_text c.in-Trial.n) old old new (λ w. words-zero w.files (Some (Trial c.in-Trial.n))) refl
-    (always old (λ w. refl)) says) (λ w ends.
+    (always old (λ w. refl)) (always old (λ w. refl)) says) (λ w ends.
     subst (λ (words : Words). EndsAfter w.files (Some words) (shown_of w) new) (sym c.in-Trial.is) (ends_after w.files (Some (Trial c.in-Trial.n)) (shown_of w) new refl refl ends))) c.try_number.ensures.part
 
 pub returns-in-Show-clause-front : goal.returns-in-Show-clause-front
@@ -57,6 +57,11 @@ returns-in-Audit-clause-front g c =
 pub returns-in-Audit-clause-steady : goal.returns-in-Audit-clause-steady
 returns-in-Audit-clause-steady g c =
     let told = g.D.Desk.told c.args.desk.now in
-    let is = rw (c.as_str-settings-in-Audit.ensures, c.as_str-input-in-Audit.ensures, c.as_str-sent.ensures) at c.audit_capture.ensures.steady in
-    subst (λ (words : Words). StaysSteady (g.D.Desk.steady c.args.desk.now) (g.D.Desk.steady c.audit_capture.new.desk) (AreThere (names_read (Some words)) told) (IsErrOf c.audit_capture.result Failed)) (sym c.in-Audit.is)
-    (record { stays = is.stays; done = λ was there failed. is.done was (three-there c.in-Audit.settings c.in-Audit.input c.in-Audit.sent told there) failed })
+    subst (λ (words : Words). StaysSteady (g.D.Desk.steady c.args.desk.now) (g.D.Desk.steady c.audit_capture.new.desk) (AreThere (Some words) told) (IsErrOf c.audit_capture.result Failed)) (sym c.in-Audit.is)
+    (rw (c.as_str-settings-in-Audit.ensures, c.as_str-input-in-Audit.ensures, c.as_str-sent.ensures) at c.audit_capture.ensures.steady)
+
+pub returns-in-Replay-clause-steady : goal.returns-in-Replay-clause-steady
+returns-in-Replay-clause-steady g c =
+    let told = g.D.Desk.told c.args.desk.now in
+    subst (λ (words : Words). StaysSteady (g.D.Desk.steady c.args.desk.now) (g.D.Desk.steady c.replay_capture.new.desk) (AreThere (Some words) told) (IsErrOf c.replay_capture.result Failed)) (sym c.in-Replay.is)
+    (rw (c.as_str-settings.ensures, c.as_str-input.ensures) at c.replay_capture.ensures.steady)

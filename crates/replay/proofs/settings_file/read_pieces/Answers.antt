@@ -16,5 +16,5 @@ loop-text-preserved g c =
       shown = c.in_ok-n.ensures.shown ∙ inv.shown;
       given = c.in_ok-n.ensures.given ∙ inv.given;
       steady = λ steady. c.in_ok-n.ensures.steady.stays (inv.steady steady);
-      faults = omega (arith, inv.faults, c.in_ok-n.ensures.cause.later);
+      faults = c.in_ok-n.ensures.cause.ok ∙ inv.faults;
     }

@@ -53,4 +53,4 @@ returns-in-Err-clause-front g c =
     on_err_weaker c.refuse_capture.result (λ says.
     opened-stops (λ (r : Opened) (x : Shown). EndsFront (after_opening messages_shown r) (part_after_opening shown_part r) x new) (λ (w : World). opened Classic (content c.args.input.now w.files)) fault
     (g.D.Desk.told c.args.desk.now) mid (rw c.in-Err.is at c.in_ok-reader.ensures.opened) c.in_ok-reader.ensures.shown
-    (front_says (λ (w : World). after_opening messages_shown (Err fault)) (λ (w : World). part_after_opening shown_part (Err fault)) (fault_line fault) mid mid new (λ w. refl) refl (always mid (λ w. refl)) says)) c.refuse_capture.ensures.part
+    (front_says (λ (w : World). after_opening messages_shown (Err fault)) (λ (w : World). part_after_opening shown_part (Err fault)) (fault_line fault) mid mid new (λ w. refl) refl (always mid (λ w. refl)) (always mid (λ w. refl)) says)) c.refuse_capture.ensures.part

@@ -1,4 +1,4 @@
-use Rattle.std.proofs.Common.{◌≡◌, ◌∙◌, Some, ap, refl, arith}
+use Rattle.std.proofs.Common.{◌≡◌, ◌∙◌, Some, ap, refl}
 use Rattle.capture_events.specs.Events.{Pause}
 use Rattle.playback.specs.Input.{left_in}
 use Rattle.playback.specs.Passing.{file_of}
@@ -27,7 +27,7 @@ loop-play-init g c =
       passing = rw new.reader (passing-first InRounds (file_of play) start (left_in g.I.FrameReader.id g.I.FrameReader.run c.args.reader) play.progress play.output (g.D.Desk.told c.args.desk.now) new.begun.progress new.begun.lines new.begun.records new.begun.written);
       given = refl;
       steady = λ steady. steady;
-      faults = omega arith;
+      faults = refl;
     }
 
 pub loop-play-preserved : goal.loop-play-preserved
@@ -56,7 +56,7 @@ loop-play-preserved g c =
       passing = passing-pause InRounds (file_of mid) start (left c.args.reader) (left mid.reader) mid.progress state after told now mid.output c.work_round.new.output passing gathers;
       given = on.given ∙ inv.given;
       steady = λ steady. on.steady.stays (inv.steady steady);
-      faults = omega (arith, inv.faults, on.cause.later);
+      faults = on.cause.ok ∙ inv.faults;
     }
 
 pub returns-in-Ended-clause-played : goal.returns-in-Ended-clause-played

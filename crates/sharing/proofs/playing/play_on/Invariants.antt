@@ -1,4 +1,4 @@
-use Rattle.std.proofs.Common.{◌≡◌, ◌≤◌, ◌-◌, false, Some, IsTrue}
+use Rattle.std.proofs.Common.{◌≡◌, ◌-◌, false, Some, IsTrue}
 use Rattle.playback.specs.Input.{left_in}
 use Rattle.playback.specs.Limits.{most_frames}
 use Rattle.playback.specs.Passing.{IsBetween, IsPassing}
@@ -17,7 +17,7 @@ invariant-loop-play g l = record {
       (gathering_of l.router.settings.now l.router.published.batches l.router.size l.router.previous l.router.frames.items) (g.D.Desk.told l.fn.desk) (g.D.Desk.told l.desk);
   given : g.D.Desk.given l.desk ≡ g.D.Desk.given l.fn.desk;
   steady : IsTrue (g.D.Desk.steady l.fn.desk) → IsTrue (g.D.Desk.steady l.desk);
-  faults : g.D.Desk.faults l.fn.desk ≤ g.D.Desk.faults l.desk;
+  faults : g.D.Desk.faults l.desk ≡ g.D.Desk.faults l.fn.desk;
 }
 
 abbrev pub decreases-loop-play : goal.decreases-loop-play

@@ -19,7 +19,7 @@ loop-rest-preserved g c =
       shown = done.shown ∙ inv.shown;
       given = done.given ∙ inv.given;
       steady = λ steady. done.steady.stays (inv.steady steady);
-      faults = omega (arith, inv.faults, done.later);
+      faults = done.same (λ is. cc) ∙ inv.faults;
     }
 
 pub returns-clause-holds : goal.returns-clause-holds

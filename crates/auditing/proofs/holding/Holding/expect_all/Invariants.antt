@@ -1,4 +1,4 @@
-use Rattle.std.proofs.Common.{◌≡◌, ◌≤◌, ◌<◌, ◌^◌, List, length, IsTrue}
+use Rattle.std.proofs.Common.{◌≡◌, ◌<◌, ◌^◌, List, length, IsTrue}
 use Rattle.desk.specs.World.{shown}
 use Rattle.capture_events.specs.Events.{Packet, records_of}
 use Rattle.auditing.specs.Holding.{IsOpen}
@@ -14,7 +14,7 @@ invariant-loop-rest g l = record {
   shown : shown (g.D.Desk.told l.desk) ≡ shown (g.D.Desk.told l.fn.desk);
   given : g.D.Desk.given l.desk ≡ g.D.Desk.given l.fn.desk;
   steady : IsTrue (g.D.Desk.steady l.fn.desk) → IsTrue (g.D.Desk.steady l.desk);
-  faults : g.D.Desk.faults l.fn.desk ≤ g.D.Desk.faults l.desk;
+  faults : g.D.Desk.faults l.desk ≡ g.D.Desk.faults l.fn.desk;
 }
 
 abbrev pub decreases-loop-rest : goal.decreases-loop-rest
