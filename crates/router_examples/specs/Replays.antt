@@ -26,6 +26,7 @@ use Rattle.router_model.specs.Observed.{observed}
 use Rattle.router_model.specs.Plain.{Router, plain, started}
 use Rattle.router_model.specs.Rounds.{ends, rounds}
 use Rattle.router_model.specs.Standing.{standing}
+use Rattle.router_model.specs.Tenants.{heard_instance}
 use Rattle.router_model.specs.Tick.{tick}
 use Rattle.router_model.specs.View.{view}
 use Rattle.router_examples.specs.Frames.{arp, encapsulated_in_100, framed, inbound, inbound_delivered, inward, just_before, packet, raw, seconds, tenths, wired, with_versions}
@@ -81,6 +82,10 @@ frames_from n (octets ∷ others) = raw (n + 1) (tenths n) octets ∷ frames_fro
 
 abbrev pub frames : List (List ℕ) → List Frame
 frames packets = frames_from 0 packets
+
+-- the instance of the request that a packet answers, behind one for which a request was made
+abbrev pub answered_by : List ℕ → Option ℕ
+answered_by octets = heard_instance asking_site (view (kept asking_site (frames (packet ∷ []))) (tenths 1)) (raw 2 (tenths 1) octets)
 
 -- what becomes of the first packet of a capture
 abbrev pub verdict_on : List ℕ → Settings → List ℕ

@@ -5,6 +5,7 @@ mod answers;
 mod cases;
 mod changes;
 mod echoes;
+mod limits;
 mod locators;
 mod probes;
 mod requests;
@@ -29,6 +30,10 @@ pub use echoes::{
     an_echo_keeps_a_locator_in_use, answering_goes_before_asking, echoes_have_room_for_4096,
     not_each_nonce_is_the_echo,
 };
+pub use limits::{
+    captures_have_these_limits, packets_have_these_numbers, settings_have_these_limits,
+    tables_have_these_limits, times_are_these,
+};
 pub use locators::{
     eight_bits_are_told_of_nine_locators, hashes_fall_to_shares, priorities_come_before_weights,
 };
@@ -42,8 +47,9 @@ pub use probes::{
 pub use requests::{
     a_mapping_is_asked_for_once, a_mapping_lasts_to_the_nanosecond, a_message_has_a_checksum,
     a_message_is_refused_at_its_first_fault, a_missing_mapping_is_asked_for,
-    a_record_beside_is_passed_over, a_reply_comes_within_seven_seconds, a_reply_counts_once,
-    a_reply_covers_what_was_asked, a_shorter_prefix_follows_a_longer_one,
+    a_notice_is_of_the_instance_of_its_eid, a_record_beside_is_passed_over,
+    a_reply_comes_within_seven_seconds, a_reply_counts_once, a_reply_covers_what_was_asked,
+    a_reply_is_of_the_instance_of_its_request, a_shorter_prefix_follows_a_longer_one,
 };
 pub use rounds::{
     a_round_may_be_decided_by_its_begin, a_round_may_be_decided_by_its_end,

@@ -1,12 +1,14 @@
 // Mappings that are missing, requests for them, and replies.
 #![tactic(auto, unfolding(crate::proofs::OnLiterals::router_on_literals))]
 
-ghost use Rattle.std.specs.Prelude.{◌≡◌, [], ◌∷◌, ◌++◌, codes, false, Some};
+ghost use Rattle.std.specs.Prelude.{◌≡◌, [], ◌∷◌, ◌++◌, codes, false, map, replicate, None, Some};
 ghost use Rattle.ip_headers.specs.declared.addr.Addr.TheVariants.{V4};
 ghost use Rattle.router_log.specs.declared.entry.Entry.TheVariants.{Answered, Asked, Learned};
+ghost use Rattle.router_log.specs.declared.notice.Notice.TheVariants as notice;
+ghost use Rattle.router_model.specs.Tenants.{notice_instance};
 ghost use Rattle.router_examples.specs.Frames.{encapsulated_in_100, packet, seconds, tenths};
 ghost use Rattle.router_examples.specs.Messages as message;
-ghost use Rattle.router_examples.specs.Replays.{at_the_end_of, busy_exchange, exchange, frames, kept, packet_at, reply_at, report, said, sent};
+ghost use Rattle.router_examples.specs.Replays.{answered_by, at_the_end_of, busy_exchange, exchange, frames, kept, packet_at, reply_at, report, said, sent};
 ghost use Rattle.router_examples.specs.Sites.{asking_site, far, host, locator, mapping, wide};
 
 /// A mapping that is missing is asked for, learned, and used.
@@ -121,4 +123,23 @@ pub fn a_message_is_refused_at_its_first_fault()
         ∷ codes "3 1700000000.200000000 n=0 drop 1 refused message 56 lcaf-length"
         ∷ codes "4 1700000000.300000000 n=0 drop 1 refused message 56 short"
         ∷ []) }
+{}
+
+/// A reply is of the instance of the request that it answers. A reply to no request, one that a rule refuses, an answer to a
+/// probe, what is encapsulated, an SMR and a packet are of none.
+pub fn a_reply_is_of_the_instance_of_its_request()
+    ensures one { map answered_by (message.reply ∷ message.reply_of_another ∷ [])
+        ≡ Some 100 ∷ Some 100 ∷ [] }
+    ensures none { map answered_by (message.reply_to_none ∷ message.reply_unsummed
+        ∷ message.reply_cut ∷ message.first_answer ∷ message.carried_reply ∷ message.smr
+        ∷ packet ∷ []) ≡ replicate 7 None }
+{}
+
+/// A notice is of the instance of its EID, and one that tells of a locator of none.
+pub fn a_notice_is_of_the_instance_of_its_eid()
+    ensures one { map notice_instance (notice.Ask host None ∷ notice.Refresh wide
+        ∷ notice.Bits wide far 1 8 ∷ []) ≡ replicate 3 (Some 100) }
+    ensures none { map notice_instance (notice.EchoWanted far 1 ∷ notice.EchoHeard far 1
+        ∷ notice.DataFrom far ∷ notice.Solicit far wide ∷ notice.EchoDue far ∷ [])
+        ≡ replicate 5 None }
 {}

@@ -18,11 +18,12 @@ pub const V6_OUTER: u16 = 56;
 /// The most that a fragment offset is, in units of eight octets.
 pub const MOST_OFFSET: u16 = 8191;
 
-/// The limits are the defined ones.
+/// The limits are the defined ones, which are these.
 pub fn limits_are()
     ensures v4 { V4_OUTER ≡ outer_len (V4 0) }
     ensures v6 { V6_OUTER ≡ outer_len (V6 0) }
     ensures offset { MOST_OFFSET ≡ most_offset }
+    ensures worked { (outer_len (V4 0) ≡ 36) × ((outer_len (V6 0) ≡ 56) × (most_offset ≡ 8191)) }
 {}
 
 /// The most octets of a packet that isn't split. Takes no memory.
