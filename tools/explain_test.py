@@ -32,7 +32,7 @@ from explaining.texts import Refused, address  # noqa: E402
 
 ROUNDS, EVERY = 20, 100
 START = 1_700_000_000
-# Of frames of the examples what must stand behind a label, worked out from their settings and docs/JOURNAL.md.
+# Of frames of the examples what must stand behind a label, worked out from their settings and docs/BEHAVIOUR.md.
 WORKED = {
     ("site", 3): [("mapping", "10.2.9.0/24 of instance 200, static, of the settings (entry 3), never ends"),
                   ("mapping", "no locators, ACT 4 (Drop/Policy-Denied)")],
@@ -46,6 +46,9 @@ WORKED = {
     ("limits", 3): [("request", "no Map-Request is made: 2 requests of instance 100 are open, and its limit is 2")],
     ("limits", 7): [("records", "10.2.9.0/24 of instance 100, TTL 60 min: 198.51.100.7 priority 1 weight 100 R: passed over: as "
                      "many mappings of instance 100 as its limit allows, 2, are live")],
+    ("limits", 10): [("request", "earlier: the Map-Request for 10.3.0.9/32 of instance 100 of frame 2 at 2023-11-14 22:13:20.01 UTC "
+                      "was answered by frame 8 at 2023-11-14 22:13:20.4 UTC, whose record was passed over: as many mappings of "
+                      "instance 100 as its limit allows, 2, were live")],
     ("ticks", 5): [("locators", "198.51.100.7 priority 1 weight 1: can't be used: the probe of the second 2023-11-14 22:13:21 UTC "
                     "wasn't answered, so it is down from 2023-11-14 22:13:24 UTC until a later probe is answered, or until "
                     "2023-11-14 22:23:21 UTC (RFC 9301, section 7.1)"),
@@ -85,10 +88,12 @@ MADE = {
     2: [("records", "10.2.0.0/16 of instance 0, TTL 1 min: 198.51.100.7 priority 1 weight 1 R: learned")],
     3: [("mapping", "10.2.0.0/16 of instance 0, learned from frame 2 at 2023-11-14 22:13:20.1 UTC (entry 4), TTL 1 min, ends in "
          "59.9 s")],
-    4: [("nearest", "ended: 10.2.0.0/16 of instance 0, learned from frame 2 at 2023-11-14 22:13:20.1 UTC, TTL 1 min, ended 59.9 s "
-         "ago, at 2023-11-14 22:14:20.1 UTC"),
+    4: [("nearest", "ended: 10.2.0.0/16 of instance 0, learned from frame 2 at 2023-11-14 22:13:20.1 UTC (entry 4), TTL 1 min, "
+         "ended 59.9 s ago, at 2023-11-14 22:14:20.1 UTC; with a TTL of 2 min it would be in force"),
         ("request", "earlier: the Map-Request for 10.2.0.9/32 of instance 0 of frame 1 at 2023-11-14 22:13:20 UTC was answered by "
-         "frame 2 at 2023-11-14 22:13:20.1 UTC")],
+         "frame 2 at 2023-11-14 22:13:20.1 UTC with 10.2.0.0/16 of instance 0"),
+        ("n=4", "the journal had 4 entries before the frame, the last one of frame 2 at 2023-11-14 22:13:20.1 UTC: Learned "
+         "10.2.0.0/16 of instance 0, TTL 1 min: 198.51.100.7 priority 1 weight 1")],
     5: [("request", "no further Map-Request is made: a Map-Request for 10.2.0.9/32 of instance 0 is open since frame 4 at "
          "2023-11-14 22:15:20 UTC, 0.5 s ago, with nonce {nonce}; it was sent 1 time, goes again at the second 2023-11-14 "
          "22:15:21 UTC at the earliest, and is over at 2023-11-14 22:15:27 UTC")],
@@ -185,6 +190,15 @@ def caches(files):
     wanted = [{"iid": 0, "eid": "10.2.0.9/32", "times": 1, "last": "frame 4 at 2023-11-14 22:15:20 UTC"}]
     if status or json.loads(text)["unanswered"] != wanted:
         raise AssertionError(text)
+    status, text, _ = said("cache", "10.2.0.9", "--iid", "0", "--at", "4", *files)
+    if status or "  ended: 10.2.0.0/16 of instance 0, learned from frame 2" not in text:
+        raise AssertionError(text)
+    # Entries of an instance and of a prefix: all but that of the settings, which is of another instance.
+    for words, wanted in ((("--iid", "0"), [2, 3, 4, 5]), (("10.2.0.9",), [1, 2, 3, 4, 5]), (("10.3.0.0/16",), [])):
+        status, text, _ = said("journal", *words, "--at", "4", *files)
+        numbers = [int(line.split(":")[0]) for line in text.splitlines() if line != "no entry"]
+        if status or numbers != wanted:
+            raise AssertionError(f"{words}: {text}")
     status, text, _ = said("journal", "--at", "2", *files)
     if status or [line.split(": ")[1] for line in text.splitlines()] != [
             "the settings", "frame 1 at 2023-11-14 22:13:20 UTC", *2 * ["frame 2 at 2023-11-14 22:13:20.1 UTC"]]:

@@ -1,13 +1,13 @@
 """The map-cache as one reads it on a router, as lines or as JSON."""
 import json
-from collections import Counter
+from collections import defaultdict
 
 import settings as rules
 from journal import OPEN, ends
 from messages import Eid
-from wire import number, text_of
+from wire import number
 
-from explaining.mappings import ACTIONS, lasting, locator_text, origin, states
+from explaining.mappings import ACTIONS, gone_text, lasting, locator_text, origin, states
 from explaining.packets import TAG
 from explaining.requests import open_text
 from explaining.texts import Differs, Fault, address, counted, duration, prefix, seconds, utc
@@ -19,25 +19,36 @@ class Counts:
     """How many packets and octets went to each locator of each EID's mapping."""
 
     def __init__(self):
-        self.packets, self.octets, self.texts = Counter(), Counter(), {}
+        self.sums, self.texts = defaultdict(lambda: [0, 0]), {}
 
     def see(self, play, step):
-        if step.line.verdict.startswith(VERDICT):
+        verdict = step.line.verdict
+        if verdict.startswith(VERDICT):
             iid, dest, size = leaving(play.site, step.frame)
-            entry = play.journal.in_force(step.frame.moment, Eid.host(iid, dest))
-            to = self.locator(entry, step.line.verdict.split(" ")[2])
+            width = 8 * len(dest)
+            entry = play.journal.in_force(step.frame.moment, (iid, width, int.from_bytes(dest, "big"), width))
+            to = self.locator(entry, verdict.split(" ", 3)[2])
             if to is None:
                 raise Differs(f"proved {step.line.text}\nplain  no mapping in force has that locator")
-            key = entry.mapping.eid, to
-            self.packets[key] += 1
-            self.octets[key] += size + (36 if len(to) == 4 else 56)
+            sums = self.sums[entry.mapping.eid, to]
+            sums[0] += 1
+            sums[1] += size + (36 if len(to) == 4 else 56)
+
+    def of(self, eid, address):
+        """How many packets and octets went to a locator of an EID's mapping."""
+        return self.sums.get((eid, address), (0, 0))
 
     def locator(self, entry, text):
         """The address of a mapping's locator that a line names, or None."""
-        for locator in entry.mapping.locators if entry else ():
-            if self.texts.setdefault(locator.address, text_of(locator.address)) == text:
-                return locator.address
-        return None
+        octets = self.texts.get(text)
+        if octets is None:
+            octets = self.texts[text] = octets_in(text)
+        return octets if entry and any(one.address == octets for one in entry.mapping.locators) else None
+
+
+def octets_in(text):
+    """The octets of an address in a line, where IPv6 has all its digits."""
+    return bytes.fromhex(text.replace(":", "")) if ":" in text else bytes(map(int, text.split(".")))
 
 
 def leaving(site, frame):
@@ -80,11 +91,12 @@ def picking(words):
 
 
 def locator_fact(counts, eid, state):
-    locator, key = state.locator, (eid, state.locator.address)
+    locator = state.locator
+    packets, octets = counts.of(eid, locator.address)
     return {
         "address": address(locator.address), "priority": locator.priority, "weight": locator.weight,
         "usable": not state.why_not, "why_not": state.why_not, "shares": state.part, "of": state.whole,
-        "packets": counts.packets[key], "octets": counts.octets[key]}
+        "packets": packets, "octets": octets}
 
 
 def mapping_fact(play, counts, entry, moment):
@@ -104,6 +116,12 @@ def request_fact(play, entry):
         "nonce": f"{entry.nonce:016x}", "sent": 1 + play.journal.times()[entry.nonce]}
 
 
+def gone_of(journal, moment, is_picked):
+    """What was learned last of EIDs whose mapping isn't there any more."""
+    live = journal.live(moment)
+    return [entry for eid, entry in sorted(journal.learned().items()) if eid not in live and is_picked(eid)]
+
+
 def unanswered(journal, moment, is_picked):
     """By EID the Map-Requests that were over without an answer."""
     found = {}
@@ -121,8 +139,8 @@ def unanswered_fact(play, eid, entries):
 
 
 def state_text(counts, eid, state):
-    key = eid, state.locator.address
-    sent = f"{counted(counts.packets[key], 'packet')}, {counted(counts.octets[key], 'octet')} sent"
+    packets, octets = counts.of(eid, state.locator.address)
+    sent = f"{counted(packets, 'packet')}, {counted(octets, 'octet')} sent"
     text = "up, " + state.share() if not state.why_not else "can't be used, " + "; ".join(state.why_not)
     return f"    {locator_text(state.locator)}: {sent}; {text}"
 
@@ -139,8 +157,8 @@ def mapping_lines(play, counts, entry, moment):
 
 
 def unanswered_text(play, eid, entries):
-    return (f"  {prefix(eid)} was asked for {counted(len(entries), 'time')} without an answer, the last time by "
-            f"{play.maker(entries[-1])}")
+    return (f"  {address(play.site.resolver)} was asked for {prefix(eid)} {counted(len(entries), 'time')} without an answer, "
+            f"the last time by {play.maker(entries[-1])}")
 
 
 def instance_lines(play, counts, iid, entries, moment):
@@ -159,6 +177,7 @@ def lines(words, counts, play, frame, moment):
     is_picked, journal = picked(words), play.journal
     over = unanswered(journal, moment, is_picked)
     live = [entry for eid, entry in sorted(journal.live(moment).items()) if is_picked(eid)]
+    gone = gone_of(journal, moment, is_picked) if words.prefix else []
     requests = [entry for entry in journal.open_requests(moment).values() if is_picked(entry.eid)]
     if words.json:
         return [json.dumps({
@@ -168,9 +187,10 @@ def lines(words, counts, play, frame, moment):
             "unanswered": [unanswered_fact(play, eid, entries) for eid, entries in over.items()]}, indent=1)]
     told = [f"the map-cache behind frame {frame.number}, at {utc(moment)} ({seconds(moment)} s), n={len(journal)}: "
             f"{counted(len(live), 'mapping')}, {counted(len(requests), 'open request')}" + picking(words)]
-    eids = [*(one.mapping.eid for one in live), *(one.eid for one in requests), *over]
+    eids = [*(one.mapping.eid for one in live + gone), *(one.eid for one in requests), *over]
     for iid in sorted({eid.iid for eid in eids}):
         told += instance_lines(play, counts, iid, [one for one in live if one.mapping.eid.iid == iid], moment)
+        told += [f"  {gone_text(play, one, moment)}" for one in gone if one.mapping.eid.iid == iid]
         told += [f"  {open_text(play, one, moment)}" for one in requests if one.eid.iid == iid]
         told += [unanswered_text(play, eid, entries) for eid, entries in over.items() if eid.iid == iid]
     return told

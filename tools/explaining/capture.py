@@ -8,12 +8,12 @@ import struct
 import tempfile
 from typing import NamedTuple
 
-from captures import CaptureFault, frames_in
+from captures import MOST_OCTETS, MOST_RECORDS, MOST_SPAN, UNITS, CaptureFault, frames_in
 from captures_ng import ENHANCED, SECTION, SIMPLE, Reader
 from commands import Format, format_of
 from splitting import halves, split_size
 
-from explaining.texts import Fault
+from explaining.texts import SECOND, Fault
 
 MAGICS = {bytes.fromhex(text): order for text, order in (
     ("a1b2c3d4", ">"), ("a1b23c4d", ">"), ("d4c3b2a1", "<"), ("4d3cb2a1", "<"))}
@@ -123,26 +123,50 @@ def cut(path, octets, way, count, folder):
 # Frames.
 
 
+def classic_frames(octets):
+    """As `frames_in` gives them, which tells what is wrong with a record as soon as one isn't as it should be."""
+    plain, count, at, latest = frames_in(octets), 0, 24, 0
+    order = MAGICS[bytes(octets[:4])]
+    numbers_at, size = struct.Struct(order + "IIII").unpack_from, len(octets)
+    units, unit = UNITS[struct.unpack(order + "I", octets[:4])[0]]
+    link = struct.unpack(order + "I", octets[20:24])[0] & 0xFFFF
+    while at + 16 <= size and count < MOST_RECORDS:
+        seconds, fraction, kept, _ = numbers_at(octets, at)
+        moment, end = seconds * SECOND + fraction * unit, at + 16 + kept
+        if fraction >= units or kept > MOST_OCTETS or end > size or count and moment - latest > MOST_SPAN:
+            break
+        count, latest = count + 1, max(latest, moment)
+        yield latest, link, octets[at + 16:end]
+        at = end
+    if at < size:
+        yield from itertools.islice(plain, count, None)
+
+
 def read(octets, way):
     """The frames of a capture with their moments and links; a fault comes when it is due."""
     if way.format is Format.CLASSIC:
-        yield from frames_in(octets)
+        yield from classic_frames(octets)
     else:
         yield from Reader(octets, way.format is Format.NG_VLANS).frames()
 
 
 def frames_of(octets, way, site):
     """The frames as they come to the router; the capture's fault comes when it is due."""
-    least, number = split_size(site) if way.split else len(octets), 0
+    if not way.split:
+        for number, (moment, link, frame) in enumerate(read(octets, way), 1):
+            yield Frame(number, moment, link, frame, number, 0)
+        return
+    least, number = split_size(site), 0
     for whole, (moment, link, frame) in enumerate(read(octets, way), 1):
-        pair = halves(site, link, frame) if len(frame) > least else None
-        if pair is None:
-            number += 1
-            yield Frame(number, moment, link, frame, whole, 0)
-            continue
-        for half, one in enumerate(pair, 1):
+        for half, one in parts_of(site, link, frame) if len(frame) > least else ((0, frame),):
             number += 1
             yield Frame(number, moment, link, one, whole, half)
+
+
+def parts_of(site, link, frame):
+    """The two halves of a frame with their numbers, or the whole one with 0."""
+    pair = halves(site, link, frame)
+    return enumerate(pair, 1) if pair else ((0, frame),)
 
 
 def frames_until(octets, way, moment):

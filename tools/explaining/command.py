@@ -63,6 +63,7 @@ def parser():
                                "counts those that were there before its frame.")
     add_place(entries)
     entries.add_argument("--iid", type=int, metavar="IID", help="of this instance alone")
+    entries.add_argument("prefix", nargs="?", metavar="PREFIX", help="of EIDs that an address or a prefix picks, as for cache")
     entries.add_argument("--first", type=positive, metavar="N", default=1, help="from this entry on")
     entries.add_argument("--last", type=positive, metavar="N", help="up to this entry")
     for kind in (one, table, entries):
@@ -106,12 +107,13 @@ class Run:
     def report(self, path):
         return Report(self.words.program, self.words.settings, path, self.way)
 
-    def played(self, count, see):
-        """The router behind so many of the capture's frames (None for all), and what is seen of each step."""
+    def played(self, count, see, wanted=None):
+        """The router behind so many of the capture's frames (None for all), and what is seen of each step; with a wanted
+        frame of that one, and of those that changed the journal."""
         path = self.path if count is None else cut(self.path, self.octets, self.way, count, self.folder)
         play = Play(self.site)
         with self.report(path) as report:
-            for step in play.steps(frames_of(octets_of(path), self.way, self.site), report.lines()):
+            for step in play.steps(frames_of(octets_of(path), self.way, self.site), report.lines(), wanted):
                 see(play, step)
         return play
 
@@ -123,7 +125,7 @@ def frame_lines(run):
     def see(play, step):
         if step.frame.number == number:
             lines.extend(frame.explained(play, step))
-    play = run.played(number, see)
+    play = run.played(number, see, number)
     if not lines:
         raise Fault(f"there is no frame {number}: the capture has {play.frames:,}{play.fault_text()}")
     return lines

@@ -7,7 +7,7 @@ from explaining.mappings import ACTIONS, UNTOLD, locator_text, mapping_lines
 from explaining.requests import answer_of, wanting
 from explaining.texts import address, counted, duration, family, placed, utc
 
-MOST_LOCATORS = 32
+MOST_LOCATORS, SHOWN = 32, 3
 
 
 def message_in(packet):
@@ -42,15 +42,24 @@ def message_text(found):
 # Map-Replies.
 
 
-def asked_lines(play, nonce, moment):
-    """The request that a nonce is of, or what became of it."""
+def awaited_lines(play, records, moment):
+    """The open requests for EIDs that records cover, which have another nonce."""
+    return [f"its records cover {placed(entry.eid)}, for which the Map-Request of {play.maker(entry)} is open with nonce "
+            f"{entry.nonce:016x}" for entry in play.journal.open_requests(moment).values()
+            if any(record.eid.covers(entry.eid) for record in records)][:SHOWN]
+
+
+def asked_lines(play, reply, moment):
+    """The request that the nonce of a reply is of, or what became of it."""
+    nonce, records = reply.nonce, reply.records
     request = play.journal.open_requests(moment).get(nonce)
     if request:
         return [f"it answers the Map-Request for {placed(request.eid)} of {play.maker(request)}, "
                 f"{duration(moment - request.moment)} ago"]
     past = [entry for entry in play.journal.of(Asked) if entry.nonce == nonce]
     if not past:
-        return ["no Map-Request of this router had its nonce: those of a real router belong into the settings' nonces"]
+        return ["no Map-Request of this router had its nonce: those of a real router belong into the settings' nonces",
+                *awaited_lines(play, records, moment)]
     entry = past[-1]
     answer = answer_of(play, entry)
     text = f"the Map-Request with its nonce, for {placed(entry.eid)}, of {play.maker(entry)}, "
@@ -110,7 +119,7 @@ def reply_sections(scene, packet, port, reply):
     if reply.probe:
         yield "probe", probe_lines(play, reply.nonce, packet.source, moment)
         return
-    yield "request", asked_lines(play, reply.nonce, moment)
+    yield "request", asked_lines(play, reply, moment)
     scene.asked = play.journal.open_requests(moment).get(reply.nonce)
     if scene.asked is None:
         yield "records", [f"{record_text(record)}: passed over with its message" for record in reply.records] or ["none"]

@@ -48,8 +48,19 @@ def entry_text(entry):
     return TEXTS[type(entry)](entry)
 
 
-def instance_of(entry):
-    """The instance that an entry is of, or None."""
+def eid_of(entry, asked):
+    """The EID that an entry is of, or None; what is noted of a request is of that one's, by its nonce."""
     if isinstance(entry, Learned):
-        return entry.mapping.eid.iid
-    return entry.eid.iid if hasattr(entry, "eid") else None
+        return entry.mapping.eid
+    if isinstance(entry, (Retried, Answered)):
+        return asked[entry.nonce]
+    return entry.eid if hasattr(entry, "eid") else None
+
+
+def with_eids(entries):
+    """Entries, each with its EID."""
+    asked = {}
+    for entry in entries:
+        if isinstance(entry, Asked):
+            asked[entry.nonce] = entry.eid
+        yield entry, eid_of(entry, asked)

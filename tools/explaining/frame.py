@@ -107,6 +107,15 @@ def sent_sections(scene):
         yield "sends", sent_lines(octets) if is_tunnel and i == 0 else [packet_text(Packet(octets, 0))]
 
 
+def known_section(scene):
+    """What `n=` of the line counts: the entries before the frame, of which the last one is told."""
+    play, known = scene.play, scene.step.line.known
+    if not known:
+        return "n=0", ["the journal had no entry before the frame"]
+    return f"n={known}", [f"the journal had {counted(known, 'entry', 'entries')} before the frame, the last one of "
+                          f"{play.made_by(known - 1)}: {entry_text(play.journal[known - 1])}"]
+
+
 def entries_section(scene):
     first = scene.taken.first
     lines = [f"{i}: {entry_text(entry)}" for i, entry in enumerate(scene.play.journal[first:], first + 1)]
@@ -125,7 +134,7 @@ def sections(play, step):
         ("time", [f"{utc(scene.moment)}, {seconds(scene.moment)} s"]),
         ("frame", [link_text(step.frame)]),
         ("settled", [rule_text(scene.verdict)]),
-        *found, *sent_sections(scene), entries_section(scene)]
+        *found, *sent_sections(scene), known_section(scene), entries_section(scene)]
 
 
 def explained(play, step):

@@ -4,11 +4,11 @@
 answers the same questions by sums that go on from the entry they came to. Its moments must not fall.
 """
 import heapq
-from bisect import bisect_right
+from bisect import bisect_left, bisect_right, insort
 from collections import Counter, defaultdict
 
-from journal import (OPEN, WANTED, Answered, Asked, Bits, DataFrom, Echo, EchoHeard, EchoStarted, EchoWanted, Journal,
-                     Learned, ProbeAnswered, Probed, Retried, Solicited, ends)
+from journal import (AGAIN, OPEN, PROBE_AGAIN, PROBE_COUNTS, SECOND, WANTED, Answered, Asked, Bits, DataFrom, Echo,
+                     EchoHeard, EchoStarted, EchoWanted, Journal, Learned, ProbeAnswered, Probed, Retried, Solicited, ends)
 from messages import Eid
 
 
@@ -17,28 +17,62 @@ class Covering(dict):
 
     def __init__(self):
         super().__init__()
-        self.lengths = defaultdict(Counter)
+        self.counts, self.lengths = defaultdict(Counter), {}
 
     def __setitem__(self, eid, value):
         if eid not in self:
-            self.lengths[eid.iid, eid.width][eid.length] += 1
+            self.count(eid, 1)
         super().__setitem__(eid, value)
 
     def __delitem__(self, eid):
         super().__delitem__(eid)
-        lengths = self.lengths[eid.iid, eid.width]
-        lengths[eid.length] -= 1
-        if not lengths[eid.length]:
-            del lengths[eid.length]
+        self.count(eid, -1)
+
+    def count(self, eid, more):
+        """Keeps the lengths that EIDs of an instance and family have, from the longest on."""
+        key = eid.iid, eid.width
+        counts = self.counts[key]
+        counts[eid.length] += more
+        if not counts[eid.length]:
+            del counts[eid.length]
+        if len(counts) != len(self.lengths.get(key, ())):
+            self.lengths[key] = sorted(counts, reverse=True)
 
     def covering(self, other):
         """The values of EIDs that cover another one, from the longest on."""
-        lengths = self.lengths.get((other.iid, other.width), ())
-        for length in sorted((length for length in lengths if length <= other.length), reverse=True):
-            free = other.width - length
-            value = self.get(Eid(other.iid, other.width, other.address >> free << free, length))
-            if value is not None:
-                yield value
+        iid, width, address, most = other
+        for length in self.lengths.get((iid, width), ()):
+            if length <= most:
+                value = self.get((iid, width, address >> width - length << width - length, length))
+                if value is not None:
+                    yield value
+
+
+class Names:
+    """For each locator the EIDs whose mappings name it for packets, in order."""
+
+    def __init__(self):
+        self.eids = defaultdict(list)
+
+    def replace(self, before, mapping):
+        for locator in {one.address for one in before.locators if one.priority != 255} if before else ():
+            eids = self.eids[locator]
+            at = bisect_left(eids, before.eid)
+            if at < len(eids) and eids[at] == before.eid:
+                del eids[at]
+        for locator in {one.address for one in mapping.locators if one.priority != 255}:
+            insort(self.eids[locator], mapping.eid)
+
+    def least(self, live):
+        """For each locator the least EID whose mapping is live. A mapping that has ended stays so until it is learned
+        again, and its EID goes."""
+        found = {}
+        for locator, eids in self.eids.items():
+            while eids and eids[0] not in live:
+                del eids[0]
+            if eids:
+                found[locator] = eids[0]
+        return found
 
 
 class Kept(Journal):
@@ -50,6 +84,7 @@ class Kept(Journal):
         self.waiting, self.sendings, self.asked_for, self.opened = {}, {}, Covering(), Counter()
         self.counts, self.learnings, self.ending = Counter(), Counter(), []
         self.probings, self.probed_by, self.echoings, self.wishes = [], {}, {}, {}
+        self.names = Names()
         self.takers = {
             Learned: self.take_learned, Bits: self.take_bits, Asked: self.take_asked, Retried: self.take_retried,
             Answered: self.take_answered, Probed: self.take_probed, ProbeAnswered: self.take_probe_answered,
@@ -66,8 +101,9 @@ class Kept(Journal):
                 take(entry)
 
     def now(self, moment):
-        self.take_all()
-        return super().now(moment)
+        if self.seen < len(self):
+            self.take_all()
+        return max(moment, self[-1].moment) if self else moment
 
     # What each entry adds.
 
@@ -76,6 +112,7 @@ class Kept(Journal):
         before = self.last.get(eid)
         if before is not None and not before.fixed and id(before) in self.counts:
             self.end(before)
+        self.names.replace(before.mapping if before else None, entry.mapping)
         self.last[eid] = entry
         self.ups[eid] = [locator.reachable for locator in entry.mapping.locators]
         if not entry.fixed and entry.mapping.ttl:
@@ -144,8 +181,20 @@ class Kept(Journal):
         return Live(self.learned(), self.now(moment))
 
     def in_force(self, moment, eid):
-        live = self.live(moment)
-        return next((entry for entry in live.entries.covering(eid) if live.has(entry)), None)
+        now = self.now(moment)
+        return next((entry for entry in self.last.covering(eid) if entry.fixed or now < ends(entry)), None)
+
+    def named(self, moment):
+        return self.names.least(self.live(moment))
+
+    def next_second(self, second):
+        moments = []
+        for kind, ages in ((Asked, AGAIN), (Probed, (PROBE_AGAIN, PROBE_COUNTS))):
+            entries = self.of(kind)
+            for age in ages:
+                at = bisect_right(entries, second * SECOND - age, key=lambda entry: entry.moment)
+                moments += [entry.moment + age for entry in entries[at:at + 1]]
+        return -(-min(moments) // SECOND) if moments else None
 
     def status(self, eid):
         self.take_all()

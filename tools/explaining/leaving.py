@@ -3,7 +3,7 @@ from choice import chosen, flow_hash
 from messages import Eid
 from router import is_group
 
-from explaining.mappings import lasting, mapping_lines, origin, state_lines, states
+from explaining.mappings import gone_text, mapping_lines, origin, state_lines, states
 from explaining.packets import has_ports, ports_of
 from explaining.requests import earlier, wanting
 from explaining.texts import address, counted, family, placed, prefix
@@ -55,11 +55,7 @@ def nearest_lines(play, eid, moment):
             lines.append(f"in another instance: {placed(entry.mapping.eid)}, {origin(play, entry)}; "
                          + (f"of that instance is VLAN {vlans}" if vlans else "no VLAN is of that instance"))
     covering = [entry for one, entry in learned.items() if one.covers(eid)]
-    for entry in sorted(covering, key=lambda entry: -entry.mapping.eid.length):
-        if entry.mapping.ttl == 0:
-            lines.append(f"taken away: {placed(entry.mapping.eid)}, by a record with a TTL of 0 from {play.maker(entry)}")
-        else:
-            lines.append(f"ended: {placed(entry.mapping.eid)}, {origin(play, entry)}, {lasting(entry, moment)}")
+    lines += [gone_text(play, entry, moment) for entry in sorted(covering, key=lambda entry: -entry.mapping.eid.length)]
     alive = [one for one in play.journal.live(moment).values()
              if (one.mapping.eid.iid, one.mapping.eid.width) == (eid.iid, eid.width)]
     near = max(alive, key=lambda one: common_bits(one.mapping.eid, eid), default=None)

@@ -4,9 +4,10 @@ from typing import NamedTuple
 from journal import ECHO_COUNTS, ECHO_ON, PROBE_COUNTS, PROBE_OPEN, Bits, Learned, ends
 from messages import Locator
 
-from explaining.texts import address, duration, family, placed, utc
+from explaining.texts import SECOND, address, duration, family, placed, utc
 
 UNTOLD = 0xFFFFFFFF
+MINUTE, MOST_MINUTES = 60 * SECOND, 0xFFFFFFFE
 ACTIONS = {0: "No-Action", 1: "Natively-Forward", 2: "Send-Map-Request", 3: "Drop/No-Reason", 4: "Drop/Policy-Denied",
            5: "Drop/Auth-Failure", 6: "not assigned, taken as Drop/No-Reason", 7: "not assigned, taken as Drop/No-Reason"}
 
@@ -40,7 +41,17 @@ def lasting(entry, moment):
     left = ends(entry) - moment
     if left > 0:
         return f"TTL {minutes}, ends in {duration(left)}"
-    return f"TTL {minutes}, ended {duration(-left)} ago, at {utc(ends(entry))}"
+    enough = (moment - entry.moment) // MINUTE + 1
+    longer = f"; with a TTL of {enough:,} min it would be in force" if enough <= MOST_MINUTES else ""
+    return f"TTL {minutes}, ended {duration(-left)} ago, at {utc(ends(entry))}{longer}"
+
+
+def gone_text(play, entry, moment):
+    """What became of a mapping that isn't there any more."""
+    eid = placed(entry.mapping.eid)
+    if entry.mapping.ttl == 0:
+        return f"taken away: {eid}, by a record with a TTL of 0 from {play.maker(entry)} (entry {play.index_of(entry) + 1})"
+    return f"ended: {eid}, {origin(play, entry)} (entry {play.index_of(entry) + 1}), {lasting(entry, moment)}"
 
 
 def mapping_lines(play, entry, moment):

@@ -33,12 +33,22 @@ class Taken(NamedTuple):
     first: int
 
 
+class Played(Router):
+    """A plain router whose journal keeps what its scans find."""
+
+    def __init__(self, site):
+        super().__init__(site)
+        self.journal = Kept(self.journal)
+
+    def named(self, moment):
+        return {address: eid for address, eid in self.journal.named(moment).items() if self.is_reached(address)}
+
+
 class Play:
     """A router whose journal is brought to where a question stands."""
 
     def __init__(self, site):
-        self.router = Router(site)
-        self.router.journal = Kept(self.router.journal)
+        self.router = Played(site)
         self.origins = [SETTINGS] * len(self.journal)
         self.moment = self.latest = self.fault = None
         self.frames = self.written = self.taken_number = 0
@@ -54,9 +64,10 @@ class Play:
 
     # Going on.
 
-    def steps(self, frames, lines):
-        """The frames with their lines. The journal is as it was before each frame that changed it, and behind it
-        where the next one is asked for; `work` brings it before any other one."""
+    def steps(self, frames, lines, wanted=None):
+        """The frames with their lines; with a wanted frame only that one and those that changed the journal. The journal
+        is as it was before each frame that changed it, and behind it where the next one is asked for; `work` brings it
+        before any other one."""
         line = next(lines)
         for frame in self.until_fault(frames):
             if isinstance(line, End):
@@ -64,10 +75,12 @@ class Play:
             following = next(lines)
             if self.moment is None:
                 self.come_to(frame.moment)
-            step = Step(frame, line, following.known)
             self.frames, self.latest = self.frames + 1, frame.moment
-            yield step
-            self.settle(step)
+            self.written += line.verdict.startswith(WRITING)
+            if wanted in (None, frame.number) or line.known != following.known:
+                step = Step(frame, line, following.known)
+                yield step
+                self.settle(step)
             line = following
         self.close(line)
 
@@ -83,7 +96,6 @@ class Play:
         if step.is_changing() and self.taken_number != step.frame.number:
             self.work(step)
             self.take(step)
-        self.written += step.line.verdict.startswith(WRITING)
 
     def work(self, step):
         """Brings the journal to before a frame."""
@@ -145,6 +157,14 @@ class Play:
         for index in range(len(self.indexes), len(self.journal)):
             self.indexes[id(self.journal[index])] = index
         return self.indexes[id(entry)]
+
+    def made_with(self, entry):
+        """The entries behind one that the same frame made."""
+        index = self.index_of(entry)
+        end = index + 1
+        while end < len(self.journal) and self.origins[end] == self.origins[index]:
+            end += 1
+        return self.journal[index + 1:end]
 
     def maker(self, entry):
         return self.made_by(self.index_of(entry))

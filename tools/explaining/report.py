@@ -40,6 +40,7 @@ def command_of(program):
 
 
 def parsed(text):
+    text = text.rstrip("\n")
     if text[:1].isdigit():
         _, _, known, verdict = text.split(" ", 3)
         return Line(int(known[2:]), verdict, text)
@@ -71,8 +72,7 @@ class Report:
     def lines(self):
         """The lines of frames, and then the last one."""
         last = None
-        for text in self.run.stdout:
-            last = parsed(text.rstrip("\n"))
+        for last in map(parsed, self.run.stdout):
             yield last
         if not isinstance(last, End):
             raise Fault(f"the program ended with status {self.run.wait()}, without a last line")

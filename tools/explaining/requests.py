@@ -1,5 +1,5 @@
 """Map-Requests: which are open, since when, how often they were sent, and why none is made."""
-from journal import AGAIN, OPEN, SECOND, Answered, Asked
+from journal import AGAIN, OPEN, SECOND, Answered, Asked, Learned
 
 from explaining.texts import address, counted, duration, family, placed, utc
 
@@ -43,9 +43,22 @@ def earlier(play, eid, moment):
     for entry in past[-SHOWN:]:
         answer = answer_of(play, entry)
         text = f"earlier: the Map-Request for {placed(entry.eid)} of {play.maker(entry)} "
-        lines.append(text + (f"was answered by {play.maker(answer)}" if answer else
+        lines.append(text + (f"was answered by {play.maker(answer)}{taught(play, entry, answer)}" if answer else
                              f"wasn't answered, and was over at {utc(entry.moment + OPEN)}"))
     return lines
+
+
+def taught(play, asked, answer):
+    """Which mapping of an answer covers the EID that was asked for, or why none of its records was learned."""
+    covering = [entry for entry in play.made_with(answer) if type(entry) is Learned and entry.mapping.eid.covers(asked.eid)]
+    if covering:
+        return f" with {placed(covering[-1].mapping.eid)}"
+    if any(eid.covers(asked.eid) for eid in play.site.static):
+        return f", whose record was passed over, as `explain frame {play.origins[play.index_of(answer)]}` tells"
+    # A record covers the EID, else the reply would have been dropped.
+    limit = play.site.limit(asked.eid.iid).mappings
+    return (f", whose record was passed over: as many mappings of instance {asked.eid.iid} as its limit allows, "
+            f"{limit:,}, were live")
 
 
 def answer_of(play, asked):
