@@ -2,6 +2,8 @@
 import struct
 from typing import NamedTuple
 
+from pieces import Pieces
+
 # The order of a pcap file's numbers and the nanoseconds of its unit of time, by its first four octets.
 CLASSIC = {b"\xd4\xc3\xb2\xa1": ("<", 1000), b"\xa1\xb2\xc3\xd4": (">", 1000),
            b"\x4d\x3c\xb2\xa1": ("<", 1), b"\xa1\xb2\x3c\x4d": (">", 1)}
@@ -77,13 +79,16 @@ def classic_header(front, file):
 
 def classic_records(header, file):
     """The packets of a pcap file whose header is read, each with its size before it was cut."""
-    place = 24
-    while front := file.read(16):
-        need(len(front) == 16, f"it ends within the record at octet {place}")
-        seconds, fraction, kept, whole = struct.unpack(header.order + "IIII", front)
-        need(kept <= MOST_PACKET, f"the record at octet {place} has {kept} octets, more than {MOST_PACKET:,}")
-        octets = file.read(kept)
-        need(len(octets) == kept, f"it ends within the record at octet {place}")
+    take, numbers_of, place = Pieces(file).take, struct.Struct(header.order + "IIII").unpack, 24
+    while front := take(16):
+        if len(front) < 16:
+            raise Fault(f"it ends within the record at octet {place}")
+        seconds, fraction, kept, whole = numbers_of(front)
+        if kept > MOST_PACKET:
+            raise Fault(f"the record at octet {place} has {kept} octets, more than {MOST_PACKET:,}")
+        octets = take(kept)
+        if len(octets) < kept:
+            raise Fault(f"it ends within the record at octet {place}")
         yield Packet(seconds * SECOND + fraction * header.unit, header.link, 0, octets), whole
         place += 16 + kept
 
@@ -100,22 +105,32 @@ def order_of(front, order, place):
     return ">" if front[8:12] == MAGIC else "<"
 
 
+def wrong_size(kind, size):
+    """What is wrong with the size of a block, or nothing."""
+    if size % 4 or size < LEAST.get(kind, 12):
+        return "a wrong length"
+    return f"{size} octets, more than {MOST_BLOCK:,}" if size > MOST_BLOCK else ""
+
+
 def blocks_of(front, file):
     """The blocks of a pcapng file whose first four octets are read."""
-    order, place, front = None, 0, front + file.read(8)
+    take, order, place, front = Pieces(file).take, None, 0, front + file.read(8)
     while front:
-        need(len(front) == 12, f"it ends within the block at octet {place}")
+        if len(front) < 12:
+            raise Fault(f"it ends within the block at octet {place}")
         order = order_of(front, order, place)
-        kind, size = struct.unpack(order + "II", front[:8])
-        need(size % 4 == 0 and size >= LEAST.get(kind, 12), f"the block at octet {place} has a wrong length")
-        need(size <= MOST_BLOCK, f"the block at octet {place} has {size} octets, more than {MOST_BLOCK:,}")
-        octets = front + file.read(size - 12)
-        need(len(octets) == size, f"it ends within the block at octet {place}")
-        need(octets[-4:] == octets[4:8], f"the block at octet {place} has two lengths")
-        need(kind != OBSOLETE, f"the block at octet {place} is an obsolete packet block; "
-             "`editcap -F pcapng in out` writes others")
+        kind, size = struct.unpack_from(order + "II", front)
+        if why := wrong_size(kind, size):
+            raise Fault(f"the block at octet {place} has {why}")
+        octets = front + take(size - 12)
+        if len(octets) < size:
+            raise Fault(f"it ends within the block at octet {place}")
+        if octets[-4:] != octets[4:8]:
+            raise Fault(f"the block at octet {place} has two lengths")
+        if kind == OBSOLETE:
+            raise Fault(f"the block at octet {place} is an obsolete packet block; `editcap -F pcapng in out` writes others")
         yield Block(kind, order, octets, place)
-        place, front = place + size, file.read(12)
+        place, front = place + size, take(12)
 
 
 def options_at(block, at):
@@ -143,16 +158,17 @@ def interface_of(block):
 
 def packet_of(block, interfaces, latest):
     """The packet of a packet block; a simple one has the latest moment before it."""
-    number = block.numbers("I")[0] if block.kind == ENHANCED else 0
-    need(number < len(interfaces), f"the packet at octet {block.place} is of an interface that isn't there")
+    number, high, low, size = block.numbers("IIII") if block.kind == ENHANCED else (0, 0, 0, 0)
+    if number >= len(interfaces):
+        raise Fault(f"the packet at octet {block.place} is of an interface that isn't there")
     link, snap, units, added = interfaces[number]
     if block.kind == ENHANCED:
-        high, low, size = block.numbers("III", 12)
         at, moment = 28, (high << 32 | low) * SECOND // units + added * SECOND
     else:
         whole, = block.numbers("I")
         at, moment, size = 12, latest, min(whole, snap or whole)
-    need(at + size <= len(block.octets) - 4, f"the packet at octet {block.place} doesn't fit its block")
+    if at + size > len(block.octets) - 4:
+        raise Fault(f"the packet at octet {block.place} doesn't fit its block")
     return Packet(moment, link, number, block.octets[at:at + size])
 
 

@@ -1,7 +1,7 @@
 """LISP control messages (RFC 9301, section 5) and the EIDs in them (RFC 8060), as fields and items."""
 from typing import NamedTuple
 
-from layers import address_of, ip_fields, is_udp, named, need, number, udp_fields
+from layers import address_of, datagram_at, ip_fields, is_udp, is_whole, named, need, number, udp_fields
 
 REQUEST, REPLY, ENCAPSULATED = 1, 2, 8
 KINDS = {REQUEST: "Map-Request", REPLY: "Map-Reply"}
@@ -134,6 +134,18 @@ def plain_message(octets):
     """A Map-Request or a Map-Reply."""
     need(len(octets) >= 12 and octets[0] >> 4 in KINDS)
     return request_of(octets) if octets[0] >> 4 == REQUEST else reply_of(octets)
+
+
+def message_inside(octets):
+    """A message, and whether it is encapsulated; nothing is read of what it is encapsulated in."""
+    need(len(octets) >= 4)
+    if octets[0] >> 4 != ENCAPSULATED:
+        return plain_message(octets), False
+    packet = octets[4:]
+    need(is_whole(packet))
+    at = datagram_at(packet)
+    need(at is not None)
+    return plain_message(packet[at + 8:]), True
 
 
 def message_of(octets):

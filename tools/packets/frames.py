@@ -3,8 +3,9 @@ import ipaddress
 import tomllib
 from typing import NamedTuple, Optional
 
-from layers import packet_in
-from reading import TUNNEL, Reading, reading_of
+from layers import address_of, packet_in
+from outline import Outline, outline_of
+from reading import TUNNEL
 
 ETHERNET, TAG = 1, b"\x81\x00"
 # Drops of packets to an own locator, and of those that leave the site; 1 and 9 are of either.
@@ -15,15 +16,12 @@ LEAVING = {1, 9, *range(10, 21)}
 class Frame(NamedTuple):
     """The VLAN of a frame, and its packet; None where it has none."""
     vlan: int
-    reading: Optional[Reading]
-
-    def field(self, name):
-        return self.reading.fields.get(name)
+    packet: Optional[Outline]
 
 
 def frame_of(link, octets):
     found = packet_in(link, octets)
-    return Frame(found[0], reading_of(found[1])) if found else Frame(0, None)
+    return Frame(found[0], outline_of(found[1])) if found else Frame(0, None)
 
 
 def tagged(interface, link, octets):
@@ -43,22 +41,22 @@ class Settings:
 
     def __init__(self, octets):
         top = tomllib.loads(octets.decode())
-        self.own = {str(ipaddress.ip_address(table["address"])) for table in top.get("locator", [])}
+        self.own = {address_of(ipaddress.ip_address(table["address"]).packed) for table in top.get("locator", [])}
         self.instances = {table["vlan"]: table["iid"] for table in top.get("attachment", [])}
 
     def contradicts(self, verdict, frame):
         """What of a frame can't be so by these settings if a verdict is its own, or nothing."""
-        kind, drop = verdict.kind, verdict.drop
-        if frame.reading is None or drop == 1:
+        kind, drop, packet = verdict.kind, verdict.drop, frame.packet
+        if packet is None or drop == 1:
             return "" if drop == 1 else "it has no IP packet"
-        if (frame.field("ip.src") in self.own) != (kind == "own"):
-            return f"its source is {frame.field('ip.src')}"
+        if (packet.source in self.own) != (kind == "own"):
+            return f"its source is {packet.source}"
         if kind == "own":
             return ""
-        arrives = frame.field("ip.dst") in self.own
+        arrives = packet.dest in self.own
         if arrives != (drop in ARRIVING if drop else kind == "delivered" or kind.startswith("control")):
             if drop != 9:
-                return f"its destination is {frame.field('ip.dst')}"
+                return f"its destination is {packet.dest}"
         if not arrives and (frame.vlan in self.instances) != (drop != 10):
             return f"its VLAN is {frame.vlan}"
         return ""
@@ -66,9 +64,10 @@ class Settings:
 
 def contradiction(verdict, frame, settings):
     """What of a frame can't be so if a verdict is its own, or nothing."""
-    if verdict.kind == "delivered" and frame.reading is not None:
-        if frame.reading.kind != TUNNEL or instance_in(frame.reading.header) != int(verdict.values[0]):
+    packet = frame.packet
+    if verdict.kind == "delivered" and packet is not None:
+        if packet.kind != TUNNEL or instance_in(packet.header) != int(verdict.values[0]):
             return f"it isn't a tunnel packet of instance {verdict.values[0]}"
-    if frame.reading is None and verdict.drop != 1:
+    if packet is None and verdict.drop != 1:
         return "it has no IP packet"
     return settings.contradicts(verdict, frame) if settings else ""

@@ -1,13 +1,13 @@
 """The headers of a frame down to its IP packet, and those of IP and UDP (RFC 791, RFC 8200, RFC 768), as fields."""
 import functools
-import ipaddress
 import struct
+from socket import inet_ntoa
 
 ETHERNET, RAW = 1, (12, 14, 101)
 # Of links with one protocol field: where it stands, and where the packet begins. SLL and SLL2 are those of `any`.
 COOKED = {113: (14, 16), 276: (0, 20)}
 OF_ONE_VERSION = {228: 4, 229: 6}
-TAGS, IP = (0x8100, 0x88A8), (0x0800, 0x86DD)
+TAGS, IP = (b"\x81\x00", b"\x88\xa8"), (b"\x08\x00", b"\x86\xdd")
 UDP = 17
 
 
@@ -26,8 +26,24 @@ def number(octets, at, size):
 
 @functools.lru_cache(65_536)
 def address_of(octets):
-    """An address as RFC 5952 has it."""
-    return str(ipaddress.ip_address(octets))
+    """An address; of IPv6 as RFC 5952 has it, in hexadecimal throughout, as settings take it."""
+    if len(octets) == 4:
+        return inet_ntoa(octets)
+    groups = [f"{octets[at] << 8 | octets[at + 1]:x}" for at in range(0, 16, 2)]
+    first, count = longest_zeros(groups)
+    if count < 2:
+        return ":".join(groups)
+    return ":".join(groups[:first]) + "::" + ":".join(groups[first + count:])
+
+
+def longest_zeros(groups):
+    """Where the first of the longest rows of groups that are 0 begins, and how many it has."""
+    first = count = row = 0
+    for at, group in enumerate(groups):
+        row = row + 1 if group == "0" else 0
+        if row > count:
+            first, count = at + 1 - row, row
+    return first, count
 
 
 def ones_sum(octets):
@@ -40,14 +56,14 @@ def packet_in(link, frame):
     """The VLAN and the IP packet of a frame with what stands behind it, or None where it has none."""
     vlan, at, family = 0, 0, None
     if link == ETHERNET:
-        at, family = 14, number(frame, 12, 2)
+        at, family = 14, frame[12:14]
         if family in TAGS:
-            vlan, at, family = number(frame, 14, 2) & 0xFFF, 18, number(frame, 16, 2)
+            vlan, at, family = number(frame, 14, 2) & 0xFFF, 18, frame[16:18]
         while family in TAGS:
-            at, family = at + 4, number(frame, at + 2, 2)
+            at, family = at + 4, frame[at + 2:at + 4]
     elif link in COOKED:
         place, at = COOKED[link]
-        family = number(frame, place, 2)
+        family = frame[place:place + 2]
     elif link not in RAW and link not in OF_ONE_VERSION:
         return None
     packet = frame[at:]
@@ -66,6 +82,20 @@ def is_whole(packet):
 def size_of(packet):
     """The size of a packet, as its header says it."""
     return number(packet, 2, 2) if packet[0] >> 4 == 4 else 40 + number(packet, 4, 2)
+
+
+def datagram_at(packet):
+    """Where the UDP header of a packet begins, or None where it has none or is a fragment."""
+    if packet[0] >> 4 == 4:
+        return 4 * (packet[0] & 15) if packet[9] == UDP and not packet[6] & 0x3F and not packet[7] else None
+    return 40 if packet[6] == UDP else None
+
+
+def ends_of(packet):
+    """The source and the destination of a packet."""
+    if packet[0] >> 4 == 4:
+        return address_of(packet[12:16]), address_of(packet[16:20])
+    return address_of(packet[8:24]), address_of(packet[24:40])
 
 
 def v4_fields(octets):

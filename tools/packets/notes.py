@@ -11,7 +11,7 @@ MOST_OCTETS, MOST_TIME = 65_000, 2**64 - 1
 
 def block(order, kind, body):
     size = struct.pack(order + "I", 12 + len(body))
-    return struct.pack(order + "I", kind) + size + body + size
+    return b"".join((struct.pack(order + "I", kind), size, body, size))
 
 
 def option(order, code, value):
@@ -20,12 +20,14 @@ def option(order, code, value):
 
 def comment_options(order, comment, others=b""):
     """A comment, and other options behind it, or the end of options where there are none."""
-    return option(order, COMMENT, comment.encode()[:MOST_OCTETS]) + (others or option(order, END, b""))
+    return option(order, COMMENT, comment.encode()[:MOST_OCTETS]) + (others or bytes(4))
 
 
 def packet_block(order, interface, time, octets, whole, options):
-    front = struct.pack(order + "IIIII", interface, time >> 32, time & 0xFFFFFFFF, len(octets), whole)
-    return block(order, ENHANCED, front + padded(octets) + options)
+    kept = len(octets)
+    size = 32 + kept + -kept % 4 + len(options)
+    front = struct.pack(order + "IIIIIII", ENHANCED, size, interface, time >> 32, time & 0xFFFFFFFF, kept, whole)
+    return b"".join((front, octets, bytes(-kept % 4), options, struct.pack(order + "I", size)))
 
 
 def noted(kept, comment):

@@ -5,7 +5,8 @@ An output has for each frame, in order, what was sent at the seconds up to its m
 from collections import OrderedDict, deque
 
 from layers import packet_in
-from reading import TUNNEL, described, eids_of, reading_of
+from outline import outline_of
+from reading import TUNNEL, eids_of
 from sentences import plain_address
 
 SECOND = 10**9
@@ -14,9 +15,9 @@ REQUEST, REPLY = "Map-Request", "Map-Reply"
 MISS, SEND = 13, 15
 
 
-def request_of(reading):
+def request_of(packet):
     """What a Map-Request has in common with one that is sent again."""
-    return reading.fields["request.nonce"], reading.fields["ip.dst"], eids_of(reading)
+    return packet.field("request.nonce"), packet.dest, eids_of(packet.message)
 
 
 class Output:
@@ -26,19 +27,19 @@ class Output:
         self.packets, self.ahead, self.known = packets, deque(), OrderedDict()
 
     def look(self, place=0):
-        """A packet ahead, as its moment and how it is read, or None."""
+        """A packet ahead, as its moment and its outline, or None."""
         while len(self.ahead) <= place:
             packet = next(self.packets, None)
             if packet is None:
                 return None
-            self.ahead.append((packet.moment, reading_of(packet_in(packet.link, packet.octets)[1])))
+            self.ahead.append((packet.moment, outline_of(packet_in(packet.link, packet.octets)[1])))
         return self.ahead[place]
 
-    def is_again(self, reading):
+    def is_again(self, packet):
         """Whether a Map-Request was sent before; from now on it was."""
-        if reading.kind != REQUEST:
+        if packet.kind != REQUEST:
             return False
-        request = request_of(reading)
+        request = request_of(packet)
         again = request in self.known
         self.known[request] = True
         if len(self.known) > MOST_KNOWN:
@@ -46,45 +47,47 @@ class Output:
         return again
 
 
-def is_encapsulated(verdict, frame, reading):
+def is_encapsulated(verdict, frame, packet):
     came, to, port = verdict.values
-    fields = reading.fields
-    return (reading.kind == TUNNEL and fields["ip.src"] == plain_address(came) and fields["ip.dst"] == plain_address(to)
-            and fields["udp.srcport"] == int(port) and fields["inner.src"] == frame.field("ip.src")
-            and fields["inner.dst"] == frame.field("ip.dst"))
+    return (packet.kind == TUNNEL and packet.port == int(port) and packet.source == plain_address(came)
+            and packet.dest == plain_address(to) and packet.inner_source == frame.packet.source
+            and packet.inner_dest == frame.packet.dest)
 
 
-def is_carried(layer):
-    """Whether a packet is that of a frame, or the one inside it."""
-    def test(verdict, frame, reading):
-        return all(reading.fields[f"ip.{end}"] == frame.field(f"{layer}.{end}") for end in ("src", "dst"))
-    return test
+def is_inner(verdict, frame, packet):
+    """Whether a packet is the one inside a frame's."""
+    return packet.source == frame.packet.inner_source and packet.dest == frame.packet.inner_dest
 
 
-def is_reply(verdict, frame, reading):
-    return reading.kind == REPLY and reading.fields["reply.nonce"] == frame.field("request.nonce")
+def is_carried(verdict, frame, packet):
+    """Whether a packet is that of a frame."""
+    return packet.source == frame.packet.source and packet.dest == frame.packet.dest
 
 
-def is_for_miss(verdict, frame, reading):
+def is_reply(verdict, frame, packet):
+    return packet.kind == REPLY and packet.field("reply.nonce") == frame.packet.field("request.nonce")
+
+
+def is_for_miss(verdict, frame, packet):
     """Whether a packet asks for the destination of a frame, encapsulated as all that ask are."""
-    asked = [item.value for item in reading.items if item.key == "eid"]
-    return (reading.kind == REQUEST and "ecm.reserved" in reading.fields and len(asked) == 1
-            and asked[0].split(" ")[1].partition("/")[0] == frame.field("ip.dst"))
+    if not is_asking(verdict, frame, packet):
+        return False
+    asked = [item.value for item in packet.message.items if item.key == "eid"]
+    return len(asked) == 1 and asked[0].split(" ")[1].partition("/")[0] == frame.packet.dest
 
 
-def is_asking(verdict, frame, reading):
-    return reading.kind == REQUEST and "ecm.reserved" in reading.fields
+def is_asking(verdict, frame, packet):
+    return packet.kind == REQUEST and packet.is_encapsulated
 
 
-def is_solicit(verdict, frame, reading):
+def is_solicit(verdict, frame, packet):
     """Whether a packet tells the locator of a tunnel packet to ask again, or asks for its source."""
-    fields = reading.fields
-    is_told = fields.get("request.smr") and fields["ip.dst"] == frame.field("ip.src")
-    return reading.kind == REQUEST and bool(is_told or is_asking(verdict, frame, reading))
+    is_told = packet.field("request.smr") and packet.dest == frame.packet.source
+    return packet.kind == REQUEST and bool(is_told or is_asking(verdict, frame, packet))
 
 
 # The packet that is sent for a verdict, as a test.
-WANTED = {"encapsulated": is_encapsulated, "delivered": is_carried("inner"), "native": is_carried("ip"),
+WANTED = {"encapsulated": is_encapsulated, "delivered": is_inner, "native": is_carried,
           "control request": is_reply}
 
 
@@ -100,17 +103,17 @@ class Origins:
             yield self.taken(None, None)
 
     def taken(self, verdict, frame):
-        moment, reading = self.output.ahead.popleft()
-        return moment, reading, self.output.is_again(reading), verdict, frame
+        moment, packet = self.output.ahead.popleft()
+        return moment, packet, self.output.is_again(packet), verdict, frame
 
     def place_of(self, verdict, frame, test):
         """How many packets ahead the first one at the moment of a frame is that a test takes, or None. What is sent
         again is of a second."""
         place = 0
         while (ahead := self.output.look(place)) and ahead[0] == verdict.moment:
-            reading = ahead[1]
-            may_be_again = verdict.moment % SECOND == 0 and reading.kind == REQUEST
-            if test(verdict, frame, reading) and not (may_be_again and request_of(reading) in self.output.known):
+            packet = ahead[1]
+            may_be_again = verdict.moment % SECOND == 0 and packet.kind == REQUEST
+            if test(verdict, frame, packet) and not (may_be_again and request_of(packet) in self.output.known):
                 return place
             place += 1
         return None
@@ -137,17 +140,17 @@ class Origins:
             yield from self.take_first(verdict, frame, is_for_miss)
 
 
-def role_of(reading):
+def role_of(packet):
     """What a packet is, of a Map-Request also what for."""
-    if reading.fields.get("request.probe"):
+    if packet.field("request.probe"):
         return "probe"
-    return "SMR" if reading.fields.get("request.smr") else reading.kind
+    return "SMR" if packet.field("request.smr") else packet.kind
 
 
-def text_of(moment, reading, is_again, number, sentence):
+def text_of(moment, packet, is_again, number, sentence):
     """Why a packet was sent."""
     if number is not None:
-        return f"{role_of(reading)} for frame {number}: {sentence}"
+        return f"{role_of(packet)} for frame {number}: {sentence}"
     again = ", sent again" if is_again else ""
     at = f"second {moment // SECOND}" if moment % SECOND == 0 else f"moment {moment // SECOND}.{moment % SECOND:09}"
-    return f"{role_of(reading)} at {at}{again}: {described(reading)}"
+    return f"{role_of(packet)} at {at}{again}: {packet.described()}"

@@ -1,4 +1,5 @@
 """The report of a replay, read line by line."""
+import functools
 import re
 from typing import NamedTuple
 
@@ -6,14 +7,16 @@ DROPS = ["refused", "not-tunnel", "fragment", "encrypted", "not-ours", "dest-ver
          "congestion-mark", "ttl-expired", "no-attachment", "multicast", "not-site", "miss", "no-action",
          "send-request", "drop-no-reason", "drop-policy", "drop-auth", "no-locator", "too-big", "unsolicited", "unfit",
          "foreign", "no-reply-path", "unexpected"]
-FRAME = re.compile(r"([1-9][0-9]*) ([0-9]{1,11})\.([0-9]{9}) n=([0-9]+) (.+)")
+FRAME = re.compile(r"([1-9][0-9]*) ([0-9]{1,11})\.([0-9]{9}) n=[0-9]+ (.+)\n")
 ENDS = re.compile("end |capture |settings |usage|sent ")
 ADDRESS, NUMBER = "([0-9a-f.:]+)", "([0-9]+)"
-VERDICTS = [(kind, re.compile(kind + values)) for kind, values in (
+# Of each kind of verdict what stands behind its words.
+VERDICTS = {kind: re.compile(kind + values) for kind, values in (
     ("encapsulated", f" {ADDRESS} {ADDRESS} {NUMBER}"), ("delivered", f" {NUMBER}"), ("own", ""), ("local", ""),
     ("native", ""), ("control reply", f" learned={NUMBER} passed={NUMBER}"), ("control request", f" answered={NUMBER}"),
     ("control solicit", f" asked={NUMBER}"), ("control probe-reply", ""),
-    ("drop", f" {NUMBER} ([a-z-]+)(?: (link|ip|udp|lisp|message) {NUMBER} ([a-z-]+))?"))]
+    ("drop", f" {NUMBER} ([a-z-]+)(?: (link|ip|udp|lisp|message) {NUMBER} ([a-z-]+))?"))}
+MOST_TEXTS = 65_536
 
 
 class NoReport(Exception):
@@ -21,28 +24,34 @@ class NoReport(Exception):
 
 
 class Verdict(NamedTuple):
-    """What became of a frame: its number, its moment in nanoseconds, the kind of its line, and the values behind it."""
+    """What became of a frame: its number, its moment in nanoseconds, the kind of its line, and the values behind it; the
+    number of a drop, 0 of other verdicts."""
     number: int
     moment: int
     kind: str
     values: tuple
-
-    @property
-    def drop(self):
-        """The number of a drop, 0 of other verdicts."""
-        return int(self.values[0]) if self.kind == "drop" else 0
+    drop: int
 
 
-def verdict_of(line, number):
-    """The verdict of a line of a frame."""
-    match = FRAME.fullmatch(line)
+@functools.lru_cache(MOST_TEXTS)
+def verdict_in(text):
+    """The kind of a verdict, the values behind it, and the number of a drop; None where there is no such verdict."""
+    words = text.split(" ", 2)
+    kind = " ".join(words[:2]) if words[0] == "control" else words[0]
+    found = VERDICTS[kind].fullmatch(text) if kind in VERDICTS else None
+    if not found or not is_lawful(kind, found.groups()):
+        return None
+    return kind, found.groups(), int(found[1]) if kind == "drop" else 0
+
+
+def verdict_of(match, number):
+    """The verdict of the line of a frame, as the form of such lines found it."""
     if not match or int(match[1]) != number:
         raise NoReport(f"line {number} isn't that of frame {number}")
-    for kind, pattern in VERDICTS:
-        found = pattern.fullmatch(match[5])
-        if found and is_lawful(kind, found.groups()):
-            return Verdict(number, int(match[2]) * 10**9 + int(match[3]), kind, found.groups())
-    raise NoReport(f"line {number} has no verdict that there is")
+    found = verdict_in(match[4])
+    if found is None:
+        raise NoReport(f"line {number} has no verdict that there is")
+    return Verdict(number, int(match[2]) * 10**9 + int(match[3]), *found)
 
 
 def is_lawful(kind, values):
@@ -57,7 +66,8 @@ def verdicts_of(file):
     """The verdicts of a report, up to its last line or to where it was cut."""
     number = 0
     for line in file:
-        if not line.endswith("\n") or ENDS.match(line):
+        match = FRAME.fullmatch(line)
+        if match is None and (ENDS.match(line) or not line.endswith("\n")):
             return
         number += 1
-        yield verdict_of(line[:-1], number)
+        yield verdict_of(match, number)

@@ -1,7 +1,9 @@
 """What became of a frame, as a sentence with its addresses: the line of the report in words."""
+import functools
+
 from frames import instance_in
 from layers import address_of
-from reading import NONCES, TUNNEL, eids_of
+from reading import NONCES, eids_of
 
 MOST_EIDS = 3
 # Of packets that leave the site: what is wrong, in which the EID with its instance may stand.
@@ -53,22 +55,35 @@ def eids_text(reading):
     return ", ".join(texts) + (f" and {len(eids) - MOST_EIDS} more" if len(eids) > MOST_EIDS else "") or "no EID"
 
 
-def words_for(frame, settings):
-    """What may stand in a sentence of a frame."""
-    if frame.reading is None:
-        return {"vlan": frame.vlan}
-    fields, reading = frame.reading.fields, frame.reading
-    iid = settings.instances.get(frame.vlan) if settings else None
-    words = {"vlan": frame.vlan, "src": fields["ip.src"], "dst": fields["ip.dst"],
-             "eid": eid_text(iid, fields["ip.dst"]),
-             "within": "" if iid is None else f" in instance {iid}", "inner": "its EID", "inner_source": "EID",
-             "nonce": fields.get(NONCES.get(reading.kind), "unknown")}
-    if reading.kind == TUNNEL:
-        inside = instance_in(reading.header)
-        words |= {"inner": eid_text(inside, fields["inner.dst"]), "inner_source": eid_text(inside, fields["inner.src"])}
-    elif reading.kind in NONCES:
-        words["inner"] = eids_text(reading)
-    return words
+# What may stand in a sentence, by its word: it is made of the packet, its VLAN, and the instance of that, or None.
+WORDS = {
+    "vlan": lambda packet, vlan, iid: vlan,
+    "src": lambda packet, vlan, iid: packet.source, "dst": lambda packet, vlan, iid: packet.dest,
+    "eid": lambda packet, vlan, iid: eid_text(iid, packet.dest),
+    "within": lambda packet, vlan, iid: "" if iid is None else f" in instance {iid}",
+    "inner": lambda packet, vlan, iid: inner_text(packet),
+    "inner_source": lambda packet, vlan, iid: (
+        eid_text(instance_in(packet.header), packet.inner_source) if packet.header else "EID"),
+    "nonce": lambda packet, vlan, iid: packet.field(NONCES.get(packet.kind)) or "unknown"}
+
+
+def inner_text(packet):
+    """The EID inside a tunnel packet, or the EIDs of a message."""
+    if packet.header:
+        return eid_text(instance_in(packet.header), packet.inner_dest)
+    return eids_text(packet.message) if packet.message else "its EID"
+
+
+class Words(dict):
+    """What may stand in a sentence of a frame, made where it is asked for."""
+
+    def __init__(self, frame, settings):
+        self.packet, self.vlan = frame.packet, frame.vlan
+        self.iid = settings.instances.get(frame.vlan) if settings else None
+
+    def __missing__(self, word):
+        self[word] = text = WORDS[word](self.packet, self.vlan, self.iid)
+        return text
 
 
 def drop_sentence(verdict, words, has_come):
@@ -76,7 +91,7 @@ def drop_sentence(verdict, words, has_come):
     if verdict.drop == 1:
         return f"drop 1 refused: {WHY.get(why, why)}, by the rules of {layer}, at octet {place} of the frame ({why})"
     table = ARRIVING if has_come else LEAVING
-    reason = table[verdict.drop].format(**words)
+    reason = table[verdict.drop].format_map(words)
     came = f", from locator {words['src']}" if has_come and verdict.drop in range(4, 10) else ""
     came = f", in a message from {words['src']}" if has_come and verdict.drop in (21, 22, 24, 25) else came
     return f"drop {number} {word}: {reason}{came}"
@@ -96,53 +111,54 @@ def records_text(reading):
     return "; ".join(texts) + (f"; and {len(records) - MOST_EIDS} more" if len(records) > MOST_EIDS else "")
 
 
+@functools.lru_cache(4096)
 def plain_address(text):
     """An address of a report, as RFC 5952 has it."""
     return address_of(bytes.fromhex(text.replace(":", ""))) if ":" in text else text
 
 
-def encapsulated(verdict, words, _):
+def encapsulated(verdict, words):
     came, to, port = verdict.values
     return f"{words['eid']} by locator {plain_address(to)}, from {plain_address(came)} port {port}"
 
 
-def delivered(verdict, words, _):
+def delivered(verdict, words):
     return f"{words['inner']}, from {words['inner_source']} by locator {words['src']}"
 
 
-def replied(verdict, words, reading):
+def replied(verdict, words):
     learned, passed = verdict.values
     return (f"Map-Reply from {words['src']} to request {words['nonce']}, {plural(learned, 'record')} learned, {passed} "
-            f"passed over: {records_text(reading)}")
+            f"passed over: {records_text(words.packet.message)}")
 
 
-def requested(verdict, words, reading):
+def requested(verdict, words):
     return (f"Map-Request from {words['src']} for {words['inner']} is answered by a Map-Reply of "
             f"{plural(verdict.values[0], 'record')}")
 
 
-def solicited(verdict, words, reading):
+def solicited(verdict, words):
     return f"SMR from {words['src']} for {words['inner']}, {plural(verdict.values[0], 'mapping')} asked for again"
 
 
 SENTENCES = {
-    "own": lambda verdict, words, _: f"the router sent it itself, from {words['src']}",
-    "local": lambda verdict, words, _: f"{words['eid']} is in the site",
-    "native": lambda verdict, words, _: f"{words['eid']} is forwarded outside the tunnels, as its mapping says",
-    "control probe-reply": lambda verdict, words, _: f"locator {words['src']} answered probe {words['nonce']}",
+    "own": lambda verdict, words: f"the router sent it itself, from {words['src']}",
+    "local": lambda verdict, words: f"{words['eid']} is in the site",
+    "native": lambda verdict, words: f"{words['eid']} is forwarded outside the tunnels, as its mapping says",
+    "control probe-reply": lambda verdict, words: f"locator {words['src']} answered probe {words['nonce']}",
     "encapsulated": encapsulated, "delivered": delivered, "control reply": replied, "control request": requested,
     "control solicit": solicited}
 
 
 def sentence_of(verdict, frame, settings):
     """The verdict of a frame as a sentence, which begins with the report's own words for it."""
-    words = words_for(frame, settings)
+    words = Words(frame, settings)
     if verdict.kind == "drop":
         has_come = verdict.drop in ARRIVING and (verdict.drop != 9 or arrives(frame, settings))
         return drop_sentence(verdict, words, has_come)
-    return f"{verdict.kind}: {SENTENCES[verdict.kind](verdict, words, frame.reading)}"
+    return f"{verdict.kind}: {SENTENCES[verdict.kind](verdict, words)}"
 
 
 def arrives(frame, settings):
     """Whether a frame comes to an own locator; without settings, whether it is a tunnel packet."""
-    return frame.field("ip.dst") in settings.own if settings else frame.reading.kind == TUNNEL
+    return frame.packet.dest in settings.own if settings else bool(frame.packet.header)
