@@ -6,9 +6,9 @@ from text import TOP
 from words import FORMS, forms
 
 HOST = 4
-# What each option is, in the order of docs/WORDS.md; those of the formats and forms stand in the forms.
+# What each option is, in the order of docs/REFERENCE.md; those of the formats and forms stand in the forms.
 OPTIONS = {
-    "--settings F": "the settings, in TOML: docs/SETTINGS.md",
+    "--settings F": "the settings, in TOML: docs/REFERENCE.md",
     "--in F": "the capture; /dev/stdin for one that comes in a pipe",
     "--out F": "the file for the packets; one that is there is replaced",
     "--sent F": "a capture of what a router sent",

@@ -31,7 +31,7 @@ def settings_lines(program, words):
 
 def sentences(line, words):
     """What a last line means, in a list."""
-    return [sentence(line, words) or "docs/REPORT.md says more, at Statuses"]
+    return [sentence(line, words) or "docs/REFERENCE.md says more, at Statuses"]
 
 
 def capture_lines(program, words):

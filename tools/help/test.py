@@ -105,7 +105,7 @@ def files():
 
 WORDS = [
     ([], "lispr show --in F"),
-    (["show"], "docs/WORDS.md, and beside it SETTINGS.md and REPORT.md"),
+    (["show"], "docs/REFERENCE.md"),
     (["help"], "lispr trial N"),
     (["--version", "x"], "--version is no command"),
     (["show", "--version"], "--version is no option of show"),
@@ -186,7 +186,7 @@ def test_words():
 # Questions to the script.
 
 ASKED = [
-    (["--help"], ["lispr show --in F", "lispr trial N", "--split on|off ", "3 capture refused", "docs/WORDS.md"], []),
+    (["--help"], ["lispr show --in F", "lispr trial N", "--split on|off ", "3 capture refused", "docs/REFERENCE.md"], []),
     (["-h"], ["lispr audit --settings F", "lispr --version"], []),
     (["show", "--help"], ["lispr show --in F", "--in F "], ["lispr trial", "--settings F", "--format"]),
     (["replay", "--in", "-h", "x"], ["[--format classic|ng]", "--round N"], ["lispr show", "--sent"]),

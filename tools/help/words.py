@@ -138,5 +138,5 @@ def forms(words, top):
     for name, (first, *others) in FORMS.items():
         if named in (None, name):
             lines += [f"  lispr {first}", *(f"      {other}" for other in others)]
-    more = f"more: {shown(os.path.join(top, 'docs', 'WORDS.md'))}, and beside it SETTINGS.md and REPORT.md"
+    more = f"more: {shown(os.path.join(top, 'docs', 'REFERENCE.md'))}"
     return ["words:", *lines, more]
