@@ -1,21 +1,27 @@
 #!/usr/bin/env python3
-"""Holds the pages of `picture` against their reports, in a headless Chromium.
+"""Holds the pages of `picture` against their reports, by the data in them, and in a headless Chromium where there is one.
 
 usage: picture_test.py PROGRAM [FOLDER [FRAMES [LINES]]]
 PROGRAM is the built router. It makes reports: of the examples; of a capture of so many frames (100,000) without workers
 and with some; one with each kind of frame; one of so many lines (1,000,000); one whose capture has a fault; one that is
 cut short; and some without frames. For each `picture` may take 256 MiB of memory. The report is counted here by other
-code than that of `picture`, and its page is loaded in Chromium without a network, and asked for its counts and for what
-its tables show behind clicks that sort and filter. Some pages are drawn in both schemes into FOLDER, or into a folder
-that goes at the end. Inputs that are no reports must be refused. It prints one line a page, and ends with status 1
-where something differs, and with 2 where there is no Chromium.
+code than that of `picture`, and so are, with settings and a capture, the drops by EID prefix (by `tools/packets`) and
+the sizes of the map-cache (by the plain journal's scans). Its page is loaded in Chromium without a network, and asked
+for its counts, for what its tables show behind clicks that sort and filter, and for what keys and the button do. Some
+pages are drawn in both schemes and at two widths into FOLDER, or into a folder that goes at the end. Inputs that are no
+reports, and settings and captures of other reports, must be refused. It prints one line a page, and ends with status 1
+where something differs. Where there is no Chromium, or no tshark, a line says so.
 """
 import base64
 import collections
+import html.parser
+import ipaddress
 import itertools
 import json
+import math
 import os
 import random
+import re
 import resource
 import shutil
 import subprocess
@@ -25,9 +31,21 @@ import time
 
 TOP = os.path.dirname(os.path.dirname(os.path.abspath(__file__)))
 PICTURE, EXAMPLES = os.path.join(TOP, "tools", "picture"), os.path.join(TOP, "examples")
+sys.dont_write_bytecode = True
+sys.path[:0] = [os.path.join(TOP, folder) for folder in ("crosscheck", "tools/packets")]
+
+from frames import Settings, frame_of, instance_in  # noqa: E402
+from journal import Journal  # noqa: E402
+from messages import Eid  # noqa: E402
+from picturing.colours import DROPS  # noqa: E402
+from plain import turns  # noqa: E402
+from captures import frames_of  # noqa: E402
+from router import Router  # noqa: E402
+from sites import Site  # noqa: E402
+
 BROWSERS = "chromium", "chromium-browser", "google-chrome"
 MOST_LISTED, MOST_ROWS, MOST_MEMORY, SECONDS = 10_000, 25, 256 * 2**20, 10
-START, WIDTH = 1_700_000_000, 1180
+START, WIDTH, NARROW = 1_700_000_000, 1280, 420
 KINDS = """own|local|native|encapsulated 192.0.2.1 198.51.100.7 61000|encapsulated 2001:db8::1 2001:db8::7 49152
 delivered 100|control reply learned=2 passed=1|control request answered=3|control solicit asked=2|control probe-reply
 drop 1 refused message 28 instance-too-large|drop 2 not-tunnel|drop 3 fragment|drop 4 encrypted|drop 5 not-ours
@@ -271,7 +289,7 @@ def sum_faults(browser, counts):
     verdicts = collections.Counter()
     for kind, count in counts["kinds"].items():
         verdicts["drop" if kind.startswith("drop ") else kind] += count
-    locators = {" ".join(reversed(pair.split(" "))): count for pair, count in counts["locators"].items()}
+    locators = {" ".join(reversed(shortened(pair).split(" "))): count for pair, count in counts["locators"].items()}
     found = []
     for table, names, right in (("verdict-table", 1, verdicts), ("locator-table", 2, locators)):
         rows = browser.value(f"{ROWS}('{table}')")
@@ -299,6 +317,31 @@ def drop_faults(browser, counts):
     return found
 
 
+def shortened(text):
+    """A text whose IPv6 addresses are as RFC 5952 has them."""
+    return re.sub("(?:[0-9a-f]{4}:){7}[0-9a-f]{4}", lambda found: str(ipaddress.ip_address(found[0])), text)
+
+
+def utc(moment):
+    seconds, fraction = moment.split(".")
+    return time.strftime("%Y-%m-%d %H:%M:%S.", time.gmtime(int(seconds))) + fraction
+
+
+def filter_faults(browser, frames):
+    """Where the button doesn't copy a filter that has the frames that are listed."""
+    browser.value("navigator.clipboard.writeText = async text => { window.copied = text; }")
+    browser.value("document.getElementById('copy').click()")
+    text = browser.value("window.copied")
+    return [] if frames_in(text) == frames else [f"the filter: {text[:80]} instead of {frames[:5]}"]
+
+
+def frames_in(text):
+    """The frames of a filter."""
+    found = re.fullmatch(r"frame\.number in \{(.*)\}", text)[1].split(", ")
+    ends = [[int(end) for end in one.split("..")] for one in found]
+    return [number for pair in ends for number in range(pair[0], pair[-1] + 1)]
+
+
 def list_faults(browser, report, counts):
     """Where a click on the row of a kind doesn't list its frames, or a text doesn't choose among them."""
     drops = [kind for kind in counts["kinds"] if kind.startswith("drop ")][:3]
@@ -308,14 +351,62 @@ def list_faults(browser, report, counts):
         table = "drop-table" if kind in drops else "verdict-table"
         browser.value(f"document.querySelector('#{table} tr[data-key=\"{kind}\"]').click()")
         first = itertools.islice((line for line in lines if kind_of(line) == kind), MOST_ROWS)
-        shown = [f"{row[0].replace(',', '')} {row[1]} n={row[3].replace(',', '')} {row[-1]}"
-                 for row in browser.value(f"{ROWS}('frame-table')")]
-        found += [] if shown == list(first) else [f"the list of {kind}: {shown[:2]}"]
+        rows, at = browser.value(f"{ROWS}('frame-table')"), 6 if counts["behind"]["greatest"] else 5
+        shown = [f"{row[0].replace(',', '')} {row[1]} n={row[4].replace(',', '')} {row[at]}" for row in rows]
+        found += [] if shown == list(map(shortened, first)) else [f"the list of {kind}: {shown[:2]}"]
+        found += [f"UTC: {row[:3]}" for row in rows if row[2] != utc(row[1])][:1]
+        found += filter_faults(browser, [int(line.split(" ")[0]) for line in lines if kind_of(line) == kind][:MOST_LISTED])
         is_cut = "only the first 10,000" in browser.value("document.getElementById('listed-note').textContent")
         found += [] if is_cut == (counts["kinds"][kind] > MOST_LISTED) else [f"the note of {kind}"]
     browser.value("(() => { const words = document.getElementById('words'); words.value = 'no such text';"
                   "words.dispatchEvent(new Event('input')); })()")
     return found + (["the text chooses nothing"] if browser.value(f"{ROWS}('frame-table')") else [])
+
+
+TIPS = """(chart => {
+    const svg = document.querySelector(`#${chart} div > svg`), tip = document.getElementById("tip");
+    const press = key => svg.dispatchEvent(new KeyboardEvent("keydown", {key}));
+    const last = [...svg.querySelectorAll("text")].map(text => text.textContent);
+    press("Home");
+    const first = [...tip.querySelectorAll("p, div")].map(node => node.innerText);
+    press("ArrowRight");
+    const second = tip.querySelector("p").textContent;
+    press("Escape");
+    return {texts: last, tip: first, second, hidden: tip.hidden, unit: svg.querySelector(".unit").textContent};
+})"""
+UNITS = "ns", "µs", "ms", "s", "min", "h", "d"
+
+
+def unit_in(text):
+    """The first unit of a span."""
+    return text.split(" ")[1]
+
+
+def chart_faults(browser):
+    """Where the chart of verdicts has no unit, its tips are in another one than its axis, or keys don't go through it."""
+    shown = browser.value(f"{TIPS}('verdict-chart')")
+    axis = {unit_in(text) for text in shown["texts"] if re.fullmatch(r"[0-9.,]+ (ns|µs|ms|s|min|h|d)", text)}
+    axis = axis or {unit_in(text) for text in shown["texts"] if " " in text and unit_in(text) in UNITS}
+    tests = {
+        "the unit of the y axis": re.fullmatch("frames in [0-9.,]+ (ns|µs|ms|s|min|h|d)", shown["unit"]),
+        "UTC at the axis": any(re.search(r"\d\d:\d\d:\d\d.* UTC|\d{4}-\d\d-\d\d", text) for text in shown["texts"]),
+        "the unit of tips": {unit_in(shown["tip"][0])} == axis == {unit_in(shown["tip"][0].split(" to ")[1])},
+        "UTC of tips": shown["tip"][1].endswith(" UTC"), "the keys": shown["second"] != shown["tip"][0],
+        "Escape": shown["hidden"]}
+    return [f"{what}: {shown}" for what, good in tests.items() if not good]
+
+
+CUT = """[...document.querySelectorAll(".scroll")].filter(({scrollWidth, clientWidth}) => scrollWidth > clientWidth)
+    .map(({parentNode}) => parentNode.id)"""
+LONGEST = """[...document.querySelectorAll("tbody")].map(body =>
+    Math.max(...[...body.querySelectorAll("svg.bar")].map(({style}) => parseFloat(style.width))))
+    .filter(width => width > 0 && Math.abs(width - 100) > 0.01)"""
+
+
+def width_faults(browser):
+    """Which tables are cut, or have no bar of full width."""
+    return ([f"{table} is cut" for table in browser.value(CUT)]
+            + [f"the greatest bar has {width} %" for width in browser.value(LONGEST)])
 
 
 def page_faults(browser, report, counts):
@@ -327,7 +418,8 @@ def page_faults(browser, report, counts):
     faults += [f"asks for {url}" for url in browser.requests if not url.startswith("file:")]
     if counts["frames"]:
         faults += sum_faults(browser, counts) + drop_faults(browser, counts) + list_faults(browser, report, counts)
-        bars = browser.value("document.querySelectorAll('#verdict-chart rect:not(.under)').length")
+        faults += chart_faults(browser) + width_faults(browser) if counts["frames"] > 1 else []
+        bars = browser.value("document.querySelectorAll('#verdict-chart rect.bar').length")
         faults += [] if bool(bars) == (counts["frames"] > 1) else [f"{bars} bars"]
         wide = browser.value("document.documentElement.scrollWidth > innerWidth")
         faults += ["it is wider than its window"] if wide else []
@@ -341,14 +433,14 @@ def limit_memory():
     resource.setrlimit(resource.RLIMIT_AS, (MOST_MEMORY, MOST_MEMORY))
 
 
-def picture(report, folder, name):
+def picture(report, folder, name, *words):
     """Writes a report and its page: where the page is, the status, what was said, and how many seconds it took."""
     path, page = os.path.join(folder, f"{name}.txt"), os.path.join(folder, f"{name}.html")
     with open(path, "wb") as file:
         file.write(report if isinstance(report, bytes) else report.encode())
     start = time.time()
     with open(page, "wb") as file:
-        done = subprocess.run([sys.executable, PICTURE, path], stdout=file, stderr=subprocess.PIPE,
+        done = subprocess.run([sys.executable, PICTURE, path, *words], stdout=file, stderr=subprocess.PIPE,
                               preexec_fn=limit_memory)
     return page, done.returncode, done.stderr.decode(), time.time() - start
 
@@ -359,17 +451,50 @@ def told(name, faults, what=""):
     return not faults
 
 
+class Page(html.parser.HTMLParser):
+    """The data in a page, and what it names that lies outside it."""
+
+    def __init__(self, path):
+        super().__init__()
+        self.inside, self.data, self.outside = False, None, []
+        with open(path, encoding="utf-8") as file:
+            self.feed(file.read())
+
+    def handle_starttag(self, tag, attributes):
+        self.inside = ("id", "report-data") in attributes
+        self.outside += [value for name, value in attributes if name in ("src", "href")]
+
+    def handle_data(self, data):
+        if self.inside:
+            self.data, self.inside = json.loads(data), False
+
+
+def data_faults(path, counts):
+    """Where the data in a page don't have the counts."""
+    page = Page(path)
+    data, kinds = page.data, {fact["kind"]: fact for fact in page.data["kinds"]}
+    series = data["parts"]["series"]
+    shown = {
+        "frames": data["frames"], "kinds": {kind: sum(series[kind]) for kind in kinds}, "misses": data["misses"],
+        **{name: {kind: fact[name] for kind, fact in kinds.items()} for name in ("first", "last")},
+        "listed": {kind: len(fact["lines"]) for kind, fact in kinds.items()}, **data["sums"],
+        "locators": {f"{source} {dest}": count for source, dest, count, _, _ in data["locators"]},
+        "behind": data["behind"], "lastLine": data["lastLine"]}
+    faults = [f"data, {name}: {shown[name]} instead of {right}" for name, right in counts.items() if shown[name] != right]
+    return faults + [f"names {url}" for url in page.outside]
+
+
 def check_page(browser, folder, name, report):
     page, status, said, took = picture(report, folder, name)
     if status:
         return told(name, [f"status {status}: {said}"])
-    counts = counted(report)
-    start = time.time()
-    browser.load(page)
-    faults = page_faults(browser, report, counts)
-    size = os.path.getsize(page) / 2**20
-    return told(name, faults, f", {counts['frames']:,} frames, {took:.1f} s, page of {size:.1f} MiB, "
-                f"{time.time() - start:.1f} s in Chromium")
+    counts, start, size = counted(report), time.time(), os.path.getsize(page) / 2**20
+    faults, what = data_faults(page, counts), f", {counts['frames']:,} frames, {took:.1f} s, page of {size:.1f} MiB"
+    if browser:
+        browser.load(page)
+        faults += page_faults(browser, report, counts)
+        what += f", {time.time() - start:.1f} s in Chromium"
+    return told(name, faults, what)
 
 
 def check_refused(folder):
@@ -385,26 +510,260 @@ def check_without_frames(browser, folder):
     faults = []
     for report, words in WITHOUT_FRAMES.items():
         page, status, said, _ = picture(report, folder, "without")
-        browser.load(page)
-        text, counts = browser.value("document.body.innerText"), browser.value("window.reportCounts")
-        if status or words not in text or counts["frames"] or "There is no frame" not in text:
-            faults.append(f"{report!r}: status {status}, {said} {text[:200]}")
+        data = Page(page).data
+        if status or words not in data["sentence"] and words not in str(data["lastLine"]) or data["frames"]:
+            faults.append(f"{report!r}: status {status}, {said} {data['sentence']}")
+        if browser:
+            browser.load(page)
+            text = browser.value("document.body.innerText")
+            faults += [] if words in text and "There is no frame" in text else [f"{report!r}: {text[:200]}"]
     return told("reports without frames", faults, f", {len(WITHOUT_FRAMES)} of them")
 
 
+# Colours.
+
+
+def linear(value):
+    return value / 12.92 if value <= 0.04045 else ((value + 0.055) / 1.055)**2.4
+
+
+def light_of(colour):
+    return [linear(int(colour[i:i + 2], 16) / 255) for i in (1, 3, 5)]
+
+
+def luminance(colour):
+    red, green, blue = light_of(colour)
+    return 0.2126 * red + 0.7152 * green + 0.0722 * blue
+
+
+def contrast(*colours):
+    less, more = sorted(map(luminance, colours))
+    return (more + 0.05) / (less + 0.05)
+
+
+def seen(colour):
+    """A colour as OKLab has it, in which distances are what an eye tells apart."""
+    red, green, blue = light_of(colour)
+    long, middle, short = ((a * red + b * green + c * blue)**(1 / 3) for a, b, c in (
+        (0.4122214708, 0.5363325363, 0.0514459929), (0.2119034982, 0.6806995451, 0.1073969566),
+        (0.0883024619, 0.2817188376, 0.6299787005)))
+    return tuple(a * long + b * middle + c * short for a, b, c in (
+        (0.2104542553, 0.7936177850, -0.0040720468), (1.9779984951, -2.4285922050, 0.4505937099),
+        (0.0259040371, 0.7827717662, -0.8086757660)))
+
+
+def distance(one, other):
+    return math.dist(seen(one), seen(other))
+
+
+def check_colours():
+    """Each drop has a colour that is none of a verdict, is seen on its page, and is far from its neighbours."""
+    with open(os.path.join(TOP, "tools", "picturing", "style.css")) as file:
+        schemes = [dict(re.findall("--([a-z]+): (#[0-9a-f]{6})", part)) for part in file.read().split("@media")[:2]]
+    faults = []
+    for place, scheme in enumerate(schemes):
+        colours = [pair[place] for pair in DROPS]
+        verdicts = [scheme[name] for name in ("encapsulated", "delivered", "native", "control", "local", "own", "drop")]
+        least = {
+            "contrast": (min(contrast(one, scheme["card"]) for one in colours + verdicts), 2.8),
+            "to verdicts": (min(distance(one, verdict) for one in colours for verdict in verdicts), 0.075),
+            "neighbours": (min(map(distance, colours, colours[1:])), 0.15),
+            "of one pattern": (min(distance(*pair) for i in range(5)
+                                   for pair in itertools.combinations(colours[i::5], 2)), 0.11),
+            "any two": (min(distance(*pair) for pair in itertools.combinations(colours, 2)), 0.07),
+            "texts": (min(contrast(scheme[name], scheme[back]) for name in ("text", "quiet")
+                          for back in ("page", "card", "hover")), 4.5)}
+        faults += [f"{name}: {value:.3f} in scheme {place}" for name, (value, least) in least.items() if value < least]
+    return told("colours", faults + ([] if len(DROPS) == 25 else [f"{len(DROPS)} colours"]), f", {len(DROPS)} of drops")
+
+
+# Settings and captures.
+
+
+def home_of(site, eid, plain, moment):
+    """The longest prefix for an EID, by scans: of the site, else of the map-cache, else the EID."""
+    if eid.iid is None:
+        return eid
+    entry = Journal.in_force(plain, moment, eid)
+    return site.home(eid) or (entry.mapping.eid if entry else eid)
+
+
+def eid_read(given, verdict, frame):
+    """The instance and address for which a data packet was dropped, by the reader of packets; or None."""
+    number, arrives = int(verdict.split(" ")[1]), frame.reading and frame.field("ip.dst") in given.own
+    if number in (1, 2, 3, 4, *range(21, 26)) or arrives and frame.reading.kind != "tunnel packet":
+        return None
+    if arrives:
+        iid, address = instance_in(frame.reading.header), frame.field("inner.dst")
+    else:
+        iid, address = given.instances.get(frame.vlan), frame.field("ip.src" if number == 12 else "ip.dst")
+    return Eid.host(iid, ipaddress.ip_address(address).packed)
+
+
+def worked(settings, capture):
+    """The drops by prefix and number, and the router behind a capture, by the plain router's scans alone."""
+    with open(settings, "rb") as file:
+        octets = file.read()
+    site, given, drops = Site(octets), Settings(octets), collections.Counter()
+    router = Router(site)
+    pairs = list(frames_of(capture))
+    for (moment, link, frame), (_, _, verdict, _) in zip(pairs, turns(router, pairs)):
+        eid = eid_read(given, verdict, frame_of(link, frame)) if verdict.startswith("drop") else None
+        if eid:
+            home = home_of(site, eid, router.journal, moment)
+            drops[home.iid, f"{ipaddress.ip_address(home.octets())}/{home.length}", verdict.split(" ")[1]] += 1
+    return drops, router
+
+
+def played_faults(data, settings, capture):
+    """Where the drops by prefix, or the sizes of the map-cache, aren't those of the plain router's scans."""
+    (drops, router), played, parts = worked(settings, capture), data["played"], data["parts"]
+    shown = collections.Counter({(row["iid"], row["prefix"], number): count for row in played["drops"]["rows"]
+                                 for number, count in row["drops"].items()})
+    faults = [] if shown == drops else [f"drops by prefix: {shown - drops} and not {drops - shown}"]
+    start = int(data["first"].replace(".", ""))
+    end = int(data["last"].replace(".", ""))
+    for part, size in enumerate(played["cache"]["ends"]):
+        moment = min(start + (part + 1) * parts["width"] - 1, end)
+        journal = Journal(entry for entry in router.journal if entry.moment <= moment)
+        right = sum(not entry.fixed for entry in Journal.live(journal, moment).values())
+        faults += [] if size == right and played["cache"]["most"][part] >= size else [f"part {part}: {size}, not {right}"]
+    return faults
+
+
+def check_played(browser, program, folder):
+    """The pages of the examples, with settings and captures."""
+    results = []
+    for name in sorted(os.listdir(EXAMPLES)):
+        example = os.path.join(EXAMPLES, name)
+        files = [os.path.join(example, file) for file in ("settings.toml", "capture.pcap")]
+        if os.path.exists(files[1]):
+            results.append(check_one_played(browser, folder, name, files, replayed(program, *files, folder)))
+    return all(results)
+
+
+def check_one_played(browser, folder, name, files, report):
+    page, status, said, took = picture(report, folder, f"{name}-played", "--settings", files[0], "--in", files[1])
+    if status:
+        return told(f"{name}-played", [f"status {status}: {said}"])
+    data = Page(page).data
+    faults = data_faults(page, counted(report)) + played_faults(data, *files)
+    if browser:
+        browser.load(page)
+        faults += chart_faults(browser) if data["parts"]["count"] > 1 else []
+        faults += width_faults(browser) + prefix_faults(browser, data)
+    return told(f"{name}-played", faults, f", {data['frames']:,} frames, {took:.1f} s, "
+                f"{len(data['played']['drops']['rows'])} prefixes")
+
+
+def prefix_faults(browser, data):
+    """Where the table of prefixes isn't there with the most frames first, or a row doesn't list its frames."""
+    rows, right = browser.value(f"{ROWS}('prefix-table')"), data["played"]["drops"]["rows"]
+    counts = [int(row[3].replace(",", "")) for row in rows]
+    most = sorted((sum(row["drops"].values()) for row in right), reverse=True)[:MOST_ROWS]
+    faults = [] if counts == most else [f"prefixes: {counts} instead of {most}"]
+    if rows:
+        browser.value("document.querySelector('#prefix-table tbody tr').click()")
+        listed = browser.value(f"{ROWS}('frame-table')")
+        faults += [] if listed and all(row[-1].startswith(rows[0][0]) for row in listed) else [f"listed: {listed[:2]}"]
+    return faults
+
+
+def check_liars(program, folder):
+    """Reports that aren't of their settings and captures, and words that are wrong: status 1, and both lines."""
+    example = os.path.join(EXAMPLES, "site")
+    files = [os.path.join(example, file) for file in ("settings.toml", "capture.pcap")]
+    report, words = replayed(program, *files, folder), ["--settings", files[0], "--in", files[1]]
+    dropped = next(line for line in report.split("\n") if " drop 17 " in line)
+    other = os.path.join(EXAMPLES, "cache", "capture.pcap")
+    wrong = {
+        "another drop": (report.replace(dropped, dropped.replace("17 drop-policy", "18 drop-auth")), words, "plain  "),
+        "another moment": (report.replace(".000000000 ", ".000000001 ", 1), words, "plain  "),
+        "another n": (report.replace(" n=", " n=1", 1), words, ""),
+        "another capture": (report, [*words[:3], other], "plain  "),
+        "another count": (report.replace("written=", "written=9"), words, "plain  "),
+        "no capture": (report, words[:2], "go together"), "no file": (report, [*words[:3], example + "/none"], "none"),
+        "no settings": (report, ["--settings", files[1], *words[2:]], ""), "a word": (report, ["--lose"], "--lose")}
+    faults = []
+    for what, (text, given, part) in wrong.items():
+        page, status, said, _ = picture(text, folder, "liar", *given)
+        if status != 1 or os.path.getsize(page) or not said.startswith("picture: ") or part not in said:
+            faults.append(f"{what}: status {status}, {said}")
+    return told("reports of others", faults, f", {len(wrong)} of them")
+
+
+# Addresses.
+
+ADDRESSES = {
+    "2001:0db8:0000:0000:0001:0000:0000:0001": "2001:db8::1:0:0:1", "2001:0db8:0000:0001:0001:0001:0001:0001":
+    "2001:db8:0:1:1:1:1:1", "2001:0000:0000:0001:0000:0000:0000:0001": "2001:0:0:1::1",
+    "0000:0000:0000:0000:0000:0000:0000:0000": "::", "0000:0000:0000:0000:0000:0000:0000:0001": "::1",
+    "2001:0db8:0000:0000:0000:0000:0000:0000": "2001:db8::", "fe80:0000:0000:0000:0abc:0000:0000:00de":
+    "fe80::abc:0:0:de", "0000:0000:0000:0000:0000:ffff:c000:0201": "::ffff:192.0.2.1"}
+SOUGHT = {"2001:db8:f::7": True, "2001:0db8:000f:0000:0000:0000:0000:0007": True, "2001:DB8:F:0::7": True,
+          "2001:db8:f::": True, "000f:0000": True, "2001:db8:f::8": False, "61000": True}
+
+
+def check_addresses(browser, folder):
+    """Addresses of the page as RFC 5952 has them (its section 4), and what finds one."""
+    full = "2001:0db8:000f:0000:0000:0000:0000:0007"
+    report = f"1 {START}.000000000 n=0 encapsulated 2001:0db8:000f:0000:0000:0000:0000:0001 {full} 61000\n"
+    page, status, said, _ = picture(report, folder, "addresses")
+    browser.load(page)
+    faults = [f"status {status}: {said}"] if status else []
+    numbers = random.Random(1)
+    groups = [":".join(f"{numbers.choice((0, 0, 1, numbers.randrange(65536))):04x}" for _ in range(8)) for _ in range(300)]
+    right = ADDRESSES | {one: str(ipaddress.ip_address(one)) for one in groups if not one.startswith("0000:0000:0000")}
+    shown = browser.value(f"{json.dumps(list(right))}.map(shortened)")
+    faults += [f"{one}: {text}" for (one, wanted), text in zip(right.items(), shown) if text != wanted]
+    for words, is_there in SOUGHT.items():
+        rows = browser.value("(words => { const field = document.getElementById('words'); field.value = words; "
+                             "field.dispatchEvent(new Event('input')); return document.querySelectorAll("
+                             f"'#frame-table tbody tr').length; }})({json.dumps(words)})")
+        faults += [] if bool(rows) == is_there else [f"{words}: {rows} rows"]
+    return told("addresses", faults, f", {len(right)} of them")
+
+
+def check_filter(browser, folder):
+    """Whether tshark takes a filter that the page makes."""
+    if not shutil.which("tshark"):
+        print("filter: left out, there is no tshark")
+        return True
+    text = browser.value("filterText([1, 2, 4, 5, 6, 9])")
+    capture = os.path.join(EXAMPLES, "site", "capture.pcap")
+    done = subprocess.run(["tshark", "-r", capture, "-Y", text, "-T", "fields", "-e", "frame.number"],
+                          capture_output=True, text=True)
+    there = [number for number in done.stdout.split() if int(number) not in (1, 2, 4, 5, 6, 9)]
+    return told("filter", [done.stderr] if done.returncode or there or not done.stdout else [], f", {text}")
+
+
+# All.
+
+
 def draw(browser, folder, pictures):
-    for name in ("echoes", "large", "large-rounds", "each-kind", "many", "first", "fault"):
-        for scheme in ("light", "dark"):
-            browser.load(os.path.join(folder, f"{name}.html"), scheme)
-            browser.draw(os.path.join(pictures, f"{name}-{scheme}.png"))
-    browser.load(os.path.join(folder, "each-kind.html"), "light", 420)
-    browser.draw(os.path.join(pictures, "each-kind-narrow.png"))
+    for name in ("each-kind", "limits-played", "large-rounds", "locators"):
+        for scheme, width in itertools.product(("light", "dark"), (WIDTH, NARROW)):
+            browser.load(os.path.join(folder, f"{name}.html"), scheme, width)
+            browser.draw(os.path.join(pictures, f"{name}-{scheme}-{width}.png"))
+
+
+def check_narrow(browser, folder):
+    """A window of 420 pixels is never wider."""
+    faults = []
+    for name in ("each-kind", "limits-played"):
+        browser.load(os.path.join(folder, f"{name}.html"), "light", NARROW)
+        width = browser.value("document.documentElement.scrollWidth")
+        faults += [f"{name}: {width} pixels"] if width > NARROW else []
+    return told("narrow pages", faults)
 
 
 def check_all(browser, program, folder, frames, many):
-    results = [check_refused(folder), check_without_frames(browser, folder)]
+    results = [check_colours(), check_refused(folder), check_liars(program, folder), check_without_frames(browser, folder),
+               check_played(browser, program, folder)]
     for reports in (examples(program, folder), large(program, folder, frames), made_reports(many)):
         results += [check_page(browser, folder, name, report) for name, report in reports]
+    if browser:
+        results += [check_addresses(browser, folder), check_filter(browser, folder), check_narrow(browser, folder)]
     return all(results)
 
 
@@ -413,16 +772,17 @@ def main():
         sys.exit(__doc__)
     program, pictures, frames, many = sys.argv[1:] + [None, 100_000, 1_000_000][len(sys.argv) - 2:]
     path = next(filter(None, map(shutil.which, BROWSERS)), None)
-    if not path:
-        print("there is no Chromium")
-        sys.exit(2)
     with tempfile.TemporaryDirectory(ignore_cleanup_errors=True) as folder:
-        browser = Browser(path, folder)
+        browser = Browser(path, folder) if path else None
         try:
             is_right = check_all(browser, os.path.abspath(program), folder, int(frames), int(many))
-            draw(browser, folder, pictures or folder)
+            if browser:
+                draw(browser, folder, pictures or folder)
+            else:
+                print("pages in a browser: left out, there is no Chromium")
         finally:
-            browser.end()
+            if browser:
+                browser.end()
     sys.exit(0 if is_right else 1)
 
 
