@@ -1,4 +1,4 @@
-"""A plain audit: a capture of what a router sent beside what the plain router sends, as docs/DECISIONS.md says."""
+"""A plain audit: a capture of what a router sent beside what the plain router sends, as docs/REFERENCE.md says."""
 from itertools import zip_longest
 
 import settings as rules

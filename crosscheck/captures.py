@@ -1,4 +1,4 @@
-"""Captures in and out (pcap 2.4, of either byte order, with micro- or nanoseconds), as docs/DECISIONS.md says."""
+"""Captures in and out (pcap 2.4, of either byte order, with micro- or nanoseconds), as docs/REFERENCE.md says."""
 import struct
 
 # The units of a second and the nanoseconds of a unit, by the magic.

@@ -1,4 +1,4 @@
-"""Captures in the pcapng format, as docs/DECISIONS.md says: a file of blocks, some of which keep a frame.
+"""Captures in the pcapng format, as docs/REFERENCE.md says: a file of blocks, some of which keep a frame.
 
 A block is judged when it is due, and not before: no fault comes ahead of the frames before it.
 """

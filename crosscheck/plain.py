@@ -1,5 +1,5 @@
 #!/usr/bin/env python3
-"""A plain router, written from the standards and docs/DECISIONS.md, beside the proved program.
+"""A plain router, written from the standards and docs/BEHAVIOUR.md, beside the proved program.
 
 usage: plain.py replay SETTINGS CAPTURE OUTPUT [FORMAT [INTERFACES [SPLIT]]] | plain.py show CAPTURE
 FORMAT, INTERFACES and SPLIT are the values of --format, --interfaces and --split. It prints the report, for a replay

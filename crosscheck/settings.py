@@ -1,4 +1,4 @@
-"""The first fault of a settings file, key by key, as docs/DECISIONS.md says."""
+"""The first fault of a settings file, key by key, as docs/REFERENCE.md says."""
 import ipaddress
 import math
 import re

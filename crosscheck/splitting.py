@@ -1,4 +1,4 @@
-"""Large IPv4 packets in two, before they come to a tunnel (RFC 9300, section 7.1; RFC 791), as docs/DECISIONS.md says."""
+"""Large IPv4 packets in two, before they come to a tunnel (RFC 9300, section 7.1; RFC 791), as docs/BEHAVIOUR.md says."""
 import struct
 
 from messages import Eid
