@@ -256,7 +256,7 @@ def need_coherent(step, found):
     if verdict.startswith("control reply"):
         facts.append(("learned", sum(": learned" in line for line in told["records"]), entries.count("Learned")))
     if verdict.startswith("control solicit"):
-        facts.append(("asked", sum(line.endswith("it is asked for again") for line in set(told["named"])),
+        facts.append(("asked", sum(line.endswith("it is asked for again") for line in told["named"]),
                       entries.count("Asked")))
     if verdict.startswith("encapsulated"):
         facts.append(("locator", told["choice"][-1].count(address(rules.address(verdict.split(" ")[2]))), 1))

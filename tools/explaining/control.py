@@ -162,19 +162,32 @@ def path_lines(scene, request, dest):
     return list(dict.fromkeys(lines))
 
 
+def after_made(play, eid, moment, made):
+    """Why an SMR that led to requests for some EIDs already leads to none for another one, or None where it does."""
+    if any(other.covers(eid) for other in made):
+        return "no further Map-Request is made: this SMR led to one that covers it"
+    count = play.journal.open_in(moment, eid.iid) + sum(other.iid == eid.iid for other in made)
+    limit = play.site.limit(eid.iid).requests
+    if count >= limit:
+        return (f"no Map-Request is made: with those of this SMR {counted(count, 'request')} of instance {eid.iid} are open, "
+                f"and its limit is {limit:,}")
+    return None
+
+
 def solicit_sections(scene, request):
     """What an SMR names, and what is asked for again."""
     play, moment = scene.play, scene.moment
-    named = [eid for eid in (request.source, *request.eids) if eid]
-    lines = []
-    for eid in named:
+    lines, made = [], []
+    for eid in (eid for eid in (request.source, *request.eids) if eid):
         entry = play.journal.in_force(moment, eid)
         if entry is None:
             lines.append(f"{placed(eid)}: no mapping that is in force covers it")
         elif entry.fixed:
             lines.append(f"{placed(eid)}: {mapping_lines(play, entry, moment)[0]}, which isn't asked for")
         else:
-            why = wanting(play, entry.mapping.eid, moment)
+            asked = entry.mapping.eid
+            why = wanting(play, asked, moment) or after_made(play, asked, moment, made)
+            made += [] if why else [asked]
             lines.append(f"{placed(eid)}: {mapping_lines(play, entry, moment)[0]}; " + (why or "it is asked for again"))
     yield "named", lines or ["nothing"]
 
