@@ -590,13 +590,14 @@ def home_of(site, eid, plain, moment):
 
 def eid_read(given, verdict, frame):
     """The instance and address for which a data packet was dropped, by the reader of packets; or None."""
-    number, arrives = int(verdict.split(" ")[1]), frame.reading and frame.field("ip.dst") in given.own
-    if number in (1, 2, 3, 4, *range(21, 26)) or arrives and frame.reading.kind != "tunnel packet":
+    number, packet = int(verdict.split(" ")[1]), frame.packet
+    arrives = packet and packet.dest in given.own
+    if number in (1, 2, 3, 4, *range(21, 26)) or arrives and packet.kind != "tunnel packet":
         return None
     if arrives:
-        iid, address = instance_in(frame.reading.header), frame.field("inner.dst")
+        iid, address = instance_in(packet.header), packet.inner_dest
     else:
-        iid, address = given.instances.get(frame.vlan), frame.field("ip.src" if number == 12 else "ip.dst")
+        iid, address = given.instances.get(frame.vlan), packet.source if number == 12 else packet.dest
     return Eid.host(iid, ipaddress.ip_address(address).packed)
 
 
