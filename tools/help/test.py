@@ -686,7 +686,7 @@ def without_python(folder, python=None):
 PYTHONS = [
     None, "#!/bin/bash\necho none >&2\nexit 127\n", "#!/bin/bash\necho /no/where\n",
     # One that is too old: it has none of the modules.
-    f'#!/bin/bash\n[ "$3" = -c ] && echo "$0" && exit\n[ $# -gt 4 ] && shift 5\n'
+    f'#!/bin/bash\n[ "$3" = -c ] && echo "$0" && exit\n[ $# -gt 4 ] && shift 6\n'
     f'exec {sys.executable} -I -S -c "import sys; sys.modules[\'run\'] = None; '
     f'sys.argv = sys.argv[1:]; __file__ = sys.argv[0]; exec(open(__file__).read())" "$@"\n',
 ]
