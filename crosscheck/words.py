@@ -46,7 +46,7 @@ class Program:
         self.refused = 3, b"capture bad-magic\n", output_header()
         # That to an audit of these: what came is held against what was due, which is in a tunnel.
         files = [os.path.join(FIRST, name) for name in ("settings.toml", "capture.pcap", "capture.pcap")]
-        status, report = ended(audit, *files)
+        status, report = ended(audit, *files, False)
         self.audited = status, report.encode(), b""
 
     def run(self, words):
