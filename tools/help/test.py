@@ -994,7 +994,7 @@ echo sum >>'{}'
 exec {} "$@"
 """
 # Longer than what has just changed isn't noted; how much longer a call may take than the program, on a slow machine.
-LONG_AGO, MOST_MORE = 2.6, 0.15
+LONG_AGO, MOST_MORE = 3.1, 0.15
 
 
 class Sources:
