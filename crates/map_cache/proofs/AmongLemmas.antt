@@ -1,5 +1,5 @@
 -- What is among the items of a list, by recursion, and what is among mappings in order of EID.
-use Rattle.std.proofs.Common.{◌≡◌, ◌⊎◌, ℕ, zero, suc, ◌<◌, ◌||◌, Bool, true, false, cond, List, [], ◌∷◌, length, get_or, filter, slice_get, All, Contains, Some, Less, Equal, inl, inr, refl, sym, ap, subst, ◌∙◌, arith}
+use Rattle.std.proofs.Common.{◌≡◌, ◌⊎◌, ℕ, zero, suc, ◌<◌, ◌||◌, Bool, true, false, cond, List, [], ◌∷◌, ◌++◌, length, get_or, filter, map, slice_get, All, Contains, Some, Less, Equal, inl, inr, refl, sym, ap, subst, ◌∙◌, arith}
 use Rattle.std.specs.List.{list_any}
 use Rattle.std.proofs.lemmas.List.Elements.{All-cons, All-contains, All-nil, Contains-append_left, Contains-append_right, Contains-push}
 use Rattle.std.proofs.lemmas.Option.{same_Some}
@@ -35,6 +35,36 @@ module _ {A : Type 0} where
   among-place [] k x is = absurd (cc is)
   among-place (y ∷ items) zero x is = inl (same_Some y x is)
   among-place (y ∷ items) (suc k) x is = inr (among-place items k x is)
+
+  -- where an item stands
+  pub record IsAt (items : List A) (x : A) : Type 0 where
+    pub place : ℕ
+    pub at : slice_get items place ≡ Some x
+
+  pub among-at : (items : List A) (x : A) → Among x items → IsAt items x
+  among-at [] x among = absurd among
+  among-at (y ∷ items) x among = elim among [
+    | inl is ↦ record { place = 0; at = ap (λ (z : A). Some z) is }
+    | inr later ↦
+        let there = among-at items x later in
+        record { place = suc there.place; at = there.at }
+  ]
+
+  -- what is among two lists
+  pub among-left : (x : A) (items more : List A) → Among x items → Among x (items ++ more)
+  among-left x [] more among = absurd among
+  among-left x (y ∷ items) more among = elim among [ inl is ↦ inl is | inr later ↦ inr (among-left x items more later) ]
+
+  pub among-right : (x : A) (items more : List A) → Among x more → Among x (items ++ more)
+  among-right x [] more among = among
+  among-right x (y ∷ items) more among = inr (among-right x items more among)
+
+  pub among-either : (x : A) (items more : List A) → Among x (items ++ more) → Among x items ⊎ Among x more
+  among-either x [] more among = inr among
+  among-either x (y ∷ items) more among = elim among [
+    | inl is ↦ inl (inl is)
+    | inr later ↦ elim (among-either x items more later) [ inl here ↦ inl (inr here) | inr behind ↦ inr behind ]
+  ]
 
   -- a fact of all is one of each that is among them
   pub all-among : (P : A → Type 0) (items : List A) → ((x : A) → Among x items → P x) → All P items
@@ -92,6 +122,26 @@ module _ {A : Type 0} where
       by : (b : Bool) → test y ≡ b → (list_any test items ≡ true → IsPassing test items) → (b || list_any test items) ≡ true → IsPassing test (y ∷ items)
       by true passes rest is = record { item = y; among = inl refl; passes = passes }
       by false passes rest is = record { item = (rest is).item; among = inr (rest is).among; passes = (rest is).passes }
+
+module _ {A B : Type 0} (f : A → B) where
+  -- an item of which the function makes another
+  pub record IsMade (items : List A) (made : B) : Type 0 where
+    pub item : A
+    pub among : Among item items
+    pub is : f item ≡ made
+
+  pub map-among : (items : List A) (made : B) → Among made (map f items) → IsMade items made
+  map-among [] made among = absurd among
+  map-among (x ∷ items) made among = elim among [
+    | inl is ↦ record { item = x; among = inl refl; is = is }
+    | inr later ↦
+        let one = map-among items made later in
+        record { item = one.item; among = inr one.among; is = one.is }
+  ]
+
+  pub among-map : (items : List A) (x : A) → Among x items → Among (f x) (map f items)
+  among-map [] x among = absurd among
+  among-map (y ∷ items) x among = elim among [ inl is ↦ inl (ap f is) | inr later ↦ inr (among-map items x later) ]
 
 pub below-among : (eid : Eid) (items : List Mapping) (x : Mapping) → IsBelow eid items → Among x items → eid_order eid x.eid ≡ Less
 below-among eid [] x below among = absurd among

@@ -17,7 +17,7 @@ use Rattle.map_cache.specs.declared.mapping.Mapping.{Mapping}
 use Rattle.map_cache.proofs.EidLemmas.{is_eq-eid}
 use Rattle.map_cache.proofs.PlaceOfLemmas.{lesser-apart, same-there, there-same, without-below, IsAbsent, IsThere}
 
-turned : (a b c : Bool) → (a || (b || c)) ≡ (b || (a || c))
+pub turned : (a b c : Bool) → (a || (b || c)) ≡ (b || (a || c))
 turned true true c = refl
 turned true false c = refl
 turned false b c = refl
@@ -77,7 +77,7 @@ same-on a b c first second =
     sym (is_eq-eid b c) ∙ ap is_eq (sym (eid_order-total.congr a b c ties)) ∙ is_eq-eid a c ∙ second
 
 -- what is left of those that pass a test of one EID
-any-left : (eid key : Eid) (test : Mapping → Bool) → ((x : Mapping) → test x ≡ true → same_eid x.eid key ≡ true) → (items : List Mapping) (n : ℕ) (x : Mapping) → IsThere eid items n → slice_get items n ≡ Some x → list_any test (without_eid eid items) ≡ (not (test x) && list_any test items)
+pub any-left : (eid key : Eid) (test : Mapping → Bool) → ((x : Mapping) → test x ≡ true → same_eid x.eid key ≡ true) → (items : List Mapping) (n : ℕ) (x : Mapping) → IsThere eid items n → slice_get items n ≡ Some x → list_any test (without_eid eid items) ≡ (not (test x) && list_any test items)
 any-left eid key test are items n x there is =
     let same : same_eid x.eid eid ≡ true = same-there eid items n x there is in
     let gone : test x ≡ true → list_any test (without_eid eid items) ≡ false = λ passes. any-gone eid key test are (same-on x.eid eid key same (are x passes)) items in

@@ -9,10 +9,12 @@ pub mod EndingLemmas
 pub mod ExactLemmas
 pub mod FewLemmas
 pub mod ForceLemmas
+pub mod FirstNameLemmas
 pub mod FoundLemmas
 pub mod FullLemmas
 pub mod IndexedLemmas
 pub mod LastingLemmas
+pub mod NameLemmas
 pub mod NamedLemmas
 pub mod PlaceLemmas
 pub mod PlaceOfLemmas

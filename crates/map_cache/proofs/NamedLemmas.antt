@@ -16,7 +16,7 @@ use Rattle.map_cache.specs.Lists.{IsAscending, IsBelow}
 use Rattle.map_cache.specs.Named.{is_named, least_named, lesser, named_above, IsNoLess, IsNoLessAtOne}
 use Rattle.map_cache.specs.declared.mapping.Mapping.{Mapping}
 
-flip : {K : Type 0} {R : K → K → Ordering} → IsTotalOrder R → (x y : K) → is_lt (R y x) ≡ is_gt (R x y)
+pub flip : {K : Type 0} {R : K → K → Ordering} → IsTotalOrder R → (x y : K) → is_lt (R y x) ≡ is_gt (R x y)
 flip {R = R} order x y = ap is_lt (order.antisymm y x) ∙ turned (R x y)
   where
     turned : (o : Ordering) → is_lt (ordering_reverse o) ≡ is_gt o
@@ -25,13 +25,13 @@ flip {R = R} order x y = ap is_lt (order.antisymm y x) ∙ turned (R x y)
     turned Greater = refl
 
 -- what isn't below a second, which isn't below a third, isn't below the third
-not_below : {K : Type 0} {R : K → K → Ordering} → IsTotalOrder R → (x y z : K) → is_lt (R y x) ≡ false → is_lt (R z y) ≡ false → is_lt (R z x) ≡ false
+pub not_below : {K : Type 0} {R : K → K → Ordering} → IsTotalOrder R → (x y z : K) → is_lt (R y x) ≡ false → is_lt (R z y) ≡ false → is_lt (R z x) ≡ false
 not_below order x y z first second = flip order x z ∙ upto order x y z (sym (flip order x y) ∙ first) (sym (flip order y z) ∙ second)
 
-not_itself : {K : Type 0} {R : K → K → Ordering} → IsTotalOrder R → (x : K) → is_lt (R x x) ≡ false
+pub not_itself : {K : Type 0} {R : K → K → Ordering} → IsTotalOrder R → (x : K) → is_lt (R x x) ≡ false
 not_itself order x = ap is_lt (tied_itself order x)
 
-below-not : {K : Type 0} {R : K → K → Ordering} → IsTotalOrder R → (x y : K) → is_lt (R x y) ≡ true → is_lt (R y x) ≡ false
+pub below-not : {K : Type 0} {R : K → K → Ordering} → IsTotalOrder R → (x y : K) → is_lt (R x y) ≡ true → is_lt (R y x) ≡ false
 below-not {R = R} order x y less = flip order x y ∙ by (R x y) less
   where
     by : (o : Ordering) → is_lt o ≡ true → is_gt o ≡ false
@@ -39,7 +39,7 @@ below-not {R = R} order x y less = flip order x y ∙ by (R x y) less
     by Equal is = cc
     by Greater is = cc
 
-tied : (o : Ordering) → is_lt o ≡ false → is_gt o ≡ false → o ≡ Equal
+pub tied : (o : Ordering) → is_lt o ≡ false → is_gt o ≡ false → o ≡ Equal
 tied Less low high = cc
 tied Equal low high = refl
 tied Greater low high = cc

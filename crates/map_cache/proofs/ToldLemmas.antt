@@ -49,7 +49,7 @@ module _ (eid : Eid) (bits width : ℕ) where
   all_stays-told (name ∷ names) [] = refl
   all_stays-told (name ∷ names) (x ∷ items) = ap₂ (λ h l. h ∷ l) (told-stay name x) (all_stays-told names items)
 
-  any-told : (test : Mapping → Bool) → ((x : Mapping) → test (with_bits bits width x) ≡ test x) → (items : List Mapping) → list_any test (bits_told eid bits width items) ≡ list_any test items
+  pub any-told : (test : Mapping → Bool) → ((x : Mapping) → test (with_bits bits width x) ≡ test x) → (items : List Mapping) → list_any test (bits_told eid bits width items) ≡ list_any test items
   any-told test same [] = refl
   any-told test same (x ∷ items) = ap₂ (λ a b. a || b) (by (same_eid x.eid eid)) (any-told test same items)
     where

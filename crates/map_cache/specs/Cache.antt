@@ -10,23 +10,23 @@ use Rattle.router_log.specs.Moments.{seconds}
 use Rattle.map_cache.specs.Limits.{default_minutes, most_mappings}
 use Rattle.map_cache.specs.declared.mapping.Mapping.{Mapping}
 
--- how long a TTL of minutes lasts, in nanoseconds; where its sender leaves it open, the default
+-- how long a TTL of minutes lasts, in nanoseconds; where its sender leaves it open (0xffffffff), as long as the default
 abbrev pub lifetime : ℕ → ℕ
 lifetime ttl = seconds (60 * (if ttl == 0xffffffff then default_minutes else ttl))
 
--- when a mapping that was learned at a moment ends
+-- the moment at which a mapping ends that was learned at a moment, in nanoseconds; 0 where it is fixed
 abbrev pub end_of : ℕ → Record → Bool → ℕ
 end_of moment mapping fixed = if fixed then 0 else moment + lifetime mapping.ttl
 
--- a mapping that hasn't ended
+-- whether a mapping hasn't ended at a moment: it is fixed, or its end is later
 abbrev pub lasts : ℕ → Mapping → Bool
 lasts now mapping = mapping.fixed || nat_lt now mapping.end
 
--- a number with its lowest bits taken from another
+-- a number whose lowest bits, so many, are those of another
 abbrev pub lowest_from : ℕ → ℕ → ℕ → ℕ
 lowest_from width old new = old / 2 ^ width * 2 ^ width + new % 2 ^ width
 
--- a mapping that was just learned: nothing was told of its locators
+-- a mapping that was just learned: no status bit of its locators is known
 abbrev pub fresh : ℕ → Record → Bool → Mapping
 fresh moment mapping fixed = record {
   eid = mapping.eid;
@@ -37,41 +37,41 @@ fresh moment mapping fixed = record {
   bits = 0;
 }
 
--- a mapping of which so many of the lowest status bits were told
+-- a mapping of which so many of the lowest status bits were replaced, and are known then
 abbrev pub with_bits : ℕ → ℕ → Mapping → Mapping
 with_bits bits width mapping = record mapping {
   known = lowest_from width mapping.known (2 ^ width - 1);
   bits = lowest_from width mapping.bits bits;
 }
 
--- the same, where it is the mapping of that EID
+-- a mapping of which so many of the lowest status bits were replaced where it is the one of that EID
 abbrev pub told_mapping : Eid → ℕ → ℕ → Mapping → Mapping
 told_mapping eid bits width mapping = if same_eid mapping.eid eid then with_bits bits width mapping else mapping
 
 -- ### lists of mappings
 
--- those that haven't ended
+-- the mappings that haven't ended at a moment
 abbrev pub lasting : ℕ → List Mapping → List Mapping
 lasting now mappings = filter (lasts now) mappings
 
--- those of other EIDs
+-- the mappings of other EIDs
 abbrev pub without_eid : Eid → List Mapping → List Mapping
 without_eid eid mappings = filter (λ mapping. not (same_eid mapping.eid eid)) mappings
 
--- the mapping of exactly that EID
+-- the mapping of exactly that EID, or None
 abbrev pub exact : List Mapping → Eid → Option Mapping
 exact mappings eid = exactly (λ mapping. mapping.eid) mappings eid
 
--- the mapping in force for an EID: the longest that covers it
+-- the mapping in force for an EID: the longest that covers it, or None
 abbrev pub in_force : List Mapping → Eid → Option Mapping
 in_force mappings eid = longest (λ mapping. mapping.eid) mappings eid.iid eid.prefix.addr eid.prefix.len
 
--- how many mappings an instance has learned: those that aren't fixed
+-- how many mappings an instance has learned: fixed ones don't count
 abbrev pub learned_in : ℕ → List Mapping → ℕ
 learned_in iid mappings = count_by (λ mapping. (mapping.eid.iid == iid) && not mapping.fixed) mappings
 
--- a mapping may be learned: it takes one away, replaces one, or is within the limit of all and, unless it is fixed, within
--- that of its instance
+-- whether a mapping may be learned: its TTL of 0 removes one, it replaces one of its EID, or it is within the limit of
+-- all and, unless it is fixed, within that of its instance
 abbrev pub has_room : List LimitItem → Record → Bool → List Mapping → Bool
 has_room limits mapping fixed mappings =
     (mapping.ttl == 0)
@@ -79,20 +79,20 @@ has_room limits mapping fixed mappings =
     || (nat_lt (length mappings) most_mappings
     && (fixed || nat_lt (learned_in mapping.eid.iid mappings) (mappings_in limits mapping.eid.iid))))
 
--- those that haven't ended, once a mapping was learned in place of that of its EID: a TTL of 0 takes it away, unless it is
--- fixed
+-- the mappings that haven't ended at a moment, once a mapping was learned in place of the one of its EID; a TTL of 0
+-- removes that one, unless the mapping is fixed
 abbrev pub learned : ℕ → Record → Bool → List Mapping → List Mapping
 learned m mapping fixed mappings =
     if fixed || not (mapping.ttl == 0)
     then put_in_order (λ item. item.eid) eid_order (fresh m mapping fixed) (without_eid mapping.eid (lasting m mappings))
     else without_eid mapping.eid (lasting m mappings)
 
--- those of which so many of the lowest status bits of an EID's mapping were told
+-- the mappings once so many of the lowest status bits of an EID's mapping were replaced
 abbrev pub bits_told : Eid → ℕ → ℕ → List Mapping → List Mapping
 bits_told eid bits width mappings = map (told_mapping eid bits width) mappings
 
--- a cache as callers see it: the greatest moment that it was handed, its mappings, for how many more it has room, for how
--- many it has place in all, how many items its lists have, and the limits of instances
+-- a map-cache as callers see it: the greatest moment of a purge or of learning, its mappings, for how many more it has
+-- room, for how many it has place in all, how many items its lists have, and the limits of instances
 pub record Cache : Type 0 where
   pub now : ℕ
   pub mappings : List Mapping

@@ -8,27 +8,27 @@ use Rattle.map_cache.specs.Lists.{IsAscending}
 use Rattle.map_cache.specs.declared.stay.Stay.{Stay}
 use Rattle.map_cache.specs.declared.mapping.Mapping.{Mapping}
 
--- the names that are told
+-- the names in pairs of EID and stay
 abbrev pub names_in : List (Eid × Stay) → List ℕ
 names_in [] = []
 names_in (pair ∷ pairs) = pair.1.name ∷ names_in pairs
 
--- their mappings
+-- the mappings in a store under the names of pairs of EID and stay
 abbrev pub mappings_at : Store Mapping → List (Eid × Stay) → List Mapping
 mappings_at store pairs = items_at store (names_in pairs)
 
--- there is a mapping of the name that is told
+-- the store has a mapping under the name in a pair of EID and stay
 abbrev pub IsNamed : Store Mapping → Eid × Stay → Type 0
 IsNamed store pair = IsLive store pair.1.name
 
--- each mapping is told of under its EID, once
+-- the pairs are those of the store's mappings: each mapping has one pair, of its EID and its stay, in order of EID
 pub record IsFiled (store : Store Mapping) (pairs : List (Eid × Stay)) : Type 0 where
   pub named : IsNamedList store (names_in pairs) (length store.slots)
   pub ascending : IsAscending (mappings_at store pairs)
   pub stay : pairs ≡ all_stays (names_in pairs) (mappings_at store pairs)
 
--- what is seen of mappings that are kept so: they, for how many more there is room, for how many some list has room, and how
--- many items the lists have
+-- mappings by EID as callers see them: the mappings, for how many more there is room, for how many some list has room,
+-- and how many items the lists have
 pub record Filed : Type 0 where
   pub mappings : List Mapping
   pub spare : ℕ

@@ -1,4 +1,4 @@
--- What a cache keeps true of its list.
+-- Facts of the list of a cache's mappings.
 use Rattle.std.specs.Prelude.{◌≡◌, ◌≤◌, ℕ, true, List, [], ◌∷◌, All, IsFalse, is_some, length, take, drop, if◌then◌else◌}
 use Rattle.std.specs.Ordering.{is_lt}
 use Rattle.std.specs.declared.cmp.Ordering.TheVariants.{Less}
@@ -13,7 +13,7 @@ abbrev pub IsBelow : Eid → List Mapping → Type 0
 IsBelow eid [] = Unit {0}
 IsBelow eid (mapping ∷ others) = (eid_order eid mapping.eid ≡ Less) × IsBelow eid others
 
--- each EID is below those behind it, so that each is there once
+-- EIDs of mappings ascend, so that each is there once
 abbrev pub IsAscending : List Mapping → Type 0
 IsAscending [] = Unit {0}
 IsAscending (mapping ∷ others) = IsBelow mapping.eid others × IsAscending others
@@ -23,13 +23,13 @@ abbrev pub IsAbove : Eid → List Mapping → Type 0
 IsAbove eid [] = Unit {0}
 IsAbove eid (mapping ∷ others) = (eid_order mapping.eid eid ≡ Less) × IsAbove eid others
 
--- the mappings before a place have lesser EIDs, and those from there on don't
+-- the place of an EID among mappings: those before it have lesser EIDs, and those from it on don't
 pub record IsPlace (eid : Eid) (mappings : List Mapping) (place : ℕ) : Type 0 where
   pub within : place ≤ length mappings
   pub before : IsAbove eid (take place mappings)
   pub behind : All (λ mapping. IsFalse (is_lt (eid_order mapping.eid eid))) (drop place mappings)
 
--- none has ended at a moment
+-- no mapping has ended at a moment
 abbrev pub AllLast : ℕ → List Mapping → Type 0
 AllLast now [] = Unit {0}
 AllLast now (mapping ∷ others) = (lasts now mapping ≡ true) × AllLast now others
@@ -38,11 +38,11 @@ AllLast now (mapping ∷ others) = (lasts now mapping ≡ true) × AllLast now o
 abbrev pub IsFew : Mapping → Type 0
 IsFew mapping = length mapping.details.locators ≤ most_locators
 
--- each of them has
+-- each mapping has no more locators than is allowed
 abbrev pub AllFew : List Mapping → Type 0
 AllFew [] = Unit {0}
 AllFew (mapping ∷ others) = IsFew mapping × AllFew others
 
--- how many of a cache's mappings have an EID
+-- how many of a cache's mappings have that EID: 1 or 0
 abbrev pub count_of : Eid → List Mapping → ℕ
 count_of eid mappings = if is_some (exact mappings eid) then 1 else 0

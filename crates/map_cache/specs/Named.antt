@@ -8,12 +8,12 @@ use Rattle.mapping_records.specs.declared.eid.Eid.{Eid}
 use Rattle.mapping_records.specs.declared.record.Locator.{Locator}
 use Rattle.map_cache.specs.declared.mapping.Mapping.{Mapping}
 
--- an address is above another; without another, each is
+-- whether an address is above another; without another, each is
 abbrev pub comes_after : Option Addr → Addr → Bool
 comes_after None addr = true
 comes_after (Some after) addr = is_lt (addr_order after addr)
 
--- a locator's address is above another, and may be used (RFC 9301, section 5.4)
+-- whether a locator's address is above another, and may be used: its priority isn't 255 (RFC 9301, section 5.4)
 abbrev pub is_named : Option Addr → Locator → Bool
 is_named after locator = not (locator.priority == 255) && comes_after after locator.addr
 
@@ -22,24 +22,24 @@ abbrev pub named_by : Option Addr → Mapping → List (Addr × Eid)
 named_by after mapping =
     map (λ locator. (locator.addr, mapping.eid)) (filter (is_named after) mapping.details.locators)
 
--- those that mappings name, in order of EID
+-- the addresses above another that mappings name, each with its EID, in the order of the mappings
 abbrev pub named_above : Option Addr → List Mapping → List (Addr × Eid)
 named_above after mappings = flat_map (named_by after) mappings
 
--- of two the one of the lesser address, and of one address the first
+-- the pair of the lesser address of two, and of equal addresses the first
 abbrev pub lesser : Option (Addr × Eid) → Addr × Eid → Option (Addr × Eid)
 lesser None next = Some next
 lesser (Some best) next = if is_lt (addr_order next.0 best.0) then Some next else Some best
 
--- the first of least address
+-- the first pair of least address, or None
 abbrev pub least_named : List (Addr × Eid) → Option (Addr × Eid)
 least_named named = fold lesser None named
 
--- an address is no less than that of the best
+-- a pair's address is no less than that of the best pair
 abbrev pub IsNoLess : Addr × Eid → Addr × Eid → Type 0
 IsNoLess best other = IsFalse (is_lt (addr_order other.0 best.0))
 
--- where it is that of the best, the EID that names it is no less
+-- where a pair has the address of the best pair, its EID is no less
 abbrev pub IsNoLessAtOne : Addr × Eid → Addr × Eid → Type 0
 IsNoLessAtOne best other =
     addr_order other.0 best.0 ≡ Equal → IsFalse (is_lt (eid_order other.1 best.1))

@@ -4,7 +4,7 @@ ghost use Rattle.map_cache.specs.Cache.{lowest_from, with_bits};
 
 use crate::Mapping;
 
-/// Tells a mapping so many of the lowest status bits.
+/// Replaces the lowest `width` status bits of a mapping, which are known then.
 pub(crate) fn tell(bits: u32, width: u8, mapping: &mut Mapping)
     requires { width ≤ 32 }
     ensures { mapping.new ≡ with_bits bits width mapping.old }
@@ -13,7 +13,7 @@ pub(crate) fn tell(bits: u32, width: u8, mapping: &mut Mapping)
     mapping.bits = lowest_from(width, mapping.bits, u64::from(bits));
 }
 
-// A number with its lowest bits taken from another.
+// A number whose lowest `width` bits are those of another.
 fn lowest_from(width: u8, old: u32, new: u64) -> u32
     requires { width ≤ 32 }
     ensures { result ≡ lowest_from width old new }

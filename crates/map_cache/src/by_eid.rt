@@ -17,10 +17,10 @@ use prefix_table::PrefixTable;
 use std::alloc::Global;
 use std::marker::Model;
 
-/// Mappings in order of EID, of each EID one. None is moved where one comes or goes.
+/// Mappings in order of EID, one of each EID. No mapping is moved where another comes or goes.
 #[derive(Drop)]
 pub(crate) struct ByEid {
-    // Each under a name.
+    // The mappings, each under a name.
     store: NodeStore<Mapping>,
     stays: PrefixTable<Stay>,
 }
@@ -44,7 +44,7 @@ impl Model for ByEid {
 }
 
 impl ByEid {
-    /// No mappings. Takes no memory.
+    /// A `ByEid` without mappings. Takes no memory.
     pub(crate) fn new(alloc: Global) -> ByEid
         ensures mappings { result.mappings ≡ [] }
         ensures spare { result.spare ≡ 0 }
@@ -56,7 +56,7 @@ impl ByEid {
         }
     }
 
-    /// The same of their own, with as much room.
+    /// A copy with as much room, which shares no memory with the original.
     pub(crate) fn copy(&self, alloc: Global) -> Result<ByEid, NoMemory>
         ensures { IfOk result (λ copy. copy ≡ self.now) }
     {
@@ -78,7 +78,7 @@ impl ByEid {
         ensures ok { OnOk result (n ≤ self.new.spare) }
         ensures enough { n ≤ self.old.spare → IsOk result }
     {
-        // These say that there are as many names as mappings.
+        // These calls bring the fact that there are as many names as mappings.
         let _ = (self.store.rooms(), self.stays.len());
         self.store.make_room(n)?;
         self.stays.reserve(n)
@@ -103,14 +103,14 @@ impl ByEid {
         Iter::new(&self.store, self.stays.iter())
     }
 
-    /// There is a mapping of that EID.
+    /// Whether there is a mapping of that EID.
     pub(crate) fn has(&self, eid: &Eid) -> bool
         ensures { result ≡ is_some (exact self.now.mappings eid.now) }
     {
         self.stays.get(eid, &mut Reads::new()).is_some()
     }
 
-    /// The longest of the mappings that haven't ended at a moment and cover an EID.
+    /// The longest of the mappings that haven't ended at a moment and cover an EID, or None.
     pub(crate) fn in_force(&self, m: u64, eid: &Eid, reads: &mut Reads) -> Option<&Mapping>
         requires { reads.old < 2 ^ 63 }
         ensures found { option_copied result ≡ in_force (lasting m self.now.mappings) eid.now }
@@ -126,7 +126,7 @@ impl ByEid {
         }
     }
 
-    /// The mapping of just that EID, unless it has ended at a moment.
+    /// The mapping of exactly that EID, or None where there is none or it has ended at a moment.
     pub(crate) fn exact(&self, m: u64, eid: &Eid, reads: &mut Reads) -> Option<&Mapping>
         requires { reads.old < 2 ^ 63 }
         ensures found { option_copied result ≡ exact (lasting m self.now.mappings) eid.now }
@@ -140,7 +140,14 @@ impl ByEid {
         Some(self.store.read(stay.name, &mut Reads::new()))
     }
 
-    /// Puts in a mapping of an EID of which there is none. Takes no memory.
+    /// There is a mapping of that EID that hasn't ended at a moment.
+    pub(crate) fn lasts(&self, m: u64, eid: &Eid) -> bool
+        ensures { result ≡ is_some (exact (lasting m self.now.mappings) eid.now) }
+    {
+        self.exact(m, eid, &mut Reads::new()).is_some()
+    }
+
+    /// Adds a mapping of an EID that has none. Takes no memory.
     pub(crate) fn put(&mut self, mapping: Mapping)
         requires spare { 0 < self.old.spare }
         requires new { is_some (exact self.old.mappings mapping.eid) ≡ false }
@@ -154,7 +161,7 @@ impl ByEid {
         self.stays.insert(eid, stay_until(fixed, end, name));
     }
 
-    /// Takes the mapping of that EID away. Takes no memory.
+    /// Removes the mapping of an EID and returns it, or None where there is none. Takes no memory.
     pub(crate) fn take(&mut self, eid: &Eid) -> Option<Mapping>
         ensures taken { result ≡ exact self.old.mappings eid.now }
         ensures mappings { self.new.mappings ≡ without_eid eid.now self.old.mappings }
@@ -168,7 +175,7 @@ impl ByEid {
         Some(self.store.drop_node(stay.name))
     }
 
-    /// Tells the mapping of an EID so many of the lowest status bits.
+    /// Replaces the lowest `width` status bits of the mapping of an EID.
     pub(crate) fn tell(&mut self, eid: &Eid, bits: u32, width: u8)
         requires { width ≤ 32 }
         ensures mappings { self.new.mappings ≡ bits_told eid.now bits width self.old.mappings }

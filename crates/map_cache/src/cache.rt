@@ -1,4 +1,4 @@
-// A map-cache: what was learned, and the moment until which it was purged.
+// A map-cache: mappings that were learned, and the moment until which they were purged.
 ghost use Rattle.std.specs.Prelude.{◌≡◌, ◌≤◌, ◌<◌, ◌+◌, ◌*◌, ◌/◌, ◌^◌, ◌↔◌, ◌≢◌, ◌&&◌, ◌||◌, nat_lt, is_some, Some, IfOk, IfSome, IsTrue, IsFalse, IsOk, [], length, max, slice_get, Err, OnOk, OnErr};
 ghost use Rattle.std.specs.Option.{option_copied};
 ghost use Rattle.lisp_settings.specs.Instances.{AreLimits, mappings_in};
@@ -19,8 +19,8 @@ use mapping_records::{Eid, Record};
 use std::alloc::Global;
 use std::marker::Model;
 
-/// Mappings that were learned, in order of EID, of each EID the last one. What is asked at a moment
-/// is answered by those that haven't ended then.
+/// A map-cache: mappings that were learned, in order of EID, of each EID the last one. A question
+/// at a moment considers only mappings that haven't ended then.
 #[derive(Drop)]
 pub struct MapCache {
     now: u64,
@@ -29,7 +29,7 @@ pub struct MapCache {
 
 impl Model for MapCache {
     ghost use Rattle.std.specs.Prelude.{◌≤◌, length};
-    ghost use Rattle.map_cache.specs.Lists.{AllFew, AllLast};
+    ghost use Rattle.map_cache.specs.Lists.{AllLast};
     ghost use Rattle.map_cache.specs.Cache.{Cache};
     ghost use Rattle.map_cache.specs.Limits.{most_mappings};
 
@@ -45,12 +45,12 @@ impl Model for MapCache {
     } };
 
     ghost invariant = { λ cache. (length cache.indexed.mappings ≤ most_mappings)
-        × (AllLast cache.now cache.indexed.mappings × AllFew cache.indexed.mappings) };
+        × AllLast cache.now cache.indexed.mappings };
 }
 
 impl MapCache {
-    /// A cache with no mappings, at moment 0, with limits of its own for instances. One that has no
-    /// limit learns nothing.
+    /// A map-cache without mappings, at moment 0, with a copy of the limits of instances. An
+    /// instance without a limit has no place for further mappings, except fixed ones.
     pub fn new(alloc: Global, limits: &Limits) -> Result<MapCache, NoMemory>
         ensures now { IfOk result (λ cache. cache.now ≡ 0) }
         ensures mappings { IfOk result (λ cache. cache.mappings ≡ []) }
@@ -62,7 +62,8 @@ impl MapCache {
         Ok(MapCache { now: 0, indexed })
     }
 
-    /// A cache of its own with the same mappings and limits, at the same moment, and with as much room.
+    /// A copy with the same mappings, limits and moment, and with as much room, which shares no
+    /// memory with the original.
     pub fn copy(&self) -> Result<MapCache, NoMemory>
         ensures { IfOk result (λ copy. copy ≡ self.entry.now) }
     {
@@ -73,22 +74,24 @@ impl MapCache {
         })
     }
 
-    /// The greatest moment that was handed to `purge` or `learn`, in nanoseconds, or 0.
+    /// The greatest moment at which `purge` or `learn` was called, in nanoseconds, or 0.
     pub fn now(&self) -> u64
         ensures { result ≡ self.entry.now.now }
     {
         self.now
     }
 
-    /// How many mappings are kept. What all lists have in all is at most 43 items for each mapping for
-    /// which there is place, one for each ring of names, and two for each limit.
+    /// How many mappings are kept. What all lists have in all is at most 107 items for each mapping for
+    /// which there is place, one for each ring of their ends and of the names of 32 locators of each, and
+    /// two for each limit.
     pub fn len(&self) -> usize
         ensures len { result ≡ length self.entry.now.mappings }
         ensures most { result ≤ most_mappings }
         ensures tied { result + self.entry.now.spare ≤ self.entry.now.mapping_places }
         ensures kept { self.entry.now.kept
-            ≤ 43 * self.entry.now.mapping_places
+            ≤ 107 * self.entry.now.mapping_places
             + self.entry.now.mapping_places / ring_names
+            + 32 * self.entry.now.mapping_places / ring_names
             + 2 * length self.entry.now.limits }
         ensures limits { AreLimits self.entry.now.limits }
     {
@@ -102,8 +105,8 @@ impl MapCache {
         self.indexed.iter()
     }
 
-    /// Makes room for `n` further mappings, with those that there is room for already. Their locators
-    /// take no room of their own, so that it is made for any number of them.
+    /// Makes room for `n` further mappings, with those that there is room for already. The number
+    /// of locators is ignored, because locators come with their mapping in a list of their own.
     pub fn reserve(&mut self, n: u32, _locators: u32) -> Result<(), NoMemory>
         requires mappings { n ≤ most_mappings }
         ensures now { self.new.now ≡ self.old.now }
@@ -119,7 +122,19 @@ impl MapCache {
         self.indexed.reserve(n)
     }
 
-    /// Takes away what has ended at a moment. Only what goes is looked at.
+    /// Begins to keep the locators of all mappings in order of their addresses, which `next_locator`
+    /// then looks at in place of the mappings. Where memory is refused, it goes on as before.
+    pub fn begin_names(&mut self) -> Result<(), NoMemory>
+        ensures now { self.new.now ≡ self.old.now }
+        ensures mappings { self.new.mappings ≡ self.old.mappings }
+        ensures spare { self.new.spare ≡ self.old.spare }
+        ensures mapping_places { self.new.mapping_places ≡ self.old.mapping_places }
+        ensures limits { self.new.limits ≡ self.old.limits }
+    {
+        self.indexed.begin_names()
+    }
+
+    /// Removes the mappings that have ended at a moment. Looks at no other mapping.
     pub fn purge(&mut self, m: u64)
         requires { self.old.now ≤ m }
         ensures now { self.new.now ≡ m }
@@ -134,8 +149,8 @@ impl MapCache {
         self.now = m;
     }
 
-    /// Learns a mapping at a moment, in place of that of its EID; a TTL of 0 takes that one away.
-    /// Where it is refused, only the purge has taken place.
+    /// Learns a mapping at a moment, in place of the one of its EID; a TTL of 0 removes that one.
+    /// Where the mapping is refused, only the purge has taken place.
     pub fn learn(&mut self, m: u64, mapping: Record, fixed: bool) -> Result<(), LearnFault>
         requires later { self.old.now ≤ m }
         requires locators { length mapping.locators ≤ most_locators }
@@ -170,7 +185,7 @@ impl MapCache {
         Ok(())
     }
 
-    // A mapping of that EID is kept, or there is a place for one more.
+    // Whether a mapping of that EID is kept, or there is a place for one more.
     fn has_place(&self, eid: &Eid, fixed: bool) -> bool
         ensures { result ≡ (is_some (exact self.entry.now.mappings eid.now)
             || (nat_lt (length self.entry.now.mappings) most_mappings
@@ -180,7 +195,8 @@ impl MapCache {
         self.is_below_limits(eid.iid, fixed) || self.indexed.has(eid)
     }
 
-    // There are fewer than the limit of all and, unless it is fixed, than that of the instance.
+    // Whether fewer mappings are kept than the limit of all and, unless the new one is fixed, fewer
+    // are learned in the instance than its limit.
     fn is_below_limits(&self, iid: u32, fixed: bool) -> bool
         ensures { result ≡ (nat_lt (length self.entry.now.mappings) most_mappings
             && (fixed || nat_lt (learned_in iid self.entry.now.mappings)
@@ -189,8 +205,8 @@ impl MapCache {
         self.indexed.len() < MOST_MAPPINGS && (fixed || self.has_place_in(self.now, iid))
     }
 
-    /// Tells the live mapping of that EID the status bits of its first `width` locators, the lowest
-    /// bit being that of the first.
+    /// Replaces the status bits of the first `width` locators in the live mapping of that EID; the
+    /// lowest bit is that of the first locator.
     pub fn set_bits(&mut self, eid: &Eid, bits: u32, width: u8)
         requires { width ≤ 32 }
         ensures now { self.new.now ≡ self.old.now }
@@ -202,8 +218,8 @@ impl MapCache {
         self.indexed.tell(eid, bits, width);
     }
 
-    /// The mapping in force for an EID: the longest of those that haven't ended and cover it. None
-    /// where none does. It has at most 32 locators. Reads at most `MOST_NODES` nodes.
+    /// The mapping in force for an EID at a moment: the longest of those that haven't ended and
+    /// cover it, or None. It has at most 32 locators. Reads at most `MOST_NODES` nodes.
     pub fn in_force(&self, m: u64, eid: &Eid, reads: &mut Reads) -> Option<&Mapping>
         requires later { self.now.now ≤ m }
         requires reads { reads.old < 2 ^ 63 }
@@ -216,8 +232,8 @@ impl MapCache {
         self.indexed.in_force(m, eid, reads)
     }
 
-    /// The mapping of just that EID. None where there is none, or it has ended. Reads at most
-    /// `MOST_NODES` nodes.
+    /// The mapping of exactly that EID, or None where there is none or it has ended at a moment.
+    /// Reads at most `MOST_NODES` nodes.
     pub fn exact(&self, m: u64, eid: &Eid, reads: &mut Reads) -> Option<&Mapping>
         requires later { self.now.now ≤ m }
         requires reads { reads.old < 2 ^ 63 }
@@ -228,9 +244,10 @@ impl MapCache {
         self.indexed.exact(m, eid, reads)
     }
 
-    /// The least address above `after` that a mapping names which hasn't ended, by a locator with a
-    /// priority other than 255, and the least EID of those that name it. Without `after`, the least
-    /// of all; None where there is none. IPv4 addresses are below IPv6 addresses.
+    /// The least address above `after` that a mapping names which hasn't ended at a moment, by a
+    /// locator with a priority other than 255, and the least EID of the mappings that name it.
+    /// Without `after`, the least of all; None where there is none. IPv4 addresses are below IPv6
+    /// addresses.
     pub fn next_locator(&self, m: u64, after: Option<&Addr>) -> Option<(Addr, Eid)>
         requires { self.now.now ≤ m }
         ensures { result ≡ least_named
@@ -239,7 +256,7 @@ impl MapCache {
         self.indexed.next_named(m, after)
     }
 
-    /// How many mappings haven't ended at a moment. None is looked at where none has.
+    /// How many mappings haven't ended at a moment. Where none has ended, no mapping is looked at.
     pub fn live_count(&self, m: u64) -> u32
         requires { self.now.now ≤ m }
         ensures count { result ≡ length (lasting m self.entry.now.mappings) }
@@ -257,8 +274,8 @@ impl MapCache {
         count
     }
 
-    /// How many mappings of an instance that aren't fixed haven't ended at a moment. None is looked at
-    /// where none has, unless the instance has no limit.
+    /// How many mappings of an instance that aren't fixed haven't ended at a moment. Where none has
+    /// ended, no mapping is looked at, unless the instance has no limit.
     pub fn learned_in(&self, m: u64, iid: u32) -> u32
         requires later { self.now.now ≤ m }
         ensures { result ≡ learned_in iid (lasting m self.entry.now.mappings) }
@@ -266,8 +283,8 @@ impl MapCache {
         self.indexed.learned_in(m, iid)
     }
 
-    /// They are fewer than the limit of the instance, so that it may learn one more. Where it has no
-    /// limit, it may learn none.
+    /// Whether an instance may learn one more mapping at a moment: those that aren't fixed and
+    /// haven't ended are fewer than its limit. Without a limit it may learn none.
     pub fn has_place_in(&self, m: u64, iid: u32) -> bool
         requires later { self.now.now ≤ m }
         ensures { result ≡ nat_lt (learned_in iid (lasting m self.entry.now.mappings))

@@ -12,7 +12,7 @@ fn copied_locators(alloc: Global, locators: &[Locator]) -> Result<Locators, NoMe
     Ok(Items::from_vec(Vec::from_slice(alloc, locators)?))
 }
 
-/// A record of its own that is the same.
+/// A copy of a record, which shares no memory with it.
 pub fn copied_record(alloc: Global, mapping: &Record) -> Result<Record, NoMemory>
     ensures { IfOk result (λ copy. copy ≡ mapping.now) }
 {
@@ -27,7 +27,7 @@ pub fn copied_record(alloc: Global, mapping: &Record) -> Result<Record, NoMemory
     })
 }
 
-/// A mapping of its own that is the same.
+/// A copy of a mapping, which shares no memory with it.
 pub(crate) fn copied(alloc: Global, mapping: &Mapping) -> Result<Mapping, NoMemory>
     ensures { IfOk result (λ copy. copy ≡ mapping.now) }
 {

@@ -9,8 +9,8 @@ use crate::indexed::Indexed;
 use crate::searching::lasts_in;
 
 impl Indexed {
-    /// How many mappings of an instance that aren't fixed haven't ended at a moment. Looks at none that
-    /// hasn't, unless the instance has no limit.
+    /// How many mappings of an instance that aren't fixed haven't ended at a moment. Looks at no
+    /// mapping that hasn't ended, unless the instance has no limit.
     pub(crate) fn learned_in(&self, m: u64, iid: u32) -> u32
         requires { length self.now.mappings ≤ most_mappings }
         ensures { result ≡ learned_in iid (lasting m self.now.mappings) }
@@ -21,7 +21,8 @@ impl Indexed {
         }
     }
 
-    /// They are fewer than the limit of the instance.
+    /// Whether an instance's mappings that aren't fixed and haven't ended at a moment are fewer
+    /// than its limit.
     pub(crate) fn has_place_in(&self, m: u64, iid: u32) -> bool
         requires { length self.now.mappings ≤ most_mappings }
         ensures { result ≡ nat_lt (learned_in iid (lasting m self.now.mappings))
@@ -39,12 +40,14 @@ impl Indexed {
         ensures { result + learned_in iid (lasting m self.now.mappings)
             ≡ learned_in iid self.now.mappings }
     {
-        // The lengths say that no key is there twice, and that mappings are in order.
+        // The calls of `len` bring the facts that no key is there twice, and that mappings are in
+        // order.
         let _ = (self.endings.len(), self.by_eid.len());
         ended_in(m, iid, &self.endings)
     }
 
-    // How many mappings of an instance that aren't fixed haven't ended at a moment, one by one.
+    // How many mappings of an instance that aren't fixed haven't ended at a moment, counted one by
+    // one.
     fn counted_in(&self, m: u64, iid: u32) -> u32
         requires { length self.now.mappings ≤ most_mappings }
         ensures { result ≡ learned_in iid (lasting m self.now.mappings) }

@@ -8,7 +8,7 @@ use crate::{Limits, Mapping, NoMemory};
 use std::alloc::Global;
 use std::marker::Model;
 
-/// How many mappings an instance may learn, and how many it has.
+/// How many mappings an instance may learn, and how many it has learned.
 #[derive(Clone, Copy, Drop)]
 pub(crate) struct Count {
     pub most: u32,
@@ -19,7 +19,7 @@ pub(crate) struct Count {
 #[derive(Drop)]
 pub(crate) struct Counts {
     limits: Limits,
-    // One for each limit.
+    // One number for each limit.
     learned: Vec<u32>,
 }
 
@@ -40,7 +40,7 @@ impl Model for Counts {
 }
 
 impl Counts {
-    /// None is learned yet.
+    /// Counts of 0, one for each limit.
     pub(crate) fn new(alloc: Global, limits: &Limits) -> Result<Counts, NoMemory>
         ensures limits { IfOk result (λ counts. counts.limits ≡ limits.now) }
         ensures learned { IfOk result (λ counts. counts.learned ≡ for_each (λ iid. 0) limits.now) }
@@ -50,7 +50,7 @@ impl Counts {
         Ok(Counts { limits, learned })
     }
 
-    /// The same of their own.
+    /// A copy of the counts, which shares no memory with them.
     pub(crate) fn copy(&self, alloc: Global) -> Result<Counts, NoMemory>
         ensures { IfOk result (λ copy. copy ≡ self.now) }
     {
@@ -68,7 +68,8 @@ impl Counts {
         self.learned.len()
     }
 
-    /// What an instance may learn, and has learned. None where it has no limit.
+    /// How many mappings an instance may learn, and how many it has learned, or None where it has
+    /// no limit.
     pub(crate) fn get(&self, iid: u32) -> Option<Count>
         ensures most { option_map_or (λ count. count.most) result 0 ≡ mappings_in self.now.limits iid }
         ensures learned { (number : ℕ → ℕ) → self.now.learned ≡ for_each number self.now.limits
@@ -81,7 +82,7 @@ impl Counts {
         })
     }
 
-    /// A mapping came.
+    /// Counts a mapping that came.
     pub(crate) fn add(&mut self, mapping: &Mapping)
         requires { All (λ learned. learned < 2 ^ 32 - 1) self.old.learned }
         ensures limits { self.new.limits ≡ self.old.limits }
@@ -93,7 +94,7 @@ impl Counts {
         }
     }
 
-    /// A mapping went that had come.
+    /// Takes a mapping that had come out of the counts.
     pub(crate) fn drop(&mut self, mapping: &Mapping)
         requires { (number : ℕ → ℕ)
             × (self.old.learned ≡ for_each (with_one mapping.now number) self.old.limits) }
@@ -107,7 +108,8 @@ impl Counts {
         }
     }
 
-    // Where the number stands for which a mapping counts. A fixed one counts for none.
+    // The place of the number in which a mapping counts, or None where it is fixed or its instance
+    // has no limit.
     fn place(&self, mapping: &Mapping) -> Option<usize>
         ensures found { option_and_then (slice_get self.now.limits) result
             ≡ (if mapping.now.fixed then None else stated self.now.limits mapping.now.eid.iid) }

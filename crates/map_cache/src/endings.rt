@@ -7,7 +7,7 @@ use crate::Mapping;
 use crate::keys::Ending;
 use ordered_set::OrderedSet;
 
-/// Puts the end of a mapping into the set. Takes no memory.
+/// Adds the end of a mapping, unless it is fixed, to the set. Takes no memory.
 pub(crate) fn add_ending(mapping: &Mapping, endings: &mut OrderedSet<Ending>)
     requires { 0 < endings.old.spare }
     ensures members { (key : _) → has ending_order key endings.new.keys
@@ -24,7 +24,7 @@ pub(crate) fn add_ending(mapping: &Mapping, endings: &mut OrderedSet<Ending>)
     }
 }
 
-/// Takes the end of a mapping out of the set. Takes no memory.
+/// Removes the end of a mapping from the set. Takes no memory.
 pub(crate) fn drop_ending(mapping: &Mapping, endings: &mut OrderedSet<Ending>)
     ensures members { (key : _) → has ending_order key endings.new.keys
         ≡ (not (ends_as key mapping.now) && has ending_order key endings.old.keys) }
@@ -41,12 +41,13 @@ pub(crate) fn drop_ending(mapping: &Mapping, endings: &mut OrderedSet<Ending>)
     }
 }
 
-/// How many of an instance's mappings have ended at a moment. Looks at no more than one that hasn't.
+/// How many of an instance's mappings have ended at a moment, by their ends. Looks at no more than
+/// one end that is later.
 pub(crate) fn ended_in(m: u64, iid: u32, endings: &OrderedSet<Ending>) -> u32
     requires { length endings.now.keys < 2 ^ 32 }
     ensures { result ≡ count_by (has_ended_in m iid) endings.now.keys }
 {
-    // The length says that keys are in order.
+    // The call of `len` brings the fact that keys are in order.
     let _ = endings.len();
     let mut ended = 0;
     let mut index = 0;

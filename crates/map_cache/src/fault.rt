@@ -4,11 +4,10 @@ ghost use Rattle.map_cache.specs.declared.fault.LearnFault.TheVariants.{Memory};
 
 use octets::NoMemory;
 
-/// A mapping wasn't learned. Only the purge has taken place.
+/// Why a mapping wasn't learned. Only the purge has taken place.
 #[derive(Clone, Copy, Debug, PartialEq, Eq)]
 pub enum LearnFault {
-    /// So many mappings of other EIDs are live, in all or in the mapping's instance, that there is no
-    /// place for one more.
+    /// As many mappings of other EIDs are live as may be, in all or in the mapping's instance.
     CacheFull,
     /// An allocation was refused.
     Memory,

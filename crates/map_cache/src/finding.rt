@@ -3,6 +3,7 @@ ghost use Rattle.std.specs.Prelude.{◌≡◌, ◌≤◌, ◌<◌, ◌+◌, ◌/
 ghost use Rattle.std.specs.Option.{option_copied};
 ghost use Rattle.prefix_table.specs.Limits.{most_nodes};
 ghost use Rattle.map_cache.specs.Cache.{exact, in_force, lasting, without_eid};
+ghost use Rattle.map_cache.specs.Lists.{IsFew};
 ghost use Rattle.map_cache.specs.Named.{least_named, named_above};
 
 use crate::indexed::Indexed;
@@ -13,7 +14,7 @@ use ip_headers::Addr;
 use mapping_records::Eid;
 
 impl Indexed {
-    /// The EID of the mapping that ended first, if one has at a moment.
+    /// The EID of the mapping that ended first, or None where none has ended at a moment.
     pub(crate) fn first_ended(&self, m: u64) -> Option<Eid>
         ensures ended { IfSome result (λ eid.
             lasting m (without_eid eid self.now.mappings) ≡ lasting m self.now.mappings) }
@@ -21,7 +22,7 @@ impl Indexed {
             length (without_eid eid self.now.mappings) < length self.now.mappings) }
         ensures none { is_some result ≡ false → lasting m self.now.mappings ≡ self.now.mappings }
     {
-        // The lengths say that keys and mappings are in order.
+        // The calls of `len` bring the fact that keys and mappings are in order.
         let _ = (self.endings.len(), self.by_eid.len());
         let ending = self.endings.get(0)?;
         if u128::from(m) < ending.end {
@@ -30,24 +31,25 @@ impl Indexed {
         Some(ending.eid)
     }
 
-    /// There is a mapping of that EID.
+    /// Whether there is a mapping of that EID.
     pub(crate) fn has(&self, eid: &Eid) -> bool
         ensures { result ≡ is_some (exact self.now.mappings eid.now) }
     {
         self.by_eid.has(eid)
     }
 
-    /// The longest of the mappings that haven't ended at a moment and cover an EID.
+    /// The longest of the mappings that haven't ended at a moment and cover an EID, or None.
     pub(crate) fn in_force(&self, m: u64, eid: &Eid, reads: &mut Reads) -> Option<&Mapping>
         requires { reads.old < 2 ^ 63 }
         ensures found { option_copied result ≡ in_force (lasting m self.now.mappings) eid.now }
+        ensures few { IfSome (option_copied result) IsFew }
         ensures counted { reads.old ≤ reads.new }
         ensures bound { reads.new ≤ reads.old + most_nodes }
     {
         self.by_eid.in_force(m, eid, reads)
     }
 
-    /// The mapping of just that EID, unless it has ended at a moment.
+    /// The mapping of exactly that EID, or None where there is none or it has ended at a moment.
     pub(crate) fn exact(&self, m: u64, eid: &Eid, reads: &mut Reads) -> Option<&Mapping>
         requires { reads.old < 2 ^ 63 }
         ensures found { option_copied result ≡ exact (lasting m self.now.mappings) eid.now }
@@ -58,8 +60,19 @@ impl Indexed {
     }
 
     /// The least address above `after` that a mapping names which hasn't ended at a moment, and the
-    /// least such EID.
+    /// least EID of the mappings that name it, or None.
     pub(crate) fn next_named(&self, m: u64, after: Option<&Addr>) -> Option<(Addr, Eid)>
+        ensures { result ≡ least_named
+            (named_above (option_copied after.entry) (lasting m self.now.mappings)) }
+    {
+        if self.names.is_begun() {
+            return self.names.least(m, after, &self.by_eid);
+        }
+        self.passed(m, after)
+    }
+
+    // The same, by a pass over all mappings.
+    fn passed(&self, m: u64, after: Option<&Addr>) -> Option<(Addr, Eid)>
         ensures { result ≡ least_named
             (named_above (option_copied after.entry) (lasting m self.now.mappings)) }
     {

@@ -1,4 +1,4 @@
-// The mappings one after another.
+// An iterator over mappings.
 ghost use Rattle.std.specs.Prelude.{◌≡◌, All};
 ghost use Rattle.std.specs.Iterator.{YieldsFirstRef, item_count};
 ghost use Rattle.map_cache.specs.Filed.{mappings_at, IsNamed};
@@ -8,7 +8,8 @@ use crate::stay::Stay;
 use node_store::{NodeStore, Reads};
 use std::marker::Model;
 
-/// The mappings that are still to come, in order of EID. Takes no memory.
+/// An iterator over mappings in order of EID; contracts see those that it hasn't returned. Takes no
+/// memory.
 #[derive(Drop)]
 pub struct Iter<'a> {
     store: &'a NodeStore<Mapping>,
@@ -28,7 +29,7 @@ impl<'a> Model for Iter<'a> {
 }
 
 impl<'a> Iter<'a> {
-    /// Those that are told.
+    /// The iterator over the mappings in `store` whose names `stays` returns.
     pub(crate) fn new(store: &'a NodeStore<Mapping>, stays: prefix_table::Iter<'a, Stay>) -> Self
         requires { All (IsNamed store.now) stays }
         ensures { result ≡ mappings_at store.now stays.entry }

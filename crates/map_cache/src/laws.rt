@@ -6,8 +6,8 @@ ghost use Rattle.map_cache.specs.Lists.{IsAscending};
 ghost use Rattle.map_cache.specs.Named.{least_named, named_above, IsNoLess, IsNoLessAtOne};
 ghost use Rattle.map_cache.specs.declared.mapping.Mapping.{Mapping};
 
-/// What is answered is named, and nothing that is named has a lesser address. There is no answer
-/// exactly where nothing is named.
+/// Law: the pair that `least_named` gives is one of those named, and none of them has a lesser
+/// address. It gives None exactly where no address is named.
 pub fn no_lesser_address_is_named()
     ensures one { (named : List (Addr × Eid)) → IfSome (least_named named) (Contains named) }
     ensures least { (named : List (Addr × Eid))
@@ -15,7 +15,8 @@ pub fn no_lesser_address_is_named()
     ensures none { (named : List (Addr × Eid)) → (least_named named ≡ None) ↔ (named ≡ []) }
 {}
 
-/// Of mappings in order of EID, none that names the address which is answered has a lesser EID.
+/// Law: of mappings in order of EID, none that names the address of `least_named` has a lesser EID
+/// than the one that it gives.
 pub fn no_lesser_eid_names_it()
     ensures { (after : Option Addr) (mappings : List Mapping) → IsAscending mappings
         → IfSome (least_named (named_above after mappings))

@@ -17,6 +17,7 @@ mod keys;
 mod laws;
 mod learning;
 mod mapping;
+mod names;
 mod naming;
 mod searching;
 mod stay;

@@ -1,4 +1,4 @@
-// The least address that is named, and the EID that names it.
+// The least address that mappings name, and the EID of a mapping that names it.
 ghost use Rattle.std.specs.Prelude.{◌≡◌, fold, map, filter};
 ghost use Rattle.std.specs.Option.{option_copied};
 ghost use Rattle.map_cache.specs.Named.{is_named, lesser};
@@ -7,8 +7,8 @@ use crate::searching::comes_after;
 use ip_headers::{Addr, is_below};
 use mapping_records::{Eid, Locator};
 
-/// The least of the best so far and of the addresses above `after` that the locators of an EID's
-/// mapping name; of one address the first.
+/// The least of the best address so far and of those above `after` that the locators of an EID's
+/// mapping name; of equal addresses the first.
 pub(crate) fn lesser_of(
     best: Option<(Addr, Eid)>,
     after: Option<&Addr>,

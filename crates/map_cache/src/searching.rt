@@ -8,21 +8,21 @@ ghost use Rattle.map_cache.specs.Named.{comes_after};
 use crate::Mapping;
 use ip_headers::{Addr, is_below};
 
-/// The mapping hasn't ended at a moment.
+/// Whether a mapping hasn't ended at a moment.
 pub fn lasts(now: u64, mapping: &Mapping) -> bool
     ensures { result ≡ lasts now mapping.now }
 {
     mapping.fixed || u128::from(now) < mapping.end
 }
 
-/// The mapping hasn't ended at a moment, is of an instance, and isn't fixed.
+/// Whether a mapping hasn't ended at a moment, is of an instance, and isn't fixed.
 pub(crate) fn lasts_in(now: u64, iid: u32, mapping: &Mapping) -> bool
     ensures { result ≡ (lasts now mapping.now && is_learned iid mapping.now) }
 {
     lasts(now, mapping) && mapping.eid.iid == iid && !mapping.fixed
 }
 
-/// The address is above another; without another, each is.
+/// Whether an address is above `after`; without `after`, each is.
 pub(crate) fn comes_after(after: Option<&Addr>, addr: &Addr) -> bool
     ensures { result ≡ comes_after (option_copied after.entry) addr.now }
 {

@@ -3,10 +3,9 @@ use Rattle.mapping_records.specs.Eids.{same_eid}
 use Rattle.mapping_records.specs.Orders.{eid_order, put_in_order}
 use Rattle.mapping_records.specs.declared.eid.Eid.{Eid}
 use Rattle.map_cache.specs.Cache.{Cache, exact, fresh, lasting, lasts, without_eid}
-use Rattle.map_cache.specs.Lists.{AllFew, AllLast, IsFew}
+use Rattle.map_cache.specs.Lists.{AllLast, IsFew}
 use Rattle.map_cache.specs.Limits.{most_mappings}
 use Rattle.map_cache.specs.declared.mapping.Mapping.{Mapping}
-use Rattle.map_cache.proofs.FewLemmas.{AllFew-filter, AllFew-put}
 use Rattle.map_cache.proofs.FullLemmas.{few-filter, few-put, learned-put, length-lasting, within_all}
 use Rattle.map_cache.proofs.LastingLemmas.{AllLast-filter, AllLast-put, fresh-lasts}
 use Rattle.map_cache.proofs.cache.MapCache.learn.Goals as goal
@@ -19,10 +18,7 @@ invariant_of-self c =
     let same = ap length left in
     let few = few-filter other items _ c.self.invariant.0 in (
       omega (arith, same, few),
-      (
-        subst (AllLast c.self.inside.now) (sym left) (AllLast-filter c.self.inside.now other items c.self.invariant.1.0),
-        subst AllFew (sym left) (AllFew-filter other items c.self.invariant.1.1),
-      ),
+      subst (AllLast c.self.inside.now) (sym left) (AllLast-filter c.self.inside.now other items c.self.invariant.1),
     )
 
 pub invariant_of-self-2 : goal.invariant_of-self-2
@@ -34,10 +30,8 @@ invariant_of-self-2 c =
     let other = λ (i : Mapping). not (same_eid i.eid x.eid) in
     let same : c.self.inside.now ≡ c.args.m = ap (λ (cache : Cache). cache.now) c.self.view_is ∙ c.purge.ensures.now in
     let lasting_one : lasts c.self.inside.now x ≡ true = ap (λ now. lasts now x) same ∙ ap (lasts c.args.m) c.fresh-mapping.ensures ∙ fresh-lasts c.args.m c.args.mapping c.args.fixed (ne_eqb c.args.mapping.ttl 0 c.if-mapping-eq0.false) in
-    let few : IsFew x = subst IsFew (sym c.fresh-mapping.ensures) c.requires.locators in
     let now_few : length items ≤ most_mappings = subst (λ (l : List Mapping). length l ≤ most_mappings) (sym kept) c.self.invariant.0 in
-    let now_last : AllLast c.self.inside.now items = subst (AllLast c.self.inside.now) (sym kept) c.self.invariant.1.0 in
-    let all_few : AllFew items = subst AllFew (sym kept) c.self.invariant.1.1 in
+    let now_last : AllLast c.self.inside.now items = subst (AllLast c.self.inside.now) (sym kept) c.self.invariant.1 in
     let purged : List Mapping = c.purge.new.self.mappings in
     let now_kept : items ≡ purged = kept ∙ ap (λ (cache : Cache). cache.mappings) c.self.view_is in
     let here : (is_some (exact purged c.args.mapping.eid) || nat_lt (length purged) most_mappings) ≡ true = within_all (is_some (exact purged c.args.mapping.eid)) (nat_lt (length purged) most_mappings) _ (sym c.has_place.ensures ∙ c.if-not-has_place.false) in
@@ -47,11 +41,11 @@ invariant_of-self-2 c =
     ∙ ap (λ (e : Eid). is_some (exact purged e) || nat_lt (length purged) most_mappings) eid
     ∙ here in (
       subst (λ (l : List Mapping). length l ≤ most_mappings) (sym put) (few-put x items most_mappings now_few place),
-      (
-        subst (AllLast c.self.inside.now) (sym put) (AllLast-put c.self.inside.now x (without_eid x.eid items) lasting_one (AllLast-filter c.self.inside.now other items now_last)),
-        subst AllFew (sym put) (AllFew-put x (without_eid x.eid items) few (AllFew-filter other items all_few)),
-      ),
+      subst (AllLast c.self.inside.now) (sym put) (AllLast-put c.self.inside.now x (without_eid x.eid items) lasting_one (AllLast-filter c.self.inside.now other items now_last)),
     )
+
+pub put-requires-clause-locators : goal.put-requires-clause-locators
+put-requires-clause-locators c = subst IsFew (sym c.fresh-mapping.ensures) c.requires.locators
 
 pub returns-clause-ok : goal.returns-clause-ok
 returns-clause-ok c =

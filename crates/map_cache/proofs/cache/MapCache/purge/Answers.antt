@@ -1,7 +1,6 @@
 use Rattle.std.proofs.Common.{length, sym, subst, ap, arith}
 use Rattle.map_cache.specs.Cache.{lasts}
-use Rattle.map_cache.specs.Lists.{AllFew, AllLast}
-use Rattle.map_cache.proofs.FewLemmas.{AllFew-filter}
+use Rattle.map_cache.specs.Lists.{AllLast}
 use Rattle.map_cache.proofs.FullLemmas.{few-filter}
 use Rattle.map_cache.proofs.LastingLemmas.{AllLast-lasting}
 use Rattle.map_cache.proofs.cache.MapCache.purge.Goals as goal
@@ -13,8 +12,5 @@ invariant_of-self c =
     let same = ap length left in
     let few = few-filter (lasts c.args.m) items _ c.self.invariant.0 in (
       omega (arith, same, few),
-      (
-        subst (AllLast c.args.m) (sym left) (AllLast-lasting c.args.m items),
-        subst AllFew (sym left) (AllFew-filter (lasts c.args.m) items c.self.invariant.1.1),
-      ),
+      subst (AllLast c.args.m) (sym left) (AllLast-lasting c.args.m items),
     )

@@ -1,8 +1,7 @@
 use Rattle.std.proofs.Common.{length, sym, subst, ap, arith}
 use Rattle.std.proofs.lemmas.List.{length-map}
 use Rattle.map_cache.specs.Cache.{told_mapping}
-use Rattle.map_cache.specs.Lists.{AllFew, AllLast}
-use Rattle.map_cache.proofs.FewLemmas.{AllFew-told}
+use Rattle.map_cache.specs.Lists.{AllLast}
 use Rattle.map_cache.proofs.LastingLemmas.{AllLast-told}
 use Rattle.map_cache.proofs.cache.MapCache.set_bits.Goals as goal
 
@@ -13,8 +12,5 @@ invariant_of-self c =
     let same = ap length told in
     let mapped = length-map items (told_mapping c.args.eid.now c.args.bits c.args.width) in (
       omega (arith, same, mapped, c.self.invariant.0),
-      (
-        subst (AllLast c.self.inside.now) (sym told) (AllLast-told c.self.inside.now c.args.eid.now c.args.bits c.args.width items c.self.invariant.1.0),
-        subst AllFew (sym told) (AllFew-told c.args.eid.now c.args.bits c.args.width items c.self.invariant.1.1),
-      ),
+      subst (AllLast c.self.inside.now) (sym told) (AllLast-told c.self.inside.now c.args.eid.now c.args.bits c.args.width items c.self.invariant.1),
     )

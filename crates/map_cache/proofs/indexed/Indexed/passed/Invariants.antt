@@ -2,7 +2,7 @@ use Rattle.std.proofs.Common.{◌≡◌, fold}
 use Rattle.std.specs.Option.{option_copied}
 use Rattle.map_cache.specs.Cache.{lasting}
 use Rattle.map_cache.specs.Named.{least_named, lesser, named_above}
-use Rattle.map_cache.proofs.indexed.Indexed.next_named.Given as goal
+use Rattle.map_cache.proofs.indexed.Indexed.passed.Given as goal
 
 -- the least so far and those to come have the least of all
 abbrev pub invariant-loop-mapping : goal.invariant-loop-mapping
