@@ -18,7 +18,8 @@ use Rattle.replay.specs.declared.status.Status.TheVariants.{Done}
 abbrev pub frames_in : List ℕ → List Frame
 frames_in file = (capture file).frames
 
--- words replay that classic capture by these settings, without workers and unsplit, to its end, and that file is made
+-- `words` replay the classic capture `file` by the settings `own`, without workers and unsplit, to its end, and make
+-- the file `made`
 pub record Replays (words : List (List ℕ)) (files : List NamedFile) (own : Settings) (file : List ℕ) (made : NamedFile) : Type 0 where
   pub settings : List ℕ
   pub input : List ℕ
@@ -30,8 +31,8 @@ pub record Replays (words : List (List ℕ)) (files : List NamedFile) (own : Set
   pub ends : (answer words files).status ≡ Done
   pub makes : (answer words files).made ≡ made ∷ []
 
--- words audit these octets beside that capture, with the nonces in them, by those settings or such as differ in seed and
--- nonces alone
+-- `words` audit `octets` beside the capture `file`, with the nonces lifted out of `octets`, by the settings `own` or by
+-- such as differ in seed and nonces alone
 pub record Audits (words : List (List ℕ)) (files : List NamedFile) (own : Settings) (file octets : List ℕ) : Type 0 where
   pub settings : List ℕ
   pub input : List ℕ

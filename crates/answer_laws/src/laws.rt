@@ -1,4 +1,4 @@
-// Laws of what runs answer. Each function only states its law.
+// Laws of the answers of whole runs. Each function only states its law.
 ghost use Rattle.std.specs.Prelude.{◌≡◌, ℕ, List, None, length};
 ghost use Rattle.desk.specs.declared.file.NamedFile.{NamedFile};
 ghost use Rattle.lisp_settings.specs.declared.settings.Settings.{Settings};
@@ -12,8 +12,9 @@ ghost use Rattle.answer_laws.specs.Audited.{frames_in, Audits, Replays};
 
 use audit_laws::{lifted_nonces_make_it_the_same, sent_packets_are_read};
 
-/// Where a replay comes to its end, an audit of the file that it made, with the nonces that are
-/// lifted out of it, answers that all its packets are the same.
+/// Law: where a replay comes to its end, an audit of the file that it made, with the nonces that
+/// are lifted out of that file, answers that all packets are the same, under the conditions of
+/// `MayLift`, and where the capture written of these packets has no fault.
 pub fn an_audit_of_a_replay_is_the_same()
     ensures { (replay audit : List (List ℕ)) (before after : List NamedFile) (own : Settings)
         (input : List ℕ) (made : NamedFile)

@@ -13,7 +13,7 @@ first_difference (octet ∷ octets) [] = 0
 first_difference (octet ∷ octets) (other ∷ others) =
     if octet == other then suc (first_difference octets others) else 0
 
--- the outcome of packets and records behind so many that are the same
+-- the outcome of packets and records that stand behind n packets that are the same
 abbrev pub compared_behind : ℕ → List (List ℕ) → List Frame → Outcome
 compared_behind n [] [] = Same n
 compared_behind n [] (frame ∷ frames) = Extra (n + 1)
@@ -22,13 +22,13 @@ compared_behind n (packet ∷ packets) (frame ∷ frames) =
     if bytes_eq packet (record_packet frame) then compared_behind (n + 1) packets frames
     else Differs (n + 1) (first_difference packet (record_packet frame))
 
--- the outcome of packets and records
+-- the outcome of a comparison of packets with records
 abbrev pub compared : List (List ℕ) → List Frame → Outcome
 compared packets frames = compared_behind 0 packets frames
 
 -- ### one by one
 
--- the outcome so far, of the packet behind so many that are the same, and its record
+-- the outcome of a packet and its record, if it has one, behind n packets that are the same
 abbrev pub judged : ℕ → List ℕ → Option Frame → Outcome
 judged n packet None = Missing (n + 1)
 judged n packet (Some frame) =
@@ -50,14 +50,14 @@ all_expected outcome (packet ∷ packets) [] =
 all_expected outcome (packet ∷ packets) (frame ∷ frames) =
     all_expected (expected outcome packet (Some frame)) packets frames
 
--- the outcome behind the last packet, where there may be a further record
+-- the outcome behind the last packet; `more` is whether there is a further record
 abbrev pub finished : Outcome → Bool → Outcome
 finished (Same n) more = if more then Extra (n + 1) else Same n
 finished (Differs position place) more = Differs position place
 finished (Missing position) more = Missing position
 finished (Extra position) more = Extra position
 
--- a fact of the number of packets, where all were the same so far
+-- a fact P of the number of packets, where all were the same so far
 abbrev pub IfSame : Outcome → (ℕ → Type 0) → Type 0
 IfSame (Same n) P = P n
 IfSame (Differs position place) P = Unit {0}

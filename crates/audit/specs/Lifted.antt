@@ -7,32 +7,32 @@ use Rattle.lisp_settings.specs.declared.settings.Settings.{Settings}
 use Rattle.audit.specs.Limits.{most_lifted}
 use Rattle.audit.specs.Requests.{sent_nonce}
 
--- numbers, each at its first place alone
+-- a list of numbers, each at its first place alone
 abbrev pub each_once : List ℕ → List ℕ
 each_once [] = []
 each_once (n ∷ ns) = n ∷ filter (λ other. not (n == other)) (each_once ns)
 
--- the nonces of the Map-Requests that the router sent in frames, each once at its first place, and
--- only the first of them (this router's choice)
+-- the nonces of the Map-Requests that the router sent in frames, each once at its first place, and at most the first
+-- `most_lifted` (this router's choice)
 abbrev pub lifted : Settings → List Frame → List ℕ
 lifted settings frames = take most_lifted (each_once (filter_map (sent_nonce settings) frames))
 
 -- ### one by one
 
--- the number is among these
+-- whether a number is in a list
 abbrev pub is_among : ℕ → List ℕ → Bool
 is_among n ns = list_any (λ other. other == n) ns
 
--- at most so many numbers with one more, unless it is there, or they are so many
+-- a list with one number more, unless the number is in it, or it has `most` numbers
 abbrev pub with_number : ℕ → List ℕ → ℕ → List ℕ
 with_number most ns n = if nat_le most (length ns) || is_among n ns then ns else ns ++ n ∷ []
 
--- the nonces so far with a further one, if it is there
+-- the lifted nonces with a further one, if there is one
 abbrev pub with_nonce : List ℕ → Option ℕ → List ℕ
 with_nonce nonces None = nonces
 with_nonce nonces (Some nonce) = with_number most_lifted nonces nonce
 
--- the nonces so far with that of a further frame
+-- the lifted nonces with the nonce of a further frame
 abbrev pub lifted_on : Settings → List ℕ → Frame → List ℕ
 lifted_on settings nonces frame = with_nonce nonces (sent_nonce settings frame)
 

@@ -4,7 +4,7 @@ use Rattle.octets.specs.declared.refused.Refused.{Refused}
 use Rattle.capture_io.specs.Frame.{Frame}
 use Rattle.router_model.specs.Course.{frame_packet, frame_refusal}
 
--- octets, or none where a rule fails
+-- octets, or no octets where a rule fails
 abbrev pub unless_refused : Option Refused → List ℕ → List ℕ
 unless_refused None octets = octets
 unless_refused (Some refused) octets = []

@@ -10,7 +10,7 @@ use crate::packets::record_packet;
 use capture_io::Frame;
 use std::marker::Model;
 
-/// A comparison that goes on. Contracts see the outcome so far.
+/// A comparison of due packets with records, one by one. Contracts see it as the outcome so far.
 #[derive(Debug, Drop)]
 pub struct Auditor {
     so_far: Outcome,
@@ -29,7 +29,7 @@ impl Model for Auditor {
 }
 
 impl Auditor {
-    /// A comparison of no packets. Takes no memory.
+    /// A comparison before its first packet. Takes no memory.
     pub fn new() -> Self
         ensures { result ≡ Same 0 }
     {
@@ -38,8 +38,8 @@ impl Auditor {
         }
     }
 
-    /// Compares the packet that is due next with the record that comes next, none where the capture
-    /// has ended. Behind the first departure nothing is compared. Takes no memory.
+    /// Compares the next due packet with the next record, None where the capture has ended. Behind
+    /// the first departure no packet is compared. Takes no memory.
     pub fn expect(&mut self, packet: &[u8], sent: Option<&Frame>)
         requires { IfSame self.old (λ packets. packets < 2 ^ 63) }
         ensures { self.new
@@ -50,8 +50,7 @@ impl Auditor {
         }
     }
 
-    /// The outcome, where no packet is due any more; `more` says that the capture has a further
-    /// record.
+    /// The outcome behind the last due packet; `more` is whether the capture has a further record.
     pub fn finish(self, more: bool) -> Outcome
         ensures { result ≡ finished self more }
     {
@@ -64,7 +63,7 @@ impl Auditor {
     }
 }
 
-// The outcome of the packet behind so many that are the same, and its record.
+// The outcome of a packet and its record, behind so many packets that are the same.
 fn judge(packets: u64, packet: &[u8], sent: Option<&Frame>) -> Outcome
     requires { packets < 2 ^ 63 }
     ensures { result ≡ judged packets packet.now (option_map (λ frame. frame.now) sent.entry) }

@@ -1,4 +1,4 @@
-// Where octets differ.
+// The place where octets differ.
 ghost use Rattle.std.specs.Prelude.{◌≡◌, ◌≤◌, length};
 ghost use Rattle.audit.specs.Compared.{first_difference};
 

@@ -1,4 +1,4 @@
-// The laws of an audit. Each function only states its law.
+// Laws of an audit. Each function has an empty body and states one law.
 ghost use Rattle.std.specs.Prelude.{◌≡◌, ℕ, ◌≤◌, List, [], ◌∷◌, ◌++◌, filter_map, length, map, nat_eq, nat_lt, slice_get};
 ghost use Rattle.std.specs.List.{IsDistinct};
 ghost use Rattle.ip_headers.specs.Packet.{IsPacket};
@@ -13,9 +13,10 @@ ghost use Rattle.audit.specs.Requests.{sent_nonce};
 ghost use Rattle.audit.specs.declared.outcome.Outcome.{Outcome};
 ghost use Rattle.audit.specs.declared.outcome.Outcome.TheVariants.{Same};
 
-/// Packets that are expected one by one, each with the record at its place, have the outcome of all
-/// together, where the end is told whether there is a further record. A further packet is expected
-/// with the record at the next place. As long as all are the same, they are counted.
+/// Law: packets that are expected one by one, each with the record at its place, and then finished
+/// by whether there is a further record, have the outcome of all together. A further packet is
+/// expected with the record at the next place. As long as all are the same, the outcome has their
+/// number.
 pub fn packets_compare_one_by_one()
     ensures all { (packets : List (List ℕ)) (frames : List Frame) →
         finished (all_expected (Same 0) packets frames) (nat_lt (length packets) (length frames))
@@ -28,8 +29,8 @@ pub fn packets_compare_one_by_one()
         IfSame (all_expected (Same 0) packets frames) (λ n. n ≡ length packets) }
 {}
 
-/// The outcome is that all are the same exactly where the packets of the records are those that
-/// were due, one after another and octet by octet.
+/// Law: the outcome is that all are the same exactly where the packets in the records are the due
+/// ones, one after another and octet by octet.
 pub fn same_is_equal()
     ensures equal { (packets : List (List ℕ)) (frames : List Frame) (n : ℕ) →
         compared packets frames ≡ Same n → packets ≡ map record_packet frames }
@@ -37,15 +38,16 @@ pub fn same_is_equal()
         compared (map record_packet frames) frames ≡ Same (length frames) }
 {}
 
-/// What is lifted out of frames is lifted one by one: nothing out of none, and then that of each
-/// further frame.
+/// Law: nonces are lifted frame by frame: none out of no frames, and then the nonce of each further
+/// frame.
 pub fn frames_lift_one_by_one()
     ensures none { (settings : Settings) → lifted settings [] ≡ [] }
     ensures more { (settings : Settings) (frames : List Frame) (frame : Frame) →
         lifted settings (frames ++ frame ∷ []) ≡ lifted_on settings (lifted settings frames) frame }
 {}
 
-/// Nonces that all differ, and are no more than are lifted, are lifted as they are.
+/// Law: nonces that all differ, and are at most as many as may be lifted, are all lifted, in their
+/// order.
 pub fn differing_nonces_are_all_lifted()
     ensures { (settings : Settings) (frames : List Frame) →
         IsDistinct nat_eq (filter_map (sent_nonce settings) frames)
@@ -53,7 +55,8 @@ pub fn differing_nonces_are_all_lifted()
         → lifted settings frames ≡ filter_map (sent_nonce settings) frames }
 {}
 
-/// The packet of a record without a link's header that is exactly one packet is all of its octets.
+/// Law: in a record without a link header whose octets are exactly one packet, the packet is all of
+/// these octets.
 pub fn raw_packets_are_whole()
     ensures { (frame : Frame) → frame.link ≡ Raw → IsPacket 0 frame.octets
         → record_packet frame ≡ frame.octets }

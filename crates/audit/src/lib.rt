@@ -1,5 +1,5 @@
-//! What a router really sent, held against the packets that were due, and the nonces of its own
-//! requests lifted out of it.
+//! The packets that a router really sent, compared with those that were due, and the nonces of its
+//! own Map-Requests, lifted out of them.
 #![tactic(auto)]
 
 mod auditor;

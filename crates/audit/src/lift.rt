@@ -12,7 +12,7 @@ use std::alloc::Global;
 use std::collections::BTreeSet;
 use std::marker::Model;
 
-/// Nonces that were lifted so far, which contracts see as their list.
+/// The nonces lifted so far, which contracts see as their list.
 #[derive(Drop)]
 pub struct Lift {
     nonces: Vec<u64>,
@@ -31,7 +31,7 @@ impl Model for Lift {
 }
 
 impl Lift {
-    /// No nonces. Takes no memory.
+    /// A list without nonces. Takes no memory.
     pub fn new(alloc: Global) -> Self
         ensures { result ≡ [] }
     {
@@ -41,8 +41,9 @@ impl Lift {
         }
     }
 
-    /// Adds the nonce of the Map-Request that the router of these settings sent in a frame, if it
-    /// did and the nonce isn't there yet. Behind the first 1,000,000 none is added.
+    /// Adds the nonce of the Map-Request that the router of these settings sent in a frame, if
+    /// there is one and its nonce isn't in the list yet. Behind the first 1,000,000 no nonce is
+    /// added.
     pub fn see(&mut self, alloc: Global, settings: &Settings, frame: &Frame) -> Result<(), NoMemory>
         ensures ok { OnOk result (self.new ≡ lifted_on settings.now self.old frame.now) }
         ensures err { OnErr result (self.new ≡ self.old) }
@@ -53,7 +54,7 @@ impl Lift {
         }
     }
 
-    /// The nonces, in the order in which they were first sent.
+    /// The lifted nonces, in the order in which they were first sent.
     pub fn nonces(self) -> Nonces
         ensures { result ≡ self }
     {
@@ -61,7 +62,7 @@ impl Lift {
         Items::from_vec(nonces)
     }
 
-    // Adds a nonce, unless it is there or as many are there as are lifted.
+    // Adds a nonce, unless it is in the list, or the list has `MOST_LIFTED`.
     fn add(&mut self, nonce: u64) -> Result<(), NoMemory>
         ensures ok { OnOk result (self.new ≡ with_number most_lifted self.old nonce) }
         ensures err { OnErr result (self.new ≡ self.old) }

@@ -5,7 +5,7 @@ ghost use Rattle.audit.specs.Packets.{record_packet};
 use capture_io::Frame;
 use router_core::frame_packet;
 
-/// The octets of the packet of a record, none where a rule of its link or of IP fails.
+/// The octets of the packet in a record, empty where a rule of link or IP fails.
 #[tactic(auto, unfolding(crate::specs::Packets::record_packet))]
 pub(crate) fn record_packet<'a>(frame: &'a Frame) -> &'a [u8]
     ensures octets { result.now ≡ record_packet frame.now }

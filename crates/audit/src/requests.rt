@@ -11,7 +11,8 @@ use octets::NoMemory;
 use router_core::{Course, Datagram, arriving, frame_packet};
 use std::alloc::Global;
 
-/// The nonce of the Map-Request that the router sent in a frame, encapsulated or not, if it did.
+/// The nonce of the Map-Request that the router sent in a frame, encapsulated or not, or None where
+/// it sent none.
 #[tactic(auto, unfolding(crate::specs::Requests::sent_nonce))]
 pub(crate) fn sent_nonce(
     alloc: Global,
@@ -26,7 +27,8 @@ pub(crate) fn sent_nonce(
     }
 }
 
-// That of a packet that comes from an own locator, by what it is where it comes to one.
+// The nonce of the Map-Request in a packet from an own locator, or None. The packet is judged as
+// one that comes to an own locator.
 fn own_nonce(
     alloc: Global,
     locators: &[OwnLocator],
@@ -41,7 +43,8 @@ fn own_nonce(
     }
 }
 
-// That of a control message; nothing else has one.
+// The nonce of the Map-Request in a control message, or None. A packet of any other course has
+// none.
 fn course_nonce(alloc: Global, course: Course) -> Result<Option<u64>, NoMemory>
     ensures { IfOk result (λ nonce. nonce ≡ course_nonce (course_seen course.entry)) }
 {
@@ -51,7 +54,7 @@ fn course_nonce(alloc: Global, course: Course) -> Result<Option<u64>, NoMemory>
     }
 }
 
-// That of the message in a datagram.
+// The nonce of the Map-Request in a datagram, whose UDP checksum must be there and right, or None.
 fn datagram_nonce(alloc: Global, datagram: &Datagram) -> Result<Option<u64>, NoMemory>
     ensures { IfOk result (λ nonce. nonce ≡ datagram_nonce (datagram_seen datagram.now)) }
 {
@@ -62,7 +65,7 @@ fn datagram_nonce(alloc: Global, datagram: &Datagram) -> Result<Option<u64>, NoM
     }
 }
 
-// That of the message at the front of the octets, whose places count from `base`.
+// The nonce of the Map-Request at the front of octets, whose places count from `base`, or None.
 #[tactic(auto, using(router_model::proofs::ReceivedLemmas::message_in_is))]
 fn message_nonce(alloc: Global, octets: &[u8], base: u32) -> Result<Option<u64>, NoMemory>
     requires { base + length octets.now < 2 ^ 32 }
@@ -75,7 +78,7 @@ fn message_nonce(alloc: Global, octets: &[u8], base: u32) -> Result<Option<u64>,
     }
 }
 
-// That of a message.
+// The nonce of the Map-Request that a message is or carries, or None.
 fn nonce_of(message: &Message) -> Option<u64>
     ensures { result ≡ nonce_of message.now }
 {

@@ -15,11 +15,11 @@ use Rattle.router_model.specs.Plain.{plain, started}
 use Rattle.audit.specs.Limits.{most_lifted}
 use Rattle.audit_laws.specs.Delivers.{DeliverOthers}
 
--- the nonce with that number, from 0 on
+-- the nonce with number i of settings, from 0 on
 abbrev pub nonce_at : Settings → ℕ → ℕ
 nonce_at settings i = nonce_of settings.seed settings.nonces i
 
--- so many nonces, in the order in which they are drawn
+-- the first n nonces of settings, in the order in which they are drawn
 abbrev pub first_nonces : Settings → ℕ → List ℕ
 first_nonces settings zero = []
 first_nonces settings (suc n) = first_nonces settings n ++ nonce_at settings n ∷ []
@@ -28,11 +28,11 @@ first_nonces settings (suc n) = first_nonces settings n ++ nonce_at settings n �
 abbrev pub with_nonces : Settings → List ℕ → List ℕ → Settings
 with_nonces settings seed nonces = record settings { seed = seed; nonces = nonces }
 
--- the journal that the plain router has at the end
+-- the journal of the plain router after all frames
 abbrev pub journal_after : Settings → List Frame → Journal
 journal_after settings frames = (played plain (started settings) (events frames)).after.memory
 
--- the nonces that it drew
+-- the nonces that the plain router draws for frames
 abbrev pub drawn_nonces : Settings → List Frame → List ℕ
 drawn_nonces settings frames = first_nonces settings (drawn (journal_after settings frames))
 
@@ -42,13 +42,14 @@ pub record IsInRange (own : OwnLocator) : Type 0 where
   pub priority : own.priority < 256
   pub weight : own.weight < 256
 
--- so do those of settings: of the own locators, and the nonces that are listed
+-- the numbers of settings fit their types: those of the own locators, and the listed nonces
 pub record AreInRange (settings : Settings) : Type 0 where
   pub locators : All IsInRange settings.locators
   pub nonces : All (λ nonce. nonce < 2 ^ 64) settings.nonces
 
--- without echoes, which draw a nonce and send no Map-Request, where no delivered packet looks like one of the router's own,
--- and the nonces differ and are no more than are lifted
+-- the conditions under which the nonces that a router drew are lifted: lawful settings without echoes (an echo draws a
+-- nonce and sends no Map-Request), frames that were read and whose moments don't fall, no delivered packet that looks
+-- like one of the router's own, and drawn nonces that differ and are no more than may be lifted
 pub record MayLift (settings : Settings) (frames : List Frame) : Type 0 where
   pub lawful : IsLawful settings
   pub range : AreInRange settings

@@ -18,11 +18,12 @@ use Rattle.router_model.specs.Site.{ours, reaches_resolver}
 abbrev pub sent_packets : Settings → List Frame → List Packet
 sent_packets settings frames = (played plain (started settings) (events frames)).packets
 
--- the frames and the fault of the capture that is written of packets
+-- the capture that is written of packets, as it is read: its frames and its fault
 abbrev pub written : List Packet → Run CaptureFault
 written packets = capture (out_header ++ records_of packets)
 
--- an own locator of the receiver's family is up, for a Map-Request of the resolver's; a reply isn't too long
+-- an emit can be made: for a Map-Request an own locator reaches the resolver, for a probe or an SMR one of the
+-- receiver's family is up, and a Map-Reply isn't too long
 abbrev pub CanBeMade : Settings → Emit → Type 0
 CanBeMade settings (Request eid source invoked nonce) = IsTrue (reaches_resolver settings)
 CanBeMade settings (Probe to eid nonce) = IsTrue (is_some (ours settings.locators to))

@@ -22,10 +22,10 @@ ghost use Rattle.audit_laws.specs.Drawn.{drawn_nonces, with_nonces, AreInRange, 
 ghost use Rattle.audit_laws.specs.Sent.{sent_packets, written, CanBeMade};
 ghost use Rattle.audit_laws.specs.Whole.{IsWhole};
 
-/// What a decision on a frame of octets sends, into a tunnel, out of one or past it, is exactly one
-/// packet of octets. So is what the router makes itself, over its settings and over those that
-/// stand, and each packet of a whole replay, which are of octets where the settings' numbers fit
-/// their types.
+/// Law: the packet of a decision on a frame of octets (encapsulated, delivered or forwarded
+/// natively) is exactly one packet of octets. An emit that can be made, by the router's settings or
+/// by those that stand, is exactly one packet, and so is each packet of a whole replay. A replay's
+/// packets are of octets where the settings' numbers fit their types.
 pub fn sent_packets_are_packets()
     ensures decision { (settings : Settings) (v : View) (frame : Frame) → AreOctets frame.octets
         → IfSome (packet_of (decide_by settings v frame).verdict) (IsPacket 0) }
@@ -42,16 +42,16 @@ pub fn sent_packets_are_packets()
         → All (λ packet. IsPacket 0 packet.octets) (sent_packets settings frames) }
 {}
 
-/// The capture that is written of a replay's packets, where it has no fault, is read as just these
-/// packets.
+/// Law: the capture that is written of a replay's packets, where it has no fault, is read as just
+/// these packets.
 pub fn sent_packets_are_read()
     ensures { (settings : Settings) (frames : List Frame) → IsLawful settings
         → All IsRead frames → AreLater 0 frames → (written (sent_packets settings frames)).fault ≡ None
         → (written (sent_packets settings frames)).frames ≡ frames_of (sent_packets settings frames) }
 {}
 
-/// Held against what a replay sent, the capture that is written of it is the same, where it has no
-/// fault.
+/// Law: the packets of a replay, compared with the capture that is written of them, are the same,
+/// where that has no fault.
 pub fn own_output_is_the_same()
     ensures { (settings : Settings) (frames : List Frame) → IsLawful settings
         → All IsRead frames → AreLater 0 frames → (written (sent_packets settings frames)).fault ≡ None
@@ -60,8 +60,9 @@ pub fn own_output_is_the_same()
         ≡ Same (length (sent_packets settings frames)) }
 {}
 
-/// The nonces that a replay without echoes draws, where they differ, are those that are lifted out
-/// of what it sent, in their order.
+/// Law: under the conditions of `MayLift` (among them: no echoes, and nonces that differ) the
+/// nonces that a replay draws are those that are lifted out of the packets that it sent, in their
+/// order; likewise out of the capture written of these packets, where that has no fault.
 pub fn drawn_nonces_are_lifted()
     ensures sent { (settings : Settings) (frames : List Frame) → MayLift settings frames
         → lifted settings (frames_of (sent_packets settings frames)) ≡ drawn_nonces settings frames }
@@ -70,8 +71,9 @@ pub fn drawn_nonces_are_lifted()
         → lifted settings (written (sent_packets settings frames)).frames ≡ drawn_nonces settings frames }
 {}
 
-/// So whoever knows a router's settings, but not its nonces, and puts those that are lifted in their
-/// place, finds what it sent the same.
+/// Law: under the conditions of `MayLift`, and where the capture written of what a router sent has
+/// no fault, a replay by its settings with any seed, and with the lifted nonces in place of its
+/// own, sends the same packets.
 pub fn lifted_nonces_make_it_the_same()
     ensures { (settings : Settings) (frames : List Frame) (seed nonces : List ℕ)
         → MayLift settings frames → (written (sent_packets settings frames)).fault ≡ None

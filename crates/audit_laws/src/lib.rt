@@ -1,5 +1,6 @@
-//! Laws of an audit: what the plain router sends is exactly one IP packet each, and is read again
-//! of the capture that is written of it, which therefore is the same as what was due.
+//! Laws of an audit: each packet that the plain router sends is exactly one IP packet, and the
+//! capture that is written of these packets is read as just them, so that an audit finds it the
+//! same.
 #![tactic(auto)]
 
 mod laws;

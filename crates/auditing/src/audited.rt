@@ -1,15 +1,15 @@
-// What an audit of two captures says.
+// The result of an audit of two captures.
 use audit::Outcome;
 use capture_io::CaptureFault;
 
 /// How an audit of two captures ended.
 #[derive(Clone, Copy, Debug, PartialEq, Eq)]
 pub enum Audited {
-    /// Both were read to their ends, and the packets that were due compare so with those that were
-    /// sent.
+    /// Both captures were read to their ends: the outcome of comparing the due packets with those
+    /// that were sent.
     Compared(Outcome),
     /// The capture that was played has this fault.
     Played(CaptureFault),
-    /// The capture of what was sent has this fault.
+    /// The capture of the packets that were sent has this fault.
     Sent(CaptureFault),
 }

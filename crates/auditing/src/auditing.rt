@@ -1,4 +1,4 @@
-// Two captures, of which one is played, and its packets held against the other.
+// Two captures: one is played, and the packets sent for it are compared with the other.
 ghost use Rattle.std.specs.Prelude.{◌≡◌, ◌≢◌, ◌≤◌, false, Err, IfOk, IfSome, IsErrOf};
 ghost use Rattle.std.specs.Result.{MatchResult};
 ghost use Rattle.octets.specs.Causes.{Rose};
@@ -19,9 +19,9 @@ use capture_io::{CaptureFault, CaptureReader, Desk, DeskFault};
 use playback::Machine;
 use std::alloc::Global;
 
-/// Plays a capture of which no record was read through a machine, and holds the packets that it sends
-/// against the records of another, one by one. Its lines are dropped. Behind a fault of either capture
-/// the other one isn't read on.
+/// Plays a capture through a machine, and compares the packets that it sends with the records of
+/// another capture, one by one. No record of either capture was read before. Lines of the machine
+/// are dropped. Behind a fault of one capture the other one isn't read on.
 pub fn audit_frames<D: Desk, M: Machine>(
     alloc: Global,
     desk: &mut D,
@@ -49,7 +49,8 @@ pub fn audit_frames<D: Desk, M: Machine>(
     }
 }
 
-// The same, where a fault of what was sent is an error, as one of the desk or of memory is.
+// Plays and compares as `audit_frames` does, but a fault of the capture that was sent is an error,
+// as one of the desk or of memory is.
 fn audit_both<D: Desk, M: Machine>(
     alloc: Global,
     desk: &mut D,

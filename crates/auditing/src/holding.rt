@@ -1,4 +1,4 @@
-// Packets, held against the records of a capture one by one.
+// Packets, compared one by one with the records of a capture as they come.
 ghost use Rattle.std.specs.Prelude.{◌≡◌, ◌≢◌, ◌≤◌, ◌<◌, ◌^◌, ℕ, List, [], ◌∷◌, None, Err, IfSome, IsErrOf, IsSomeAnd, OnOk, length};
 ghost use Rattle.std.specs.Result.{MatchResult};
 ghost use Rattle.octets.specs.Causes.{Rose};
@@ -22,7 +22,8 @@ use capture_io::{CaptureFault, CaptureReader, Desk};
 use playback::Output;
 use std::alloc::Global;
 
-/// What was sent, as far as packets came, and how it compares with them so far.
+/// The capture of sent packets, read as far as due packets came, and the outcome of their
+/// comparison so far.
 #[derive(Drop)]
 pub(crate) struct Holding {
     pub sent: CaptureReader,
@@ -30,7 +31,7 @@ pub(crate) struct Holding {
 }
 
 impl Holding {
-    /// No packet came yet. Takes no memory.
+    /// A comparison before its first packet. Takes no memory.
     pub fn new(sent: CaptureReader) -> Holding
         requires { sent ≡ reading.beginning sent.id sent.format }
         ensures sent { result.sent ≡ sent }
@@ -43,8 +44,9 @@ impl Holding {
         }
     }
 
-    /// Holds the packets that an output has, and drops them and its lines. A record says a length in
-    /// 32 bits, so where all have 2^32 octets or more, they are refused as memory is.
+    /// Compares the packets in an output with the next records, and empties the output, lines too.
+    /// Records of 2^32 octets or more in all are answered as `Memory`, because a record has its
+    /// length in 32 bits.
     pub fn expect_output<D: Desk>(
         &mut self,
         alloc: Global,
@@ -75,7 +77,7 @@ impl Holding {
         Ok(())
     }
 
-    // Holds the packets of records in order.
+    // Compares the packets in records, in order.
     fn expect_all<D: Desk>(
         &mut self,
         alloc: Global,
@@ -105,7 +107,7 @@ impl Holding {
         Ok(())
     }
 
-    // Holds a packet against the record that is next.
+    // Compares a packet with the next record of the capture.
     fn expect<D: Desk>(
         &mut self,
         alloc: Global,
@@ -131,7 +133,7 @@ impl Holding {
         Ok(())
     }
 
-    /// How all packets compare with the whole capture, of which the rest is read to its end.
+    /// Reads the rest of the capture, and returns how all packets compare with the whole of it.
     pub fn finish<D: Desk>(self, alloc: Global, desk: &mut D) -> Result<Outcome, CaptureFault>
         requires open { IsOpen self }
         ensures compares { (packets : List (List ℕ)) (run : Run CaptureFault) (base : World) →

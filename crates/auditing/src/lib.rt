@@ -1,4 +1,4 @@
-//! A capture of what a router sent, held against the packets that a machine sends for another
+//! A capture of what a router sent, compared with the packets that a machine sends for another
 //! capture.
 #![tactic(auto)]
 

@@ -1,4 +1,4 @@
-// The nonces that a router sent, out of a whole capture.
+// The nonces of the Map-Requests that a router sent, out of a whole capture.
 ghost use Rattle.std.specs.Prelude.{◌≡◌, ◌≢◌, ◌≤◌, Err, IfOk, IfSome, IsErrOf, OnOk, Ok};
 ghost use Rattle.std.specs.Result.{MatchResult};
 ghost use Rattle.octets.specs.Causes.{Rose};
@@ -15,8 +15,8 @@ use audit::{Lift, Nonces, Settings, frames_lift_one_by_one};
 use capture_io::{CaptureFault, CaptureReader, Desk, DeskFault};
 use std::alloc::Global;
 
-/// The nonces that the router of these settings sent in a capture of which no record was read; or the
-/// fault of the capture.
+/// The nonces of the Map-Requests that the router of these settings sent in a capture, or the fault
+/// of the capture. No record of it was read before.
 pub fn lift_nonces<D: Desk>(
     alloc: Global,
     desk: &mut D,
@@ -40,7 +40,8 @@ pub fn lift_nonces<D: Desk>(
     }
 }
 
-// The same, where a fault of the capture is an error, as one of the desk or of memory is.
+// Lifts nonces as `lift_nonces` does, but a fault of the capture is an error, as one of the desk or
+// of memory is.
 fn lift_all<D: Desk>(
     alloc: Global,
     desk: &mut D,

@@ -1,4 +1,4 @@
-// The frames of a capture, one after another, and the packets of each.
+// The frames of a capture, played one after another, and the packets of each.
 ghost use Rattle.std.specs.Prelude.{◌≡◌, ◌≢◌, ◌<◌, ◌≤◌, ◌+◌, ◌*◌, ◌^◌, [], false, Some, Err, IfOk, IfSome, IsErrOf, IsSomeAnd, MatchOption, OnOk, length, unwrap_or};
 ghost use Rattle.std.specs.Result.{MatchResult};
 ghost use Rattle.octets.specs.Causes.{Rose};
@@ -21,8 +21,9 @@ use capture_io::{CaptureFault, CaptureReader, Desk, Frame};
 use playback::{Machine, Output, Progress};
 use std::alloc::Global;
 
-/// Plays all frames of a capture of which no record was read, each behind the seconds before it,
-/// and holds the packets of each event. Answers the fault of that capture, if it has one.
+/// Plays all frames of a capture of which no record was read before, each behind the seconds before
+/// it, and compares the packets of each event. Returns the fault of that capture, or None; a fault
+/// of the capture of sent packets is an error.
 pub(crate) fn audit_input<D: Desk, M: Machine>(
     alloc: Global,
     desk: &mut D,
@@ -76,7 +77,7 @@ pub(crate) fn audit_input<D: Desk, M: Machine>(
     }
 }
 
-// Plays a frame behind the seconds before it.
+// Plays a frame behind the seconds before it, and compares the packets of each.
 fn audit_frame<D: Desk, M: Machine>(
     alloc: Global,
     desk: &mut D,

@@ -16,7 +16,8 @@ ghost use Rattle.auditing.specs.Coming.{Comes, IsFaultOf};
 use capture_io::{CaptureFault, CaptureReader, Desk, DeskFault, Frame};
 use std::alloc::Global;
 
-/// The fault of a capture of which no record was read, if it has one: it is read to there, or to its end.
+/// The fault of a capture of which no record was read before, or None. The capture is read up to
+/// the fault, or to its end.
 pub fn capture_fault<D: Desk>(
     alloc: Global,
     desk: &mut D,
@@ -36,8 +37,8 @@ pub fn capture_fault<D: Desk>(
     }
 }
 
-/// The next frame, or none at the end; a fault of the file, of the desk or of memory, behind which
-/// it isn't read on.
+/// The next frame, or None at the end. A fault of the file, of the desk or of memory is an error,
+/// behind which the capture isn't read on.
 pub(crate) fn read_next<D: Desk>(
     alloc: Global,
     desk: &mut D,
@@ -86,7 +87,7 @@ pub(crate) fn read_to_end<D: Desk>(
     Ok(())
 }
 
-/// A fault that tells of the file; one of the desk or of memory is the error.
+/// Returns a fault of the file as it is; one of the desk or of memory is the error.
 pub(crate) fn own_fault(fault: CaptureFault) -> Result<CaptureFault, DeskFault>
     ensures { MatchResult result (λ own. (own ≡ fault) × (is_outside_fault fault ≡ false))
         (λ outside. fault ≡ fault_of outside) }

@@ -7,8 +7,8 @@ use octets::little_32;
 /// The octets of a record's header, which has the packet's length at +8.
 pub(crate) const HEADER_OCTETS: usize = 16;
 
-/// The packet of the record in front, and the records behind it. Fewer than 2^32 octets hold no packet
-/// of which the header says less than its length.
+/// The packet of the first record, and the records behind it. In fewer than 2^32 octets no packet
+/// is longer than its header can state.
 pub(crate) fn split_record(records: &[u8]) -> (&[u8], &[u8])
     requires header { 16 ≤ length records.now }
     requires short { length records.now < 2 ^ 32 }

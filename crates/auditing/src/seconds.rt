@@ -1,4 +1,4 @@
-// The seconds between the frames of a capture, one after another, and the packets of each.
+// The seconds between the frames of a capture, played one after another, and the packets of each.
 ghost use Rattle.std.specs.Prelude.{◌≡◌, ◌≢◌, ◌<◌, ◌≤◌, ◌+◌, ◌*◌, ◌^◌, ◌∷◌, [], false, Some, Err, IfOk, IsErrOf, OnOk, unwrap_or};
 ghost use Rattle.octets.specs.Causes.{Rose};
 ghost use Rattle.desk.specs.Causes.{StaysSteady};
@@ -13,9 +13,9 @@ use capture_io::{CaptureFault, Desk};
 use playback::{Machine, Output, Progress};
 use std::alloc::Global;
 
-/// Plays the seconds that begin after the last event, up to that of a moment (in nanoseconds) and
-/// with it, and holds the packets of each; none before the first frame. Answers how far the play
-/// has come.
+/// Plays the seconds that begin after the last event, up to the second of a moment (in nanoseconds)
+/// and including it, and compares the packets of each. None is played before the first frame.
+/// Returns how far the play has come.
 pub(crate) fn audit_seconds<D: Desk, M: Machine>(
     alloc: Global,
     desk: &mut D,
@@ -70,7 +70,7 @@ pub(crate) fn audit_seconds<D: Desk, M: Machine>(
     Ok(reached)
 }
 
-// Plays a second.
+// Plays a second, and compares its packets.
 fn audit_second<D: Desk, M: Machine>(
     alloc: Global,
     desk: &mut D,

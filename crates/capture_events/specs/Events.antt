@@ -1,10 +1,10 @@
--- The events of a capture, and what a machine does for them one after another.
+-- The events of a capture, and the outcome of a machine that plays them one after another.
 use Rattle.std.specs.Prelude.{◌≡◌, ℕ, suc, ◌-◌, ◌/◌, List, [], ◌∷◌, ◌++◌, flat_map, map, Option, Some, None}
 use Rattle.std.specs.List.{range_with_len, All}
 use Rattle.capture_io.specs.Frame.{Frame}
 use Rattle.capture_io.specs.Output.{packet_record}
 
--- a second that begins, or a frame that comes
+-- an event of a capture: a second that begins, or a frame that comes
 pub data Event : Type 0 where
   Tick : ℕ → Event
   Arrival : Frame → Event
@@ -13,23 +13,23 @@ pub data Event : Type 0 where
 abbrev pub second_of : ℕ → ℕ
 second_of moment = moment / 1000000000
 
--- the seconds that begin after the moment before, up to a moment and with it; none before the first
+-- the seconds that begin after the moment `from`, up to the moment `to` and including it; none without a `from`
 abbrev pub ticks : Option ℕ → ℕ → List Event
 ticks None to = []
 ticks (Some from) to =
     map Tick (range_with_len (suc (second_of from)) (second_of to - second_of from))
 
--- a frame, behind the seconds before it
+-- the events of a frame: the seconds since the previous moment, then the frame
 abbrev pub events_of : Option ℕ → Frame → List Event
 events_of previous frame = ticks previous frame.moment ++ Arrival frame ∷ []
 
--- frames, each behind the seconds after the one before
+-- the events of frames that follow a previous moment: each frame behind the seconds before it
 abbrev pub events_after : Option ℕ → List Frame → List Event
 events_after previous [] = []
 events_after previous (frame ∷ frames) =
     events_of previous frame ++ events_after (Some frame.moment) frames
 
--- the frames of a capture and the seconds between them
+-- the events of a capture: its frames and the seconds between them
 abbrev pub events : List Frame → List Event
 events frames = events_after None frames
 
@@ -39,26 +39,26 @@ arrivals [] = []
 arrivals (Tick second ∷ events) = arrivals events
 arrivals (Arrival frame ∷ events) = frame ∷ arrivals events
 
--- a packet that is written, and its moment in nanoseconds
+-- a written packet, with its moment in nanoseconds
 pub record Packet : Type 0 where
   pub moment : ℕ
   pub octets : List ℕ
 
--- the records of packets
+-- the octets of packets as records of a capture
 abbrev pub records_of : List Packet → List ℕ
 records_of packets = flat_map (λ packet. packet_record packet.moment packet.octets) packets
 
--- the lines that are said and the packets that are written, in order, and the state after them
+-- an outcome of playing: the lines and the written packets, in order, and the state after them
 pub record Outcome (S : Type 0) : Type 0 where
   pub lines : List ℕ
   pub packets : List Packet
   pub after : S
 
--- nothing is done
+-- the outcome without lines and packets, which leaves the state as it is
 abbrev pub idle : {S : Type 0} → S → Outcome S
 idle state = record { lines = []; packets = []; after = state }
 
--- one outcome, and then another
+-- two outcomes, one after the other: their lines and packets in order, and the state after the second
 abbrev pub followed : {S : Type 0} → Outcome S → Outcome S → Outcome S
 followed first next = record {
   lines = first.lines ++ next.lines;
@@ -66,7 +66,7 @@ followed first next = record {
   after = next.after;
 }
 
--- the outcome of events in order, by what is done at each of them in the state before it
+-- the outcome of events in order, by a function `step` that gives the outcome of each in the state before it
 abbrev pub played : {S : Type 0} → (S → Event → Outcome S) → S → List Event → Outcome S
 played step state [] = idle state
 played step state (event ∷ events) =
@@ -102,13 +102,13 @@ pub record AreStepsOf (frames : List Frame) (steps : List Step) : Type 0 where
   pub events : happened steps ≡ events frames
   pub goes_on : All GoesOn steps
 
--- what may be done for steps in order, by what may be done at each of them
+-- the outcomes that steps may have in order, by a relation `does` of the outcomes that each of them may have
 abbrev pub Played : {S : Type 0} → (S → Step → Outcome S → Type 0) → S → List Step → Outcome S → Type 0
 Played does state [] outcome = outcome ≡ idle state
 Played {S} does state (step ∷ steps) outcome =
     (first : Outcome S) × (rest : Outcome S) × does state step first × Played does first.after steps rest × (outcome ≡ followed first rest)
 
--- it is determined at each event, and nothing is done at a pause and at the end
+-- the relation `does` of a function `step`: an event has its outcome, a pause and the end have none and leave the state
 abbrev pub Determined : {S : Type 0} → (S → Event → Outcome S) → S → Step → Outcome S → Type 0
 Determined step state (Happens event) outcome = outcome ≡ step state event
 Determined step state Pause outcome = outcome ≡ idle state

@@ -1,4 +1,5 @@
-//! The events of a capture, its frames and the seconds between them, and what is done for them, as definitions.
+//! The events of a capture, its frames and the seconds between them, and the outcomes of playing
+//! them, as definitions.
 #![tactic(auto)]
 
 mod laws;

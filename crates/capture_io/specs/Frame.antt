@@ -2,7 +2,7 @@
 use Rattle.std.specs.Prelude.{ℕ, List}
 use Rattle.capture_io.specs.declared.link.Link.{Link}
 
--- its number from 1 on, its moment in nanoseconds, its link and its octets
+-- a frame: its number from 1 on, its moment in nanoseconds, its link type and its octets
 pub record Frame : Type 0 where
   pub number : ℕ
   pub moment : ℕ

@@ -12,15 +12,15 @@ use Rattle.capture_io.specs.declared.link.Link.TheVariants.{Ethernet, Raw}
 abbrev pub refused : ℕ → Why → Refused
 refused place why = record { layer = layer.Link; place = place; why = why }
 
--- a VLAN tag stands before the type
+-- whether a VLAN tag stands before the type of an Ethernet frame
 abbrev pub is_tagged : List ℕ → Bool
 is_tagged octets = big 2 octets 12 == 0x8100
 
--- where the type of the payload stands
+-- the place of an Ethernet frame's type, behind the VLAN tag if it has one
 abbrev pub type_place : List ℕ → ℕ
 type_place octets = if is_tagged octets then 16 else 12
 
--- the types of IPv4 and IPv6
+-- whether a type is that of IPv4 or IPv6
 abbrev pub is_ip_type : ℕ → Bool
 is_ip_type x = x == 0x0800 || x == 0x86dd
 
@@ -36,22 +36,22 @@ ethernet_rules octets =
 abbrev pub ethernet_vlan : List ℕ → ℕ
 ethernet_vlan octets = if is_tagged octets then big 2 octets 14 % 4096 else 0
 
--- the octets behind the type
+-- the octets of an Ethernet frame behind its type
 abbrev pub ethernet_octets : List ℕ → List ℕ
 ethernet_octets octets = drop (type_place octets + 2) octets
 
--- the rules of a frame
+-- the rules of a frame's link header: those of Ethernet, none for raw IP
 abbrev pub link_rules : Frame → List (Bool × Refused)
 link_rules f = elim f.link [ Ethernet ↦ ethernet_rules f.octets | Raw ↦ [] ]
 
--- its VLAN, 0 where it has none
+-- the VLAN of a frame, 0 where it has none
 abbrev pub link_vlan : Frame → ℕ
 link_vlan f = elim f.link [ Ethernet ↦ ethernet_vlan f.octets | Raw ↦ 0 ]
 
--- the octets behind the link's header: an IP packet, and what padding follows it
+-- the octets of a frame behind the link header: an IP packet, and any padding behind it
 abbrev pub link_octets : Frame → List ℕ
 link_octets f = elim f.link [ Ethernet ↦ ethernet_octets f.octets | Raw ↦ f.octets ]
 
--- where they begin: the octets of the frame before them
+-- the place of the octets behind a frame's link header
 abbrev pub link_place : Frame → ℕ
 link_place f = length f.octets - length (link_octets f)

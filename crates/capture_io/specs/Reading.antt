@@ -11,7 +11,7 @@ use Rattle.capture_io.specs.declared.position.Position.{Position}
 use Rattle.capture_io.specs.declared.fault.CaptureFault.{CaptureFault}
 use Rattle.capture_io.specs.declared.fault.CaptureFault.TheVariants.{Memory}
 
--- the file's id, its format, where the reader stands, and the fault that it answered
+-- a reader: the file's id, its format, where the reader stands, and the fault that it keeps
 pub record Reading : Type 0 where
   pub id : ℕ
   pub format : Format
@@ -22,22 +22,22 @@ pub record Reading : Type 0 where
 abbrev pub beginning : ℕ → Format → Reading
 beginning id format = record { id = id; format = format; position = begin; fault = None }
 
--- the answer after the header of a file of these octets
+-- the reader of a file of these octets, or the fault of its header
 abbrev pub started : ℕ → List ℕ → Result Reading CaptureFault
 started id file = unless (first_failing (header_rules file)) (beginning id (format_of file))
 
--- no moment is of 2^32 seconds or more
+-- whether a moment, if there is one, is below 2^32 seconds
 abbrev pub is_moment : Option ℕ → Bool
 is_moment None = true
 is_moment (Some m) = nat_lt m (2 ^ 32 * 1000000000)
 
--- where a reader can stand
+-- whether a reader can stand at a position: records, octets and greatest moment are within the limits
 abbrev pub is_reachable : Position → Bool
 is_reachable at =
     (nat_le at.count most_records && nat_le at.place (24 + (16 + most_frame_octets) * at.count))
     && is_moment at.greatest
 
--- a frame that a reader of that format gives after that position, whatever the file holds
+-- a frame f that a reader of that format returns behind the position `at`, whatever the file holds
 pub record IsNext (format : Format) (at : Position) (f : Frame) : Type 0 where
   pub number : f.number ≡ at.count + 1
   pub most : f.number ≤ most_records
@@ -47,16 +47,16 @@ pub record IsNext (format : Format) (at : Position) (f : Frame) : Type 0 where
   pub size : length f.octets ≤ most_frame_octets
   pub octets : All (λ octet. octet < 256) f.octets
 
--- where a reader stands after a frame
+-- the position behind the record of a frame
 abbrev pub passed : Position → Frame → Position
 passed at f =
     record { count = f.number; greatest = Some f.moment; place = at.place + 16 + length f.octets }
 
--- what a reader is after a frame
+-- a reader after a frame
 abbrev pub after_frame : Reading → Frame → Reading
 after_frame r f = record r { position = passed r.position f }
 
--- what it is after a fault, which it keeps, unless memory was refused
+-- a reader after a fault, which it keeps unless memory was refused
 abbrev pub after_fault : Reading → CaptureFault → Reading
 after_fault r Memory = r
 after_fault r fault = record r { fault = Some fault }

@@ -5,8 +5,8 @@ ghost use Rattle.capture_io.specs.declared.fault.CaptureFault.TheVariants.{Memor
 use desk::DeskFault;
 use octets::NoMemory;
 
-/// The first fault of a capture. Places are offsets of octets in the file; that of a record is
-/// where its header begins. Records are numbered from 1.
+/// The first fault of a capture. A place is an offset in octets from the start of the file; that of
+/// a record is where its header begins. Records are numbered from 1.
 #[derive(Clone, Copy, Debug, PartialEq, Eq)]
 pub enum CaptureFault {
     /// The file doesn't begin with one of the two magic numbers, in either byte order.
@@ -19,11 +19,11 @@ pub enum CaptureFault {
     CutHeader(u64),
     /// The file ends within the record at this place.
     CutRecord(u64),
-    /// The fraction of the record at this place is a whole second or more.
+    /// The fraction of the record at this place is a second or more.
     BadFraction(u64),
-    /// The record at this place keeps so many octets, more than 262,144.
+    /// The record at this place keeps so many octets of its frame, more than 262,144.
     TooLong(u64, u32),
-    /// The moment of the record of this number is more than 1,000,000 seconds past all before it.
+    /// The record of this number has a moment more than 1,000,000 seconds past all before it.
     SpanTooLong(u32),
     /// An octet follows record 1,000,000,000.
     TooManyRecords,

@@ -1,4 +1,4 @@
-// How a file spells its records.
+// The format of a file's records.
 use crate::Link;
 use crate::order::Order;
 
@@ -13,7 +13,7 @@ impl Fraction {
     ghost use Rattle.std.specs.Prelude.{◌≡◌};
     ghost use Rattle.capture_io.specs.Capture.{per_second, nanoseconds};
 
-    /// How many of the unit make a second.
+    /// How many of this unit make a second.
     pub fn per_second(self) -> u32
         ensures { result ≡ per_second self }
     {
@@ -23,7 +23,7 @@ impl Fraction {
         }
     }
 
-    /// How many nanoseconds make the unit.
+    /// How many nanoseconds this unit has.
     pub fn nanoseconds(self) -> u32
         ensures { result ≡ nanoseconds self }
     {
@@ -34,7 +34,8 @@ impl Fraction {
     }
 }
 
-/// What the header of a file says of its records.
+/// The format of a file's records, by the file's header: byte order, unit of fractions and link
+/// type.
 #[derive(Clone, Copy, Debug, PartialEq, Eq)]
 pub struct Format {
     pub order: Order,

@@ -7,7 +7,7 @@ use std::marker::Model;
 pub struct Frame {
     /// The frame's place in its capture, from 1 on.
     pub number: u32,
-    /// Nanoseconds since 1970; no less than those of the frames before it.
+    /// The moment in nanoseconds since 1970; no less than those of the frames before it.
     pub moment: u64,
     pub link: Link,
     pub octets: Octets,

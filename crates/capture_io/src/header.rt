@@ -11,7 +11,7 @@ use crate::position::Position;
 use crate::{CaptureFault, LONGEST_SPAN, Link, MOST_FRAME_OCTETS, MOST_RECORDS};
 use octets::little_32;
 
-// The magic numbers, which name the unit of the fractions.
+// The magic numbers, each of which gives the unit of fractions.
 const MICROSECONDS: u32 = 0xa1b2_c3d4;
 
 const NANOSECONDS: u32 = 0xa1b2_3c4d;
@@ -22,7 +22,8 @@ fn is_magic(number: u32) -> bool
     number == MICROSECONDS || number == NANOSECONDS
 }
 
-// The order that makes the first number a magic one, or else the second.
+// The byte order of a file: little-endian where it begins with a magic number in that order, else
+// big-endian.
 fn order_of(file: &[u8]) -> Order
     requires { 4 ≤ length file.now }
     ensures { result ≡ order_of file.now }
@@ -34,7 +35,7 @@ fn order_of(file: &[u8]) -> Order
     }
 }
 
-/// The format that a file's header names, or the first rule that the header breaks.
+/// The format of a file's records by the file's header, or the first rule that the header breaks.
 pub fn read_format(file: &[u8]) -> Result<Format, CaptureFault>
     ensures { result ≡ unless (first_failing (header_rules file.now)) (format_of file.now) }
 {
@@ -66,7 +67,7 @@ pub fn read_format(file: &[u8]) -> Result<Format, CaptureFault>
     })
 }
 
-/// The first rule that a record's header breaks.
+/// The first rule that a record's header breaks, or None.
 pub fn head_fault(format: Format, at: Position, head: &[u8]) -> Option<CaptureFault>
     ensures { result ≡ first_failing (head_rules format at head.now) }
 {
@@ -86,7 +87,7 @@ pub fn head_fault(format: Format, at: Position, head: &[u8]) -> Option<CaptureFa
     None
 }
 
-/// The moment that a record's header names, in nanoseconds.
+/// The moment in a record's header, in nanoseconds since 1970.
 pub fn moment_of(format: Format, head: &[u8]) -> u64
     requires { 16 ≤ length head.now }
     ensures value { result ≡ moment format head.now }
@@ -98,7 +99,7 @@ pub fn moment_of(format: Format, head: &[u8]) -> u64
     seconds * 1_000_000_000 + fraction * u64::from(format.fraction.nanoseconds())
 }
 
-/// Whether the moment lies within 1,000,000 seconds after the greatest so far.
+/// Whether a moment is no more than 1,000,000 seconds past the greatest so far.
 pub fn is_in_span(greatest: Option<u64>, moment: u64) -> bool
     requires { IsTrue (is_moment greatest) }
     ensures { result ≡ in_span greatest moment }

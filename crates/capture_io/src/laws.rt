@@ -9,9 +9,9 @@ ghost use Rattle.capture_io.specs.Reading.{started};
 ghost use Rattle.capture_io.specs.Run.{AreLater, ended};
 ghost use Rattle.capture_io.specs.declared.format.Format.{Format};
 
-/// A reader answers the frames of its file in order, and then at each call none, or the file's
+/// Law: a reader returns the frames of its file in order, and then at each call None, or the file's
 /// fault; it doesn't start where that fault is one of the header. By the clauses `call`, `after`
-/// and `told` of `next`, `later_answer` is what call after call answers.
+/// and `told` of `next`, `later_answer` is what call after call returns.
 pub fn frames_come_in_order()
     ensures frames { (id k : ℕ) (file : List ℕ) → IfOk (started id file) (λ r.
         later_answer k r (drop 24 file) ≡ frame_or_end k (capture file)) }
@@ -19,8 +19,9 @@ pub fn frames_come_in_order()
         capture file ≡ ended (Some fault)) }
 {}
 
-/// The moments of a file's frames don't fall, and there are no more frames than a capture may have
-/// records. In a file of octets no moment is of 2^32 seconds or more, and each frame is of octets.
+/// Law: the moments of a file's frames don't fall, and there are no more frames than a capture may
+/// have records. In a file of octets no moment is of 2^32 seconds or more, and each frame is of
+/// octets.
 pub fn moments_do_not_fall()
     ensures later { (format : Format) (octets : List ℕ) →
         AreLater 0 (read_on format begin octets).frames }

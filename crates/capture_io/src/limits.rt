@@ -9,10 +9,10 @@ pub const MOST_RECORDS: u32 = 1_000_000_000;
 /// How many octets of a frame a record keeps at most.
 pub const MOST_FRAME_OCTETS: usize = 262_144;
 
-/// The nanoseconds by which a record may come after the greatest moment so far, at most.
+/// The most nanoseconds from the greatest moment so far to the moment of a record.
 pub const LONGEST_SPAN: u64 = 1_000_000_000_000_000;
 
-/// The limits are the defined ones.
+/// Law: the constants are the defined numbers.
 pub fn limits_are()
     ensures records { MOST_RECORDS ≡ most_records }
     ensures octets { MOST_FRAME_OCTETS ≡ most_frame_octets }

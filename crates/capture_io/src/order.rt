@@ -15,7 +15,7 @@ pub enum Order {
 impl Order {
     ghost use Rattle.capture_io.specs.Capture.{number};
 
-    /// The 16 bit number at a place.
+    /// The number in the two octets at a place, in this byte order.
     pub fn number_16(self, octets: &[u8], at: usize) -> u16
         requires { at + 2 ≤ length octets.now }
         ensures { result ≡ number self 2 octets.now at }
@@ -26,7 +26,7 @@ impl Order {
         }
     }
 
-    /// The 32 bit number at a place.
+    /// The number in the four octets at a place, in this byte order.
     pub fn number_32(self, octets: &[u8], at: usize) -> u32
         requires { at + 4 ≤ length octets.now }
         ensures { result ≡ number self 4 octets.now at }

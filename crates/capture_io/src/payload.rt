@@ -9,15 +9,15 @@ ghost use Rattle.capture_io.specs.Link.{link_rules, link_vlan, link_octets, ethe
 use crate::{Frame, Link};
 use octets::{Layer, Refused, Why, big_16};
 
-// The types of an Ethernet frame (IEEE 802.3, 802.1Q).
+// The types of a VLAN tag, IPv4 and IPv6 in an Ethernet frame (IEEE 802.3, 802.1Q).
 const TAGGED: u16 = 0x8100;
 
 const IP_V4: u16 = 0x0800;
 
 const IP_V6: u16 = 0x86dd;
 
-/// The VLAN of a frame, 0 where it has none, and the IP packet behind the link's header, with what
-/// padding follows it. Places count from the frame's start.
+/// The VLAN of a frame, 0 where it has none, and the IP packet behind the link header, with any
+/// padding behind it; or the first rule that the frame breaks. Places count from the frame's start.
 pub fn link_payload(frame: &Frame) -> Result<(u16, &[u8]), Refused>
     ensures refused { refusal_of result ≡ first_failing (link_rules frame.now) }
     ensures vlan { IfOk result (λ payload. payload.0 ≡ link_vlan frame.now) }
@@ -48,7 +48,7 @@ fn ethernet_payload(octets: &[u8]) -> Result<(u16, &[u8]), Refused>
     Ok((vlan, typed_payload(octets, 16)?))
 }
 
-// What follows the type at a place, where that is one of IP.
+// The octets behind the type at a place, or a refusal where the type is neither IPv4's nor IPv6's.
 fn typed_payload(octets: &[u8], at: u32) -> Result<&[u8], Refused>
     requires { at + 2 ≤ length octets.now }
     ensures refused { refusal_of result ≡

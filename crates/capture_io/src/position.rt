@@ -7,9 +7,9 @@ use crate::Frame;
 pub struct Position {
     /// How many records were read.
     pub count: u32,
-    /// The greatest of their moments, in nanoseconds; none before the first record.
+    /// The greatest moment of a record so far, in nanoseconds; None before the first record.
     pub greatest: Option<u64>,
-    /// The octets that were read of the file.
+    /// How many octets of the file were read.
     pub place: u64,
 }
 
@@ -17,7 +17,7 @@ impl Position {
     ghost use Rattle.capture_io.specs.Capture.{begin};
     ghost use Rattle.capture_io.specs.Reading.{passed};
 
-    /// Behind the header of a file.
+    /// The position behind the header of a file.
     pub fn begin() -> Position
         ensures { result ≡ begin }
     {
@@ -28,7 +28,7 @@ impl Position {
         }
     }
 
-    /// Behind the record of a frame.
+    /// The position behind the record of a frame.
     pub fn passed(self, frame: &Frame) -> Position
         requires { self.place + 16 + length frame.now.octets < 2 ^ 64 }
         ensures { result ≡ passed self frame.now }

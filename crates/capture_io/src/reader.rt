@@ -44,7 +44,8 @@ impl Model for CaptureReader {
 }
 
 impl CaptureReader {
-    /// Reads the 24 octets of the header, where the id stands; places count from there.
+    /// Reads the 24 octets of the header, where the id stands, and returns a reader of the records;
+    /// places count from there.
     pub fn start<D: Desk>(
         alloc: Global,
         desk: &mut D,
@@ -77,14 +78,14 @@ impl CaptureReader {
         })
     }
 
-    /// The next frame, or none at the end of the file, and again at each later call. A fault other
-    /// than `Memory` is kept, and each later call answers it; after `Memory` a reader is dropped.
+    /// The next frame, or None at the end of the file, and again at each later call. A fault other
+    /// than `Memory` is kept, and each later call returns it; after `Memory` a reader is dropped.
     pub fn next<D: Desk>(
         &mut self,
         alloc: Global,
         desk: &mut D,
     ) -> Result<Option<Frame>, CaptureFault>
-        // After a fault nothing is called.
+        // After a fault that was kept, the desk isn't called.
         ensures again { IfSome self.old.fault (λ f.
             (result ≡ Err f) × (self.new ≡ self.old) × (desk.new ≡ desk.old)) }
         ensures answer { IfNone self.old.fault (IfSome (D.told desk.old) (λ w.
@@ -129,8 +130,9 @@ impl CaptureReader {
         }
     }
 
-    /// Takes the list of a frame that nobody needs any more, for the next one. One such list is kept; that
-    /// of a frame that this reader gave has room for less than twice the longest frame so far.
+    /// Takes back the list of a frame that is no longer needed, for the next frame. One such list
+    /// is kept; the list of a frame that this reader returned has room for less than twice the
+    /// longest frame so far.
     pub fn take_back(&mut self, octets: Octets)
         ensures { self.new ≡ self.old }
     {

@@ -19,7 +19,7 @@ use desk::{Desk, DeskFault, FileId, read_full};
 use octets::Octets;
 use std::alloc::Global;
 
-/// The frame of the record that comes next, or none at the end. Its octets come into the spare list.
+/// The frame of the next record, or None at the end. Its octets are read into the spare list.
 pub fn read_record<D: Desk>(
     alloc: Global,
     desk: &mut D,
@@ -55,7 +55,7 @@ pub fn read_record<D: Desk>(
     Ok(Some(frame))
 }
 
-// So many octets, or fewer where the file ends before.
+// Reads the next `size` octets into the spare list, or fewer where the file ends before.
 fn read_body<D: Desk>(
     alloc: Global,
     desk: &mut D,
@@ -112,7 +112,7 @@ fn frame_of(
     })
 }
 
-// How many they are, and that they are octets.
+// The number of octets. The clause `octets` brings the fact that they are below 256.
 fn octet_count(octets: &[u8]) -> usize
     ensures count { result ≡ length octets.now }
     ensures octets { All (λ octet. octet < 256) octets.now }

@@ -5,7 +5,8 @@ ghost use Rattle.capture_io.specs.Output.{out_header, record_header, packet_reco
 
 use octets::{NoMemory, Octets};
 
-// Nanoseconds, little-endian; version 2.4; zone and accuracy 0; snap length 262,144; raw IP.
+// The header of a written capture: nanoseconds, little-endian; version 2.4; zone and accuracy 0;
+// snap length 262,144; raw IP.
 const HEADER: [u8; 24] = [
     0x4d, 0x3c, 0xb2, 0xa1, 2, 0, 4, 0, 0, 0, 0, 0, 0, 0, 0, 0, 0, 0, 4, 0, 101, 0, 0, 0,
 ];

@@ -16,11 +16,11 @@ use Rattle.capture_ng.specs.declared.interface.Interface.{Interface}
 use Rattle.capture_ng.specs.declared.fault.NgFault.{NgFault}
 use Rattle.capture_ng.specs.declared.fault.NgFault.TheVariants.{TooManyRecords, CutBlock, BadMagic, BadLength, TooLong, OldPacket, BadVersion, BadOption, TooManyInterfaces, BadInterface, BadLinkType, BadMoment, SpanTooLong}
 
--- a packet block begins: its type is there
+-- whether a packet block begins: its Block Type is there
 abbrev pub begins_packet : Position → List ℕ → Bool
 begins_packet at left = nat_le 4 (length left) && is_packet (kind_at at left)
 
--- there may be one block more, and where it is of a packet, one frame more
+-- whether there may be one block more, and where it is a packet block, one frame more
 abbrev pub has_room : Position → List ℕ → Bool
 has_room at left =
     nat_lt at.blocks most_blocks && (not (begins_packet at left) || nat_lt at.count most_records)
@@ -35,23 +35,23 @@ begin_rules at left =
     ∷ (not (begins_section left) || is_magic (number (order_of at left) 4 left 8), BadMagic)
     ∷ []
 
--- the rules of its total length
+-- the rules of a block's total length
 abbrev pub length_rules : Position → Head → List (Bool × NgFault)
 length_rules at head =
     (is_length head.kind head.length, BadLength at.place)
     ∷ (not (is_read head.kind) || nat_le head.length most_block_octets, TooLong at.place head.length)
     ∷ []
 
--- the rules of the head of the block that is next
+-- the rules of the head of the next block
 abbrev pub head_rules : Position → List ℕ → List (Bool × NgFault)
 head_rules at left = begin_rules at left ++ length_rules at (head_of at left)
 
--- a block is no obsolete packet block
+-- whether a kind isn't that of an obsolete packet block
 abbrev pub is_current : Kind → Bool
 is_current ObsoletePacket = false
 is_current _ = true
 
--- the rules of the whole block: it is there, with its second length, and isn't obsolete
+-- the rules of a whole block: all of it is there, its second total length is the first, and it isn't obsolete
 abbrev pub whole_rules : Position → Head → List ℕ → List (Bool × NgFault)
 whole_rules at head left =
     (nat_le head.length (length left), CutBlock at.place)
@@ -59,7 +59,7 @@ whole_rules at head left =
     ∷ (is_current head.kind, OldPacket at.place)
     ∷ []
 
--- the same rules by the number in the block's last four octets, where all of it came
+-- the rules of a whole block by the number in its last four octets, which is None where the block is cut
 abbrev pub ended_rules : Position → Head → Option ℕ → List (Bool × NgFault)
 ended_rules at head last =
     (is_some last, CutBlock at.place)
@@ -67,18 +67,18 @@ ended_rules at head last =
     ∷ (is_current head.kind, OldPacket at.place)
     ∷ []
 
--- the rules of a section header
+-- the rules of a section header: its Major Version is 1
 abbrev pub section_rules : Position → Head → List ℕ → List (Bool × NgFault)
 section_rules at head left = (number head.order 2 left 12 == 1, BadVersion at.place) ∷ []
 
--- the rules of an interface
+-- the rules of an interface: its options are proper, and its section may have one more
 abbrev pub interface_rules : Position → Head → List ℕ → List (Bool × NgFault)
 interface_rules at head left =
     (are_options head.order (option_octets head left), BadOption at.place)
     ∷ (nat_lt (length at.interfaces) most_interfaces, TooManyInterfaces at.place)
     ∷ []
 
--- the rules of a packet of an interface
+-- the rules of a packet whose interface is known: LinkType, kept length, moment and span
 abbrev pub seen_rules : Position → Head → List ℕ → Interface → List (Bool × NgFault)
 seen_rules at head left interface =
     (is_some interface.link, BadLinkType at.place)
@@ -88,14 +88,14 @@ seen_rules at head left interface =
     ∷ (in_span at.greatest (unwrap_or (moment at head interface left) 0), SpanTooLong (at.count + 1))
     ∷ []
 
--- the rules of a packet
+-- the rules of a packet: its section has its interface, and then those of a packet whose interface is known
 abbrev pub packet_rules : Position → Head → List ℕ → List (Bool × NgFault)
 packet_rules at head left = elim (interface_of at head left) [
   | None ↦ (false, BadInterface at.place) ∷ []
   | Some interface ↦ seen_rules at head left interface
 ]
 
--- the rules of what a block of a kind holds
+-- the rules of a block's body, by its kind
 abbrev pub body_rules : Kind → Position → Head → List ℕ → List (Bool × NgFault)
 body_rules SectionHeader at head left = section_rules at head left
 body_rules InterfaceDescription at head left = interface_rules at head left
@@ -104,7 +104,7 @@ body_rules EnhancedPacket at head left = packet_rules at head left
 body_rules ObsoletePacket at head left = []
 body_rules Other at head left = []
 
--- all rules of the block that is next
+-- all rules of the next block
 abbrev pub block_rules : Position → List ℕ → List (Bool × NgFault)
 block_rules at left =
     begin_rules at left
@@ -112,10 +112,10 @@ block_rules at left =
     ++ (whole_rules at (head_of at left) left
     ++ body_rules (head_of at left).kind at (head_of at left) left))
 
--- the fault of the block that is next, if it has one
+-- the fault of the next block, or None
 abbrev pub block_fault : Position → List ℕ → Option NgFault
 block_fault at left = first_failing (block_rules at left)
 
--- the fault at the end of the octets: the empty file is cut
+-- the fault at the end of the octets, or None: the empty file is cut
 abbrev pub end_fault : Position → Option NgFault
 end_fault at = elim at.order [ None ↦ Some (CutBlock at.place) | Some order ↦ None ]

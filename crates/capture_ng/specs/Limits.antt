@@ -9,18 +9,18 @@ most_block_octets = 1048576
 abbrev pub most_interfaces : ℕ
 most_interfaces = 4095
 
--- blocks of a file, at most: so every place is below 2^64
+-- blocks of a file, at most, so that every place is below 2^64
 abbrev pub most_blocks : ℕ
 most_blocks = 4000000000
 
--- a decimal unit of time is 10 to the minus so many seconds, at most
+-- the greatest k of an if_tsresol of 10 to the minus k seconds
 abbrev pub most_decimal : ℕ
 most_decimal = 19
 
--- a binary one is 2 to the minus so many seconds, at most
+-- the greatest k of an if_tsresol of 2 to the minus k seconds
 abbrev pub most_binary : ℕ
 most_binary = 63
 
--- the moment, in nanoseconds, at which a frame comes too late: 2^32 seconds
+-- the first moment that is too late for a frame, in nanoseconds: 2^32 seconds
 abbrev pub end_of_moments : ℕ
 end_of_moments = 2 ^ 32 * 1000000000

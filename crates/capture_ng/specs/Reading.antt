@@ -10,23 +10,23 @@ use Rattle.capture_ng.specs.Position.{Position, begin}
 use Rattle.capture_ng.specs.declared.fault.NgFault.{NgFault}
 use Rattle.capture_ng.specs.declared.fault.NgFault.TheVariants.{Memory}
 
--- the file's id, whether interfaces are VLANs, where the reader stands, and the fault that it answered
+-- a reader: the file's id, whether interfaces are VLANs, its position, and the fault that it keeps
 pub record NgReading : Type 0 where
   pub id : ℕ
   pub vlans : Bool
   pub position : Position
   pub fault : Option NgFault
 
--- a reader that has read nothing
+-- a reader that has read no octet
 abbrev pub beginning : ℕ → Bool → NgReading
 beginning id vlans = record { id = id; vlans = vlans; position = begin; fault = None }
 
--- octets of a frame, at most: where interfaces are VLANs, a tag of four octets may be among them
+-- octets of a frame, at most; where interfaces are VLANs, a tag of four octets may be among them
 abbrev pub most_octets : Bool → ℕ
 most_octets true = most_frame_octets + 4
 most_octets false = most_frame_octets
 
--- a frame that a reader gives after that position, whatever the file holds
+-- a frame f that a reader returns behind the position `at`, whatever the file holds
 pub record IsNext (vlans : Bool) (at : Position) (f : Frame) : Type 0 where
   pub number : f.number ≡ at.count + 1
   pub most : f.number ≤ most_records
@@ -35,16 +35,16 @@ pub record IsNext (vlans : Bool) (at : Position) (f : Frame) : Type 0 where
   pub size : length f.octets ≤ most_octets vlans
   pub octets : All (λ octet. octet < 256) f.octets
 
--- the count and the greatest moment behind an answer: those of its frame, or as they were
+-- the count and the greatest moment behind an answer: those of its frame, or as before where there is none
 abbrev pub IsCounted : Option Frame → Position → Position → Type 0
 IsCounted None old new = (new.count ≡ old.count) × (new.greatest ≡ old.greatest)
 IsCounted (Some f) old new = (new.count ≡ f.number) × (new.greatest ≡ Some f.moment)
 
--- a desk behind what a reader finds at a position
+-- the world of a desk behind the octets of a reader's find at a position
 abbrev pub after_found : ℕ → Bool → Position → World → World
 after_found id vlans at w = after_read id (found vlans at (left_of id w)).taken w
 
--- the fault that is kept after one: none where memory was refused
+-- the fault that a reader keeps after one: None where memory was refused
 abbrev pub kept_fault : NgFault → Option NgFault
 kept_fault Memory = None
 kept_fault fault = Some fault

@@ -1,4 +1,4 @@
-// Blocks, read to their ends.
+// Blocks of a pcapng file, read to their ends.
 ghost use Rattle.std.specs.Prelude.{◌≡◌, ◌≢◌, ◌≤◌, ◌+◌, ◌-◌, ◌++◌, length, take, option_map, IfOk, IfErr, IfSome, IsErrOf, IsTrue, MatchOption, None, Some, Err, [], false};
 ghost use Rattle.octets.specs.Causes.{Rose};
 ghost use Rattle.desk.specs.declared.fault.DeskFault.TheVariants.{Failed};
@@ -20,8 +20,8 @@ use crate::position::Position;
 use desk::{Desk, DeskFault, FileId};
 use std::alloc::Global;
 
-/// The block that comes next, read to its end, or none at the end of the file: its head, and its octets,
-/// all of them where its body is read.
+/// The next block, read to its end: its head, and all of its octets where its body is read. None at
+/// the end of the file.
 pub fn read_block<D: Desk>(
     alloc: Global,
     desk: &mut D,
@@ -56,7 +56,7 @@ pub fn read_block<D: Desk>(
     Ok(Some((head, octets)))
 }
 
-// What is answered where no octet is left: the empty file is cut.
+// The answer where no octet is left: None, or the fault of the empty file, which counts as cut.
 fn at_end(at: &Position) -> Result<Option<(Head, Vec<u8>)>, NgFault>
     ensures end { IfOk result (λ o. (o ≡ None) × (None ≡ end_fault at.now)) }
     ensures fault { IfErr result (λ f. (is_outside_fault f ≡ false) × (Some f ≡ end_fault at.now)) }
@@ -67,15 +67,15 @@ fn at_end(at: &Position) -> Result<Option<(Head, Vec<u8>)>, NgFault>
     }
 }
 
-// A block that was read to its end: all of its octets, where its body is read, and the number in its last
-// four, where these came.
+// A block that was read to its end: all of its octets, where its body is read, and the number in
+// its last four octets, None where the file ends before them.
 #[derive(Drop)]
 struct Rest {
     octets: Vec<u8>,
     last: Option<u32>,
 }
 
-// Reads a block to its end behind its first octets.
+// Reads a block to its end, behind its first octets.
 fn read_rest<D: Desk>(
     alloc: Global,
     desk: &mut D,
@@ -112,7 +112,8 @@ fn read_rest<D: Desk>(
     Ok(Rest { octets, last })
 }
 
-// The number in the last four octets of a block, where these came.
+// The number in the last four octets of a block, or None where fewer octets than the block has were
+// read.
 fn last_of(head: Head, octets: &[u8]) -> Option<u32>
     requires { 4 ≤ head.length }
     ensures { result ≡ last_number head.order head.length octets.now }

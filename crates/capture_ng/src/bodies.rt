@@ -14,7 +14,8 @@ use crate::packets::{moment_of, snapped};
 use crate::position::Position;
 use capture_io::{LONGEST_SPAN, Link, MOST_FRAME_OCTETS};
 
-/// The first rule that a whole block breaks, by the number in its last four octets; none where it is cut.
+/// The first rule that a whole block breaks, or None. `last` is the number in the block's last four
+/// octets, None where the block is cut.
 pub fn whole_fault(at: &Position, head: Head, last: Option<u32>) -> Option<NgFault>
     ensures { result ≡ first_failing (ended_rules at.now head last) }
 {
@@ -30,7 +31,7 @@ pub fn whole_fault(at: &Position, head: Head, last: Option<u32>) -> Option<NgFau
     None
 }
 
-/// The rule that a section header breaks, if it does.
+/// The rule that a section header breaks, or None. It has one: its Major Version is 1.
 pub fn section_fault(at: &Position, head: Head, octets: &[u8]) -> Option<NgFault>
     requires { 14 ≤ length octets.now }
     ensures { result ≡ first_failing (section_rules at.now head octets.now) }
@@ -41,7 +42,7 @@ pub fn section_fault(at: &Position, head: Head, octets: &[u8]) -> Option<NgFault
     None
 }
 
-/// The number of a packet's interface.
+/// The Interface ID of a packet block; of a simple packet 0, the section's first interface.
 pub fn interface_number(head: Head, octets: &[u8]) -> u32
     requires { packet_place head ≤ length octets.now }
     ensures { result ≡ interface_number head octets.now }
@@ -53,7 +54,8 @@ pub fn interface_number(head: Head, octets: &[u8]) -> u32
     }
 }
 
-/// How many octets of its packet a block keeps.
+/// How many octets of its packet a block keeps: the Captured Packet Length; of a simple packet the
+/// Original Packet Length, limited by SnapLen.
 pub fn kept(head: Head, interface: Interface, octets: &[u8]) -> u32
     requires { packet_place head ≤ length octets.now }
     ensures { result ≡ kept head interface octets.now }
@@ -65,7 +67,7 @@ pub fn kept(head: Head, interface: Interface, octets: &[u8]) -> u32
     }
 }
 
-// The time of an enhanced packet.
+// The Timestamp of an enhanced packet block, in the units of its interface.
 fn time(head: Head, octets: &[u8]) -> u64
     requires { 20 ≤ length octets.now }
     ensures { result ≡ time head octets.now }
@@ -75,7 +77,8 @@ fn time(head: Head, octets: &[u8]) -> u64
     high * 0x1_0000_0000 + low
 }
 
-/// The moment that a packet names, where a frame may have it.
+/// The moment of a packet block, in nanoseconds, or None where no frame may have it: before 1970,
+/// or of 2^32 seconds or more.
 pub fn moment(at: &Position, head: Head, interface: Interface, octets: &[u8]) -> Option<u64>
     requires fields { packet_place head ≤ length octets.now }
     requires units { 0 < interface.clock.units }
@@ -88,7 +91,7 @@ pub fn moment(at: &Position, head: Head, interface: Interface, octets: &[u8]) ->
     }
 }
 
-/// Where the packet's octets begin in the block.
+/// The offset of Packet Data in a packet block, in octets.
 pub fn packet_place(head: Head) -> u32
     ensures { result ≡ packet_place head }
 {
@@ -99,7 +102,8 @@ pub fn packet_place(head: Head) -> u32
     }
 }
 
-// The octets of the block from there on to its second length.
+// How many octets of a packet block lie between the start of Packet Data and the second total
+// length.
 fn packet_room(head: Head) -> u32
     requires { packet_place head + 4 ≤ head.length }
     ensures { result ≡ packet_room head }
@@ -107,7 +111,7 @@ fn packet_room(head: Head) -> u32
     head.length - (packet_place(head) + 4)
 }
 
-// Whether the moment lies within 1,000,000 seconds after the greatest so far.
+// Whether a moment is no more than 1,000,000 seconds past the greatest so far.
 fn is_in_span(at: &Position, moment: u64) -> bool
     ensures { result ≡ in_span at.now.greatest moment }
 {
@@ -117,17 +121,18 @@ fn is_in_span(at: &Position, moment: u64) -> bool
     }
 }
 
-/// What is seen of a packet whose block breaks no rule.
+/// The link type, the moment and the kept length of a packet whose block breaks no rule.
 #[derive(Clone, Copy, Debug)]
 pub struct Seen {
     pub link: Link,
-    /// Nanoseconds since 1970, as the block says it.
+    /// Nanoseconds since 1970 by the block, also where an earlier frame has a later moment.
     pub moment: u64,
-    /// How many octets the block keeps.
+    /// How many octets of the packet the block keeps.
     pub kept: u32,
 }
 
-/// What is seen of a packet of an interface, or the first rule that it breaks.
+/// The link type, moment and kept length of a packet of an interface, or the first rule that the
+/// packet breaks.
 pub fn read_seen(
     at: &Position,
     head: Head,

@@ -1,4 +1,4 @@
-// Octets of a block, as they come.
+// Reads of a block's octets, some into memory and others passed over.
 ghost use Rattle.std.specs.Prelude.{◌≡◌, ◌≤◌, ◌+◌, ◌-◌, ◌++◌, length, take, option_map, IfOk, IfSome, IsErrOf};
 ghost use Rattle.desk.specs.declared.fault.DeskFault.TheVariants.{Failed};
 ghost use Rattle.desk.specs.Causes.{HasCause, StaysSteady};
@@ -10,10 +10,11 @@ use capture_io::Order;
 use desk::{Desk, DeskFault, FileId, read_full};
 use std::alloc::Global;
 
-// How many octets that are passed over are in memory at a time.
+// The most octets in memory at a time of those that are passed over.
 const PIECE: usize = 4096;
 
-/// Fills a part of a buffer from the file, as far as the file goes, and says how many octets came.
+/// Fills a part of a buffer from the file, as far as the file goes, and returns how many octets
+/// were read.
 pub fn fill_part<D: Desk>(
     alloc: Global,
     desk: &mut D,
@@ -41,7 +42,8 @@ pub fn fill_part<D: Desk>(
     Ok(n)
 }
 
-/// The octets, and behind them so many of the file, or fewer where it ends before.
+/// The octets `first`, followed by the next `size` octets of the file, or fewer where it ends
+/// before.
 pub fn read_behind<D: Desk>(
     alloc: Global,
     desk: &mut D,
@@ -71,7 +73,8 @@ pub fn read_behind<D: Desk>(
     Ok(octets)
 }
 
-/// Reads past so many octets; the number in the last four of them, where all came.
+/// Reads past the next `size` octets, and returns the number in the last four of them, or None
+/// where the file ends before.
 pub fn read_end<D: Desk>(
     alloc: Global,
     desk: &mut D,
@@ -99,7 +102,7 @@ pub fn read_end<D: Desk>(
     Ok(Some(order.number_32(&last, 0)))
 }
 
-/// Reads past so many octets, or fewer where the file ends before; says how many.
+/// Reads past the next `size` octets, or fewer where the file ends before, and returns how many.
 pub fn skip<D: Desk>(alloc: Global, desk: &mut D, id: FileId, size: u32) -> Result<u32, DeskFault>
     ensures most { IfOk result (λ n. n ≤ size) }
     ensures come { IfOk result (λ n.
@@ -121,7 +124,8 @@ pub fn skip<D: Desk>(alloc: Global, desk: &mut D, id: FileId, size: u32) -> Resu
     Ok(passed)
 }
 
-// Reads past a piece of so many octets; none at the file's end.
+// Reads past the next piece of at most `size` octets, and returns how many; 0 only at the file's
+// end.
 fn skip_piece<D: Desk>(alloc: Global, desk: &mut D, id: FileId, size: u32) -> Result<u32, DeskFault>
     requires { 1 ≤ size }
     ensures most { IfOk result (λ n. n ≤ size) }

@@ -1,4 +1,4 @@
-// Worked captures, which the definitions compute.
+// Worked captures, whose frames and faults the definitions compute.
 #![tactic(auto, unfolding(crate::proofs::OnLiterals::captures_on_literals))]
 
 ghost use Rattle.std.specs.Prelude.{◌≡◌, ◌+◌, ◌-◌, ◌*◌, ◌^◌, ◌++◌, Bool, true, false, [], ◌∷◌, length, map, replicate, take, drop, Some, None};
@@ -11,8 +11,8 @@ ghost use Rattle.capture_ng.specs.Frames.{ng_fault, ng_frames};
 ghost use Rattle.capture_ng.specs.Spelling.{block, interface_block, option, packet_block, packet_fields, section_block, simple_block};
 ghost use Rattle.capture_ng.specs.declared.fault.NgFault.TheVariants as ng;
 
-/// A worked capture: its frame; its fault where its last four octets are missing; and its fault as
-/// a classic capture, which it isn't.
+/// A worked capture: its frame; its fault where its last four octets are missing; the fault of the
+/// empty file; and the capture's fault when it is read as a classic one.
 pub fn a_capture_is_worked()
     ensures frames { (vlans : Bool) → ng_frames one_packet vlans ≡ packet_frame ∷ [] }
     ensures whole { ng_fault one_packet ≡ None }
@@ -21,8 +21,9 @@ pub fn a_capture_is_worked()
     ensures classic { (capture one_packet).fault ≡ Some BadMagic }
 {}
 
-/// Times are read in the units of their interface: microseconds where it names none, the last that it
-/// names, decimal or binary, rounded down to nanoseconds, and moved by its seconds, also back.
+/// Timestamps are read in the unit of their interface: microseconds without if_tsresol, else the
+/// last if_tsresol, decimal or binary. They are rounded down to nanoseconds, and moved by
+/// if_tsoffset, also back.
 pub fn times_are_read_in_units()
     ensures micro { moments (at_time [] 5) ≡ 5000 ∷ [] }
     ensures milli { moments (at_time (unit 3) 5) ≡ 5000000 ∷ [] }
@@ -68,7 +69,7 @@ pub fn interfaces_are_vlans()
     ensures raw { seen_as 2 untagged ≡ untagged ∷ [] }
 {}
 
-/// The first rule that a file's first blocks break.
+/// The first rule that a file's section header breaks, or another block in its place.
 pub fn a_section_is_judged()
     ensures cut { ng_fault (take 7 section_block) ≡ Some (ng.CutBlock 0) }
     ensures other { ng_fault (interface_block 101 0 []) ≡ Some ng.BadMagic }

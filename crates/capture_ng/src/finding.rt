@@ -16,7 +16,7 @@ use capture_io::Frame;
 use desk::{Desk, FileId};
 use std::alloc::Global;
 
-/// The next frame, or none at the end of the file.
+/// The next frame, or None at the end of the file.
 pub fn find_frame<D: Desk>(
     alloc: Global,
     desk: &mut D,

@@ -11,7 +11,7 @@ use desk::{Desk, DeskFault, FileId};
 use std::alloc::Global;
 use std::marker::Model;
 
-/// The first octets of a block that came, twelve at most.
+/// The first octets of a block, as far as they were read, twelve at most.
 #[derive(Drop)]
 pub struct First {
     octets: [u8; 12],
@@ -51,7 +51,7 @@ impl First {
         &self.octets[0..self.count]
     }
 
-    // So many octets of the file more, or fewer where it ends before.
+    // Reads the next `size` octets of the file behind these, or fewer where the file ends before.
     fn read_on<D: Desk>(
         &mut self,
         alloc: Global,
@@ -103,7 +103,7 @@ pub fn read_first<D: Desk>(alloc: Global, desk: &mut D, id: FileId) -> Result<Fi
     Ok(first)
 }
 
-// Eight octets that begin a section header.
+// Whether octets are at least eight, and begin a section header.
 fn is_longer_head(octets: &[u8]) -> bool
     ensures { result ≡ (nat_le 8 (length octets.now) && begins_section octets.now) }
 {

@@ -55,7 +55,7 @@ pub fn read_packet(
     })
 }
 
-// The interface of a number, where the section has it.
+// The interface with that number, or None where the section doesn't have it.
 fn interface_at(at: &Position, number: u32) -> Option<Interface>
     ensures value { result ≡ slice_get at.now.interfaces number }
     ensures few { IfSome result (λ interface. number < most_interfaces) }
@@ -64,7 +64,8 @@ fn interface_at(at: &Position, number: u32) -> Option<Interface>
     at.interfaces.as_slice().get(number as usize).copied()
 }
 
-// The octets that a packet block keeps of its packet, in the room of the block's.
+// The octets that a packet block keeps of its packet, moved to the front of the block's list, so
+// that no other list is needed.
 fn kept_octets(head: Head, kept: u32, octets: Vec<u8>) -> Vec<u8>
     requires { packet_place head + kept ≤ length octets.items }
     ensures value { result.items ≡ take kept (drop (packet_place head) octets.items) }
@@ -77,7 +78,7 @@ fn kept_octets(head: Head, kept: u32, octets: Vec<u8>) -> Vec<u8>
     octets
 }
 
-// The octets of a frame: those that were kept, with a tag where its interface is a VLAN.
+// The octets of a frame: the kept ones, with a VLAN tag where the frame gets one.
 fn frame_octets(
     alloc: Global,
     vlans: bool,
@@ -99,7 +100,8 @@ fn frame_octets(
     Ok(Octets::from_vec(kept))
 }
 
-// Whether a frame gets the number of its interface as its tag; and that they are octets.
+// Whether a frame gets the number of its interface as its VLAN tag. The clause `octets` brings the
+// fact that octets are below 256.
 fn gets_tag(vlans: bool, number: u32, link: Link, octets: &[u8]) -> bool
     ensures value { result ≡ (vlans && (nat_lt 0 number && is_untagged link octets.now)) }
     ensures octets { All (λ octet. octet < 256) octets.now }

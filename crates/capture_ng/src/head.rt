@@ -1,24 +1,24 @@
-// What a block begins with.
+// The head of a block.
 use capture_io::Order;
 
-/// The kinds of blocks that a reader tells apart, by their type.
+/// The kinds of blocks that a reader distinguishes, by their Block Type.
 #[derive(Clone, Copy, Debug, PartialEq, Eq)]
 pub enum Kind {
-    /// The header of a section (0x0a0d0d0a).
+    /// A section header block (0x0a0d0d0a).
     SectionHeader,
-    /// An interface of the section (1).
+    /// An interface description block: an interface of the section (1).
     InterfaceDescription,
     /// An obsolete packet block (2), which is refused.
     ObsoletePacket,
-    /// A packet without a time, of the section's first interface (3).
+    /// A simple packet block: a packet without a time, of the section's first interface (3).
     SimplePacket,
-    /// A packet with its interface and its time (6).
+    /// An enhanced packet block: a packet with its interface and its time (6).
     EnhancedPacket,
     /// Any other block, which is passed over.
     Other,
 }
 
-/// The kind of a block, the order of its numbers, and its total length in octets.
+/// The head of a block: its kind, the byte order of its numbers, and its total length in octets.
 #[derive(Clone, Copy, Debug, PartialEq, Eq)]
 pub struct Head {
     pub kind: Kind,

@@ -1,4 +1,4 @@
-// The rules of a block's first octets, and of its length.
+// The rules of a block's first octets, and of its total length.
 ghost use Rattle.std.specs.Prelude.{◌≡◌, ◌≤◌, [], ◌∷◌, length, nat_le, IsTrue};
 ghost use Rattle.octets.specs.Rules.{first_failing};
 ghost use Rattle.capture_ng.specs.Blocks.{begins_section, head_of, is_magic, is_packet, is_read, kind_at, kind_of, least_length, order_of};
@@ -13,7 +13,7 @@ use crate::{MOST_BLOCK_OCTETS, MOST_BLOCKS, NgFault};
 use capture_io::{MOST_RECORDS, Order};
 use octets::little_32;
 
-// A section header's type, and the magic that tells its byte order.
+// The Block Type of a section header, and the Byte-Order Magic, which gives its byte order.
 const SECTION_HEADER: u32 = 0x0a0d_0d0a;
 
 const MAGIC: u32 = 0x1a2b_3c4d;
@@ -36,7 +36,7 @@ fn is_packet(kind: Kind) -> bool
     matches!(kind, Kind::SimplePacket | Kind::EnhancedPacket)
 }
 
-/// It is one of the four kinds whose body is read.
+/// Whether a kind is one of the four whose body is read.
 pub fn is_read(kind: Kind) -> bool
     ensures { result ≡ is_read kind }
 {
@@ -55,7 +55,7 @@ fn least_length(kind: Kind) -> u32
     }
 }
 
-/// The octets begin with a section header's type.
+/// Whether octets begin with the Block Type of a section header.
 pub fn begins_section(octets: &[u8]) -> bool
     requires { 4 ≤ length octets.now }
     ensures { result ≡ begins_section octets.now }
@@ -88,7 +88,7 @@ fn order_of(at: &Position, octets: &[u8]) -> Order
     }
 }
 
-// What a block's first octets say: eight, or twelve of a section header.
+// The head of a block, by its first octets: twelve of a section header, eight of any other.
 fn head_of(at: &Position, octets: &[u8]) -> Head
     requires some { 8 ≤ length octets.now }
     requires section { IsTrue (begins_section octets.now) → 12 ≤ length octets.now }
@@ -102,7 +102,7 @@ fn head_of(at: &Position, octets: &[u8]) -> Head
     }
 }
 
-// One block more may be read, and where it is of a packet, one frame more.
+// Whether one block more may be read, and where it is a packet block, one frame more.
 fn has_room(at: &Position, octets: &[u8]) -> bool
     ensures { result ≡ has_room at.now octets.now }
 {
@@ -112,8 +112,8 @@ fn has_room(at: &Position, octets: &[u8]) -> bool
     octets.len() < 4 || !is_packet(kind_at(at, octets)) || at.count < MOST_RECORDS
 }
 
-// The first rule that a block's first octets break, as far as these came: twelve of a section header,
-// or eight.
+// The first rule that a block's first octets break, or None. They are twelve of a section header
+// and eight of any other, or fewer where the file ends before.
 fn begin_fault(at: &Position, octets: &[u8]) -> Option<NgFault>
     ensures { result ≡ first_failing (begin_rules at.now octets.now) }
 {
@@ -132,7 +132,8 @@ fn begin_fault(at: &Position, octets: &[u8]) -> Option<NgFault>
     None
 }
 
-// The first rule that a section header's magic breaks.
+// The first rule that a section header's Byte-Order Magic breaks, or None where it is there and
+// right.
 fn magic_fault(at: &Position, octets: &[u8]) -> Option<NgFault>
     requires some { 8 ≤ length octets.now }
     requires section { IsTrue (begins_section octets.now) }
@@ -148,7 +149,7 @@ fn magic_fault(at: &Position, octets: &[u8]) -> Option<NgFault>
     None
 }
 
-// The first rule that a block's length breaks.
+// The first rule that a block's total length breaks, or None.
 fn length_fault(at: &Position, head: Head) -> Option<NgFault>
     ensures { result ≡ first_failing (length_rules at.now head) }
 {
@@ -161,8 +162,8 @@ fn length_fault(at: &Position, head: Head) -> Option<NgFault>
     None
 }
 
-/// The head of a block, or the first rule that it breaks, by the block's first octets as far as these came:
-/// twelve of a section header, eight of any other.
+/// The head of a block by its first octets, or the first rule that these break. They are twelve of
+/// a section header and eight of any other, or fewer where the file ends before.
 pub fn read_head(at: &Position, octets: &[u8]) -> Result<Head, NgFault>
     ensures { result ≡ unless (first_failing (head_rules at.now octets.now)) (head_of at.now octets.now) }
 {

@@ -1,4 +1,4 @@
-// The interface in a block.
+// The interface in an interface description block.
 ghost use Rattle.std.specs.Prelude.{◌≡◌, ◌≤◌, ◌<◌, length, IfSome, Some, None, if◌then◌else◌};
 ghost use Rattle.capture_ng.specs.Interfaces.{are_options, interface_in, link_of, option_octets};
 
@@ -7,7 +7,8 @@ use crate::interface::Interface;
 use crate::options::read_options;
 use capture_io::Link;
 
-/// The interface in a block, or none where an option doesn't fit or isn't proper.
+/// The interface in an interface description block, or None where an option doesn't fit or isn't
+/// proper.
 pub fn read_interface(head: Head, octets: &[u8]) -> Option<Interface>
     requires least { 20 ≤ head.length }
     requires whole { head.length ≤ length octets.now }
@@ -25,7 +26,7 @@ pub fn read_interface(head: Head, octets: &[u8]) -> Option<Interface>
     })
 }
 
-// What frames of a link type begin with.
+// The link type of a LinkType field, or None where it isn't one of the two that are read.
 fn link_of(number: u16) -> Option<Link>
     ensures { result ≡ link_of number }
 {

@@ -12,8 +12,9 @@ ghost use Rattle.capture_ng.specs.Frames.{ng_fault, ng_frames, read_on};
 ghost use Rattle.capture_ng.specs.Limits.{end_of_moments};
 ghost use Rattle.capture_ng.specs.Position.{Position, begin};
 
-/// The frames that are left to read are the one that is found, and then those that are left behind it;
-/// or the end, or the fault, that is found. Whether interfaces are VLANs changes no fault.
+/// Law: the frames left to read are the next frame that is found, and then those left behind it;
+/// where the end or a fault is found, they end there. Whether interfaces are VLANs changes no
+/// fault.
 pub fn blocks_are_read_one_by_one()
     ensures found { (vlans : Bool) (at : Position) (left : List ℕ) →
         read_on vlans at left ≡ goes_on (found vlans at left).answer
@@ -22,8 +23,8 @@ pub fn blocks_are_read_one_by_one()
         (read_on vlans begin file).fault ≡ ng_fault file }
 {}
 
-/// The moments of a file's frames don't fall, and no moment is of 2^32 seconds or more. There are no more
-/// frames than a capture may have records. In a file of octets each frame is of octets.
+/// Law: the moments of a file's frames don't fall, and no moment is of 2^32 seconds or more. There
+/// are no more frames than a capture may have records. In a file of octets each frame is of octets.
 pub fn moments_do_not_fall()
     ensures later { (file : List ℕ) (vlans : Bool) → AreLater 0 (ng_frames file vlans) }
     ensures few { (file : List ℕ) (vlans : Bool) →
@@ -34,8 +35,8 @@ pub fn moments_do_not_fall()
         All (λ frame. All (λ octet. octet < 256) frame.octets) (ng_frames file vlans) }
 {}
 
-/// Where all frames of a file have one link type, and interfaces are no VLANs, the classic capture with
-/// nanoseconds that holds them has the same frames, and no fault.
+/// Law: where all frames of a file have one link type, and interfaces are no VLANs, the classic
+/// capture with nanoseconds that holds them has the same frames, and no fault.
 pub fn a_classic_capture_has_the_same_frames()
     ensures { (file : List ℕ) (link : Link) →
         All (λ (f : Frame). f.link ≡ link) (ng_frames file false) →

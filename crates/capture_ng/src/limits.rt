@@ -12,16 +12,16 @@ pub const MOST_INTERFACES: usize = 4095;
 /// The most blocks of a file.
 pub const MOST_BLOCKS: u32 = 4_000_000_000;
 
-/// The most digits of a decimal unit of time.
+/// The greatest k of an if_tsresol of 10^-k seconds.
 pub const MOST_DECIMAL: u8 = 19;
 
-/// The most bits of a binary one.
+/// The greatest k of an if_tsresol of 2^-k seconds.
 pub const MOST_BINARY: u8 = 63;
 
-/// The nanoseconds since 1970 at which a frame comes too late.
+/// The first moment that is too late for a frame, in nanoseconds since 1970: 2^32 seconds.
 pub const END_OF_MOMENTS: u64 = 4_294_967_296_000_000_000;
 
-/// The limits are the defined ones, which are these.
+/// Law: the constants are the defined numbers, which are these.
 pub fn limits_are()
     ensures block { MOST_BLOCK_OCTETS ≡ most_block_octets }
     ensures interfaces { MOST_INTERFACES ≡ most_interfaces }

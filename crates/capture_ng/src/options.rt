@@ -1,4 +1,4 @@
-// The options of an interface.
+// The options of an interface description block.
 ghost use Rattle.std.specs.Prelude.{◌≡◌, ◌+◌, ◌<◌, ◌==◌, ◌&&◌, length, nat_le, is_some, slice_index, IfSome, IsFalse, IsTrue, Some, None, if◌then◌else◌};
 ghost use Rattle.capture_io.specs.Capture.{number};
 ghost use Rattle.capture_ng.specs.Interfaces.{added_of, behind_option, clock_on, ends_options, first_option, is_proper, is_unit, padded, per_second, plain_clock, set_by, size_in};
@@ -8,7 +8,8 @@ use crate::order::number_64;
 use crate::{MOST_BINARY, MOST_DECIMAL};
 use capture_io::Order;
 
-/// The clock that options set, or none where one doesn't fit or isn't proper.
+/// The clock that an interface's options set, or None where one of them doesn't fit or isn't
+/// proper.
 pub fn read_options(order: Order, octets: &[u8]) -> Option<Clock>
     ensures value { result ≡ clock_on order plain_clock octets.now }
     ensures units { IfSome result (λ clock. 0 < clock.units) }
@@ -26,7 +27,7 @@ pub fn read_options(order: Order, octets: &[u8]) -> Option<Clock>
     Some(clock)
 }
 
-// The code and the value of the option at the front, and what is behind it; none where the value
+// The code and the value of the option at the front, and the octets behind it; None where the value
 // doesn't fit.
 fn split_option(order: Order, octets: &[u8]) -> Option<(u16, &[u8], &[u8])>
     requires { IsFalse (ends_options order octets.now) }
@@ -45,14 +46,14 @@ fn split_option(order: Order, octets: &[u8]) -> Option<(u16, &[u8], &[u8])>
     Some((order.number_16(octets, 0), value, behind))
 }
 
-// No option is left.
+// Whether no option is left: fewer than four octets, or code 0 (opt_endofopt).
 fn ends_options(order: Order, octets: &[u8]) -> bool
     ensures { result ≡ ends_options order octets.now }
 {
     octets.len() < 4 || order.number_16(octets, 0) == 0
 }
 
-// With the padding behind it.
+// The length of an option's value with the padding behind it.
 fn padded(size: usize) -> usize
     requires { size < 65536 }
     ensures { result ≡ padded size }
@@ -60,7 +61,7 @@ fn padded(size: usize) -> usize
     (size + 3) / 4 * 4
 }
 
-// The clock with what a proper option says of it.
+// The clock as an option sets it, or None where the option isn't proper.
 fn set_by(order: Order, code: u16, value: &[u8], clock: Clock) -> Option<Clock>
     requires { 0 < clock.units }
     ensures value { result ≡ (if is_proper order (record { code = code; value = value.now })
@@ -74,7 +75,8 @@ fn set_by(order: Order, code: u16, value: &[u8], clock: Clock) -> Option<Clock>
     }
 }
 
-// The clock with a unit of time, where the value is one.
+// The clock with the unit of an if_tsresol, or None where the value isn't one octet, or names a
+// unit that isn't read.
 fn with_units(value: &[u8], clock: Clock) -> Option<Clock>
     ensures value { result ≡ (if length value.now == 1 && is_unit (slice_index value.now 0)
         then Some (record clock { units = per_second (slice_index value.now 0) }) else None) }
@@ -87,7 +89,7 @@ fn with_units(value: &[u8], clock: Clock) -> Option<Clock>
     Some(Clock { units, ..clock })
 }
 
-// The clock with added seconds, where the value is a number of 64 bits.
+// The clock with the seconds of an if_tsoffset, or None where the value isn't eight octets.
 fn with_added(order: Order, value: &[u8], clock: Clock) -> Option<Clock>
     requires { 0 < clock.units }
     ensures value { result ≡ (if length value.now == 8
@@ -111,7 +113,7 @@ fn is_unit(x: u8) -> bool
     }
 }
 
-// How many of the unit make a second.
+// How many units of an if_tsresol make a second.
 fn per_second(x: u8) -> u64
     requires { IsTrue (is_unit x) }
     ensures value { result ≡ per_second x }

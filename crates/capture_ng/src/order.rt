@@ -1,11 +1,11 @@
-// A long number in either byte order.
+// A number of 64 bits in either byte order.
 ghost use Rattle.std.specs.Prelude.{◌≡◌, ◌≤◌, length};
 ghost use Rattle.capture_io.specs.Capture.{number};
 
 use byteorder::{BigEndian, ByteOrder, LittleEndian};
 use capture_io::Order;
 
-/// The 64 bit number at the front.
+/// The number in the first eight octets, in that byte order.
 pub fn number_64(order: Order, octets: &[u8]) -> u64
     requires { 8 ≤ length octets.now }
     ensures { result ≡ number order 8 octets.now 0 }

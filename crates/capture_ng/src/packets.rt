@@ -1,4 +1,4 @@
-// What a packet block says of its packet.
+// The moment of the packet in a packet block, its kept length, and the tag of its frame.
 ghost use Rattle.std.specs.Prelude.{◌≡◌, ◌≤◌, ◌<◌, ◌++◌, length, option_and_then, IfOk};
 ghost use Rattle.octets.specs.Numbers.{big_octets};
 ghost use Rattle.capture_ng.specs.Packets.{is_untagged, moved, nanoseconds, snapped, tagged, early};
@@ -9,10 +9,11 @@ use capture_io::Link;
 use octets::{NoMemory, Octets, big_16};
 use std::alloc::Global;
 
-// Nanoseconds of a second.
+// The nanoseconds of a second.
 const SECOND: u128 = 1_000_000_000;
 
-/// The moment of a time in an interface's units, where a frame may have it.
+/// The moment of a Timestamp by its interface's clock, in nanoseconds, or None where no frame may
+/// have it: before 1970, or of 2^32 seconds or more.
 pub fn moment_of(clock: Clock, time: u64) -> Option<u64>
     requires { 0 < clock.units }
     ensures { result ≡ option_and_then early (moved clock.added (nanoseconds clock time)) }
@@ -30,7 +31,7 @@ pub fn moment_of(clock: Clock, time: u64) -> Option<u64>
     }
 }
 
-// The moment, where it is before 2^32 seconds.
+// The moment, or None where it is of 2^32 seconds or more.
 fn early(moment: u128) -> Option<u64>
     ensures { result ≡ early moment }
 {
@@ -41,14 +42,15 @@ fn early(moment: u128) -> Option<u64>
     }
 }
 
-/// How many octets of a simple packet a block keeps.
+/// How many octets of a simple packet a block keeps: its Original Packet Length, or SnapLen where
+/// that is less and not 0.
 pub fn snapped(snap: u32, size: u32) -> u32
     ensures { result ≡ snapped snap size }
 {
     if snap == 0 { size } else { size.min(snap) }
 }
 
-/// Whether the octets begin with an Ethernet header without a tag.
+/// Whether octets begin with an Ethernet header without a VLAN tag.
 pub fn is_untagged(link: Link, octets: &[u8]) -> bool
     ensures { result ≡ is_untagged link octets.now }
 {
@@ -58,7 +60,7 @@ pub fn is_untagged(link: Link, octets: &[u8]) -> bool
     }
 }
 
-/// The octets of an Ethernet frame with a tag of that VLAN.
+/// The octets of an Ethernet frame, with a tag of that VLAN put in behind its addresses.
 pub fn tagged(alloc: Global, vlan: u16, octets: &[u8]) -> Result<Octets, NoMemory>
     requires { 12 ≤ length octets.now }
     ensures { IfOk result (λ frame. frame ≡ tagged vlan octets.now) }
@@ -70,7 +72,7 @@ pub fn tagged(alloc: Global, vlan: u16, octets: &[u8]) -> Result<Octets, NoMemor
     Ok(frame)
 }
 
-// The four octets of a tag.
+// The four octets of a VLAN tag.
 fn tag_of(vlan: u16) -> [u8; 4]
     ensures { result ≡ big_octets 2 0x8100 ++ big_octets 2 vlan }
 {

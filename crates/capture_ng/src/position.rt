@@ -14,17 +14,17 @@ use std::marker::Model;
 /// Where a reader stands between two blocks.
 #[derive(Debug, Drop)]
 pub struct Position {
-    /// The octets that were read of the file.
+    /// How many octets of the file were read.
     pub place: u64,
     /// How many blocks were read.
     pub blocks: u32,
-    /// The byte order of the section; none before the first one.
+    /// The byte order of the section; None before the first section.
     pub order: Option<Order>,
-    /// The interfaces of the section.
+    /// The interfaces of the section so far.
     pub interfaces: Items<Interface>,
-    /// How many frames came.
+    /// How many frames were read.
     pub count: u32,
-    /// The greatest of their moments, in nanoseconds; none before the first frame.
+    /// The greatest moment of a frame so far, in nanoseconds; None before the first frame.
     pub greatest: Option<u64>,
 }
 
@@ -53,7 +53,7 @@ impl Model for Position {
 }
 
 impl Position {
-    /// At the start of a file. Takes no memory.
+    /// The position at the start of a file. Takes no memory.
     pub fn begin(alloc: Global) -> Position
         ensures { result ≡ begin }
     {
@@ -67,7 +67,7 @@ impl Position {
         }
     }
 
-    /// One block further.
+    /// Moves the position behind a block.
     pub fn pass(&mut self, head: Head)
         requires { self.old.blocks < most_blocks }
         ensures { self.new ≡ passed self.old head }

@@ -37,8 +37,8 @@ impl Model for NgReader {
 }
 
 impl NgReader {
-    /// A reader of a file from where the id stands, which is the file's start; places count from there.
-    /// Where `vlans` is set, interfaces are VLANs. Takes no memory, and reads nothing.
+    /// A reader of a file from where the id stands, which is the file's start; places count from
+    /// there. Where `vlans` is set, interfaces are VLANs. Takes no memory, and reads no octet.
     pub fn new(alloc: Global, id: FileId, vlans: bool) -> NgReader
         ensures { result ≡ beginning id.number vlans }
     {
@@ -50,10 +50,10 @@ impl NgReader {
         }
     }
 
-    /// The next frame, or none at the end of the file, and again at each later call. A fault other
-    /// than `Memory` is kept, and each later call answers it; after `Memory` a reader is dropped.
+    /// The next frame, or None at the end of the file, and again at each later call. A fault other
+    /// than `Memory` is kept, and each later call returns it; after `Memory` a reader is dropped.
     pub fn next<D: Desk>(&mut self, alloc: Global, desk: &mut D) -> Result<Option<Frame>, NgFault>
-        // After a fault nothing is called.
+        // After a fault that was kept, the desk isn't called.
         ensures again { IfSome self.old.fault (λ f.
             (result ≡ Err f) × (self.new ≡ self.old) × (desk.new ≡ desk.old)) }
         ensures answer { IfNone self.old.fault (IfSome (D.told desk.old) (λ w. IsAnswer result

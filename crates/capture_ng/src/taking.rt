@@ -1,4 +1,4 @@
-// What a block that was read tells, taken into the position.
+// Blocks that were read, and the position behind them.
 ghost use Rattle.std.specs.Prelude.{◌≡◌, ◌≤◌, ◌<◌, ◌+◌, length, option_and_then, option_map, IfOk, IfErr, IfSome, IsErrOf, OnOk, OnErr, Some, None, false};
 ghost use Rattle.octets.specs.Rules.{first_failing};
 ghost use Rattle.capture_io.specs.Limits.{most_records};
@@ -21,8 +21,9 @@ use crate::{MOST_INTERFACES, NgFault};
 use capture_io::Frame;
 use std::alloc::Global;
 
-/// Takes a block whose head and end break no rule: its frame, where it keeps one, or the first rule that
-/// its body breaks. After a fault the position is as before.
+/// Moves the position behind a block whose head and end break no rule, and returns its frame, None
+/// where it keeps none, or the first rule that its body breaks. After a fault the position is as
+/// before.
 pub fn take_block(
     alloc: Global,
     vlans: bool,
@@ -62,7 +63,7 @@ pub fn take_block(
     }
 }
 
-// A new section, without interfaces.
+// Moves the position behind a section header, into a new section without interfaces.
 fn begin_section(at: &mut Position, head: Head, octets: &[u8]) -> Result<(), NgFault>
     requires octets { 14 ≤ length octets.now }
     requires room { at.old.blocks < most_blocks }
@@ -82,7 +83,7 @@ fn begin_section(at: &mut Position, head: Head, octets: &[u8]) -> Result<(), NgF
     Ok(())
 }
 
-// One interface more in the section.
+// Moves the position behind an interface description block, and adds its interface to the section.
 fn add_interface(at: &mut Position, head: Head, octets: &[u8]) -> Result<(), NgFault>
     requires least { 20 ≤ head.length }
     requires whole { head.length ≤ length octets.now }
@@ -106,7 +107,7 @@ fn add_interface(at: &mut Position, head: Head, octets: &[u8]) -> Result<(), NgF
     Ok(())
 }
 
-// One frame more.
+// Moves the position behind a packet block, and returns its frame.
 fn take_packet(
     alloc: Global,
     vlans: bool,

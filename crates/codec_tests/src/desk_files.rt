@@ -77,7 +77,7 @@ fn reads_what_is_there(
     let output = desk.make_file(alloc, "out")?;
     desk.write_file(alloc, output, b"ab")?;
     let mut buf = [0u8; 2];
-    // The ids in order, and what is read of each.
+    // The ids in order, and the octets that are read of each.
     let rows: [(FileId, &[u8]); 6] = [
         (input, b"ab"),
         (absent, b""),
@@ -107,7 +107,7 @@ fn write_and_say(alloc: Global, desk: &mut SteadyDesk) -> Result<(), DeskFault> 
     let input = desk.open_file(alloc, "in")?;
     let first = desk.make_file(alloc, "out")?;
     let other = desk.make_file(alloc, "other")?;
-    // An id that is one to read, or wasn't given, writes nowhere.
+    // A write to an id that is open for reading, or was never given, changes no file.
     for (id, piece) in [
         (first, "one"),
         (input, "two"),

@@ -1,4 +1,5 @@
-//! Tests of what is read and written: files, captures, packets, headers, records and messages.
+//! Tests of formats that are read and written: files, captures, packets, headers, records and
+//! messages.
 #![tactic(auto)]
 
 #[cfg(test)]

@@ -1,4 +1,4 @@
-// A worked reply, and messages that no router here sends.
+// A worked Map-Reply, and messages that this router doesn't send.
 ghost use Rattle.std.specs.Prelude.{◌≤◌, length};
 
 use map_messages::{Addr, Eid, MapReply, Message, Prefix, read_message, write_message};
@@ -7,7 +7,7 @@ use std::alloc::Global;
 use std::process::Abort;
 use std::test::Fail;
 
-/// One record: 10.2.0.0/16 of instance 100 with the locator 198.51.100.7.
+/// A Map-Reply with one record: 10.2.0.0/16 of instance 100 with the locator 198.51.100.7.
 const REPLY: [u8; 52] = [
     0x20, 0x00, 0x00, 0x01, 0x01, 0x02, 0x03, 0x04, 0x05, 0x06, 0x07, 0x08, 0x00, 0x00, 0x00, 0x3c,
     0x01, 0x10, 0x10, 0x00, 0x00, 0x00, 0x40, 0x03, 0x00, 0x00, 0x02, 0x00, 0x00, 0x0a, 0x00, 0x00,
@@ -15,8 +15,8 @@ const REPLY: [u8; 52] = [
     0xc6, 0x33, 0x64, 0x07,
 ];
 
-/// From 2001:db8::1 to 2001:db8::2, with an empty Map-Reply to a probe from octet 52 on. The UDP
-/// checksum was computed by another program.
+/// An Encapsulated Control Message from 2001:db8::1 to 2001:db8::2, with an empty Map-Reply to a
+/// probe from octet 52 on. The UDP checksum was computed by another program.
 const ECM_V6: [u8; 64] = [
     0x80, 0x00, 0x00, 0x00, 0x60, 0x00, 0x00, 0x00, 0x00, 0x14, 0x11, 0x40, 0x20, 0x01, 0x0d, 0xb8,
     0x00, 0x00, 0x00, 0x00, 0x00, 0x00, 0x00, 0x00, 0x00, 0x00, 0x00, 0x01, 0x20, 0x01, 0x0d, 0xb8,
@@ -35,7 +35,7 @@ fn written(alloc: Global, octets: &[u8]) -> Result<Octets, Fail>
     Ok(out)
 }
 
-// What is written of the message that these octets spell.
+// Asserts that the message that these octets spell is written as the expected ones.
 fn assert_written(
     rt: &impl Abort,
     alloc: Global,
@@ -72,7 +72,8 @@ fn a_worked_reply_is_read_and_written_again(rt: HostRuntime) -> Result<(), Fail>
 #[test]
 fn what_is_ignored_is_written_as_0_and_all_else_again(rt: HostRuntime) -> Result<(), Fail> {
     assert_written(&rt, rt.alloc(), &ECM_V6, &ECM_V6)?;
-    // All flags, of which A isn't kept, two ITR-RLOCs, no EID record, and one record.
+    // A Map-Request with all flags set, of which only M, P, S and s are kept, two ITR-RLOCs, no EID
+    // record, and one record.
     let octets = [
         0x1f, 0xff, 0xe1, 0, 1, 2, 3, 4, 5, 6, 7, 8, 0, 1, 10, 1, 0, 5, 0, 1, 192, 0, 2, 1, 0, 2,
         0x20, 1, 0x0d, 0xb8, 0, 0, 0, 0, 0, 0, 0, 0, 0, 0, 0, 1, 0, 0, 0, 9, 0, 32, 0x10, 0, 0, 0,

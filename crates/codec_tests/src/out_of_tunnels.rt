@@ -4,8 +4,8 @@ use ip_headers::{read_ip, read_udp};
 use lisp_header::LispHeader;
 use std::test::Fail;
 
-/// From 198.51.100.7 to 192.0.2.1, TTL 10, DSCP 46 with ECT(1). Inside, from octet 36 on, from
-/// 10.2.0.9 to 10.1.0.5, TTL 64, DSCP 0 with ECT(0).
+/// A tunnel packet from 198.51.100.7 to 192.0.2.1, TTL 10, DSCP 46 with ECT(1). Inside, from octet
+/// 36 on, is a packet from 10.2.0.9 to 10.1.0.5, TTL 64, DSCP 0 with ECT(0).
 const TUNNEL: [u8; 64] = [
     0x45, 0xb9, 0, 0x40, 0, 0, 0, 0, 10, 17, 0xc3, 0xb8, 198, 51, 100, 7, 192, 0, 2, 1, 0xfc, 7,
     0x10, 0xf5, 0, 0x2c, 0, 0, 0, 0, 0, 0, 0, 0, 0, 0, 0x45, 2, 0, 0x1c, 0, 0, 0, 0, 64, 17, 0x66,

@@ -9,7 +9,7 @@ most_workers = 16
 abbrev pub most_round_frames : ℕ
 most_round_frames = 4096
 
--- the same, where the words don't say
+-- frames that are handed to forwarders at once, where no word gives their number
 abbrev pub default_round_frames : ℕ
 default_round_frames = 256
 

@@ -13,7 +13,7 @@ use Rattle.command_words.specs.declared.words.Words.{Words}
 use Rattle.command_words.specs.declared.words.Words.TheVariants.{Replay, Show, Trial, Audit}
 
 infixl 10 ◌>>=◌
--- what comes next, where there is a value
+-- a further step, where there is a value
 abbrev pub ◌>>=◌ : {A B : Type 0} → Option A → (A → Option B) → Option B
 o >>= next = option_and_then next o
 
@@ -97,7 +97,7 @@ format_of word interfaces = do
 
 -- ### how a capture is taken in
 
--- whether large packets are split, as this word says; without the word they aren't
+-- whether large packets are split, by this word; without the word they aren't
 abbrev pub split_of : Option (List ℕ) → Option Bool
 split_of None = Some false
 split_of (Some word) =
@@ -105,7 +105,7 @@ split_of (Some word) =
     else if bytes_eq word (codes "off") then Some false
     else None
 
--- the same with the format, by options
+-- how a capture is read, by the options
 abbrev pub intake_of : List (List ℕ) → Option Intake
 intake_of options = do
   format ← format_of (value_of (codes "--format") options) (value_of (codes "--interfaces") options)

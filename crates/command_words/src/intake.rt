@@ -1,4 +1,4 @@
-// How a capture is taken in, as words say it.
+// How a capture is read, by the words.
 ghost use Rattle.std.specs.Prelude.{◌≡◌, codes, map, string_bytes, option_map};
 ghost use Rattle.command_words.specs.Words.{format_of, intake_of, named_format, split_of, value_of, with_interfaces, with_vlans};
 
@@ -15,15 +15,15 @@ pub enum InputFormat {
     Ng { vlans: bool },
 }
 
-/// How a capture that is replayed is taken in.
+/// How a capture that is replayed is read.
 #[derive(Clone, Copy, Debug, PartialEq, Eq)]
 pub struct Intake {
     pub format: InputFormat,
-    /// Packets that are too large for a tunnel are split in two.
+    /// Whether packets that are too large for a tunnel are split in two.
     pub split: bool,
 }
 
-/// How the options say that a capture is taken in. None where one of them has another value.
+/// How a capture is read by the options. None where one of them has another value.
 pub fn intake_of(words: &[Word]) -> Option<Intake>
     ensures { result ≡ intake_of (map string_bytes words.now) }
 {

@@ -1,4 +1,4 @@
-//! The words after the program's name: what they say, or that they are of no form.
+//! The words after the program's name, read as a command or refused.
 #![tactic(auto)]
 
 mod intake;

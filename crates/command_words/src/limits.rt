@@ -9,13 +9,13 @@ pub const MOST_WORKERS: u32 = 16;
 /// The most frames that are handed to forwarders at once.
 pub const MOST_ROUND_FRAMES: u32 = 4096;
 
-/// The same, where the words don't say.
+/// The frames that are handed to forwarders at once, where no word gives their number.
 pub const DEFAULT_ROUND_FRAMES: u32 = 256;
 
 /// The most mappings of a trial.
 pub const MOST_TRIAL_MAPPINGS: u32 = 50_000;
 
-/// The limits are the defined ones.
+/// Law: the constants are the defined numbers.
 pub fn limits_are()
     ensures workers { MOST_WORKERS ≡ most_workers }
     ensures frames { MOST_ROUND_FRAMES ≡ most_round_frames }

@@ -1,4 +1,4 @@
-// The nonces by which an audit is made, as words say it.
+// The source of an audit's nonces, by the words.
 ghost use Rattle.std.specs.Prelude.{◌≡◌, option_map};
 ghost use Rattle.command_words.specs.Words.{nonces_of};
 
@@ -7,7 +7,7 @@ ghost use Rattle.command_words.specs.Words.{nonces_of};
 pub enum NonceSource {
     /// From the settings, as in a replay.
     Settings,
-    /// Out of the capture of what was sent.
+    /// From the capture of the packets that were sent.
     Sent,
 }
 

@@ -89,7 +89,7 @@ pub fn number_in(text: &str, least: u32, greatest: u32) -> Option<u32>
     }
 }
 
-// Decimal digits, of which the first is 0 only where it stands alone.
+// Whether octets are decimal digits, of which the first is 0 only where it stands alone.
 fn is_decimal(octets: &[u8]) -> bool
     ensures { result ≡ is_decimal octets.now }
 {

@@ -47,11 +47,11 @@ impl Text {
     }
 }
 
-/// What the words say.
+/// A command, as the words give it.
 #[derive(Debug, Drop)]
 pub enum Words {
-    /// A capture is replayed by settings, into an output: names of files. `workers` and `round`
-    /// count forwarder threads, and frames handed to them at once.
+    /// A capture is replayed by settings, into an output: names of files. `workers` is the number
+    /// of forwarder threads, `round` that of the frames handed to them at once.
     Replay {
         settings: Text,
         input: Text,
@@ -68,7 +68,8 @@ pub enum Words {
     Trial {
         n: u32,
     },
-    /// What a router sent for a capture is held against what it should have sent by settings.
+    /// A capture of what a router sent is compared with what it should have sent, by settings and a
+    /// capture of what it received.
     Audit {
         settings: Text,
         input: Text,
@@ -77,13 +78,13 @@ pub enum Words {
     },
 }
 
-/// Why words say nothing.
+/// Why words are no command.
 #[derive(Clone, Copy, Debug, PartialEq, Eq, Error)]
 pub enum WordsFault {
-    /// They are of no form.
+    /// They have none of the forms.
     #[error("the words are of no form")]
     Usage,
-    /// An allocation was refused.
+    /// An allocation failed.
     #[error("memory was refused")]
     Memory,
 }
@@ -96,7 +97,7 @@ impl From<AllocError> for WordsFault {
     }
 }
 
-/// What the words say, or that they are of no form.
+/// The command that the words give, or that they have none of the forms.
 pub fn read_words(alloc: Global, words: &[Word]) -> Result<Words, WordsFault>
     ensures ok { IfOk result (λ read. words_of (map string_bytes words.now) ≡ Some read) }
     ensures usage { result ≡ Err Usage → words_of (map string_bytes words.now) ≡ None }

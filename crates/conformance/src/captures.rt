@@ -7,7 +7,7 @@ use std::alloc::Global;
 // The second from which moments count.
 const START: u32 = 1_700_000_000;
 
-/// The header of a capture.
+/// The header of a capture of that link and that unit.
 pub fn header(alloc: Global, link: &Link, unit: &Unit) -> Result<Vec<u8>> {
     let magic = match unit {
         Unit::Us => 0xa1b2_c3d4_u32,

@@ -1,4 +1,4 @@
-// What a run of a row begins with: its words and files, and the calls of the desk that fail.
+// Cases, the runs of rows: their words and files, and the calls of the desk that fail.
 use crate::captures::{capture_of, header, output_of, push_frame};
 use crate::octets_of::octets_of;
 use crate::rows;
@@ -9,7 +9,8 @@ use octets::Octets;
 use replay::Word;
 use std::alloc::Global;
 
-/// One run of a row: its words, and of `each` what stands for `{}` in the report, with the frame.
+/// One run of a row: its words, and, where the row has `each`, a frame with the text that stands
+/// for `{}` in the report.
 #[derive(Clone, Copy)]
 pub struct Case<'a> {
     pub row: &'a Row,
@@ -26,7 +27,7 @@ pub fn words_of(alloc: Global, text: &str) -> Result<Vec<Word>> {
     Ok(words)
 }
 
-/// The numbers of the calls that fail.
+/// The numbers of the desk's calls that fail.
 pub fn calls_of(alloc: Global, row: &Row) -> Result<Calls> {
     if let Some(DeskKind::Steady) = &row.desk {
         ensure!(row.fails.is_empty(), "fails: no call of a steady desk does");
@@ -38,7 +39,7 @@ pub fn calls_of(alloc: Global, row: &Row) -> Result<Calls> {
     Ok(calls)
 }
 
-/// The files that the run has, of `settings`, `in` and `sent`.
+/// The files of a run, among `settings`, `in` and `sent`.
 pub fn files_of(alloc: Global, names: &Names<'_>, case: Case<'_>) -> Result<Files> {
     let mut files = Files::new(alloc);
     if let Some(settings) = &case.row.settings {
@@ -55,7 +56,7 @@ pub fn files_of(alloc: Global, names: &Names<'_>, case: Case<'_>) -> Result<File
     Ok(files)
 }
 
-// The capture, if there is one, with what stands behind it.
+// The capture, if there is one, with the octets of `tail` behind it.
 fn input_of(alloc: Global, names: &Names<'_>, case: Case<'_>) -> Result<Option<Vec<u8>>> {
     let Some(mut octets) = frames_of(alloc, names, case)? else {
         ensure!(case.row.tail.is_none(), "tail: there is no capture");

@@ -1,11 +1,11 @@
-// What differs between two texts.
+// The differences of two texts.
 ghost use Rattle.std.specs.Prelude.{◌≡◌, ◌↔◌, IfOk, IsNone};
 
 use anyhow::Result;
 use std::alloc::Global;
 
-/// The first line in which two texts differ, as it is wanted and as it came; none exactly where the
-/// texts are the same.
+/// The first line in which two texts differ, as wanted and as got; None exactly where the texts are
+/// the same.
 pub fn difference(alloc: Global, place: &str, wanted: &str, got: &str) -> Result<Option<String>>
     ensures same { IfOk result (λ found. IsNone found ↔ (wanted.now ≡ got.now)) }
 {

@@ -1,4 +1,4 @@
-// What a file of packets holds, as text.
+// Files of packets, as text.
 use anyhow::Result;
 use std::alloc::Global;
 
@@ -34,8 +34,8 @@ fn push_octets(alloc: Global, name: &str, octets: &[u8], text: &mut String) -> R
     Ok(())
 }
 
-// Of the first record its moment and the length that its packet had, the octets that are kept, and
-// what is behind it.
+// The first record: the moment and the length that its packet had, the octets that are kept, and
+// the octets behind the record.
 fn first_record(octets: &[u8]) -> Option<((u32, u32, u32), &[u8], &[u8])> {
     let (second, rest) = first_number(octets)?;
     let (nanosecond, rest) = first_number(rest)?;

@@ -22,8 +22,9 @@ use std::process::ExitCode;
 use std::sync::Wait;
 use std::thread::Threads;
 
-// Runs the rows of a file, says of each whether it differs and in what, and answers how many do. The
-// runtime may print, and once more as one that may start threads and wait.
+// Runs the rows of a file, prints of each whether it differs and in what, and returns how many do.
+// The runtime is handed down twice, as one that may print and as one that may start threads and
+// wait.
 fn failures<R: Threads + Wait + Sync>(
     host: &impl Print,
     rt: &R,

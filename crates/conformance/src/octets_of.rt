@@ -1,4 +1,4 @@
-// The octets that a row means.
+// The octets that a row stands for.
 use crate::rows::{Names, Octets};
 use anyhow::{Context, Result};
 use std::alloc::Global;
@@ -33,7 +33,7 @@ fn joined(alloc: Global, names: &Names<'_>, words: &str) -> Result<Vec<u8>> {
     Ok(octets)
 }
 
-// A packet of a name is hexadecimal alone.
+// The octets of a named packet are hexadecimal alone, without names.
 fn push_packet(alloc: Global, name: &str, packet: &str, octets: &mut Vec<u8>) -> Result<()> {
     for word in packet.split_ascii_whitespace() {
         let piece = decoded(alloc, word).context(format_args!("packet.{name}"))?;
@@ -46,7 +46,7 @@ fn decoded(alloc: Global, word: &str) -> Result<Vec<u8>> {
     hex::decode(alloc, word).context(format_args!("{word:?} is no packet and no hexadecimal"))
 }
 
-// Puts the values from that place on, where there are octets.
+// Puts the values in place of the octets from that place on; a place without an octet is a fault.
 fn put(octets: &mut Vec<u8>, place: usize, values: &[u8]) -> Result<()> {
     for (i, value) in values.iter().enumerate() {
         let place = place.saturating_add(i);

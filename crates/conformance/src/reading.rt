@@ -1,4 +1,4 @@
-// Files of rows. A fault says the file, the row and the key.
+// Files of rows. A fault names the file, the row and the key.
 use crate::rows::{Row, RowFile};
 use anyhow::{Context, Result, ensure};
 use serde::Deserialize;
@@ -8,8 +8,8 @@ use std::fs;
 use std::rt::Files;
 use toml::{Table, Value};
 
-// A file as TOML has it, whose rows are still tables: read each on its own, it is told which of
-// them is at fault.
+// A file as TOML has it. Its rows are still tables, because each is read by itself, so that a fault
+// names its row.
 #[derive(Drop, Deserialize)]
 #[serde(deny_unknown_fields)]
 struct Page {
@@ -45,8 +45,8 @@ pub fn read<R: Files + AllocGlobal>(rt: &R, file: &str) -> Result<RowFile> {
     })
 }
 
-// The row that a table is, behind others. It is written and read again, since `toml` reads rows of
-// texts alone.
+// The row of a table, whose name must differ from those of the others. The table is written and
+// read again, because `toml` reads rows of texts alone.
 fn row_of(alloc: Global, table: &Table, others: &[Row]) -> Result<Row> {
     let text = toml::table_to_string(alloc, table)?;
     let row: Row = toml::from_str(alloc, text.as_str())?;

@@ -1,4 +1,4 @@
-// What a file of rows says. A key that no struct here has is refused.
+// Files of rows. A key that no struct here has is refused.
 use serde::Deserialize;
 use std::alloc::{AllocError, Global};
 use std::collections::BTreeMap;
@@ -11,7 +11,7 @@ pub struct RowFile {
     pub rows: Vec<Row>,
 }
 
-/// A run, and what it must end with; or as many runs as `words` and `each` have.
+/// A run, and its wanted end; or as many runs as `words` and `each` have.
 #[derive(Drop, Deserialize)]
 #[serde(deny_unknown_fields)]
 pub struct Row {
@@ -36,7 +36,7 @@ pub struct Row {
     pub output: Option<Octets>,
 }
 
-/// What the frames of a capture are.
+/// The link of a capture's frames.
 #[derive(Drop, Deserialize)]
 #[serde(rename_all = "lowercase")]
 pub enum Link {
@@ -44,7 +44,7 @@ pub enum Link {
     Ethernet,
 }
 
-/// What a capture counts behind a second.
+/// The unit of a capture's fractions of a second.
 #[derive(Drop, Deserialize)]
 #[serde(rename_all = "lowercase")]
 pub enum Unit {
@@ -52,7 +52,8 @@ pub enum Unit {
     Ns,
 }
 
-/// A desk of which a file may be missing and calls may fail, or one of which none does.
+/// A desk in memory, of which a file may be missing and calls may fail, or a steady one, on which
+/// no call fails.
 #[derive(Drop, Deserialize)]
 #[serde(rename_all = "lowercase")]
 pub enum DeskKind {
@@ -68,7 +69,7 @@ pub enum Texts {
     Several(Vec<String>),
 }
 
-/// What a router sent: raw packets with their moments, or the whole file.
+/// The packets that a router sent: raw packets with their moments, or the whole file.
 #[derive(Drop, Deserialize)]
 #[serde(untagged)]
 pub enum Sent {
@@ -84,7 +85,7 @@ pub enum Octets {
     Changed(Changed),
 }
 
-/// Words as above, cut or filled up with zeros to a size, and then other octets at places.
+/// Words with changes: cut or filled up with zeros to a size, and then with other octets at places.
 #[derive(Drop, Deserialize)]
 #[serde(deny_unknown_fields)]
 pub struct Changed {
@@ -117,7 +118,7 @@ impl<'a> Names<'a> {
         }
     }
 
-    /// The texts, each that of its name or itself, one behind another.
+    /// The texts one behind another, each either the settings of that name or itself.
     pub fn joined(&self, alloc: Global, texts: &Texts) -> Result<String, AllocError> {
         let mut joined = String::new(alloc);
         match texts {

@@ -13,7 +13,8 @@ use std::thread::Threads;
 
 const REPLAY: &str = "replay --settings settings --in in --out out";
 
-/// In what the row's runs differ from what is wanted, as lines; none where they don't.
+/// The differences between the row's runs and the wanted ends, as lines; empty where there are
+/// none.
 pub fn differences<R: Threads + Wait + Sync>(
     rt: &R,
     alloc: Global,
@@ -34,7 +35,7 @@ pub fn differences<R: Threads + Wait + Sync>(
     Ok(found)
 }
 
-// Adds what differs in the runs of one list of words.
+// Adds the differences of the runs of one list of words.
 fn push_each<'a, R: Threads + Wait + Sync>(
     rt: &R,
     alloc: Global,
@@ -97,7 +98,7 @@ fn run_of<R: Threads + Wait + Sync>(
     }
 }
 
-// A desk in each of two functions with one exit, since each exit lets all of it go.
+// Each of two functions has a desk and one exit, because each exit drops all of the desk.
 fn over_steady<R: Threads + Wait + Sync>(
     rt: &R,
     alloc: Global,
@@ -123,7 +124,8 @@ fn over_memory<R: Threads + Wait + Sync>(
     compared(alloc, names, case, (status, desk.said(), desk.file("out")))
 }
 
-// In what a run's end differs from what is wanted: its status, its report, and its output if any.
+// The differences between a run's end and the wanted one: in its status, its report, and its output
+// if any.
 fn compared(
     alloc: Global,
     names: &Names<'_>,

@@ -1,4 +1,4 @@
-// What a run of a row must end with.
+// The wanted end of a run of a row.
 use crate::captures;
 use crate::cases::Case;
 use crate::listing::listed;
@@ -7,7 +7,7 @@ use crate::rows::{Names, Row};
 use anyhow::{Context, Result, bail};
 use std::alloc::Global;
 
-/// The report, with what the frame's text says in the place of the first `{}`.
+/// The wanted report, with the frame's text in place of the first `{}`.
 pub fn report_of(alloc: Global, case: Case<'_>) -> Result<String> {
     let report = case.row.report.as_str();
     let mut text = String::new(alloc);
@@ -22,7 +22,7 @@ pub fn report_of(alloc: Global, case: Case<'_>) -> Result<String> {
     Ok(text)
 }
 
-/// The lines of the output.
+/// The lines of the wanted output.
 pub fn output_of(alloc: Global, names: &Names<'_>, row: &Row) -> Result<String> {
     match (&row.packets, &row.output) {
         (Some(packets), None) => {

@@ -12,7 +12,7 @@ abbrev pub v4_with : List ℕ → ℕ → ℕ → ℕ → List ℕ
 v4_with packet class ttl sum =
     slice_set (slice_set (slice_set (slice_set packet 1 class) 8 ttl) 10 (sum / 256)) 11 (sum % 256)
 
--- an IPv4 packet with that TOS and TTL, and the checksum over its header, for which it counts as 0
+-- an IPv4 packet with that TOS and TTL, and with the checksum over its header, computed with 0 in its place
 unfoldable pub v4_marked : List ℕ → ℕ → ℕ → List ℕ
 v4_marked packet class ttl =
     v4_with packet class ttl (checksum (take (header_len packet) (v4_with packet class ttl 0)))
@@ -28,11 +28,11 @@ abbrev pub marked : List ℕ → ℕ → ℕ → List ℕ
 marked packet class ttl =
     if is_v4 packet then v4_marked packet class ttl else v6_marked packet class ttl
 
--- the DSCP of the outer header, and ECN by the table
+-- the DSCP of the outer header, and ECN by the table of RFC 6040
 abbrev pub new_class : IpHeader → IpHeader → ℕ
 new_class inner outer = dscp outer * 4 + unwrap_or (ecn_of (ecn inner) (ecn outer)) 0
 
--- the lesser of both
+-- the lesser TTL or Hop Limit of both headers
 abbrev pub lesser_ttl : IpHeader → IpHeader → ℕ
 lesser_ttl inner outer = min (ttl_of inner) (ttl_of outer)
 
@@ -52,7 +52,7 @@ abbrev pub decap_drop : Undelivered → DecapDrop
 decap_drop CongestionMark = drop.CongestionMark
 decap_drop TtlExpired = drop.TtlExpired
 
--- there is an outgoing mark, and the TTL stays above 0 when it falls by one
+-- the rules of delivery: there is an outgoing ECN mark, and the TTL stays above 0 when it falls by one
 abbrev pub deliver_rules : List ℕ → IpHeader → List (Bool × Undelivered)
 deliver_rules inner outer =
     (is_some (ecn_of (ecn (header_at inner)) (ecn outer)), CongestionMark)

@@ -7,32 +7,32 @@ use Rattle.ip_headers.specs.declared.header.IpHeader.{IpHeader}
 abbrev pub dscp : IpHeader → ℕ
 dscp header = class_of header / 4
 
--- the last two
+-- the last two bits of TOS or Traffic Class
 abbrev pub ecn : IpHeader → ℕ
 ecn header = class_of header % 4
 
--- the ends of the packet's transport don't know marks
+-- Not-ECT: the ends of the packet's transport don't use ECN
 abbrev pub not_ect : ℕ
 not_ect = 0
 
--- they know them, and this mark says no more
+-- ECT(0): the ends use ECN
 abbrev pub ect_0 : ℕ
 ect_0 = 2
 
--- as ECT(0)
+-- ECT(1): as ECT(0)
 abbrev pub ect_1 : ℕ
 ect_1 = 1
 
--- congestion was experienced
+-- CE: congestion was experienced
 abbrev pub ce : ℕ
 ce = 3
 
--- one of four, by a mark, in the order Not-ECT, ECT(0), ECT(1), CE
+-- one of four values, by an ECN mark, in the order Not-ECT, ECT(0), ECT(1), CE
 abbrev pub by_mark : {T : Type 0} → ℕ → T → T → T → T → T
 by_mark mark a b c d =
     if mark == not_ect then a else if mark == ect_0 then b else if mark == ect_1 then c else d
 
--- the outgoing mark by the inner one, a row each, and the outer one; None where it is dropped
+-- the outgoing ECN mark by the inner one, a row each, and the outer one; None where the packet is dropped
 unfoldable pub ecn_of : ℕ → ℕ → Option ℕ
 ecn_of inner outer =
     by_mark inner

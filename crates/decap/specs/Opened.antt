@@ -17,7 +17,7 @@ use Rattle.decap.specs.declared.opening.Tunnelled.{Tunnelled}
 abbrev pub payload_base : IpPacket → UdpHeader → ℕ
 payload_base packet udp = packet.base + udp.at + 8
 
--- rules of the layers below, whose refusals are answered as they are
+-- rules of the layers below, whose refusals are results as they are
 abbrev pub refusing : List (Bool × Refused) → List (Bool × OpenDrop)
 refusing [] = []
 refusing (rule ∷ rules) = (rule.0, drops.Refused rule.1) ∷ refusing rules
@@ -36,11 +36,11 @@ opened_rules base header octets udp =
     ++ (refusing (lisp_rules place payload)
     ++ (key_rules payload ++ refusing (ip_rules (place + 8) (drop 8 payload))))
 
--- the same of a packet
+-- the rules of a tunnel packet, by its value
 abbrev pub open_rules : IpPacket → UdpHeader → List (Bool × OpenDrop)
 open_rules packet udp = opened_rules packet.base packet.header packet.octets.now udp
 
--- what the octets of a tunnel packet spell
+-- the value that the octets of a tunnel packet spell
 pub record IsOpened (packet : IpPacket) (udp : UdpHeader) (tunnel : Tunnelled) : Type 0 where
   pub header : tunnel.header ≡ header_at (payload_of packet udp)
   pub range : InRange tunnel.header

@@ -12,8 +12,8 @@ use octets::{NoMemory, Octets};
 use std::alloc::Global;
 
 /// The packet inside, as it goes on: its TTL or Hop Limit is the lesser of both less one, its DSCP
-/// is the outer one, its ECN that of RFC 6040, and the checksum of an IPv4 header is computed
-/// afresh. All other octets are those of the packet.
+/// is that of the outer header, its ECN that of RFC 6040, and the checksum of an IPv4 header is
+/// computed anew. All other octets stay.
 pub fn deliver(alloc: Global, tunnel: &Tunnelled) -> Result<Octets, DecapDrop>
     ensures ok { let inner = tunnel.now.inner.octets.now in
         IfOk result (λ packet. packet ≡ delivered inner tunnel.now.outer) }
@@ -47,7 +47,7 @@ fn marked(alloc: Global, inner: &IpPacket, class: u8, ttl: u8) -> Result<Octets,
     Ok(Octets::from_vec(packet))
 }
 
-// Sets TOS and TTL of an IPv4 packet, and computes the checksum of its header afresh.
+// Sets TOS and TTL of an IPv4 packet, and computes the checksum of its header anew.
 fn mark_v4(packet: &mut [u8], header_end: usize, class: u8, ttl: u8)
     requires header { header_end ≡ header_len packet.old }
     requires least { 20 ≤ header_end }

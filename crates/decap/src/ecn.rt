@@ -10,8 +10,8 @@ const ECT_0: u8 = 2;
 
 const CE: u8 = 3;
 
-/// The mark with which a packet goes on, by its own and that of the outer header. None where it is
-/// dropped: congestion was marked, and its ends could not be told.
+/// The ECN mark with which a packet goes on, by its own and that of the outer header. None where it
+/// is dropped: congestion was marked, and the packet's ends don't use ECN.
 #[tactic(auto, unfolding(crate::specs::Ecn::ecn_of))]
 pub(crate) fn ecn_of(inner: u8, outer: u8) -> Option<u8>
     requires inner { inner < 4 }

@@ -25,11 +25,11 @@ impl From<Refused> for OpenDrop {
 /// Why a packet that was opened is not delivered.
 #[derive(Clone, Copy, Debug, PartialEq, Eq)]
 pub enum DecapDrop {
-    /// The tunnel marked congestion on a packet whose ends don't know such marks.
+    /// The tunnel marked congestion on a packet whose ends don't use ECN.
     CongestionMark,
     /// The lesser of both TTLs or Hop Limits is at most 1.
     TtlExpired,
-    /// An allocation was refused.
+    /// An allocation failed.
     Memory,
 }
 

@@ -1,4 +1,4 @@
-// The five calls by which a run reaches the outside.
+// The desk: five calls by which a run reaches files and its report.
 ghost use Rattle.std.specs.Prelude.{◌≡◌, ◌≤◌, ◌<◌, ◌++◌, ◌∷◌, [], Bool, List, ℕ, length, take, Option, IfOk, OnOk, OnErr, IfSome, IsErrOf, option_map};
 ghost use Rattle.desk.specs.Causes.{HasCause, StaysSteady};
 ghost use Rattle.desk.specs.declared.fault.DeskFault.TheVariants.{Failed};
@@ -7,30 +7,32 @@ ghost use Rattle.desk.specs.World.{World, Direction, to_read, to_write, IsFresh,
 use crate::DeskFault;
 use std::alloc::Global;
 
-/// An open file's number at its desk.
+/// The number of an open file at its desk.
 #[derive(Clone, Copy, Debug, PartialEq, Eq)]
 pub struct FileId {
     pub number: u32,
 }
 
-/// The outside. Contracts see the ids that it gave, what it holds where it tells that, a count of
-/// faults that never falls, and whether it is steady: then no call fails on a file that is told to
-/// be there, or on an id that was given in that direction.
+/// A desk: the outside of a run. Contracts see the ids that it gave, the octets that it holds
+/// unless it is opaque, a count of faults that never falls, and whether it is steady: no call on a
+/// steady desk fails on a file that contracts see there, or on an id that was given in that
+/// direction.
 pub trait Desk {
-    /// The ids that were given, in order, each to read or to write.
+    /// The ids that the desk gave, in order, each with its direction.
     ghost given: { Self → List (ℕ × Direction) };
 
-    /// What the desk holds, where it tells its octets.
+    /// The files and the report of the desk; None for an opaque desk, whose octets contracts don't
+    /// see.
     ghost told: { Self → Option World };
 
-    /// How often a call has failed.
+    /// The number of calls that have failed.
     ghost faults: { Self → ℕ };
 
-    /// Whether it is steady.
+    /// Whether the desk is steady.
     ghost steady: { Self → Bool };
 
-    /// An id that reads the file of that name from its start. A name that isn't there may be
-    /// `Failed`, or read as an empty file.
+    /// Opens a file by name, and returns an id that reads it from its start. A name that isn't
+    /// there may be `Failed`, or read as an empty file.
     fn open_file(&mut self, alloc: Global, name: &str) -> Result<FileId, DeskFault>
         ensures given { IfOk result (λ id.
             given self.new ≡ given self.old ++ (id.number, to_read) ∷ []) }
@@ -43,7 +45,8 @@ pub trait Desk {
         ensures steady { StaysSteady (steady self.old) (steady self.new)
             (IsThere name.now (told self.old)) (IsErrOf result Failed) };
 
-    /// An id that writes a new, empty file of that name. After a fault no file was made.
+    /// Makes a new, empty file of that name, and returns an id that writes it. After a fault no
+    /// file was made.
     fn make_file(&mut self, alloc: Global, name: &str) -> Result<FileId, DeskFault>
         ensures given { IfOk result (λ id.
             given self.new ≡ given self.old ++ (id.number, to_write) ∷ []) }
@@ -56,7 +59,8 @@ pub trait Desk {
         ensures steady { StaysSteady (steady self.old) (steady self.new)
             Unit (IsErrOf result Failed) };
 
-    /// The next octets of the file, in the front of `buf`, and how many; 0 is the file's end.
+    /// Reads the next octets of a file into the front of `buf`, and returns how many; 0 is the
+    /// file's end.
     fn read_file(&mut self, alloc: Global, id: FileId, buf: &mut [u8]) -> Result<usize, DeskFault>
         requires { 0 < length buf.old }
         ensures bound { IfOk result (λ n. n ≤ length buf.new) }
@@ -70,7 +74,7 @@ pub trait Desk {
         ensures steady { StaysSteady (steady self.old) (steady self.new)
             (IsGiven id.number to_read (given self.old)) (IsErrOf result Failed) };
 
-    /// Appends the piece to the file. After a fault a prefix of it was appended.
+    /// Appends a piece to a file. After a fault a prefix of the piece was appended.
     fn write_file(&mut self, alloc: Global, id: FileId, piece: &[u8]) -> Result<(), DeskFault>
         ensures told { OnOk result
             (told self.new ≡ option_map (after_write id.number piece.now) (told self.old)) }
@@ -82,7 +86,7 @@ pub trait Desk {
         ensures steady { StaysSteady (steady self.old) (steady self.new)
             (IsGiven id.number to_write (given self.old)) (IsErrOf result Failed) };
 
-    /// Appends the piece to the report. After a fault a prefix of it was appended.
+    /// Appends a piece to the report. After a fault a prefix of the piece was appended.
     fn say(&mut self, alloc: Global, piece: &[u8]) -> Result<(), DeskFault>
         ensures told { OnOk result
             (told self.new ≡ option_map (after_say piece.now) (told self.old)) }

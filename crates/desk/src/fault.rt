@@ -6,10 +6,10 @@ use octets::NoMemory;
 use std::alloc::{AllocError, AllocFailed};
 use thiserror::Error;
 
-/// A call of the desk that failed. Derived texts are not for a report.
+/// The fault of a call of the desk. Its derived texts are not for a report.
 #[derive(Clone, Copy, Debug, PartialEq, Eq, Error)]
 pub enum DeskFault {
-    /// The outside failed; the desk's count of faults rose.
+    /// The outside failed, and the desk's count of faults rose.
     #[error("the outside failed")]
     Failed,
     /// An allocation was refused.

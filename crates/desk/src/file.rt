@@ -1,12 +1,12 @@
 // Files by name.
 use octets::{Items, Octets};
 
-/// A file: its name, as octets, and what it holds.
+/// A file: its name, in octets, and its content.
 #[derive(Debug, Drop)]
 pub struct NamedFile {
     pub name: Octets,
     pub octets: Octets,
 }
 
-/// Files, of which the first of a name counts.
+/// Files by name; of several with one name the first counts.
 pub type Files = Items<NamedFile>;

@@ -7,8 +7,8 @@ ghost use Rattle.desk.specs.World.{left_of, after_read, to_read, Fills, IsGiven,
 use crate::{Desk, DeskFault, FileId};
 use std::alloc::Global;
 
-/// Fills the buffer from the file, as far as the file goes, however the desk cuts the octets, and
-/// says how many came.
+/// Fills the buffer from a file, as far as the file goes, however few octets each read returns.
+/// Returns how many octets were read.
 pub fn read_full<D: Desk>(
     alloc: Global,
     desk: &mut D,

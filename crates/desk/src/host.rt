@@ -1,4 +1,4 @@
-// A desk over the host's files and its standard output. It tells nothing of what they hold.
+// A desk over the host's files and standard output. It is opaque: contracts don't see the octets.
 ghost use Rattle.std.specs.Prelude.{◌≡◌, ◌≤◌, ◌++◌, ◌∷◌, [], length, false, None, IfOk, IfSome, OnErr};
 ghost use Rattle.desk.specs.declared.fault.DeskFault.TheVariants.{Failed};
 ghost use Rattle.octets.specs.Causes.{Rose};
@@ -12,18 +12,18 @@ use std::fs;
 use std::io::{BufReader, ErrorKind, Read, Write};
 use std::rt::Files;
 
-// The octets that one read takes from a file.
+// The size of the buffer through which a file is read, in octets.
 const BUFFER: usize = 65_536;
 
-/// A file that the host opened, to read or to write.
+/// A file that the host opened: to read, or to write.
 #[derive(Drop)]
 pub enum HostFile<I, O> {
     Input(I),
     Output(O),
 }
 
-/// The trusted edge: std's files, read through a buffer of 65,536 octets, and standard output. It
-/// is never steady.
+/// The trusted edge: a desk over std's files, read through a buffer of 65,536 octets, and standard
+/// output. It is opaque and never steady.
 #[derive(Drop)]
 pub struct HostDesk<'r, R: Files + Print> {
     rt: &'r R,
@@ -32,7 +32,7 @@ pub struct HostDesk<'r, R: Files + Print> {
 }
 
 impl<'r, R: Files + Print> HostDesk<'r, R> {
-    /// A desk that has opened nothing yet.
+    /// A desk that has opened no file yet.
     pub fn new(rt: &'r R, alloc: Global) -> HostDesk<'r, R>
         ensures given { result.files.items ≡ [] }
         ensures faults { result.faults ≡ 0 }
@@ -54,7 +54,8 @@ impl<'r, R: Files + Print> HostDesk<'r, R> {
         DeskFault::Failed
     }
 
-    // The id of a file that was opened.
+    // Keeps an opened file, and returns its id. Where no number is left for an id, the fault is
+    // `Memory`.
     #[tactic(auto, using(crate::proofs::HostLemmas::on_host_give))]
     fn give(&mut self, file: HostFile<BufReader<R::File>, R::File>) -> Result<FileId, DeskFault>
         ensures given { IfOk result (λ id. given_by_host 0 self.new.files.items
@@ -141,7 +142,8 @@ impl<I: Read, O> HostFile<I, O> {
 }
 
 impl<I, O: Write> HostFile<I, O> {
-    // A file that takes nothing of a piece has failed.
+    // Writes a whole piece, and returns whether that succeeded. It fails where the file takes no
+    // further octet, and on a file opened to read.
     fn write(&mut self, piece: &[u8]) -> bool
         ensures kind { host_direction self.new ≡ host_direction self.old }
     {
@@ -152,7 +154,7 @@ impl<I, O: Write> HostFile<I, O> {
     }
 }
 
-// One read that wasn't interrupted.
+// Reads once, and again while the read is interrupted. None where a read fails.
 fn read_some<F: Read>(file: &mut F, buf: &mut [u8]) -> Option<usize>
     ensures { IfSome result (λ n. n ≤ length buf.new) }
 {

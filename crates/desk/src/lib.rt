@@ -1,4 +1,4 @@
-//! The desk: the files by name and the report, as a router's run sees them.
+//! The desk: the outside of a router's run, with files by name and a report.
 #![tactic(auto)]
 
 mod desk;

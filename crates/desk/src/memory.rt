@@ -1,4 +1,4 @@
-// A desk in memory, which tells all. Calls of stated numbers fail.
+// A desk in memory, whose octets contracts see, and whose calls of stated numbers fail.
 ghost use Rattle.std.specs.Prelude.{◌≡◌, ◌≤◌, ◌<◌, length, option_map, IfOk, IsErrOf, IsTrue, Some};
 ghost use Rattle.desk.specs.declared.fault.DeskFault.TheVariants.{Failed, Memory};
 ghost use Rattle.desk.specs.World.{IsFresh, IsGiven, Gives, to_read, to_write, there, found_at, left_of};
@@ -14,10 +14,10 @@ use std::marker::Model;
 /// Numbers of calls, counted from 1 over all five calls of a desk.
 pub type Calls = Items<u64>;
 
-/// A desk over files that it holds itself. A name that isn't there, and an id that it didn't give
-/// in that direction, are `Failed`, as is each call whose number is stated; of a piece to write or
-/// to say such a call takes the first half, rounded down. It is steady where no call still to come
-/// is one of those.
+/// A desk in memory over files of its own. A name that isn't there, and an id that the desk didn't
+/// give in that direction, are `Failed`, as is each call whose number is stated; a stated
+/// `write_file` or `say` still appends the first half of its piece, rounded down. The desk is
+/// steady once all stated numbers have passed.
 #[derive(Drop)]
 pub struct MemoryDesk {
     shelf: Shelf,
@@ -36,7 +36,7 @@ impl Model for MemoryDesk {
 }
 
 impl MemoryDesk {
-    /// A desk that holds these files, and whose calls of these numbers fail.
+    /// A desk that holds these files, and whose calls of the numbers `fails` fail.
     pub fn new(alloc: Global, files: Files, fails: Calls) -> Self
         ensures { result ≡ unused files fails }
     {
@@ -48,21 +48,22 @@ impl MemoryDesk {
         }
     }
 
-    /// All that was said.
+    /// The octets of the report.
     pub fn said(&self) -> &[u8]
         ensures { result.now ≡ self.now.shelf.world.said }
     {
         self.shelf.said()
     }
 
-    /// What the last file of that name that was made holds, or else the one that was there.
+    /// The content of the file of that name: the last one made, or else the one that was there.
+    /// None without one.
     pub fn file(&self, name: &str) -> Option<&[u8]>
         ensures { option_map (λ octets. octets.now) result ≡ file_of name.now self.now.shelf.world }
     {
         self.shelf.file(name)
     }
 
-    // Counts the call, and tells whether it is to fail.
+    // Counts a call, and returns whether it is one that must fail.
     fn begin(&mut self) -> bool
         ensures is { result ≡ is_to_fail self.old }
         ensures counted { self.new ≡ record self.old { calls = counted self.old.calls } }

@@ -11,7 +11,7 @@ use octets::{NoMemory, Octets};
 use std::alloc::Global;
 use std::marker::Model;
 
-/// Files by name, ids of them, and a report.
+/// A shelf: files by name, open files by id, and a report.
 #[derive(Drop)]
 pub struct Shelf {
     files: Files,
@@ -45,7 +45,8 @@ impl Shelf {
         self.said.as_slice()
     }
 
-    // What the last file of that name that was made holds, or else the one that was there.
+    // The content of the file of that name: the last one made, or else the one that was there. None
+    // without one.
     pub fn file(&self, name: &str) -> Option<&[u8]>
         ensures { option_map (λ octets. octets.now) result ≡ file_of name.now self.now.world }
     {
@@ -61,7 +62,8 @@ impl Shelf {
         find(self.files.as_slice(), name).is_some()
     }
 
-    // An id that reads the file of that name; a name that isn't there reads as an empty file.
+    // Opens the file of that name, and returns an id that reads it. A name that isn't there reads
+    // as an empty file.
     pub fn open(&mut self, alloc: Global, name: &str) -> Result<FileId, NoMemory>
         ensures fresh { IfOk result (λ id. IsFresh id.number self.old.given (Some self.old.world)) }
         ensures shelf { self.new ≡ opened name.now result self.old }
@@ -73,7 +75,7 @@ impl Shelf {
         self.give(Slot::Reading(Source { file, place: 0 }))
     }
 
-    // An id that writes a new file of that name.
+    // Makes a new file of that name, and returns an id that writes it.
     pub fn make(&mut self, alloc: Global, name: &str) -> Result<FileId, NoMemory>
         ensures fresh { IfOk result (λ id. IsFresh id.number self.old.given (Some self.old.world)) }
         ensures shelf { self.new ≡ made name.now result self.old }
@@ -85,7 +87,7 @@ impl Shelf {
         }))
     }
 
-    // The id of a new slot. Where no number is left for it, memory is wanting.
+    // Adds a slot, and returns its id. Where no number is left for an id, the fault is `NoMemory`.
     fn give(&mut self, slot: Slot) -> Result<FileId, NoMemory>
         ensures given { IfOk result (λ id. self.new ≡ with_slot id.number slot self.old) }
         ensures fresh { IfOk result (λ id. IsFresh id.number self.old.given (Some self.old.world)) }
@@ -100,8 +102,8 @@ impl Shelf {
         }
     }
 
-    // The next octets of the id, in the front of `buf`, and how many; None where it isn't one to
-    // read.
+    // Reads the next octets of an id into the front of `buf`, and returns how many; None for an id
+    // that doesn't read.
     pub fn read(&mut self, id: FileId, buf: &mut [u8]) -> Option<usize>
         requires { 0 < length buf.old }
         ensures known { is_some result ≡ is_some (found_at id.number self.old.world.readers) }
@@ -114,7 +116,7 @@ impl Shelf {
         read_slot(&mut self.slots, id.number as usize, buf)
     }
 
-    // Whether the id is one to write, whose file then has the piece at its end.
+    // Appends a piece to the file of an id, and returns true; false for an id that doesn't write.
     pub fn write(&mut self, id: FileId, piece: &[u8]) -> Result<bool, NoMemory>
         ensures known { IfOk result (λ done.
             done ≡ is_some (found_at id.number self.old.world.writers)) }
@@ -133,7 +135,7 @@ impl Shelf {
     }
 }
 
-// The octets of the last file of that name that was made.
+// The content of the last made file of that name, or None.
 fn last_made<'a>(slots: &'a [Slot], name: &str) -> Option<&'a [u8]>
     ensures { (k : ℕ) → option_map (λ octets. octets.now) result
         ≡ made_last name.now (entries_from writer_in k slots.now) }
@@ -156,7 +158,7 @@ fn last_made<'a>(slots: &'a [Slot], name: &str) -> Option<&'a [u8]>
     }
 }
 
-// The octets of the first file of that name.
+// The content of the first file of that name, or None.
 fn find<'a>(files: &'a [NamedFile], name: &str) -> Option<&'a [u8]>
     ensures { option_map (λ octets. octets.now) result ≡ there name.now files.now }
 {
@@ -184,7 +186,8 @@ fn read_slot(slots: &mut Vec<Slot>, number: usize, buf: &mut [u8]) -> Option<usi
     slot.read(buf)
 }
 
-// Whether the id is one to write, whose file then has the piece at its end.
+// Appends a piece to the file in a numbered slot, and returns true; false where that slot doesn't
+// write.
 fn write_slot(slots: &mut Vec<Slot>, number: usize, piece: &[u8]) -> Result<bool, NoMemory>
     ensures known { IfOk result (λ done.
         done ≡ is_some (found_at number (entries writer_in slots.old.items))) }

@@ -1,4 +1,4 @@
-// What an id of a desk in memory stands for.
+// Slots: the open files of a desk in memory, by id.
 ghost use Rattle.std.specs.Prelude.{◌≡◌, ◌≤◌, ◌<◌, [], length, drop, unwrap_or, option_map, is_some, IfSome, IfNone, IfOk, OnOk, OnErr};
 ghost use Rattle.desk.specs.World.{Gives, extended};
 ghost use Rattle.desk.specs.Slots.{reader_in, writer_in, direction_in};
@@ -14,7 +14,8 @@ pub enum Slot {
 }
 
 impl Slot {
-    // None where the slot is one to write.
+    // Reads the next octets of a slot into `buf`, and returns how many; None for a slot that
+    // writes.
     pub fn read(&mut self, buf: &mut [u8]) -> Option<usize>
         ensures known { is_some result ≡ is_some (reader_in self.old) }
         ensures bound { IfSome result (λ n. n ≤ length buf.new) }
@@ -32,7 +33,7 @@ impl Slot {
         }
     }
 
-    // Whether the slot is one to write, which then has the piece at its end.
+    // Appends a piece to the file of a slot, and returns true; false for a slot that reads.
     pub fn write(&mut self, piece: &[u8]) -> Result<bool, NoMemory>
         ensures known { IfOk result (λ done. done ≡ is_some (writer_in self.old)) }
         ensures reader { reader_in self.new ≡ reader_in self.old }

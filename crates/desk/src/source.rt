@@ -12,7 +12,7 @@ pub struct Source {
 }
 
 impl Source {
-    // The next octets, as many as the buffer takes.
+    // Reads the next octets, as many as the buffer takes and the file has left.
     pub fn read(&mut self, buf: &mut [u8]) -> usize
         ensures bound { result ≤ length buf.new }
         ensures octets { 0 < length buf.old →

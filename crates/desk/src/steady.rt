@@ -9,9 +9,9 @@ use crate::{Desk, DeskFault, FileId, Files};
 use std::alloc::Global;
 use std::marker::Model;
 
-/// A desk over files that it holds itself, on which nothing fails: each name is there, one without
-/// octets as an empty file, and each id is one of its own; one that it didn't give is at its end,
-/// and writes nowhere.
+/// A steady desk in memory over files of its own: no call fails but for want of memory. Each name
+/// is there, the name of no file as an empty file. An id that the desk didn't give reads as at a
+/// file's end, and writes to no file.
 #[derive(Drop)]
 pub struct SteadyDesk {
     shelf: Shelf,
@@ -35,14 +35,15 @@ impl SteadyDesk {
         }
     }
 
-    /// All that was said.
+    /// The octets of the report.
     pub fn said(&self) -> &[u8]
         ensures { result.now ≡ self.now.world.said }
     {
         self.shelf.said()
     }
 
-    /// What the last file of that name that was made holds, or else the one that was there.
+    /// The content of the file of that name: the last one made, or else the one that was there.
+    /// None without one.
     pub fn file(&self, name: &str) -> Option<&[u8]>
         ensures { option_map (λ octets. octets.now) result ≡ file_of name.now self.now.world }
     {

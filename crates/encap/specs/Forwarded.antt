@@ -5,17 +5,17 @@ use Rattle.octets.specs.Rules.{first_failing}
 use Rattle.ip_headers.specs.Checksum.{checksum}
 use Rattle.ip_headers.specs.Ip.{header_sum, ip_rules, is_v4, header_at, header_len, packet_len, ttl_of}
 
--- an IPv4 header with its TTL one less, and that checksum
+-- an IPv4 header with its TTL one less, and with this checksum
 abbrev pub lowered : List ℕ → ℕ → List ℕ
 lowered header sum =
     take 8 header
     ++ ((slice_index header 8 - 1) ∷ slice_index header 9 ∷ (big_octets 2 sum ++ drop 12 header))
 
--- an IPv4 header with its TTL one less and the checksum over it, for which that counts as 0
+-- an IPv4 header with its TTL one less, and with the checksum over it, computed with 0 in its place
 unfoldable pub renewed : List ℕ → List ℕ
 renewed header = lowered header (checksum (lowered header 0))
 
--- the checksum of a header whose TTL is one less, by the one with which the header holds (RFC 1624)
+-- the checksum of a header whose TTL is one less, computed from the checksum with which the header holds (RFC 1624)
 abbrev pub lowered_sum : ℕ → ℕ
 lowered_sum sum = (sum + 256) % 65535
 

@@ -1,4 +1,4 @@
--- When a packet isn't sent.
+-- The rules by which a packet isn't sent.
 use Rattle.std.specs.Prelude.{ℕ, ◌+◌, nat_le, nat_lt, Bool, List, [], ◌∷◌, length}
 use Rattle.ip_headers.specs.Ip.{header_at, ttl_of}
 use Rattle.ip_headers.specs.declared.addr.Addr.{Addr}
@@ -17,7 +17,7 @@ abbrev pub encap_drop : Unsent → EncapDrop
 encap_drop TtlExpired = drop.TtlExpired
 encap_drop TooBig = drop.TooBig
 
--- the TTL stays above 0 when it falls by one
+-- the rule of forwarding: the TTL or Hop Limit stays above 0 when it falls by one
 abbrev pub forward_rules : List ℕ → List (Bool × Unsent)
 forward_rules inner = (nat_lt 1 (ttl_of (header_at inner)), TtlExpired) ∷ []
 
@@ -26,7 +26,7 @@ abbrev pub outer_len : Addr → ℕ
 outer_len (V4 source) = 36
 outer_len (V6 source) = 56
 
--- the same, and the tunnel packet isn't too long
+-- the rules of a tunnel: that of forwarding, and the tunnel packet isn't too long
 abbrev pub encap_rules : List ℕ → Addr → List (Bool × Unsent)
 encap_rules inner from =
     (nat_lt 1 (ttl_of (header_at inner)), TtlExpired)

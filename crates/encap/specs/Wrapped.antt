@@ -65,7 +65,7 @@ pub record IsPlainV4 (header : V4Header) : Type 0 where
   pub more : header.more ≡ false
   pub offset : header.offset ≡ 0
 
--- a header with nothing of its own beside addresses, class, length, TTL and protocol
+-- a header whose only values of its own are addresses, class, length, TTL and protocol
 abbrev pub IsPlain : IpHeader → Type 0
 IsPlain (V4 header) = IsPlainV4 header
 IsPlain (V6 header) = header.flow ≡ 0

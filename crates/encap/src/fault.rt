@@ -11,7 +11,7 @@ pub enum EncapDrop {
     TtlExpired,
     /// With the outer headers it would have more than `MOST_TUNNEL_OCTETS`.
     TooBig,
-    /// An allocation was refused.
+    /// An allocation failed.
     Memory,
 }
 

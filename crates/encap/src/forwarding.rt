@@ -12,8 +12,8 @@ use ip_headers::{IpHeader, IpPacket};
 use octets::{NoMemory, Octets, big_16};
 use std::alloc::Global;
 
-/// So many octets of a packet hold all that forwarding changes: of an IPv4 header those up to its
-/// checksum.
+/// The octets of a packet's front that hold everything that forwarding changes: those of an IPv4
+/// header up to its checksum.
 pub(crate) const FRONT_OCTETS: usize = 12;
 
 /// The packet with its TTL or Hop Limit one less and the checksum of its IPv4 header renewed, for
@@ -41,7 +41,7 @@ fn forwarded(alloc: Global, inner: &IpPacket) -> Result<Octets, NoMemory>
     Ok(packet)
 }
 
-/// The first octets of the packet with its TTL one less. Behind them it is the packet as it was.
+/// The first octets of the packet with its TTL one less. The octets behind them stay.
 pub(crate) fn forwarded_front(inner: &IpPacket) -> [u8; FRONT_OCTETS]
     requires { 1 ≤ ttl_of inner.now.header }
     ensures { result ++ drop 12 inner.now.octets.now ≡ forwarded inner.now.octets.now }
@@ -95,7 +95,7 @@ fn first_octets(octets: &[u8]) -> [u8; FRONT_OCTETS]
     front
 }
 
-// The checksum of a header whose TTL is one less, by the one that it had (RFC 1624).
+// The checksum of a header whose TTL is one less, computed from the checksum before (RFC 1624).
 fn lowered_sum(sum: u16) -> u16
     ensures { result ≡ lowered_sum sum }
 {

@@ -1,4 +1,4 @@
-// Laws of what is sent. Each function only states its law.
+// Laws of packets that are sent. Each function only states its law.
 ghost use Rattle.std.specs.Prelude.{◌≡◌, ◌≤◌, ◌<◌, ◌^◌, ℕ, List, None};
 ghost use Rattle.octets.specs.Rules.{first_failing};
 ghost use Rattle.ip_headers.specs.Addr.{width, IsAddr};
@@ -11,13 +11,13 @@ ghost use Rattle.encap.specs.Forwarded.{forwarded, Forwarded};
 ghost use Rattle.encap.specs.Rules.{encap_rules};
 ghost use Rattle.encap.specs.Wrapped.{wrapped, Wrapped};
 
-/// A packet that is forwarded is the same packet one hop further.
+/// Law: a packet that is forwarded is the same packet one hop further.
 pub fn forwarded_goes_one_hop()
     ensures { (base : ℕ) (packet : List ℕ) → IsPacket base packet → 1 ≤ ttl_of (header_at packet)
         → Forwarded packet (forwarded packet) }
 {}
 
-/// A packet that no rule drops is carried through the tunnel by what is sent.
+/// Law: a packet that no rule drops is carried through the tunnel.
 pub fn wrapped_carries_the_packet()
     ensures { (base : ℕ) (inner : List ℕ) (from to : Addr) (port : ℕ) (lisp : LispHeader)
         → IsPacket base inner → first_failing (encap_rules inner from) ≡ None

@@ -6,7 +6,7 @@ ghost use Rattle.encap.specs.declared.limits.TheConstants.{MOST_TUNNEL_OCTETS};
 /// The most octets of a tunnel packet with its outer headers.
 pub const MOST_TUNNEL_OCTETS: usize = 1500;
 
-/// The limit is the defined one.
+/// Law: the constant is the defined number.
 pub fn limits_are()
     ensures { MOST_TUNNEL_OCTETS ≡ most_tunnel_octets }
 {}

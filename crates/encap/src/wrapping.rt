@@ -21,7 +21,7 @@ use std::alloc::Global;
 const MOST_FRONT: usize = 40 + 8 + 8 + FRONT_OCTETS;
 
 /// The packet in its tunnel from one locator to another, from UDP port `port`. TTL, DSCP and ECN of
-/// the outer header are those that the packet goes on with (RFC 9300, section 5.3; RFC 6040).
+/// the outer header are those with which the packet goes on (RFC 9300, section 5.3; RFC 6040).
 pub fn encapsulate(
     alloc: Global,
     inner: &IpPacket,

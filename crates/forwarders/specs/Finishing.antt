@@ -15,16 +15,16 @@ use Rattle.forwarders.specs.Gathering.{IsFit, lines_in, packet_gathered, packets
 use Rattle.forwarders.specs.Publication.{Publication}
 use Rattle.forwarders.specs.Ruling.{ruling_of}
 
--- what the notices of a round's data packets change
+-- the change that the notices of a round's data packets make, at a moment
 abbrev pub noted_of : Settings → ℕ → Parts → List Ruled → Change Parts
 noted_of settings moment before ruled = noting table settings moment before (map ruling_of ruled)
 
--- what was gathered, and behind it the packets of notices
+-- the gathered items of a round, and behind them the packets of its notices
 abbrev pub with_noted : Settings → ℕ → Parts → List Ruled → List Gathered → List Gathered
 with_noted settings moment before ruled items =
     items ++ map packet_gathered (emit_packets (standing_in settings (noted_of settings moment before ruled).after) moment (noted_of settings moment before ruled).emits)
 
--- the notices were noted and published, and all was put behind what was done
+-- a round was finished: its notices were noted and published, and its lines and packets put behind those that were done
 pub record Finishes (settings : Settings) (moment : ℕ) (ruled : List Ruled) (before : Parts) (old : Publication) (written : Written) (undone : RoundDone) (after : Parts) (new : Publication) (done : RoundDone) : Type 0 where
   pub parts : after ≡ (noted_of settings moment before ruled).after
   pub published : new ≡ record old {

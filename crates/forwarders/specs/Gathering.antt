@@ -1,4 +1,4 @@
--- What the writer's side of a round gathers, and what lines and packets are put together of it.
+-- The items that the writer's side of a round gathers, and the lines and packets that are put together of them.
 use Rattle.std.specs.Prelude.{◌≡◌, ℕ, ◌+◌, ◌*◌, ◌^◌, ◌<◌, ◌≤◌, List, [], ◌∷◌, ◌++◌, drop, flat_map, length, map, slice_index_or, take, All, Option, None}
 use Rattle.capture_io.specs.Frame.{Frame}
 use Rattle.capture_io.specs.Limits.{most_frame_octets}
@@ -29,11 +29,11 @@ use Rattle.forwarders.specs.Deciding.{AreWithin}
 
 -- ### what is gathered
 
--- a packet of an outcome
+-- a packet of an outcome, as a round has it
 abbrev pub packet_made : events.Packet → Packet
 packet_made packet = record { moment = packet.moment; octets = packet.octets }
 
--- the line of a control message, which no forwarder decides
+-- the line of a control message, as a round has it: without a look, since no forwarder decides it
 abbrev pub line_made : rounds.Line → Line
 line_made line = record {
   number = line.number;
@@ -43,42 +43,43 @@ line_made line = record {
   look = None;
 }
 
--- a packet, as it is gathered
+-- a packet of an outcome, as an item that is gathered
 abbrev pub packet_gathered : events.Packet → Gathered
 packet_gathered packet = mark.Packet (packet_made packet)
 
--- what is gathered of an item: nothing of a second that sends no packet
+-- the items gathered of an item of the definition: of a second its packets, of a message its line and packets, of a
+-- data packet its place
 abbrev pub gathered_of : Item → List Gathered
 gathered_of (Second packets) = map packet_gathered packets
 gathered_of (Message line packets) =
     mark.Message (line_made line) ∷ map packet_gathered packets
 gathered_of (Data frame) = mark.Left frame.number frame.moment ∷ []
 
--- of items in order
+-- the items gathered of items of the definition, in order
 abbrev pub all_gathered : List Item → List Gathered
 all_gathered items = flat_map gathered_of items
 
--- how many data packets that is
+-- how many data packets a gathered item is: 1 or 0
 abbrev pub left_of : Gathered → ℕ
 left_of (mark.Packet packet) = 0
 left_of (mark.Message line) = 0
 left_of (mark.Left number moment) = 1
 
--- how many data packets are among what was gathered
+-- how many data packets are among gathered items
 abbrev pub left_in : List Gathered → ℕ
 left_in [] = 0
 left_in (item ∷ items) = left_of item + left_in items
 
--- frames by their places
+-- the frames at these places
 abbrev pub frames_at : List Frame → List ℕ → Frame → List Frame
 frames_at frames places d = map (λ place. slice_index_or frames place d) places
 
--- a packet that fits a record
+-- a packet that fits a record of a capture, by its length and its moment
 pub record IsWritable (packet : Packet) : Type 0 where
   pub size : length packet.octets ≤ most_frame_octets
   pub moment : packet.moment < 2 ^ 32 * 1000000000
 
--- a packet that does is gathered, or a moment at which one can be written
+-- a gathered item that fits: a packet that fits a record, or a data packet at a moment that fits one
 abbrev pub IsFit : Gathered → Type 0
 IsFit (mark.Packet packet) = IsWritable packet
 IsFit (mark.Message line) = Unit {0}
@@ -86,8 +87,8 @@ IsFit (mark.Left number moment) = moment < 2 ^ 32 * 1000000000
 
 -- ### what the writer's side did
 
--- what so many events wrote is gathered behind what was: at most so many packets and lines of each event as a second
--- has entries
+-- events were written: their items, batches and data packets are gathered behind those of before, with at most so many
+-- items and entries for each event as a second has entries
 pub record Adds (frames : List Frame) (number : ℕ) (by : Writing Parts) (before : Parts) (old : Written) (after : Parts) (new : Written) : Type 0 where
   pub parts : after ≡ by.after
   pub items : new.items.items ≡ old.items.items ++ all_gathered by.items
@@ -98,15 +99,16 @@ pub record Adds (frames : List Frame) (number : ℕ) (by : Writing Parts) (befor
   pub few : length new.items.items ≤ length old.items.items + most_ticked * number
   pub count : after.count ≤ before.count + most_ticked * number
 
--- events were written from parts on
+-- events were written on the parts of a table, and gathered behind what was gathered before
 abbrev pub Writes : Settings → List Frame → List Event → Parts → Written → Parts → Written → Type 0
 Writes settings frames events before old after new = Adds frames (length events) (writing table settings before events) before old after new
 
--- what a round writes
+-- the writing of a round, from the parts of a table on
 abbrev pub round_writing : Settings → Option ℕ → List Frame → Parts → Writing Parts
 round_writing settings previous frames before = writing table settings before (events_after previous frames)
 
--- a round was written; so many of the batches are those of the seconds before its first frame
+-- a round was written from the parts of a table on; `from` of its batches are those of the seconds before its first
+-- frame
 pub record IsWritten (settings : Settings) (previous : Option ℕ) (frames : List Frame) (before : Parts) (from : ℕ) (written : Written) : Type 0 where
   pub items : written.items.items ≡ all_gathered (round_writing settings previous frames before).items
   pub batches : written.batches ≡ filled (round_writing settings previous frames before).batches
@@ -120,7 +122,7 @@ pub record IsWritten (settings : Settings) (previous : Option ℕ) (frames : Lis
 
 -- ### what notices made
 
--- notices were noted at a moment, over the settings that stand: their entries and packets came behind those of before
+-- notices were noted at a moment, by these settings: their entries and packets came behind those of before
 pub record Notes (settings : Settings) (moment : ℕ) (notices : List Notice) (before : Parts) (older : List Entry) (old : List Gathered) (after : Parts) (newer : List Entry) (new : List Gathered) : Type 0 where
   pub parts : after ≡ (each (noted table settings moment) notices (unchanged before)).after
   pub entries : newer ≡ older ++ (each (noted table settings moment) notices (unchanged before)).entries
@@ -131,7 +133,7 @@ pub record Notes (settings : Settings) (moment : ℕ) (notices : List Notice) (b
 
 -- ### what is put together
 
--- the line of a data packet
+-- the line of a data packet, by its ruling
 abbrev pub line_ruled : ℕ → ℕ → Ruled → Line
 line_ruled number moment one = record {
   number = number;
@@ -141,7 +143,7 @@ line_ruled number moment one = record {
   look = one.look;
 }
 
--- lines in order, with what became of the data packets
+-- the lines of gathered items in order, with the rulings of the data packets
 abbrev pub lines_in : List Gathered → List Ruled → List Line
 lines_in [] ruled = []
 lines_in (mark.Packet packet ∷ items) ruled = lines_in items ruled
@@ -150,11 +152,11 @@ lines_in (mark.Left number moment ∷ items) [] = lines_in items []
 lines_in (mark.Left number moment ∷ items) (one ∷ ruled) =
     line_ruled number moment one ∷ lines_in items ruled
 
--- the packet that a verdict sends
+-- the packet that a verdict sends at a moment, if it sends one
 abbrev pub sent_of : ℕ → Verdict → List Packet
 sent_of moment verdict = map packet_made (packets_of moment (packet_of verdict))
 
--- packets in order
+-- the packets of gathered items in order, with the rulings of the data packets
 abbrev pub packets_in : List Gathered → List Ruled → List Packet
 packets_in [] ruled = []
 packets_in (mark.Packet packet ∷ items) ruled = packet ∷ packets_in items ruled
@@ -163,7 +165,7 @@ packets_in (mark.Left number moment ∷ items) [] = packets_in items []
 packets_in (mark.Left number moment ∷ items) (one ∷ ruled) =
     sent_of moment one.decision.verdict ++ packets_in items ruled
 
--- something was put, and what stands behind it is still to be put
+-- a gathered item was put: with any items behind it, lines and packets come out as before it was put
 pub record Puts (item : Gathered) (before : List Ruled) (old : RoundDone) (after : List Ruled) (new : RoundDone) : Type 0 where
   pub lines : (rest : List Gathered) → new.lines ++ lines_in rest after ≡ old.lines ++ lines_in (item ∷ rest) before
   pub packets : (rest : List Gathered) → new.written ++ packets_in rest after ≡ old.written ++ packets_in (item ∷ rest) before

@@ -1,4 +1,4 @@
--- What is known of each decision.
+-- The facts that hold of each decision of a table.
 use Rattle.router_log.specs.declared.decision.Decision.{Decision}
 use Rattle.router_model.specs.Lifting.{AreSound}
 use Rattle.router_model.specs.Plain.{FitsRecord}

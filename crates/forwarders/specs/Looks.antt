@@ -1,4 +1,4 @@
--- Looks at the published table: what they ask for, what they leave and tell.
+-- Looks at the published table: what they demand, and what they leave.
 use Rattle.std.specs.Prelude.{◌≡◌, ℕ, ◌+◌, List}
 use Rattle.router_log.specs.declared.entry.Entry.{Entry}
 use Rattle.router_model.specs.Journal.{first}
@@ -9,24 +9,25 @@ use Rattle.forwarders.specs.declared.door.looks.ForwardFault.TheVariants as faul
 use Rattle.forwarders.specs.Batches.{Along, Begins, count_of, journal_of}
 use Rattle.forwarders.specs.Publication.{Forwarding}
 
--- a look can take each table that the forwarder may find
+-- a look takes each table that the forwarder may find
 abbrev pub MayLook : (TableSeen → Type 0) → Forwarding → Type 0
 MayLook takes before = (seen : List (List Entry)) (now : TableSeen) → Begins before.seen seen → Stands before.settings now.parts (journal_of seen) → takes now
 
--- an answer to a look at a table that stands for what the forwarder has seen
+-- an answer is that of a look at a table which stands for all that the forwarder has seen
 pub record Sees {X : Type 0} (answers : TableSeen → X → Type 0) (now : Forwarding) (answer : X) : Type 0 where
   pub memory : TableSeen
   pub stands : Stands now.settings memory.parts (journal_of now.seen)
   pub is : answers memory answer
 
--- the forwarder has seen a list that begins with all that it had seen, and goes along its plan
+-- a forwarder has seen a list that begins with all that it had seen before, and goes along its plan
 pub record Rereads (before now : Forwarding) : Type 0 where
   pub settings : now.settings ≡ before.settings
   pub plan : now.plan ≡ before.plan
   pub rises : Begins before.seen now.seen
   pub along : Along now.seen before.plan
 
--- how a forwarder and its tally stand after it decided nothing
+-- a forwarder and its tally without a decision: not entered, the tally is one more and the forwarder as before; refused
+-- memory, the tally is as before
 abbrev pub Refuses : ForwardFault → Forwarding → ℕ → Forwarding → ℕ → Type 0
 Refuses fault.NotEntered before tally now risen = (now ≡ before) × (risen ≡ tally + 1)
 Refuses fault.Memory before tally now risen = Rereads before now × (risen ≡ tally)

@@ -1,4 +1,4 @@
--- What contracts see of a published table and of those who read it.
+-- What contracts see of a published table and of its forwarders.
 use Rattle.std.specs.Prelude.{Bool, List}
 use Rattle.lisp_settings.specs.declared.settings.Settings.{Settings}
 use Rattle.router_log.specs.declared.entry.Entry.{Entry}
@@ -9,14 +9,15 @@ pub record Side : Type 0 where
   pub parts : Parts
   pub is_open : Bool
 
--- the settings, the published batches, the plan that they follow, and the entries that no one sees yet
+-- a published table: the settings, the published batches, the plan that they follow, and the pending entries, which no
+-- reader sees yet
 pub record Publication : Type 0 where
   pub settings : Settings
   pub batches : List (List Entry)
   pub plan : List (List Entry)
   pub pending : List Entry
 
--- the settings, the batches that a forwarder has seen, and the plan that it knows
+-- a forwarder: the settings, the batches that it has seen, and the plan that it has learned
 pub record Forwarding : Type 0 where
   pub settings : Settings
   pub seen : List (List Entry)

@@ -1,4 +1,4 @@
--- A round with forwarders: what it says and sends, and what it leaves.
+-- A round with forwarders: its lines and packets, and what it leaves.
 use Rattle.std.specs.Prelude.{◌≡◌, ℕ, ◌*◌, ◌≤◌, List, [], ◌∷◌, length, map, All, Option, Some, None, IfNone, IfSome, false, true}
 use Rattle.std.specs.List.{AllZip}
 use Rattle.capture_io.specs.Frame.{Frame}
@@ -28,17 +28,17 @@ begun_at None (frame ∷ frames) = frame.moment
 
 -- ### what comes out
 
--- a line without its look
+-- a line of a round, without its look
 abbrev pub line_seen : Line → rounds.Line
 line_seen line =
     record { number = line.number; moment = line.moment; n = line.n; verdict = line.verdict }
 
--- a packet of an outcome
+-- a packet of a round, as one of an outcome
 abbrev pub packet_seen : Packet → events.Packet
 packet_seen packet = record { moment = packet.moment; octets = packet.octets }
 
--- there are numbers that the round may have, for which lines and packets are those of the round, the published batches
--- are its journal, and the table stands for it
+-- a round was worked, with some numbers that it may have: lines and packets are those of the round, the published
+-- batches are its journal, and the table stands for that journal
 pub record IsRound (settings : Settings) (previous : Option ℕ) (frames : List Frame) (before after : Publication) (parts : Parts) (done : RoundDone) : Type 0 where
   pub ns : List ℕ
   pub lawful : AreLawful settings previous frames (journal_of before.batches) ns
@@ -47,7 +47,7 @@ pub record IsRound (settings : Settings) (previous : Option ℕ) (frames : List 
   pub journal : journal_of after.batches ≡ (round settings previous frames (journal_of before.batches) ns).after
   pub stands : Stands settings parts (journal_of after.batches)
 
--- the published batches go on, and are all that is planned
+-- the published batches go on from those of before and are all that is planned, with no entry pending
 pub record GrewBy (before after : Publication) : Type 0 where
   pub settings : after.settings ≡ before.settings
   pub more : Begins before.batches after.batches
@@ -59,19 +59,20 @@ abbrev pub last_length : Settings → Option ℕ → List Frame → Publication 
 last_length settings previous frames before =
     length (all_advanced settings (journal_of before.batches) (events_after previous frames))
 
--- the line of a frame: a look is of as many entries as decided it, which no control message has; a data packet that no
--- look decided has the round's last length
+-- the line of a frame in a round: a look is of as many entries as decided the frame, a control message has no look, and
+-- a data packet without a look has the round's last length
 pub record HasCome (settings : Settings) (last : ℕ) (frame : Frame) (line : Line) : Type 0 where
   pub look : IfSome line.look (λ look. look ≡ line.n)
   pub message : control settings frame ≡ true → line.look ≡ None
   pub alone : control settings frame ≡ false → IfNone line.look (line.n ≡ last)
 
--- packets that can be written, at most so many of each event
+-- packets that fit records, at most so many of each event as an event may send
 pub record AreWritable (events : ℕ) (packets : List Packet) : Type 0 where
   pub each : All IsWritable packets
   pub few : length packets ≤ most_event_packets * events
 
--- all that a round does
+-- a round was worked: its lines, packets and journal, what is published, its looks, and the limits of its entries and
+-- packets
 pub record RunsRound (settings : Settings) (previous : Option ℕ) (frames : List Frame) (before after : Publication) (old new : Parts) (done : RoundDone) : Type 0 where
   pub round : IsRound settings previous frames before after new done
   pub published : GrewBy before after

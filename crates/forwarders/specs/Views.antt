@@ -1,4 +1,4 @@
--- What a seat at the published table knows: the writer's, a reader's, or that of a note from one to the other.
+-- The views of seats at the published table: the writer's, a reader's, or that of a note from the writer to a reader.
 use Rattle.std.specs.Prelude.{◌≡◌, true, false, None, List, [], ◌∷◌, ◌++◌}
 use Rattle.lisp_settings.specs.declared.settings.Settings.{Settings}
 use Rattle.router_log.specs.declared.entry.Entry.{Entry}
@@ -11,7 +11,7 @@ use Rattle.forwarders.specs.Publication.{Forwarding, Publication, Side}
 
 -- ### changes
 
--- a copy after a change
+-- a copy of the table after a change
 abbrev pub changed : Side → Change → Side
 changed side (Adds entry) = record { parts = absorbed side.parts entry; is_open = side.is_open }
 changed side Opens = record { parts = side.parts; is_open = true }
@@ -24,7 +24,7 @@ entries_of (Opens ∷ changes) = entries_of changes
 
 -- ### what is in a view
 
--- stands for the settings of one that knows nothing
+-- settings in place of those of a newcomer, which has none
 abbrev no_settings : Settings
 no_settings = record {
   seed = [];
@@ -59,11 +59,11 @@ plan_in (Reads settings seen plan) = plan
 plan_in (Writes settings own plan) = plan
 plan_in (Tells settings one plan) = plan
 
--- it is a reader's that has seen a list
+-- a view is that of a reader which has seen a list
 abbrev pub IsReading : View → Type 0
 IsReading v = v ≡ Reads (settings_in v) (list_in v) (plan_in v)
 
--- it is that of the writer, once the publication has begun
+-- a view is that of the writer, once the publication has begun
 abbrev pub IsWriting : View → Type 0
 IsWriting v = v ≡ Writes (settings_in v) (list_in v) (plan_in v)
 
@@ -76,21 +76,21 @@ publication_of v pending =
 
 -- ### how views change
 
--- what the writer tells
+-- the note that the writer makes of its view for a reader; of any other view a newcomer's
 abbrev pub told_of : View → View
 told_of (Writes settings own plan) = Tells settings own plan
 told_of v = Newcomer
 
--- a reader that knows nothing learns it
+-- the view of a newcomer that takes a note, as a reader of its list and plan; any other view stays
 abbrev pub learnt : View → View → View
 learnt Newcomer (Tells settings one plan) = Reads settings one plan
 learnt v w = v
 
--- the plan goes on with these batches
+-- the writer's view with these batches behind its plan; any other view stays
 abbrev pub planning : List (List Entry) → View → View
 planning more (Writes settings own plan) = Writes settings own (plan ++ more)
 planning more v = v
 
--- the writer with its first list, which is its plan
+-- the view of the writer with its first list, which is its plan
 abbrev pub beginning : Settings → List (List Entry) → View
 beginning settings list = Writes settings list list

@@ -1,4 +1,4 @@
-// Batches of a round, published one after another.
+// The batches of a round, published one after another.
 ghost use Rattle.std.specs.Prelude.{◌≡◌, [], ◌∷◌, ◌++◌, OnOk};
 ghost use Rattle.router_model.specs.Journal.{extended};
 ghost use Rattle.router_model.specs.Proper.{IsProper};
@@ -29,7 +29,7 @@ fn publish_batch<R: Wait>(
     published.publish(rt)
 }
 
-/// Publishes each of these batches.
+/// Publishes batches one after another, in the order of the plan.
 #[tactic(auto, using(crate::proofs::PlanLemmas::next_batch))]
 pub(crate) fn publish_all<R: Wait>(
     rt: &R,

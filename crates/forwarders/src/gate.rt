@@ -1,8 +1,9 @@
-// Where a forwarder's decision may be held up.
+// The gate, where a forwarder's decision may be held up.
 
-/// What a forwarder calls before each decision. It has no meaning: a test may hold a worker in it.
+/// A call that a forwarder makes before each decision. No clause depends on it: a test may hold a
+/// worker in it.
 pub trait Gate: Sync {
-    /// Called right before worker `worker` decides the frame of that number.
+    /// Called right before worker `worker` decides the frame with the number `number`.
     fn before(&self, worker: u32, number: u32);
 }
 

@@ -1,4 +1,4 @@
-// Forwarders for a round, and batches published beside them.
+// The forwarders of a round, and batches published beside them.
 ghost use Rattle.std.specs.Prelude.{◌≡◌, ◌+◌, ◌^◌, ◌<◌, ◌≤◌, List, [], ◌++◌, length, All, IfOk, OnOk};
 ghost use Rattle.std.specs.Thread.{IsSync};
 ghost use Rattle.command_words.specs.Limits.{most_workers};
@@ -21,7 +21,7 @@ use std::alloc::Global;
 use std::sync::Wait;
 use std::thread::{Threads, join_mut};
 
-/// So many workers, or fewer by as many as were refused a place.
+/// Makes so many workers, or fewer by as many as were refused a place, which the tally counts.
 pub(crate) fn hired(
     alloc: Global,
     published: &mut Published,

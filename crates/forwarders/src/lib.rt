@@ -1,5 +1,5 @@
-//! Forwarders: a table that one writer publishes batch by batch, and that others read beside it, each
-//! by looks of its own.
+//! Forwarders: a table that one writer publishes batch by batch, and that forwarders read beside
+//! the writer, each by looks of its own.
 #![tactic(auto)]
 
 mod batches;

@@ -1,4 +1,4 @@
-// What the data packets of a round noticed, noted after all else.
+// The notices of a round's data packets, noted after all else.
 ghost use Rattle.std.specs.Prelude.{◌≡◌, ◌+◌, ◌*◌, ◌^◌, ◌<◌, ◌≤◌, ◌∷◌, ◌++◌, [], true, length, map, All, IfOk, OnOk};
 ghost use Rattle.std.specs.List.{list_all};
 ghost use Rattle.lisp_settings.specs.Lawful.{IsLawful};
@@ -40,7 +40,7 @@ fn push_entries(alloc: Global, from: &[Entry], entries: &mut Entries) -> Result<
     Ok(())
 }
 
-// Notes what a data packet noticed, and adds the entries and gathers the packets of it.
+// Notes a notice of a data packet: adds its entries, and gathers its packets.
 fn note_one(
     alloc: Global,
     settings: &Settings,
@@ -67,7 +67,7 @@ fn note_one(
     push_emits(alloc, settings, &own, moment, emits.as_slice(), items)
 }
 
-// Notes notices one after another.
+// Notes notices one after another: adds their entries, and gathers their packets.
 fn note_each(
     alloc: Global,
     settings: &Settings,
@@ -92,7 +92,7 @@ fn note_each(
     Ok(())
 }
 
-// Notes what all data packets noticed, in order.
+// Notes the notices of all data packets, in order: adds their entries, and gathers their packets.
 fn note_all(
     alloc: Global,
     settings: &Settings,
@@ -141,8 +141,8 @@ fn publish_more<R: Wait>(
     publish_all(rt, published, batches.as_slice())
 }
 
-/// Notes at a moment what the data packets of a round noticed: gathers the packets of it, and publishes
-/// its entries as one batch.
+/// Notes the notices of a round's data packets at a moment: gathers their packets, and publishes
+/// their entries as one batch.
 pub(crate) fn note_round<R: Wait>(
     rt: &R,
     alloc: Global,

@@ -69,7 +69,8 @@ fn put_ruled(
     })
 }
 
-// Adds what is gathered, or of a data packet the line and the packet of the first ruling.
+// Adds a gathered item, or for a data packet the line and the packet of the first ruling, which is
+// used up.
 fn put(
     alloc: Global,
     gathered: Gathered,
@@ -92,8 +93,8 @@ fn put(
     }
 }
 
-/// Adds all that is gathered, in order, with the lines and packets of the rulings in the places of the
-/// data packets, of which each has one.
+/// Adds the gathered items, in order, with the lines and packets of the rulings in the places of
+/// the data packets, of which each has one.
 pub(crate) fn put_together(
     alloc: Global,
     items: &mut VecDeque<Gathered>,

@@ -46,8 +46,8 @@ fn closing_moment(frames: &[Frame]) -> u64
     last.moment
 }
 
-// Publishes the batches of a round while so many workers, at most, decide its data packets. Answers what
-// became of these.
+// Publishes the batches of a round while at most `workers` workers decide its data packets. Returns
+// the ruling of each data packet.
 fn decide_round<R: Threads + Wait + Sync, G: Gate>(
     rt: &R,
     alloc: Global,
@@ -100,7 +100,7 @@ fn decide_round<R: Threads + Wait + Sync, G: Gate>(
     )
 }
 
-// Notes what the data packets noticed, and puts lines and packets together.
+// Notes the notices of the data packets, and puts lines and packets together.
 fn finish_round<R: Wait>(
     rt: &R,
     alloc: Global,
@@ -141,7 +141,7 @@ fn finish_round<R: Wait>(
     put_together(alloc, &mut written.items, &mut ruled, done)
 }
 
-// Works a round, of which nothing was gathered or done yet.
+// Works a round of which no item is gathered, and no line or packet made.
 fn work_round<R: Threads + Wait + Sync, G: Gate>(
     rt: &R,
     alloc: Global,
@@ -182,16 +182,16 @@ fn work_round<R: Threads + Wait + Sync, G: Gate>(
     )
 }
 
-/// One round of a replay. The table takes its seconds and control messages first, in order, and their
-/// entries are published batch by batch. Beside that at most so many workers, in threads of their own,
-/// decide its data packets, each by looks at what is published then; where none decided, the table
-/// does. What data packets noticed is noted last, at the last frame's moment, and published as one
-/// batch.
+/// Works one round of a replay. The table takes its seconds and control messages first, in order,
+/// and their entries are published batch by batch. Beside that at most `workers` workers, in
+/// threads of their own, decide its data packets, each by looks at the table that is published
+/// then; where no worker decided, the caller's table decides. The notices of the data packets are
+/// noted last, at the last frame's moment, and their entries are published as one batch.
 ///
 /// `previous` is the moment of the frame before the round, in nanoseconds, None before the first
-/// frame. The table stands for all that is published, before and after. With no worker, and in a round
-/// without data packets, no thread is made. After a refusal the table may have taken a part of the round,
-/// published or not; it and the publication can only be closed.
+/// frame. The table stands for all that is published, before and after. With no worker, and in a
+/// round without data packets, no thread is made. After a refusal the table may have taken a part
+/// of the round, published or not; table and publication can then only be closed.
 pub fn run_round<R: Threads + Wait + Sync, G: Gate>(
     rt: &R,
     alloc: Global,

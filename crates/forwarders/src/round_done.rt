@@ -1,14 +1,14 @@
-// What a round says and sends.
+// The lines and packets of a round.
 use crate::door::Look;
 use octets::{Items, Octets};
 use router_log::Verdict;
 
-/// What is said of a frame of a round.
+/// The report's line of a frame in a round.
 #[derive(Drop)]
 pub struct Line {
     /// The frame's place in its capture, from 1 on.
     pub number: u32,
-    /// Nanoseconds since 1970.
+    /// The frame's moment, in nanoseconds since 1970.
     pub moment: u64,
     /// The number of entries by which the frame was heard or decided.
     pub n: u64,
@@ -21,9 +21,9 @@ pub struct Line {
 /// A packet that a round sends.
 #[derive(Drop)]
 pub struct Packet {
-    /// Nanoseconds since 1970.
+    /// The packet's moment, in nanoseconds since 1970.
     pub moment: u64,
-    /// With its IP header.
+    /// The packet's octets, with its IP header.
     pub octets: Octets,
 }
 
@@ -33,11 +33,11 @@ pub type Lines = Items<Line>;
 /// Packets, in the order in which they are written.
 pub type Packets = Items<Packet>;
 
-/// All that a round says and sends.
+/// All lines and packets of a round.
 #[derive(Drop)]
 pub struct RoundDone {
     /// A line for each frame.
     pub lines: Lines,
-    /// The packets of seconds and frames in order, and then those of what data packets noticed.
+    /// The packets of seconds and frames in order, and then those of the notices of data packets.
     pub written: Packets,
 }

@@ -1,9 +1,9 @@
-// What became of a data packet.
+// The ruling of a data packet.
 use crate::door::Look;
 use router_log::Decision;
 
-/// By how many entries a data packet was decided, and the decision; the receipt of the forwarder's look
-/// that it rests on, if one decided it.
+/// The ruling of a data packet: by how many entries it was decided, the decision, and the receipt
+/// of the forwarder's look, if a forwarder decided.
 #[derive(Drop)]
 pub(crate) struct Ruled {
     pub n: u64,

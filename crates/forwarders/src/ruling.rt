@@ -1,4 +1,4 @@
-// What becomes of the data packets of a round.
+// The ruling of one data packet of a round.
 ghost use Rattle.std.specs.Prelude.{◌≡◌, List, IfOk, IfSome, Some};
 ghost use Rattle.lisp_settings.specs.Lawful.{IsLawful};
 ghost use Rattle.router_log.specs.declared.entry.Entry.{Entry as EntryValue};
@@ -15,7 +15,7 @@ use lisp_settings::Settings;
 use octets::NoMemory;
 use router_core::Table;
 
-// What a forwarder decided.
+// The ruling of a data packet that a forwarder decided.
 fn by_look(forwarded: Forwarded) -> Ruled
     ensures { result ≡ record {
       n = forwarded.look;
@@ -31,8 +31,9 @@ fn by_look(forwarded: Forwarded) -> Ruled
     }
 }
 
-/// What becomes of a data packet once all batches of its round are published: what a forwarder
-/// decided, or the table where none did, or one by a list that is ahead of what is published.
+/// The ruling of a data packet, once all batches of its round are published: by the forwarder's
+/// decision; or by the table's, where no forwarder decided, or one did by a list that is ahead of
+/// what is published.
 #[tactic(auto, using(crate::proofs::RulingLemmas::decided_by, crate::proofs::RulingLemmas::decided_last))]
 pub(crate) fn ruled(
     published: &Published,

@@ -1,4 +1,4 @@
-// What becomes of all data packets of a round.
+// The rulings of all data packets of a round.
 ghost use Rattle.std.specs.Prelude.{◌≡◌, ◌+◌, ◌^◌, ◌<◌, ◌≤◌, List, [], ◌++◌, length, take, All, IfOk, OnOk};
 ghost use Rattle.command_words.specs.Limits.{most_workers};
 ghost use Rattle.lisp_settings.specs.Lawful.{IsLawful};
@@ -62,8 +62,9 @@ fn publish_beside<R: Threads + Wait + Sync, G: Gate>(
     )
 }
 
-/// Publishes the batches of a round: those of the seconds before its first frame, and then the others
-/// while so many workers, at most, decide its data packets. Answers the workers, with what they decided.
+/// Publishes the batches of a round: those of the seconds before its first frame, and then the
+/// others while at most `workers` workers decide its data packets. Returns the workers, with their
+/// answers.
 pub(crate) fn publish_round<R: Threads + Wait + Sync, G: Gate>(
     rt: &R,
     alloc: Global,
@@ -109,7 +110,7 @@ pub(crate) fn publish_round<R: Threads + Wait + Sync, G: Gate>(
     Ok(workers)
 }
 
-/// What becomes of the data packets in order, once all batches of their round are published.
+/// The rulings of the data packets in order, once all batches of their round are published.
 pub(crate) fn rule_all(
     alloc: Global,
     settings: &Settings,

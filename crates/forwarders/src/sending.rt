@@ -17,7 +17,7 @@ use router_model::Own;
 use std::alloc::Global;
 use std::collections::VecDeque;
 
-/// Gathers the packets of emits, at a moment, by the own locators and versions that stand then.
+/// Gathers the packets of emits at a moment, by the own locators and versions as they then stand.
 pub(crate) fn push_emits(
     alloc: Global,
     settings: &Settings,
@@ -39,7 +39,7 @@ pub(crate) fn push_emits(
     Ok(())
 }
 
-// Gathers the packet of an emit.
+// Gathers the packet of an emit at a moment, by the own locators and versions as they then stand.
 fn push_emit(
     alloc: Global,
     settings: &Settings,

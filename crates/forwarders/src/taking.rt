@@ -5,14 +5,15 @@ ghost use Rattle.forwarders.specs.Deciding.{AreAllDealt, IsTaken, IsTakenOfAll};
 use crate::door::Forwarded;
 use crate::workers::{Answer, Worker};
 
-// What a worker decided at this place, if it is for the data packet at this index.
+// Takes a worker's decision in the answer at a place, if that answer is for the data packet at this
+// index.
 fn take_of(worker: &mut Worker, place: usize, index: usize) -> Option<Forwarded>
     ensures { IsTaken worker.old.answers.items place index result worker.new.answers.items }
 {
     take_answer(worker.answers.as_mut_slice(), place, index)
 }
 
-// The same of its answers.
+// Takes the decision in the answer at a place, if that answer is for the data packet at this index.
 fn take_answer(answers: &mut [Answer], place: usize, index: usize) -> Option<Forwarded>
     ensures { IsTaken answers.old place index result answers.new }
 {
@@ -23,7 +24,8 @@ fn take_answer(answers: &mut [Answer], place: usize, index: usize) -> Option<For
     }
 }
 
-/// What the worker decided to whom a data packet fell: its answer, which is then taken.
+/// Takes the decision on a data packet from the worker to which the packet fell. None where there
+/// is no decision.
 pub(crate) fn take_forwarded(workers: &mut [Worker], index: usize) -> Option<Forwarded>
     requires dealt { AreAllDealt workers.old }
     ensures length { length workers.new ≡ length workers.old }

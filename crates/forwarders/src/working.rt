@@ -13,7 +13,7 @@ use capture_io::Frame;
 use lisp_settings::Settings;
 use std::thread::{Threads, for_each_mut};
 
-// What the forwarder decides on a frame, at the frame's moment.
+// The forwarder's decision on a frame, at the frame's moment. None where it has no decision.
 fn answer(
     forwarder: &mut Forwarder,
     tally: &mut Tally,
@@ -36,8 +36,8 @@ fn answer(
     }
 }
 
-// What the worker decides on the data packets from the one at `start` on, each `step` further. It
-// stops where memory is refused.
+// Lets a worker decide the data packets from the one at `start` on, each `step` further. Stops
+// where memory for an answer is refused.
 fn work<G: Gate>(
     worker: &mut Worker,
     settings: &Settings,
@@ -68,7 +68,7 @@ fn work<G: Gate>(
     }
 }
 
-/// The workers decide in threads of their own, each on the data packets that fall to it in turn.
+/// Lets the workers decide in threads of their own, each the data packets that fall to it in turn.
 pub(crate) fn work_all<R: Threads + Sync, G: Gate>(
     rt: &R,
     workers: &mut [Worker],

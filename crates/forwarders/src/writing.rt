@@ -1,5 +1,5 @@
-// The writer's side of a round: its seconds and control messages in order. Data packets are left for
-// later.
+// The writer's side of a round: it plays seconds and hears control messages in order, and leaves
+// data packets for later.
 ghost use Rattle.std.specs.Prelude.{◌≡◌, ◌+◌, ◌*◌, ◌^◌, ◌<◌, ◌≤◌, List, [], ◌∷◌, ◌++◌, length, slice_index_or, unwrap_or, true, All, IfOk, OnOk, Option, Some};
 ghost use Rattle.command_words.specs.Limits.{most_round_frames};
 ghost use Rattle.capture_io.specs.Frame.{Frame as FrameValue};
@@ -37,7 +37,7 @@ pub(crate) fn keep_batch(batches: &mut Items<Entries>, entries: Entries) -> Resu
     batches.push(entries)
 }
 
-// Lets a second begin: gathers its packets, and keeps its entries as a batch.
+// Plays a second: gathers its packets, and keeps its entries as a batch.
 fn write_second(
     alloc: Global,
     settings: &Settings,
@@ -66,8 +66,8 @@ fn write_second(
     keep_batch(&mut written.batches, entries)
 }
 
-// The seconds that begin after a moment, up to that of another and with it; none before the first
-// frame.
+// Plays the seconds that begin after one moment, up to another one and with it; none before the
+// first frame.
 fn write_seconds(
     alloc: Global,
     settings: &Settings,
@@ -104,7 +104,7 @@ fn second_of(moment: u64) -> u64
     moment / 1_000_000_000
 }
 
-// A frame: a control message is heard, a data packet is left for later.
+// Takes a frame: hears a control message, leaves a data packet for later.
 fn write_frame(
     alloc: Global,
     settings: &Settings,
@@ -187,7 +187,7 @@ fn leave(place: usize, frame: &Frame, written: &mut Written) -> Result<(), NoMem
     written.places.push(place)
 }
 
-// Frames in order, each behind the seconds after the one before, from a moment on.
+// Takes frames in order, each behind the seconds after the frame before it, from a moment on.
 fn write_frames(
     alloc: Global,
     settings: &Settings,
@@ -218,8 +218,8 @@ fn write_frames(
     Ok(())
 }
 
-/// The writer's side of a round, of which nothing was gathered yet. Answers how many of the batches are
-/// those of the seconds before the first frame.
+/// Plays the seconds and hears the control messages of a round of which no item was gathered yet.
+/// Returns how many of the batches are those of the seconds before the first frame.
 pub(crate) fn write_round(
     alloc: Global,
     settings: &Settings,

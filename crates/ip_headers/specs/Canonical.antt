@@ -19,7 +19,7 @@ spelled_v4 header sum =
     ++ header.ttl ∷ header.protocol
     ∷ (big_octets 2 sum ++ (big_octets 4 header.source ++ big_octets 4 header.dest)))))
 
--- an IPv4 header with the checksum over it, for which the checksum counts as 0
+-- an IPv4 header with the checksum over it, computed with 0 in its place
 abbrev pub canonical_v4 : V4Header → List ℕ
 canonical_v4 header = spelled_v4 header (checksum (spelled_v4 header 0))
 
@@ -34,7 +34,7 @@ canonical_v6 header =
     ++ (big_octets 2 header.payload
     ++ header.next ∷ header.hops ∷ big_octets 16 header.source ++ big_octets 16 header.dest)
 
--- the fields fit, and there are no options
+-- the fields of an IPv4 header fit, and there are no options
 pub record InRangeV4 (header : V4Header) : Type 0 where
   pub source : header.source < 2 ^ 32
   pub dest : header.dest < 2 ^ 32
@@ -46,7 +46,7 @@ pub record InRangeV4 (header : V4Header) : Type 0 where
   pub protocol : header.protocol < 2 ^ 8
   pub plain : header.header_len ≡ 20
 
--- the fields fit
+-- the fields of an IPv6 header fit
 pub record InRangeV6 (header : V6Header) : Type 0 where
   pub source : header.source < 2 ^ 128
   pub dest : header.dest < 2 ^ 128

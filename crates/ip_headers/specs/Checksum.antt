@@ -15,11 +15,11 @@ ones_add a b = if nat_lt 65535 (a + b) then a + b - 65535 else a + b
 abbrev pub ones_sum : List ℕ → ℕ
 ones_sum octets = fold ones_add 0 (words octets)
 
--- the complement of the sum
+-- the Internet checksum of octets: the complement of their sum
 abbrev pub checksum : List ℕ → ℕ
 checksum octets = 65535 - ones_sum octets
 
--- the plain sum of the words, that goes on from an earlier one
+-- the plain sum of the words of octets, added to an earlier one
 abbrev pub plain_sum : ℕ → List ℕ → ℕ
 plain_sum start octets = fold (λ (sum word : ℕ). sum + word) start (words octets)
 

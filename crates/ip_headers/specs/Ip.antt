@@ -17,11 +17,11 @@ use Rattle.ip_headers.specs.declared.addr.Addr.TheVariants as family
 abbrev pub version : List ℕ → ℕ
 version octets = slice_index octets 0 / 16
 
--- the packet is an IPv4 packet
+-- whether a packet is an IPv4 packet
 abbrev pub is_v4 : List ℕ → Bool
 is_v4 octets = version octets == 4
 
--- the packet is an IPv6 packet
+-- whether a packet is an IPv6 packet
 abbrev pub is_v6 : List ℕ → Bool
 is_v6 octets = version octets == 6
 
@@ -29,7 +29,7 @@ is_v6 octets = version octets == 6
 abbrev pub header_len : List ℕ → ℕ
 header_len octets = slice_index octets 0 % 16 * 4
 
--- the total length of an IPv4 packet lies between that of its header and the octets
+-- whether the total length of an IPv4 packet is at least its header's, and at most that of the octets
 abbrev pub total_fits : List ℕ → Bool
 total_fits octets =
     nat_le (header_len octets) (big 2 octets 2) && nat_le (big 2 octets 2) (length octets)
@@ -42,7 +42,7 @@ header_sum octets = ones_sum (take (header_len octets) octets)
 abbrev pub refused : ℕ → ℕ → Why → Refused
 refused base at why = record { layer = Ip; place = base + at; why = why }
 
--- the rules of a packet. Those of the other version hold.
+-- the rules of an IP packet; an IPv6 packet fulfils those of IPv4 by definition, and an IPv4 packet those of IPv6
 abbrev pub ip_rules : ℕ → List ℕ → List (Bool × Refused)
 ip_rules base octets =
     (nat_le 1 (length octets), refused base 0 Short)
@@ -88,7 +88,7 @@ v6_at octets = record {
 abbrev pub header_at : List ℕ → IpHeader
 header_at octets = if is_v4 octets then V4 (v4_at octets) else V6 (v6_at octets)
 
--- the octets of the packet, by what its header names
+-- the length of a packet in octets, as its header names it
 abbrev pub packet_len : IpHeader → ℕ
 packet_len (V4 header) = header.total
 packet_len (V6 header) = header.payload + 40
@@ -97,7 +97,7 @@ packet_len (V6 header) = header.payload + 40
 abbrev pub packet_in : List ℕ → List ℕ
 packet_in octets = take (packet_len (header_at octets)) octets
 
--- where the payload begins
+-- the place in a packet where its payload begins
 abbrev pub payload_place : IpHeader → ℕ
 payload_place (V4 header) = header.header_len
 payload_place (V6 header) = 40
@@ -127,7 +127,8 @@ abbrev pub protocol_of : IpHeader → ℕ
 protocol_of (V4 header) = header.protocol
 protocol_of (V6 header) = header.next
 
--- an IPv4 packet that is a part of another, its first one too
+-- whether a packet is a part of another: an IPv4 packet with more fragments set, as the first part has, or with an
+-- offset
 abbrev pub is_fragment : IpHeader → Bool
 is_fragment (V4 header) = header.more || not (header.offset == 0)
 is_fragment (V6 header) = false

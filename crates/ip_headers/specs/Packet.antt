@@ -11,7 +11,7 @@ pub record IsPacketOf (octets : List ℕ) (base : ℕ) (packet : IpPacket) : Typ
   pub value : packet.header ≡ header_at octets
   pub payload : packet.payload_at ≡ payload_place packet.header
 
--- the octets are exactly one packet
+-- the list is exactly one packet, of octets
 pub record IsPacket (base : ℕ) (packet : List ℕ) : Type 0 where
   pub octets : All (λ octet. octet < 256) packet
   pub lawful : first_failing (ip_rules base packet) ≡ None

@@ -5,7 +5,7 @@ use Rattle.ip_headers.specs.Ip.{is_fragment, source_of, dest_of, protocol_of, pa
 use Rattle.ip_headers.specs.declared.header.IpHeader.{IpHeader}
 use Rattle.ip_headers.specs.declared.tuple.FiveTuple.{FiveTuple}
 
--- TCP or UDP follows the header, and both ports are there
+-- whether TCP or UDP follows the IP header directly, in no fragment, and both ports are there
 abbrev pub has_ports : IpHeader → List ℕ → Bool
 has_ports header octets =
     (protocol_of header == 6 || protocol_of header == 17)
@@ -16,7 +16,7 @@ has_ports header octets =
 abbrev pub port_at : IpHeader → List ℕ → ℕ → ℕ
 port_at header octets at = if has_ports header octets then big 2 octets at else 0
 
--- the numbers of a packet with that header
+-- the five numbers of a packet with that header
 abbrev pub five_tuple_of : IpHeader → List ℕ → FiveTuple
 five_tuple_of header octets = record {
   source = source_of header;

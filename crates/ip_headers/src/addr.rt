@@ -24,14 +24,14 @@ impl Addr {
     }
 }
 
-/// The two are of one family and have the same bits.
+/// Whether two addresses are of one family and have the same bits.
 pub fn same_address(a: &Addr, b: &Addr) -> bool
     ensures { result ≡ same_address a.now b.now }
 {
     a == b
 }
 
-/// The first comes before the second in the order of addresses.
+/// Whether the first address comes before the second in the order of addresses.
 pub fn is_below(a: &Addr, b: &Addr) -> bool
     ensures { result ≡ is_lt (addr_order a.now b.now) }
 {

@@ -13,16 +13,16 @@ pub struct V4Header {
     pub dest: u32,
     /// DSCP and ECN.
     pub tos: u8,
-    /// Octets of the packet, the header among them.
+    /// The octets of the packet, the header among them.
     pub total: u16,
     pub id: u16,
     pub dont_fragment: bool,
     pub more: bool,
-    /// In units of eight octets, below 2^13.
+    /// The fragment offset, in units of eight octets, below 2^13.
     pub offset: u16,
     pub ttl: u8,
     pub protocol: u8,
-    /// In octets, options among them.
+    /// The length of the header in octets, options among them.
     pub header_len: u8,
 }
 
@@ -33,9 +33,9 @@ pub struct V6Header {
     pub dest: u128,
     /// DSCP and ECN.
     pub class: u8,
-    /// Below 2^20.
+    /// The flow label, below 2^20.
     pub flow: u32,
-    /// Octets after the header.
+    /// How many octets follow the header.
     pub payload: u16,
     pub next: u8,
     pub hops: u8,
@@ -101,8 +101,8 @@ impl IpHeader {
         }
     }
 
-    /// The packet is a part of another: an IPv4 packet with more fragments set, or with an offset
-    /// (RFC 791, section 3.1).
+    /// Whether the packet is a part of another: an IPv4 packet with more fragments set, or with an
+    /// offset (RFC 791, section 3.1).
     pub fn is_fragment(&self) -> bool
         ensures { result ≡ is_fragment self.now }
     {
@@ -118,7 +118,7 @@ impl IpHeader {
 pub struct UdpHeader {
     pub source: u16,
     pub dest: u16,
-    /// Octets of the header and its payload.
+    /// How many octets the header and its payload have.
     pub length: u16,
     pub checksum: u16,
     /// The place of the header in its packet.

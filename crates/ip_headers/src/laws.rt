@@ -1,4 +1,4 @@
-// Laws of what is read and written. Each function only states its law.
+// Laws of reading and writing headers. Each function has an empty body and states one law.
 ghost use Rattle.std.specs.Prelude.{◌≡◌, ◌+◌, ◌<◌, ◌^◌, ◌++◌, ℕ, List, Bool, true, All, length, None, if◌then◌else◌};
 ghost use Rattle.octets.specs.Rules.{first_failing};
 ghost use Rattle.ip_headers.specs.Canonical.{canonical_v4, canonical_v6, InRangeV4, InRangeV6};
@@ -12,21 +12,22 @@ ghost use Rattle.ip_headers.specs.declared.header.UdpHeader.{UdpHeader};
 ghost use Rattle.ip_headers.specs.declared.header.V4Header.{V4Header};
 ghost use Rattle.ip_headers.specs.declared.header.V6Header.{V6Header};
 
-/// What is written of an IPv4 header spells it, whatever follows, and its sum is all ones.
+/// Law: the written octets of an IPv4 header spell it, whatever follows, and their sum is all ones.
 pub fn canonical_v4_spells()
     ensures spells { (h : V4Header) (rest : List ℕ)
         → InRangeV4 h → Spells (canonical_v4 h ++ rest) (V4 h) }
     ensures sum { (h : V4Header) → InRangeV4 h → ones_sum (canonical_v4 h) ≡ 65535 }
 {}
 
-/// What is written of an IPv6 header spells it, whatever follows.
+/// Law: the written octets of an IPv6 header spell it, whatever follows.
 pub fn canonical_v6_spells()
     ensures { (h : V6Header) (rest : List ℕ)
         → InRangeV6 h → Spells (canonical_v6 h ++ rest) (V6 h) }
 {}
 
-/// What is written of a UDP header spells it, whatever follows. A datagram begins with the header
-/// of its ports, its length and its checksum; one that was computed makes the sum all ones.
+/// Law: the written octets of a UDP header spell it, whatever follows. A datagram begins with the
+/// header of its ports, its length and its checksum; a checksum that was computed makes the sum all
+/// ones.
 pub fn canonical_udp_spells()
     ensures header { (udp : UdpHeader) (rest : List ℕ)
         → InRangeUdp udp → SpellsUdp (canonical_udp_header udp ++ rest) udp }
@@ -45,21 +46,21 @@ pub fn canonical_udp_spells()
         → udp_sum from to (canonical_udp from to source dest payload true) ≡ 65535 }
 {}
 
-/// Octets that obey the rules of IP begin with exactly one header, and so have one length.
+/// Law: octets that obey the rules of IP begin with exactly one header, and so have one length.
 pub fn one_header_is_spelled()
     ensures spells { (base : ℕ) (octets : List ℕ)
         → first_failing (ip_rules base octets) ≡ None → Spells octets (header_at octets) }
     ensures one { (octets : List ℕ) (a b : IpHeader) → Spells octets a → Spells octets b → a ≡ b }
 {}
 
-/// Octets spell exactly one UDP header at their front.
+/// Law: octets spell exactly one UDP header at their front.
 pub fn one_udp_header_is_spelled()
     ensures spells { (octets : List ℕ) → SpellsUdp octets (udp_at 0 octets) }
     ensures one { (octets : List ℕ) (a b : UdpHeader)
         → SpellsUdp octets a → SpellsUdp octets b → a.at ≡ b.at → a ≡ b }
 {}
 
-/// An IPv4 header that is followed by the octets which it names is read again as itself.
+/// Law: an IPv4 header that is followed by as many octets as it names is read again as itself.
 pub fn written_v4_is_read_again()
     ensures rules { (base : ℕ) (h : V4Header) (rest : List ℕ)
         → InRangeV4 h → 20 + length rest ≡ h.total
@@ -68,7 +69,7 @@ pub fn written_v4_is_read_again()
         → InRangeV4 h → header_at (canonical_v4 h ++ rest) ≡ V4 h }
 {}
 
-/// An IPv6 header that is followed by the octets which it names is read again as itself.
+/// Law: an IPv6 header that is followed by as many octets as it names is read again as itself.
 pub fn written_v6_is_read_again()
     ensures rules { (base : ℕ) (h : V6Header) (rest : List ℕ)
         → InRangeV6 h → length rest ≡ h.payload
@@ -77,7 +78,8 @@ pub fn written_v6_is_read_again()
         → InRangeV6 h → header_at (canonical_v6 h ++ rest) ≡ V6 h }
 {}
 
-/// A datagram obeys the rules of UDP and its header is read again, whatever stands before and after.
+/// Law: a datagram obeys the rules of UDP and its header is read again, whatever stands before and
+/// after.
 pub fn written_udp_is_read_again()
     ensures rules { (base : ℕ) (from to : Addr) (source dest : ℕ) (payload : List ℕ) (summed : Bool)
         (front rest : List ℕ)

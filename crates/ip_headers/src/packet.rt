@@ -5,8 +5,8 @@ ghost use Rattle.ip_headers.specs.Ip.{header_at, ip_rules, packet_len, payload_p
 
 use crate::IpHeader;
 
-/// Exactly the octets of one packet, without padding. They obey each rule, and the other fields
-/// are what they spell.
+/// Exactly the octets of one packet, without padding. They obey each rule, and spell its header and
+/// the place of its payload.
 #[derive(Clone, Copy, Debug)]
 pub struct IpPacket<'a> {
     pub header: IpHeader,

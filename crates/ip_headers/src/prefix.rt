@@ -39,7 +39,8 @@ impl Prefix {
         }
     }
 
-    /// Same family, `self` not longer, and the same first bits.
+    /// Whether both are of one family, `self` isn't the longer one, and `other` begins with its
+    /// bits.
     pub fn covers(&self, other: &Prefix) -> bool
         ensures { result ≡ covers self.now.addr self.now.len other.now.addr other.now.len }
     {

@@ -8,7 +8,7 @@ ghost use Rattle.ip_headers.specs.Packet.{IsPacketOf};
 use crate::rules::{first_refusal, v4_at, v6_at};
 use crate::{IpHeader, IpPacket, Refused};
 
-/// The packet at the front of the octets. What follows it is padding.
+/// The packet at the front of the octets. Octets behind it are padding.
 pub fn read_ip<'a>(octets: &'a [u8], base: u32) -> Result<IpPacket<'a>, Refused>
     requires { base + length octets.now < 2 ^ 32 }
     ensures rules { refusal_of result ≡ first_failing (ip_rules base octets.now) }
@@ -54,7 +54,7 @@ fn v6_packet<'a>(octets: &'a [u8], base: u32) -> IpPacket<'a>
     }
 }
 
-// A number of 16 bits.
+// A number of 16 bits as a size.
 fn wide(number: u16) -> usize
     ensures value { result ≡ number }
     ensures short { result < 65536 }

@@ -5,7 +5,7 @@ ghost use Rattle.ip_headers.specs.Checksum.{checksum, folded, ones_add, ones_sum
 
 use crate::{Addr, UDP};
 
-/// So many octets at most are summed before carries are added in.
+/// The most octets that are summed before carries are added in.
 const BLOCK: usize = 65_536;
 
 /// The checksum of RFC 1071, an odd last octet padded with zero.
@@ -15,14 +15,14 @@ pub fn checksum(octets: &[u8]) -> u16
     0xffff - ones_sum(octets)
 }
 
-/// The ones' complement sum.
+/// The ones' complement sum of octets.
 pub(crate) fn ones_sum(octets: &[u8]) -> u16
     ensures { result ≡ ones_sum octets.now }
 {
     sum_from(0, octets)
 }
 
-/// The ones' complement sum that goes on from an earlier one.
+/// The ones' complement sum of octets, added to an earlier one.
 pub(crate) fn sum_from(start: u16, octets: &[u8]) -> u16
     ensures { result ≡ fold ones_add start (words octets.now) }
 {
@@ -43,7 +43,8 @@ fn sum_block(start: u16, octets: &[u8]) -> u16
     folded(wide_sum(start, octets))
 }
 
-/// A sum that folds as the plain one does: two words are one number, since 65,536 folds to 1.
+/// A sum of octets that folds as the plain sum does: two words are added as one number, because
+/// 65,536 folds to 1.
 fn wide_sum(start: u16, octets: &[u8]) -> u64
     requires { length octets.now ≤ 65536 }
     ensures { folded result ≡ folded (plain_sum start octets.now) }

@@ -8,8 +8,8 @@ use crate::sums::{pseudo_sum, sum_from};
 use crate::{IpPacket, Layer, Refused, UdpHeader, Why};
 use octets::big_16;
 
-/// The header directly after the IP header. What follows the length that it names is padding.
-/// Whether the packet's protocol is UDP, the caller asks first.
+/// The UDP header directly after the IP header. Octets behind the length that it names are padding.
+/// Whether the packet's protocol is UDP, the caller tests first.
 pub fn read_udp(packet: &IpPacket) -> Result<UdpHeader, Refused>
     ensures { result ≡ udp_read packet.now }
 {
@@ -42,7 +42,8 @@ fn refused(packet: &IpPacket, at: u32, why: Why) -> Refused
     }
 }
 
-/// Whether the checksum is right over pseudo-header and datagram. One of 0 stands for none.
+/// Whether the checksum is right over pseudo-header and datagram. A checksum of 0 stands for none,
+/// and passes only where `zero_allowed`.
 pub fn check_udp(packet: &IpPacket, udp: &UdpHeader, zero_allowed: bool) -> Result<(), Refused>
     requires { udp_read packet.now ≡ Ok udp.now }
     ensures { let rules = udp_checksum_rules packet.now udp.now zero_allowed in
@@ -72,7 +73,7 @@ fn packet_sum(packet: &IpPacket, udp: &UdpHeader) -> u16
     )
 }
 
-/// The octets after the header, as many as its length names.
+/// The octets after the UDP header, as many as its length names.
 pub fn udp_payload<'a>(packet: &IpPacket<'a>, udp: &UdpHeader) -> &'a [u8]
     requires { udp_read packet.now ≡ Ok udp.now }
     ensures { result.now ≡ payload_in packet.now.octets.now udp.now }

@@ -6,7 +6,7 @@ ghost use Rattle.ip_headers.specs.Udp.{canonical_udp, datagram, udp_checksum, ud
 use crate::sums::{pseudo_sum, sum_from};
 use crate::{Addr, NoMemory, Octets};
 
-/// Appends a datagram: header and payload. Where not `summed`, its checksum is 0.
+/// Appends a datagram: UDP header and payload. Where not `summed`, its checksum is 0.
 pub fn write_udp(
     from: Addr,
     to: Addr,
@@ -31,7 +31,7 @@ pub fn write_udp(
     out.append_both(&udp_octets(source, dest, length, sum), payload)
 }
 
-/// The checksum, with 0 written as all ones.
+/// The checksum of a datagram, with 0 written as all ones.
 fn udp_checksum(from: Addr, to: Addr, source: u16, dest: u16, payload: &[u8]) -> u16
     requires { length payload.now ≤ 65507 }
     ensures { result ≡ udp_checksum from to source dest payload.now }
@@ -40,7 +40,7 @@ fn udp_checksum(from: Addr, to: Addr, source: u16, dest: u16, payload: &[u8]) ->
     if sum == 0xffff { 0xffff } else { 0xffff - sum }
 }
 
-/// The sum over pseudo-header, header and payload, with no checksum yet.
+/// The sum over pseudo-header, header and payload of a datagram, with 0 for its checksum.
 fn datagram_sum(from: Addr, to: Addr, source: u16, dest: u16, payload: &[u8]) -> u16
     requires { length payload.now ≤ 65507 }
     ensures { result ≡ udp_sum from to (datagram source dest 0 payload.now) }

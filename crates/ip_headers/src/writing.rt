@@ -5,7 +5,7 @@ ghost use Rattle.ip_headers.specs.Canonical.{canonical_v4, canonical_v6, spelled
 use crate::sums::checksum;
 use crate::{NoMemory, Octets, V4Header, V6Header};
 
-/// Appends the 20 octets of a header without options, with its checksum.
+/// Appends the 20 octets of an IPv4 header without options, with its checksum.
 pub fn write_v4(header: &V4Header, out: &mut Octets) -> Result<(), NoMemory>
     requires plain { header.now.header_len ≡ 20 }
     requires offset { header.now.offset < 2 ^ 13 }
@@ -15,7 +15,7 @@ pub fn write_v4(header: &V4Header, out: &mut Octets) -> Result<(), NoMemory>
     out.append(&canonical_v4(header))
 }
 
-/// The 20 octets of a header without options, with its checksum.
+/// The 20 octets of an IPv4 header without options, with its checksum.
 pub fn canonical_v4(header: &V4Header) -> [u8; 20]
     requires plain { header.now.header_len ≡ 20 }
     requires offset { header.now.offset < 2 ^ 13 }
@@ -27,7 +27,7 @@ pub fn canonical_v4(header: &V4Header) -> [u8; 20]
     octets
 }
 
-/// The header with 0 for its checksum.
+/// The 20 octets of an IPv4 header with 0 for its checksum.
 fn unsummed_v4(header: &V4Header) -> [u8; 20]
     requires { header.now.offset < 2 ^ 13 }
     ensures { result ≡ spelled_v4 header.now 0 }
@@ -54,7 +54,7 @@ fn v4_flags(header: &V4Header) -> u16
     dont_fragment + more + header.offset
 }
 
-/// Appends the 40 octets of a header.
+/// Appends the 40 octets of an IPv6 header.
 pub fn write_v6(header: &V6Header, out: &mut Octets) -> Result<(), NoMemory>
     requires flow { header.now.flow < 2 ^ 20 }
     ensures ok { OnOk result (out.new ≡ out.old ++ canonical_v6 header.now) }
@@ -63,7 +63,7 @@ pub fn write_v6(header: &V6Header, out: &mut Octets) -> Result<(), NoMemory>
     out.append(&canonical_v6(header))
 }
 
-/// The 40 octets of a header.
+/// The 40 octets of an IPv6 header.
 pub fn canonical_v6(header: &V6Header) -> [u8; 40]
     requires flow { header.now.flow < 2 ^ 20 }
     ensures { result ≡ canonical_v6 header.now }

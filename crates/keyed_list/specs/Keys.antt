@@ -1,4 +1,4 @@
--- What items are found by, and the orders of what finds them.
+-- Keys of items, and the orders of keys, marks and ages.
 use Rattle.std.specs.Prelude.{ℕ, Bool}
 use Rattle.std.specs.Cmp.{IsTotalOrder}
 use Rattle.std.specs.Ordering.{is_eq, nat_cmp, ordering_then}
@@ -26,18 +26,18 @@ locator_key rloc = record { kind = Locator; number = 0; rloc = rloc; addr = V4 0
 abbrev pub eid_key : Eid → Key
 eid_key eid = record { kind = Endpoint; number = eid.iid; rloc = V4 0; addr = eid.prefix.addr; len = eid.prefix.len }
 
--- of a locator that was told of an EID
+-- the key of a locator that was solicited for an EID
 abbrev pub told_key : Addr → Eid → Key
 told_key rloc eid = record { kind = Told; number = eid.iid; rloc = rloc; addr = eid.prefix.addr; len = eid.prefix.len }
 
 abbrev pub kind_rank : Kind → ℕ
 kind_rank kind = elim kind [ Nonce ↦ 0 | Locator ↦ 1 | Endpoint ↦ 2 | Told ↦ 3 ]
 
--- by address, then length
+-- the order of two keys by address, then length
 abbrev pub key_prefix_order : Key → Key → Ordering
 key_prefix_order a b = ordering_then (addr_order a.addr b.addr) (nat_cmp a.len b.len)
 
--- by kind, then by number, locator, address and length
+-- the order of two keys by kind, then by number, locator, address and length
 abbrev pub key_order : Key → Key → Ordering
 key_order a b =
     ordering_then
@@ -55,14 +55,14 @@ same_key a b = is_eq (key_order a b)
 
 -- ### what finds items
 
--- by key, then by number
+-- the order of marks: by key, then by number
 abbrev pub mark_order : Mark → Mark → Ordering
 mark_order a b = ordering_then (key_order a.key b.key) (nat_cmp a.number b.number)
 
 pub mark_order-total : IsTotalOrder mark_order
 mark_order-total = then_total (on_total (λ mark. mark.key) key_order-total) (on_total (λ mark. mark.number) nat_cmp_total)
 
--- by moment, then by number
+-- the order of ages: by moment, then by number
 abbrev pub age_order : Age → Age → Ordering
 age_order a b = ordering_then (nat_cmp a.moment b.moment) (nat_cmp a.number b.number)
 

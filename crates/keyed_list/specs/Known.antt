@@ -1,4 +1,5 @@
--- How what is known of locators is found: by locator, a probe by its nonce too, a solicitation by locator and EID.
+-- Keys and moments of what is kept of locators: found by locator, a probe by its nonce too, a solicitation by locator
+-- and EID.
 use Rattle.std.specs.Prelude.{None, Some}
 use Rattle.keyed_list.specs.Keys.{locator_key, nonce_key, told_key}
 use Rattle.keyed_list.specs.declared.keyed.Marks.{Marks}

@@ -1,4 +1,4 @@
-// When items came, in a set.
+// The ages of items, in a set.
 ghost use Rattle.std.specs.Prelude.{◌≡◌, ◌≤◌, ◌<◌, ◌+◌, ◌&&◌, ◌||◌, not, length, true, false, IfSome, is_some};
 ghost use Rattle.std.specs.List.{list_all};
 ghost use Rattle.ordered_set.specs.Keys.{has};
@@ -9,7 +9,7 @@ use crate::Marks;
 use crate::key::Age;
 use ordered_set::OrderedSet;
 
-/// Puts the age of an item into the set. Takes no memory.
+/// Adds the age of an item to the set. Takes no memory.
 pub(crate) fn add_age(marks: &Marks, number: u64, ages: &mut OrderedSet<Age>)
     requires { 0 < ages.old.spare }
     ensures members { (age : _) → has age_order age ages.new.keys
@@ -23,7 +23,7 @@ pub(crate) fn add_age(marks: &Marks, number: u64, ages: &mut OrderedSet<Age>)
     });
 }
 
-/// Takes the age of an item out of the set. Takes no memory.
+/// Removes the age of an item from the set. Takes no memory.
 pub(crate) fn drop_age(marks: &Marks, number: u64, ages: &mut OrderedSet<Age>)
     ensures members { (age : _) → has age_order age ages.new.keys
         ≡ (not (has_age age number marks.now) && has age_order age ages.old.keys) }

@@ -1,4 +1,4 @@
-// Where items are found.
+// Look-ups of items, by key and by age.
 ghost use Rattle.std.specs.Prelude.{◌≡◌, ◌-◌, ◌≤◌, ◌<◌, Some, count_by, false, map, max, nat_lt, not, true, length, slice_get, IfSome, is_some};
 ghost use Rattle.std.specs.List.{list_all};
 ghost use Rattle.std.specs.Option.{option_copied};
@@ -14,7 +14,7 @@ use crate::{Key, Keyed};
 use named_list::NamedList;
 use ordered_set::OrderedSet;
 
-// The place of the item of a number, or where it would stand.
+// The place of the item with a number, or the place where it would stand.
 fn place_of<T>(number: u64, list: &NamedList<Numbered<T>>) -> usize
     requires { Ascends list.now.items }
     ensures { IsPlace number list.now.items result }
@@ -25,8 +25,8 @@ fn place_of<T>(number: u64, list: &NamedList<Numbered<T>>) -> usize
     }
 }
 
-// The place of the item of a number, where none went that stood between it and the first, so that its
-// number says how far behind the first it is.
+// The place of the item with a number, or None. Where no item between the first and this one went,
+// the number gives how far behind the first it is.
 fn place_behind_first<T>(number: u64, list: &NamedList<Numbered<T>>) -> Option<usize>
     requires { Ascends list.now.items }
     ensures { IfSome result (IsPlace number list.now.items) }
@@ -40,14 +40,14 @@ fn place_behind_first<T>(number: u64, list: &NamedList<Numbered<T>>) -> Option<u
     Some(place)
 }
 
-// The greatest mark below that of a key under a number.
+// The greatest mark below that of a key and a number, or None.
 fn mark_below<'a>(key: &Key, number: u64, index: &'a OrderedSet<Mark>) -> Option<&'a Mark>
     ensures last { option_copied result
         ≡ last_where (λ other. is_lt (mark_order other (record { key = key.now; number = number })))
         index.now.keys }
     ensures ascends { KeysAscend mark_order index.now.keys }
 {
-    // The length says that keys ascend.
+    // The call of `len` brings the fact that keys ascend.
     let _ = index.len();
     let place = index.place(|other| other.is_below(key, number));
     if place == 0 {
@@ -56,7 +56,7 @@ fn mark_below<'a>(key: &Key, number: u64, index: &'a OrderedSet<Mark>) -> Option
     index.get(place - 1)
 }
 
-/// The place of the last item that has a key, of those with lower numbers.
+/// The place of the last item that has a key and a number below `bound`, or None.
 pub(crate) fn place_below<T: Keyed>(
     key: &Key,
     bound: u64,
@@ -69,7 +69,7 @@ pub(crate) fn place_below<T: Keyed>(
         ≡ last_where (is_below T.marks_of key.now bound) list.now.items }
     ensures within { IfSome result (λ place. place < length list.now.items) }
 {
-    // Mostly nothing is kept of echoes, and they are asked about at each packet.
+    // Mostly no echo is kept, and each data packet looks here.
     if list.len() == 0 {
         return None;
     }
@@ -80,7 +80,7 @@ pub(crate) fn place_below<T: Keyed>(
     Some(place_of(mark.number, list))
 }
 
-/// The place of an item that isn't younger than that at a moment, if one is.
+/// The place of an item that isn't younger than `life` at a moment, or None where there is none.
 pub(crate) fn old_place<T: Keyed>(
     now: u64,
     life: u64,
@@ -95,7 +95,7 @@ pub(crate) fn old_place<T: Keyed>(
     ensures none { is_some result ≡ false
         → list_all (λ numbered. is_young T.marks_of now life numbered.item) list.now.items ≡ true }
 {
-    // The length says that ages ascend.
+    // The call of `len` brings the fact that ages ascend.
     let _ = ages.len();
     let age = ages.get(0)?;
     if now.saturating_sub(age.moment) < life {
@@ -104,14 +104,15 @@ pub(crate) fn old_place<T: Keyed>(
     Some(place_of(age.number, list))
 }
 
-// At a moment the age isn't less than that.
+// Whether an item of that age isn't younger than `life` at a moment.
 fn is_old(now: u64, life: u64, age: &Age) -> bool
     ensures { result ≡ not (nat_lt (now - age.now.moment) life) }
 {
     now.saturating_sub(age.moment) >= life
 }
 
-/// How many items are younger than that at a moment. Ages are in order, so that it is found by halving.
+/// How many items are younger than `life` at a moment. Ages are in order, so that halving finds the
+/// number.
 pub(crate) fn count_young<T: Keyed>(
     now: u64,
     life: u64,
@@ -123,12 +124,12 @@ pub(crate) fn count_young<T: Keyed>(
     ensures { result ≡ count_by (is_young T.marks_of now life)
         (map (λ numbered. numbered.item) list.now.items) }
 {
-    // The length says that ages ascend.
+    // The call of `len` brings the fact that ages ascend.
     let all = ages.len();
     all - ages.place(|age| is_old(now, life, age))
 }
 
-/// The greatest moment so far, after a look at an item.
+/// The greater of an item's moment and the greatest one so far, if there is one.
 pub(crate) fn later<T: Keyed>(best: Option<u64>, item: &T) -> Option<u64>
     ensures { result ≡ Some (greater best (T.marks_of item.now).moment) }
 {

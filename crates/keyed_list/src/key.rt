@@ -9,13 +9,13 @@ use mapping_records::Eid;
 use ordered_set::Ordered;
 use std::cmp::Ordering;
 
-/// What a key is.
+/// The kind of a key.
 #[derive(Clone, Copy, Debug, PartialEq, Eq)]
 pub(crate) enum Kind {
     Nonce,
     Locator,
     Endpoint,
-    /// A locator that was told of an EID.
+    /// A locator that was solicited for an EID.
     Told,
 }
 
@@ -32,7 +32,7 @@ impl Kind {
     }
 }
 
-/// What an item is found by: a nonce, a locator, an EID, or a locator and an EID. Parts that its kind
+/// The key of an item: a nonce, a locator, an EID, or a locator and an EID. Parts that its kind
 /// doesn't have are 0.
 #[derive(Clone, Copy, Debug, PartialEq, Eq, Drop)]
 pub struct Key {
@@ -40,13 +40,13 @@ pub struct Key {
     // A nonce, or the instance of an EID.
     number: u64,
     rloc: Addr,
-    // Of an EID, as the next.
+    // The address of an EID, and its length.
     addr: Addr,
     len: u8,
 }
 
 impl Key {
-    /// Of a nonce.
+    /// The key of a nonce.
     pub fn nonce(nonce: u64) -> Key
         ensures { result ≡ nonce_key nonce }
     {
@@ -59,7 +59,7 @@ impl Key {
         }
     }
 
-    /// Of a locator.
+    /// The key of a locator.
     pub fn locator(rloc: Addr) -> Key
         ensures { result ≡ locator_key rloc }
     {
@@ -72,7 +72,7 @@ impl Key {
         }
     }
 
-    /// Of an EID.
+    /// The key of an EID.
     pub fn eid(eid: &Eid) -> Key
         ensures { result ≡ eid_key eid.now }
     {
@@ -85,7 +85,7 @@ impl Key {
         }
     }
 
-    /// Of a locator that was told of an EID.
+    /// The key of a locator that was solicited for an EID.
     pub fn told(rloc: Addr, eid: &Eid) -> Key
         ensures { result ≡ told_key rloc eid.now }
     {
@@ -98,7 +98,7 @@ impl Key {
         }
     }
 
-    /// How it stands to another key: by kind, then by number, locator, address and length.
+    /// The order of this key and another: by kind, then by number, locator, address and length.
     pub(crate) fn compare(&self, other: &Key) -> Ordering
         ensures { result ≡ key_order self.now other.now }
     {
@@ -145,7 +145,7 @@ impl Key {
     }
 }
 
-/// A key of the item of a number.
+/// A key of the item with a number.
 #[derive(Clone, Copy, Debug, PartialEq, Eq, Drop)]
 pub(crate) struct Mark {
     pub key: Key,
@@ -153,8 +153,8 @@ pub(crate) struct Mark {
 }
 
 impl Mark {
-    /// It is below that of a key under a number. Marks are found by halving, and mostly one of the first
-    /// parts tells.
+    /// Whether this mark is below that of a key and a number. Marks are found by halving, and
+    /// mostly differ in one of the first parts.
     pub(crate) fn is_below(&self, key: &Key, number: u64) -> bool
         ensures { result ≡ is_lt (mark_order self.now (record { key = key.now; number = number })) }
     {
@@ -171,7 +171,8 @@ impl Mark {
         }
     }
 
-    // The same, where what stands before the address ties.
+    // Whether this mark is below that of a key and a number, where the parts before the address are
+    // the same.
     fn is_below_by_prefix(&self, key: &Key, number: u64) -> bool
         ensures { result ≡ is_lt (ordering_then (key_prefix_order self.now.key key.now)
             (nat_cmp self.now.number number)) }
@@ -182,7 +183,8 @@ impl Mark {
         }
     }
 
-    // The same, where the address ties too.
+    // Whether this mark is below that of a key and a number, where the parts before the length are
+    // the same.
     fn is_below_by_len(&self, key: &Key, number: u64) -> bool
         ensures { result ≡ is_lt (ordering_then (nat_cmp self.now.key.len key.now.len)
             (nat_cmp self.now.number number)) }
@@ -194,8 +196,8 @@ impl Mark {
     }
 }
 
-// Whether the first of two addresses is below, where they differ. Each IPv4 address is below each IPv6
-// address.
+// Whether the first of two addresses is below the second, or None where they are the same. Each
+// IPv4 address is below each IPv6 address.
 fn first_is_below(a: &Addr, b: &Addr) -> Option<bool>
     ensures differ { IfSome result (λ below. is_eq (addr_order a.now b.now) ≡ false) }
     ensures below { IfSome result (λ below. below ≡ is_lt (addr_order a.now b.now)) }
@@ -232,7 +234,7 @@ impl Ordered for Mark {
     }
 }
 
-/// When the item of a number came, in nanoseconds.
+/// The moment at which the item with a number came, in nanoseconds.
 #[derive(Clone, Copy, Debug, PartialEq, Eq, Drop)]
 pub(crate) struct Age {
     pub moment: u64,

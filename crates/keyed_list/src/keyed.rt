@@ -1,25 +1,25 @@
-// What a list keeps.
+// Items of a list, and their keys and moments.
 ghost use Rattle.std.specs.Prelude.{◌≡◌};
 
 use crate::Key;
 
-/// What an item is found by.
+/// The keys and the moment by which an item is found.
 #[derive(Clone, Copy, Debug, PartialEq, Eq)]
 pub struct Marks {
-    /// When it came, in nanoseconds.
+    /// The moment at which the item came, in nanoseconds.
     pub moment: u64,
     pub key: Key,
-    /// A second key, if it has one.
+    /// The item's second key, if it has one.
     pub other: Option<Key>,
 }
 
-/// An item of a list.
+/// An item of a keyed list.
 pub trait Keyed: Drop {
     ghost use Rattle.keyed_list.specs.declared.keyed.Marks.{Marks};
 
     ghost marks_of: { Self → Marks };
 
-    /// What it is found by.
+    /// The keys and the moment by which the item is found.
     fn marks(&self) -> Marks
         ensures { result ≡ marks_of self.now };
 }

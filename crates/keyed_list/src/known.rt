@@ -1,4 +1,4 @@
-// How what is known of locators is found.
+// The keys and moments of what is kept of locators: probes, echoes and solicitations.
 use crate::{Key, Keyed, Marks};
 use router_log::{EchoStart, EchoWish, Probe, Solicitation};
 

@@ -18,11 +18,11 @@ use ordered_set::OrderedSet;
 use std::alloc::Global;
 use std::marker::Model;
 
-/// Items in order of coming. Those that have a key are found by it, and those that are old by their
-/// age, without a look at the others.
+/// A list of items in order of coming. Items that have a key are found by it, and old items by
+/// their age, without a look at the others.
 #[derive(Drop)]
 pub struct KeyedList<T: Keyed> {
-    // Numbers ascend.
+    // Items with their numbers, which ascend.
     list: NamedList<Numbered<T>>,
     index: OrderedSet<Mark>,
     ages: OrderedSet<Age>,
@@ -67,8 +67,8 @@ impl<T: Keyed> KeyedList<T> {
         }
     }
 
-    /// Makes room for `n` further items in all, with those that there is room for already. Past 2^30
-    /// items, and past 2^64 that have come, there is none.
+    /// Makes room for `n` further items, with those that there is room for already. There is none
+    /// past 2^30 items, nor past 2^64 - 1 that have come.
     pub fn reserve(&mut self, n: u32) -> Result<(), NoMemory>
         ensures items { self.new.items ≡ self.old.items }
         ensures room { self.old.room ≤ self.new.room }
@@ -104,12 +104,12 @@ impl<T: Keyed> KeyedList<T> {
         ensures tied { 2 * (result + self.now.room) ≤ self.now.places }
         ensures kept { self.now.kept ≤ 4 * self.now.places + 2 * self.now.places / ring_names }
     {
-        // The lengths say how much is kept.
+        // The calls of `len` bring the facts of how much is kept.
         let _ = (self.index.len(), self.ages.len());
         self.list.len()
     }
 
-    /// The item at a place, the oldest at 0. None behind the end.
+    /// The item at a place, the oldest at 0, or None behind the end.
     pub fn get(&self, index: usize) -> Option<&T>
         ensures { option_copied result ≡ slice_get self.now.items index }
     {
@@ -119,7 +119,8 @@ impl<T: Keyed> KeyedList<T> {
         }
     }
 
-    /// The place of an item that isn't younger than that at a moment, if one is.
+    /// The place of an item that isn't younger than `life` at a moment, or None where there is
+    /// none.
     pub fn old(&self, now: u64, life: u64) -> Option<usize>
         ensures old { IfSome result (λ place. IfSome (slice_get self.now.items place)
             (λ item. is_young T.marks_of now life item ≡ false)) }
@@ -130,7 +131,7 @@ impl<T: Keyed> KeyedList<T> {
         old_place(now, life, &self.list, &self.index, &self.ages)
     }
 
-    /// The place of the last item that has a key.
+    /// The place of the last item that has a key, or None.
     pub fn place(&self, key: &Key) -> Option<usize>
         ensures last { item_at self.now.items result
             ≡ last_where (is_key T.marks_of key.now) self.now.items }
@@ -139,7 +140,7 @@ impl<T: Keyed> KeyedList<T> {
         place_below(key, self.next, &self.list, &self.index, &self.ages)
     }
 
-    /// The last item that has a key and passes a test.
+    /// The last item that has a key and passes a test, or None.
     pub fn last<F: Fn(&T) -> bool>(&self, key: &Key, test: F) -> Option<&T>
         requires { F.IsAlwaysCallable test }
         ensures { (passes : T → Bool)
@@ -160,7 +161,7 @@ impl<T: Keyed> KeyedList<T> {
         None
     }
 
-    /// The greatest moment of the items that have a key.
+    /// The greatest moment of the items that have a key, or None where none has it.
     pub fn latest(&self, key: &Key) -> Option<u64>
         ensures { result ≡ latest T.marks_of key.now self.now.items }
     {
@@ -176,7 +177,7 @@ impl<T: Keyed> KeyedList<T> {
         best
     }
 
-    /// How many items are younger than that at a moment, found by halving.
+    /// How many items are younger than `life` at a moment, found by halving.
     pub fn count(&self, now: u64, life: u64) -> usize
         ensures { result ≡ count_by (is_young T.marks_of now life) self.now.items }
     {
@@ -190,7 +191,8 @@ impl<T: Keyed> KeyedList<T> {
         ensures room { self.new.room + 1 ≡ self.old.room }
         ensures places { self.new.places ≡ self.old.places }
     {
-        // The lengths say that keys and ages ascend, so that there are no more than the items have.
+        // The calls of `len` bring the facts that keys and ages ascend, and so that there are no
+        // more than those of the items.
         let _ = (self.index.len(), self.ages.len());
         let marks = item.marks();
         let number = self.next;
@@ -200,7 +202,7 @@ impl<T: Keyed> KeyedList<T> {
         self.next += 1;
     }
 
-    /// Takes away what isn't younger than that at a moment.
+    /// Removes the items that aren't younger than `life` at a moment.
     pub fn purge(&mut self, now: u64, life: u64)
         ensures items { self.new.items ≡ filter (is_young T.marks_of now life) self.old.items }
         ensures room { self.old.room ≤ self.new.room }
@@ -213,7 +215,7 @@ impl<T: Keyed> KeyedList<T> {
         }
     }
 
-    /// Changes each item that has a key. It keeps its keys and its moment.
+    /// Changes each item that has a key by `change`, which keeps an item's keys and moment.
     pub fn change<F: Fn(&T) -> T>(&mut self, key: &Key, change: F)
         requires callable { F.IsAlwaysCallable change }
         requires marks { (item new : T) → FnReturnsAt F.Fn change item new
@@ -232,7 +234,7 @@ impl<T: Keyed> KeyedList<T> {
         }
     }
 
-    /// Takes away the item at a place, and gives it back.
+    /// Removes the item at a place, and returns it.
     pub fn remove(&mut self, place: usize) -> T
         requires { place < length self.old.items }
         ensures item { slice_get self.old.items place ≡ Some result }
@@ -251,7 +253,7 @@ impl<T: Keyed> KeyedList<T> {
 }
 
 impl<T: Keyed + Copy> KeyedList<T> {
-    /// A list of its own with the same items, and with as much room.
+    /// An equal list of its own, with as much room.
     pub fn copy(&self) -> Result<Self, NoMemory>
         ensures { IfOk result (λ copy. copy ≡ self.now) }
     {

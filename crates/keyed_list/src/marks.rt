@@ -8,7 +8,7 @@ use crate::Marks;
 use crate::key::Mark;
 use ordered_set::OrderedSet;
 
-/// Puts the keys of an item into the set. Takes no memory.
+/// Adds the keys of an item to the set. Takes no memory.
 pub(crate) fn add_marks(marks: &Marks, number: u64, index: &mut OrderedSet<Mark>)
     requires { 2 ≤ index.old.spare }
     ensures members { (mark : _) → has mark_order mark index.new.keys
@@ -25,7 +25,7 @@ pub(crate) fn add_marks(marks: &Marks, number: u64, index: &mut OrderedSet<Mark>
     }
 }
 
-/// Takes the keys of an item out of the set. Takes no memory.
+/// Removes the keys of an item from the set. Takes no memory.
 pub(crate) fn drop_marks(marks: &Marks, number: u64, index: &mut OrderedSet<Mark>)
     ensures members { (mark : _) → has mark_order mark index.new.keys
         ≡ (not (has_mark mark number marks.now) && has mark_order mark index.old.keys) }

@@ -6,7 +6,7 @@ use Rattle.octets.specs.declared.refused.Layer.TheVariants.{Lisp}
 use Rattle.octets.specs.declared.refused.Why.TheVariants.{Short}
 use Rattle.lisp_header.specs.declared.header.LispHeader.{LispHeader}
 
--- the eight octets are there
+-- the rule of a LISP header: eight octets are there
 abbrev pub lisp_rules : ℕ → List ℕ → List (Bool × Refused)
 lisp_rules base octets =
     (nat_le 8 (length octets), record { layer = Lisp; place = base; why = Short }) ∷ []
@@ -23,7 +23,7 @@ nonce_present octets = flag_at 128 octets
 abbrev pub status_enabled : List ℕ → Bool
 status_enabled octets = flag_at 64 octets
 
--- E, which counts only with N: an echo of the nonce is asked for
+-- E, which counts only with N: an echo of the nonce is requested
 abbrev pub echo_requested : List ℕ → Bool
 echo_requested octets = nonce_present octets && flag_at 32 octets
 
@@ -48,7 +48,7 @@ abbrev pub versions_at : List ℕ → Option (ℕ × ℕ)
 versions_at octets =
     if versions_present octets then Some (both_versions octets) else None
 
--- the status bits' number, of 8 bits beside an instance
+-- the number of the status bits, of 8 bits beside an instance
 abbrev pub status_bits : List ℕ → ℕ
 status_bits octets = if instance_present octets then slice_index octets 7 else big 4 octets 4
 
@@ -76,7 +76,7 @@ abbrev pub IsField : {T : Type 0} → Option T → Bool → T → Type 0
 IsField None present value = present ≡ false
 IsField (Some field) present value = (present ≡ true) × (value ≡ field)
 
--- the octets begin with this header; what does not count is free
+-- the octets begin with this header; octets of fields that don't count may be any
 pub record Spells (octets : List ℕ) (header : LispHeader) : Type 0 where
   pub nonce : IsField header.nonce (nonce_present octets) (big 3 octets 1)
   pub echo : header.echo ≡ echo_requested octets
@@ -113,7 +113,7 @@ abbrev pub instance_and_status : Option ℕ → Option ℕ → ℕ
 instance_and_status (Some instance) status = instance * 256 + unwrap_or status 0
 instance_and_status None status = unwrap_or status 0
 
--- the one spelling in which all that does not count is 0
+-- the one spelling in which each field that doesn't count is 0
 abbrev pub canonical : LispHeader → List ℕ
 canonical header =
     flags_of header ∷ (big_octets 3 (nonce_or_versions header.nonce header.versions)

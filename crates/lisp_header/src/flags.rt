@@ -7,7 +7,7 @@ ghost use Rattle.lisp_header.specs.Header.{flag_at};
 pub const NONCE: u8 = 128;
 /// L: the status bits count.
 pub const STATUS: u8 = 64;
-/// E: an echo of the nonce is asked for.
+/// E: an echo of the nonce is requested.
 pub const ECHO: u8 = 32;
 /// V: two versions stand in the octets from 1 on.
 pub const VERSIONS: u8 = 16;

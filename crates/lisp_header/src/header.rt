@@ -1,4 +1,4 @@
-// The LISP data header, as a value.
+// The LISP data header as a value, and its UDP port.
 
 /// The UDP port of LISP data packets (RFC 9300).
 pub const LISP_DATA_PORT: u16 = 4341;
@@ -9,7 +9,7 @@ pub const LISP_DATA_PORT: u16 = 4341;
 pub struct LispHeader {
     /// The nonce of 24 bits, where N is set.
     pub nonce: Option<u32>,
-    /// An echo of the nonce is asked for: E, which counts only with N.
+    /// Whether an echo of the nonce is requested: E, which counts only with N.
     pub echo: bool,
     /// Source and destination Map-Version, of 12 bits each, where V is set and N is clear.
     pub versions: Option<(u16, u16)>,

@@ -4,7 +4,7 @@ ghost use Rattle.lisp_header.specs.declared.header.LispHeader.{LispHeader};
 ghost use Rattle.lisp_header.specs.Header.{canonical, header_at, InRange, Spells};
 ghost use Rattle.lisp_header.specs.Versions.{ahead, newer, successor};
 
-/// What is written of a header in range spells it, and is read again as it, whatever follows.
+/// Law: the octets written for a header in range spell it, and read as it, whatever follows.
 pub fn canonical_is_read_again()
     ensures length { (header : LispHeader) → length (canonical header) ≡ 8 }
     ensures spells { (header : LispHeader) → InRange header → Spells (canonical header) header }
@@ -12,15 +12,15 @@ pub fn canonical_is_read_again()
         → header_at (canonical header ++ rest) ≡ header }
 {}
 
-/// Octets spell exactly one header.
+/// Law: octets spell exactly one header.
 pub fn fronts_spell_one_header()
     ensures some { (octets : List ℕ) → Spells octets (header_at octets) }
     ensures one { (octets : List ℕ) (header : LispHeader)
         → Spells octets header → header ≡ header_at octets }
 {}
 
-/// Of two Map-Versions exactly one is newer: that which is ahead by half the circle at most. A
-/// successor is newer.
+/// Law: of two different Map-Versions exactly one is newer: the one that is ahead by half the
+/// circle at most. A successor is newer.
 pub fn versions_are_ordered()
     ensures circle { (a b : ℕ) → a ≤ 4095 → b ≤ 4095 → a + 2048 ≢ b → newer a b ≡ ahead a b }
     ensures one { (a b : ℕ) → a ≤ 4095 → b ≤ 4095 → a ≢ b → newer a b ≡ not (newer b a) }

@@ -9,7 +9,7 @@ pub fn newer(a: u16, b: u16) -> bool
     if a > b { a - b <= 2048 } else { b - a > 2048 }
 }
 
-/// The Map-Version after this one: 1 after 4,095, since 0 says that there is no version.
+/// The Map-Version after this one: 1 after 4,095, because 0 means that there is no version.
 pub fn successor(a: u16) -> u16
     requires { a ≤ 4095 }
     ensures { result ≡ successor a }

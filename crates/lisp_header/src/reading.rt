@@ -10,7 +10,7 @@ use crate::flags::{ECHO, INSTANCE, NONCE, STATUS, VERSIONS, flag_at};
 use byteorder::{BigEndian, ByteOrder};
 use octets::{Layer, Refused, Why, big_32};
 
-/// The header in the first eight octets. Places count from `base`.
+/// The header in the first eight octets. The places of refusals count from `base`.
 pub fn read_header(octets: &[u8], base: u32) -> Result<LispHeader, Refused>
     requires { base + length octets.now < 2 ^ 32 }
     ensures refused { refusal_of result ≡ first_failing (lisp_rules base octets.now) }

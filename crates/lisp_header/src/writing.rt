@@ -5,7 +5,7 @@ ghost use Rattle.lisp_header.specs.Header.{canonical, flags_of, instance_and_sta
 use crate::LispHeader;
 use crate::flags::{ECHO, INSTANCE, NONCE, STATUS, VERSIONS, flag};
 
-/// The header's eight octets, with R and every field that does not count 0.
+/// The header's eight octets. R and each field that doesn't count are 0.
 pub fn write_header(header: &LispHeader) -> [u8; 8]
     requires { InRange header.now }
     ensures { result ≡ canonical header.now }

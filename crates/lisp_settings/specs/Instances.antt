@@ -1,4 +1,4 @@
--- The limits of each instance: how many mappings it may learn, and how many requests for its EIDs may wait (this
+-- The limits of each instance: how many mappings it may learn, and how many requests for its EIDs may be open (this
 -- router's choice).
 use Rattle.std.specs.Prelude.{ℕ, ◌+◌, ◌-◌, ◌/◌, ◌==◌, ◌&&◌, ◌≤◌, min, nat_le, Bool, IsTrue, List, Option, Some, None, Result, Ok, Err, codes, count_by, find, length, map, sum_by, is_none, unwrap_or, if◌then◌else◌}
 use Rattle.std.specs.List.{list_any}
@@ -19,26 +19,27 @@ use Rattle.lisp_settings.specs.declared.settings.Settings.{Settings}
 
 -- ### lists of limits
 
--- the limit of an instance, where the list has one
+-- the limit of an instance in a list, if the list has one
 abbrev pub stated : List LimitItem → ℕ → Option LimitItem
 stated limits iid = find (λ limit. limit.iid == iid) limits
 
--- how many mappings an instance may learn: none where the list hasn't got it
+-- how many mappings an instance may learn by a list of limits: 0 without a limit of its own
 abbrev pub mappings_in : List LimitItem → ℕ → ℕ
 mappings_in limits iid = option_map_or (λ (limit : LimitItem). limit.mappings) (stated limits iid) 0
 
--- how many requests for its EIDs may wait: none where the list hasn't got it
+-- how many requests for EIDs of an instance may be open by a list of limits: 0 without a limit of its own
 abbrev pub requests_in : List LimitItem → ℕ → ℕ
 requests_in limits iid = option_map_or (λ (limit : LimitItem). limit.requests) (stated limits iid) 0
 
--- the same of all of them
+-- how many mappings all limits of a list allow together
 abbrev pub all_mappings : List LimitItem → ℕ
 all_mappings limits = sum_by (λ (limit : LimitItem). limit.mappings) limits
 
 abbrev pub all_requests : List LimitItem → ℕ
 all_requests limits = sum_by (λ (limit : LimitItem). limit.requests) limits
 
--- limits that a router can have: few, each instance once and in order, and no more in all than it may learn and ask
+-- limits that a router can have: few, each instance once and in order, and in all at most as many mappings and open
+-- requests as a router may have
 pub record AreLimits (limits : List LimitItem) : Type 0 where
   pub few : length limits ≤ most_limits
   pub instances : IsStrictlySortedBy nat_cmp (map (λ limit. limit.iid) limits)
@@ -47,47 +48,48 @@ pub record AreLimits (limits : List LimitItem) : Type 0 where
 
 -- ### what a text may state
 
--- a VLAN is attached to the instance
+-- whether a VLAN is attached to an instance
 abbrev pub is_attached : List Attachment → ℕ → Bool
 is_attached attachments iid = list_any (λ attachment. attachment.iid == iid) attachments
 
--- an instance to which a VLAN is attached
+-- an instance, if a VLAN is attached to it
 abbrev pub only_attached : List Attachment → ℕ → Option ℕ
 only_attached attachments iid = if is_attached attachments iid then Some iid else None
 
--- a number that is such an instance
+-- the number in a value, if it is an instance to which a VLAN is attached
 abbrev pub attached_instance : List Attachment → Data → Option ℕ
 attached_instance attachments value = number 0 16777215 value >>= only_attached attachments
 
--- it is of such an instance, and says no more than one may have
+-- a stated limit: its instance is attached, and its numbers are at most those that one instance may have
 pub record IsLimitOf (attachments : List Attachment) (limit : LimitItem) : Type 0 where
   pub attached : IsTrue (is_attached attachments limit.iid)
   pub mappings : limit.mappings ≤ most_mappings
   pub requests : limit.requests ≤ most_requests
 
--- with so many static mappings, the limits are no more in all than a router may learn and ask
+-- whether limits come, beside so many static mappings, to at most as many mappings and open requests as a router may
+-- have
 abbrev pub is_within : ℕ → List LimitItem → Bool
 is_within statics limits =
     nat_le (statics + all_mappings limits) most_mappings && nat_le (all_requests limits) most_open
 
--- the limits, unless they are more than that
+-- the limits, or the fault `TooMany` where they come, beside the static mappings, to more than a router may have
 abbrev pub only_within : List Record → List LimitItem → Result (List LimitItem) SettingsFault
 only_within mappings limits =
     if is_within (length mappings) limits then Ok limits else Err (TooMany (codes "limit"))
 
 -- ### the limits of a router
 
--- the instances to which VLANs are attached, each once, in order
+-- the instances to which VLANs are attached, each once, in ascending order
 abbrev pub instances : List Attachment → List ℕ
 instances attachments =
     map (λ attachment. attachment.iid) (ascending (λ attachment. attachment.iid) nat_cmp attachments)
 
--- how many of them no limit is stated for
+-- how many attached instances have no stated limit
 abbrev pub unstated : Settings → ℕ
 unstated settings =
     count_by (λ iid. is_none (stated settings.limits iid)) (instances settings.attachments)
 
--- an equal part of what static mappings and the stated limits leave, where so many share it
+-- the limit of an instance as one of `count` equal parts of what static mappings and stated limits leave
 abbrev pub share : Settings → ℕ → ℕ → LimitItem
 share settings count iid = record {
   iid = iid;
@@ -95,15 +97,15 @@ share settings count iid = record {
   requests = min most_requests ((most_open - all_requests settings.limits) / count);
 }
 
--- the limit of an attached instance: what is stated, or else its share
+-- the limit of an attached instance: the stated one, or else its share
 abbrev pub limit_of : Settings → ℕ → LimitItem
 limit_of settings iid = unwrap_or (stated settings.limits iid) (share settings (unstated settings) iid)
 
--- the limits of the attached instances
+-- the limits of the attached instances, in ascending order of instance
 abbrev pub limits_in : Settings → List LimitItem
 limits_in settings = map (limit_of settings) (instances settings.attachments)
 
--- the limit of any instance: one that isn't attached may learn and ask nothing
+-- the limit of any instance: 0 mappings and 0 requests for one to which no VLAN is attached
 abbrev pub limit : Settings → ℕ → LimitItem
 limit settings iid =
     if is_attached settings.attachments iid then limit_of settings iid

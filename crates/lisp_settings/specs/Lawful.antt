@@ -1,4 +1,4 @@
--- What every settings file that is read keeps to: ranges, limits and orders.
+-- What all settings that are read from a file keep to: ranges, limits and orders.
 use Rattle.std.specs.Prelude.{◌≡◌, ◌≤◌, ◌<◌, ◌^◌, false, true, IsTrue, IfSome, length, map}
 use Rattle.std.specs.List.{All, IsDistinct}
 use Rattle.std.specs.List.Sorted.{IsStrictlySortedBy}
@@ -14,23 +14,24 @@ use Rattle.lisp_settings.specs.declared.settings.Attachment.{Attachment}
 use Rattle.lisp_settings.specs.declared.settings.Database.{Database}
 use Rattle.lisp_settings.specs.declared.settings.Settings.{Settings}
 
--- the instance of a VLAN, each in its bits
+-- an attachment: its VLAN has 12 bits, its instance 24
 pub record IsLawfulAttachment (attachment : Attachment) : Type 0 where
   pub vlan : attachment.vlan ≤ 4095
   pub iid : attachment.iid < 2 ^ 24
 
--- an EID prefix of the site; its EID has its own ranges
+-- an EID prefix of the site: its version has 12 bits; its EID has its own ranges
 pub record IsLawfulDatabase (database : Database) : Type 0 where
   pub version : database.version ≤ 4095
 
--- a locator of a static mapping, which has no multicast and was told by nobody
+-- a locator of a static mapping: not for multicast, and with L and p clear, because no Map-Reply brought it
 pub record IsLawfulLocator (locator : Locator) : Type 0 where
   pub m_priority : locator.m_priority ≡ 255
   pub m_weight : locator.m_weight ≡ 0
   pub local : locator.local ≡ false
   pub probed : locator.probed ≡ false
 
--- a static mapping; its locators stand in the order of the file, and have different addresses
+-- a static mapping: the default TTL, A set, numbers in their ranges, and few locators, in the order of the file and of
+-- different addresses
 pub record IsLawfulMapping (mapping : Record) : Type 0 where
   pub ttl : mapping.ttl ≡ default_minutes
   pub action : mapping.action ≤ 7

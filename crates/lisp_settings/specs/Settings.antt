@@ -1,4 +1,4 @@
--- The settings file, a TOML document: its keys, each in its turn, and the first fault.
+-- The settings file, a TOML document: its keys, judged one after another, and the first fault.
 use Rattle.std.specs.Prelude.{◌^◌, ℕ, Bool, true, false, nat_le, nat_lt, codes, List, [], ◌∷◌, length, replicate, Option, Some, None, Result, Ok, Err, if◌then◌else◌}
 use Rattle.std.specs.Ordering.{nat_cmp}
 use Rattle.std.specs.Str.{is_utf8}
@@ -28,7 +28,7 @@ use Rattle.lisp_settings.specs.declared.settings.Database.{Database}
 use Rattle.lisp_settings.specs.declared.settings.LimitItem.{LimitItem}
 use Rattle.lisp_settings.specs.declared.settings.Settings.{Settings}
 
--- a table of `locator`
+-- the own locator in a table of `locator`
 abbrev pub locator_in : Members → Result OwnLocator SettingsFault
 locator_in table = do
   known ← only_keys (codes "address" ∷ codes "priority" ∷ codes "weight" ∷ codes "up" ∷ []) table
@@ -38,7 +38,7 @@ locator_in table = do
   up ← optional (codes "up") as_bool true table
   Ok (record { addr = addr; priority = priority; weight = weight; up = up })
 
--- a table of `attachment`
+-- the attachment in a table of `attachment`
 abbrev pub attachment_in : Members → Result Attachment SettingsFault
 attachment_in table = do
   known ← only_keys (codes "vlan" ∷ codes "iid" ∷ []) table
@@ -46,24 +46,24 @@ attachment_in table = do
   iid ← required (codes "iid") (number 0 16777215) table
   Ok (record { vlan = vlan; iid = iid })
 
--- an EID, whose instance has 24 bits
+-- the EID of an instance and a prefix, if the instance has 24 bits
 abbrev pub eid_of : ℕ → Prefix → Option Eid
 eid_of iid prefix =
     some_if (nat_lt iid (2 ^ 24))
     (λ below. record { iid = iid; prefix = prefix; in_range = ltb-true iid (2 ^ 24) below })
 
--- the EID at the keys `iid` and `prefix`
+-- the EID at the required keys `iid` and `prefix`
 abbrev pub eid_in : Members → Result Eid SettingsFault
 eid_in table = do
   iid ← required (codes "iid") (number 0 16777215) table
   prefix ← required (codes "prefix") prefix table
   taken (codes "iid") (eid_of iid prefix)
 
--- the Map-Version at the key `version`, of 12 bits (RFC 9302, section 6)
+-- the Map-Version at the key `version`, of 12 bits (RFC 9302, section 6); 0 without the key
 abbrev pub version_in : Members → Result ℕ SettingsFault
 version_in table = optional (codes "version") (number 0 4095) 0 table
 
--- a table of `database`
+-- the EID prefix of the site in a table of `database`
 abbrev pub database_in : Members → Result Database SettingsFault
 database_in table = do
   known ← only_keys (codes "iid" ∷ codes "prefix" ∷ codes "version" ∷ []) table
@@ -71,7 +71,7 @@ database_in table = do
   version ← version_in table
   Ok (record { eid = eid; version = version })
 
--- the locator of another site
+-- the locator of a static mapping with the numbers of an own locator, which its table spells
 abbrev pub locator_of : OwnLocator → Locator
 locator_of own = record {
   addr = own.addr;
@@ -84,18 +84,18 @@ locator_of own = record {
   reachable = own.up;
 }
 
--- a table of a mapping's `locator`
+-- the locator in a table of a mapping's `locator`
 abbrev pub mapped_in : Members → Result Locator SettingsFault
 mapped_in table = do
   own ← locator_in table
   Ok (locator_of own)
 
--- the tables of a mapping's `locator`, which stay in the order of the file
+-- the locators of a mapping's `locator` tables, in the order of the file
 abbrev pub mapped_locators : Members → Result (List Locator) SettingsFault
 mapped_locators table =
     any_number (codes "locator") mapped_in (λ locator. locator.addr) addr_order most_locators table
 
--- a table of `mapping`
+-- the static mapping in a table of `mapping`
 abbrev pub mapping_in : Members → Result Record SettingsFault
 mapping_in table = do
   known ← only_keys
@@ -113,7 +113,7 @@ mapping_in table = do
     locators = locators;
   })
 
--- a table of `change`, of one of these own locators
+-- the change in a table of `change`, whose address must be that of one of these own locators
 abbrev pub change_in : List OwnLocator → Members → Result Change SettingsFault
 change_in locators table = do
   known ← only_keys (codes "at" ∷ codes "address" ∷ codes "up" ∷ []) table
@@ -122,7 +122,7 @@ change_in locators table = do
   up ← required (codes "up") as_bool table
   Ok (record { at = at; address = address; up = up })
 
--- a table of `limit`, of an instance to which one of these attaches a VLAN
+-- the limit in a table of `limit`, of an instance to which one of these attachments attaches a VLAN
 abbrev pub limit_in : List Attachment → Members → Result LimitItem SettingsFault
 limit_in attachments table = do
   known ← only_keys (codes "iid" ∷ codes "mappings" ∷ codes "requests" ∷ []) table
@@ -131,49 +131,49 @@ limit_in attachments table = do
   requests ← required (codes "requests") (number 0 most_requests) table
   Ok (record { iid = iid; mappings = mappings; requests = requests })
 
--- the tables of `locator`
+-- the own locators in the tables of `locator`
 abbrev pub own_locators : Members → Result (List OwnLocator) SettingsFault
 own_locators top = do
   locators ← one_or_more (codes "locator") locator_in (λ locator. locator.addr) addr_order most_locators top
   Ok (ascending (λ locator. locator.addr) addr_order locators)
 
--- the tables of `attachment`
+-- the attachments in the tables of `attachment`
 abbrev pub attachments : Members → Result (List Attachment) SettingsFault
 attachments top =
     any_ascending (codes "attachment") attachment_in (λ attachment. attachment.vlan) nat_cmp most_attachments top
 
--- the tables of `database`
+-- the EID prefixes of the site in the tables of `database`
 abbrev pub databases : Members → Result (List Database) SettingsFault
 databases top =
     any_ascending (codes "database") database_in (λ database. database.eid) eid_order most_databases top
 
--- the tables of `mapping`
+-- the static mappings in the tables of `mapping`
 abbrev pub mappings : Members → Result (List Record) SettingsFault
 mappings top =
     any_ascending (codes "mapping") mapping_in (λ mapping. mapping.eid) eid_order most_mappings top
 
--- the tables of `change`, of these own locators
+-- the changes in the tables of `change`, each with the address of one of these own locators
 abbrev pub changes : List OwnLocator → Members → Result (List Change) SettingsFault
 changes locators top =
     any_ascending (codes "change") (change_in locators) change_key change_order most_changes top
 
--- the tables of `limit`, of these attachments
+-- the limits in the tables of `limit`, of instances to which these attachments attach VLANs
 abbrev pub limits : List Attachment → Members → Result (List LimitItem) SettingsFault
 limits attachments top =
     any_ascending (codes "limit") (limit_in attachments) (λ limit. limit.iid) nat_cmp most_limits top
 
--- the keys of the top table
+-- the known keys of the top table
 abbrev pub top_keys : List (List ℕ)
 top_keys =
     codes "seed" ∷ codes "nonces" ∷ codes "resolver" ∷ codes "ttl" ∷ codes "probe" ∷ codes "echo"
     ∷ codes "locator" ∷ codes "attachment" ∷ codes "database" ∷ codes "mapping" ∷ codes "change" ∷ codes "limit"
     ∷ []
 
--- the minutes for which the site's mappings stay, at the key `ttl`
+-- the minutes at the key `ttl`, for which others may keep the site's mappings
 abbrev pub ttl_in : Members → Result ℕ SettingsFault
 ttl_in top = optional (codes "ttl") (number 1 4294967294) default_minutes top
 
--- what comes next, where no key of the top table is at fault but lists
+-- a step on the values of the keys `resolver`, `ttl`, `probe` and `echo`; else the first fault among them
 abbrev pub choices_then : (Option Addr → ℕ → Bool → Bool → Result Settings SettingsFault) → Members
     → Result Settings SettingsFault
 choices_then next top = do
@@ -183,7 +183,7 @@ choices_then next top = do
   echo ← optional (codes "echo") as_bool false top
   next resolver ttl probe echo
 
--- what comes next, where no list of the top table is at fault
+-- a step on the lists of tables in the top table; else the first fault among them
 abbrev pub lists_then :
     (List OwnLocator → List Attachment → List Database → List Record → List Change → List LimitItem
     → Result Settings SettingsFault)
@@ -197,7 +197,7 @@ lists_then next top = do
   limits ← limits attachments top
   next locators attachments databases mappings changes limits
 
--- the settings in the top table
+-- the settings in the top table, or its first fault
 abbrev pub settings_in : Members → Result Settings SettingsFault
 settings_in top = do
   known ← only_keys top_keys top
@@ -230,15 +230,15 @@ settings_in top = do
     limits = limits;
   })
 
--- the settings in a document
+-- the settings in a document, or the first fault; `NotToml` without a document
 abbrev pub settings_from : Option Members → Result Settings SettingsFault
 settings_from (Some top) = settings_in top
 settings_from None = Err NotToml
 
--- the settings in a text of any length, or its first fault
+-- the settings in a text, however long it is, or its first fault
 unfoldable pub settings_in_text : List ℕ → Result Settings SettingsFault
 settings_in_text text = settings_from (if is_utf8 text then parse_document text else None)
 
--- the settings in a text, or its first fault
+-- the settings in a text, or its first fault; a text that is too long isn't read further
 unfoldable pub settings_of : List ℕ → Result Settings SettingsFault
 settings_of text = if nat_le (length text) most_text_octets then settings_in_text text else Err TooLong

@@ -1,4 +1,4 @@
--- Tables of settings as they are written: members in ascending order, and arrays of tables.
+-- Tables of settings as they are written: members in ascending order of keys, and arrays of tables.
 use Rattle.std.specs.Prelude.{◌≡◌, ◌≤◌, ℕ, pos, true, codes, List, [], length, Option, Some, None, Result, Ok}
 use Rattle.std.specs.Cmp.Lexicographic.{slice_cmp}
 use Rattle.std.specs.Ordering.{match_ordering, nat_cmp}
@@ -13,14 +13,14 @@ use Rattle.lisp_settings.specs.Values.{are_tables}
 use Rattle.lisp_settings.specs.declared.fault.SettingsFault.{SettingsFault}
 use Rattle.lisp_settings.specs.declared.settings.Settings.{Settings}
 
--- the members with a value at a key, in ascending order of keys
+-- the members of a table with a value put at a key, in ascending order of keys
 abbrev pub with_member : List ℕ → Data → Members → Members
 with_member key value no_members = member key value no_members
 with_member key value (member other old more) =
     match_ordering (slice_cmp nat_cmp key other) (member key value (member other old more))
     (member other value more) (member other old (with_member key value more))
 
--- members that can be printed: they nest so deep at most, and have no date that isn't one
+-- members that can be printed: at most `most` levels of arrays and tables inside, and only valid dates
 pub record IsPlain (most : ℕ) (members : Members) : Type 0 where
   pub depth : members_depth members ≤ most
   pub dates : members_have_valid_dates members ≡ true
@@ -48,14 +48,14 @@ pub record IsNonceArray (nonces : List ℕ) (array : Items) : Type 0 where
   pub depth : items_depth array ≤ 0
   pub dates : items_have_valid_dates array ≡ true
 
--- a table with the resolver alone, if there is one
+-- a table with the resolver alone; an empty table without one
 abbrev pub IsResolverTable : Option Addr → Members → Type 0
 IsResolverTable None table = table ≡ no_members
 IsResolverTable (Some addr) table =
     (text : List ℕ) × (address_of text ≡ Some addr)
     × (table ≡ with_member (codes "resolver") (string text) no_members)
 
--- a table with the settings that are no tables
+-- a table with the settings that are no lists of tables
 pub record IsFrontTable (settings : Settings) (table : Members) : Type 0 where
   pub seed : List ℕ
   pub seed_reads : hex_octets 32 seed ≡ Some settings.seed

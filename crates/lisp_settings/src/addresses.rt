@@ -1,4 +1,4 @@
-// Addresses and prefixes, from text and as text.
+// Addresses and prefixes of a settings file: read from text, and written as text.
 ghost use Rattle.std.specs.Prelude.{◌≡◌, ◌<◌, ◌⊎◌, ◌↔◌, false, IsTrue, IfOk, Some, length, slice_index, string_bytes};
 ghost use Rattle.std.specs.List.{list_any};
 ghost use Rattle.ip_headers.specs.declared.addr.Addr.TheVariants.{V4, V6};
@@ -9,7 +9,7 @@ use octets::NoMemory;
 use std::alloc::Global;
 use std::net::{Ipv4Addr, Ipv6Addr};
 
-/// The address in a text. Only an IPv4 address has dots.
+/// The address that a text spells, or None. A text with dots can only be an IPv4 address.
 pub fn read_address(text: &str) -> Option<Addr>
     ensures { result ≡ address_of text.now }
 {
@@ -38,7 +38,8 @@ fn read_ipv6(text: &str) -> Option<Addr>
     }
 }
 
-/// The prefix in a text: an address, `/` and a length. Bits past the length are cleared.
+/// The prefix that a text spells, or None: an address, `/` and a length. Bits past the length are
+/// cleared.
 pub fn read_prefix(text: &str) -> Option<Prefix>
     ensures { result ≡ prefix_of text.now }
 {
@@ -46,7 +47,8 @@ pub fn read_prefix(text: &str) -> Option<Prefix>
     Prefix::new(read_address(address)?, read_length(length)?)
 }
 
-/// A decimal number without leading zeros, as the length of a prefix is written.
+/// The prefix length that digits spell: a decimal number below 256 without leading zeros. None for
+/// other digits.
 fn read_length(digits: &str) -> Option<u8>
     ensures { result ≡ length_of digits.now }
 {
@@ -59,7 +61,8 @@ fn read_length(digits: &str) -> Option<u8>
     }
 }
 
-/// Whether a zero or a plus stands before other octets, which `parse` takes.
+/// Whether a `0` or `+` stands before further octets: `parse` accepts such a number, a settings
+/// file may not have it.
 fn is_padded(octets: &[u8]) -> bool
     ensures { IsTrue result
         ↔ (1 < length octets.now)
@@ -68,7 +71,7 @@ fn is_padded(octets: &[u8]) -> bool
     octets.len() > 1 && (octets[0] == b'0' || octets[0] == b'+')
 }
 
-/// The text of an address, which reads as it. It has no slash.
+/// The text of an address, which reads as that address. It has no slash.
 pub fn address_text(alloc: Global, addr: Addr) -> Result<String, NoMemory>
     ensures reads { IfOk result (λ text. address_of (string_bytes text) ≡ Some addr) }
     ensures whole { IfOk result (λ text. list_any is_slash (string_bytes text) ≡ false) }
@@ -87,7 +90,8 @@ fn ipv4_text(alloc: Global, bits: u32) -> Result<String, NoMemory>
     Ok(format!(in alloc; "{address}")?)
 }
 
-/// Groups of hexadecimal digits alone: an address that holds an IPv4 address has no dots either.
+/// The text of an IPv6 address: groups of hexadecimal digits alone, without dots even where the
+/// address embeds an IPv4 address.
 fn ipv6_text(alloc: Global, bits: u128) -> Result<String, NoMemory>
     ensures reads { IfOk result (λ text. address_of (string_bytes text) ≡ Some (V6 bits)) }
     ensures whole { IfOk result (λ text. list_any is_slash (string_bytes text) ≡ false) }
@@ -96,7 +100,7 @@ fn ipv6_text(alloc: Global, bits: u128) -> Result<String, NoMemory>
     Ok(format!(in alloc; "{groups}")?)
 }
 
-/// The text of a prefix, which reads as it: its address, `/` and its length.
+/// The text of a prefix, which reads as that prefix: its address, `/` and its length.
 pub fn prefix_text(alloc: Global, prefix: Prefix) -> Result<String, NoMemory>
     ensures { IfOk result (λ text. prefix_of (string_bytes text) ≡ Some prefix) }
 {

@@ -1,4 +1,4 @@
-// The tables of changes: own locators that go up and down.
+// The `[[change]]` tables: own locators that go up and down.
 ghost use Rattle.std.specs.Prelude.{◌≡◌, ◌≢◌, IfOk, IfErr, Ok, Err, codes};
 ghost use Rattle.std.proofs.Common.{rules};
 ghost use Rattle.toml.specs.View.{table_view, view};
@@ -19,7 +19,7 @@ use octets::NoMemory;
 use std::alloc::Global;
 use toml::{Table, Value};
 
-/// A change of an own locator.
+/// A change as a table of `change`: its address must be that of an own locator.
 impl Item for Change {
     type Key = (u32, Addr);
 
@@ -65,7 +65,7 @@ impl Item for Change {
     ghost orders = { λ a b. Prim.search rules };
 }
 
-/// The address at the key `address`, which an own locator has.
+/// The address at the required key `address`, which must be that of an own locator.
 fn own_address_at(
     alloc: Global,
     locators: &[OwnLocator],
@@ -80,7 +80,7 @@ fn own_address_at(
     taken(alloc, "address", own_address(locators, value))
 }
 
-/// The address in a text, if an own locator has it.
+/// The address in a text value, if it is that of an own locator.
 fn own_address(locators: &[OwnLocator], value: &Value) -> Option<Addr>
     ensures { result ≡ own_address locators.now (view value.now) }
 {
@@ -98,7 +98,7 @@ fn only_own(locators: &[OwnLocator], addr: Addr) -> Option<Addr>
     }
 }
 
-/// Whether an own locator, up or not, has this address.
+/// Whether an own locator, up or down, has this address.
 pub fn is_own(locators: &[OwnLocator], addr: Addr) -> bool
     ensures { result ≡ is_own locators.now addr }
 {

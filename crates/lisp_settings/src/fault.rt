@@ -6,7 +6,7 @@ use octets::{NoMemory, Octets};
 use std::alloc::{AllocError, AllocFailed, Global};
 use std::marker::Model;
 
-/// A key of the settings, as a path: keys joined by dots, with positions in lists from 0, as
+/// A key of the settings as a path: keys joined by dots, with positions in lists counted from 0, as
 /// `mapping.3.locator.0.address`.
 #[derive(Debug, Drop)]
 pub struct Key {
@@ -22,7 +22,7 @@ impl Model for Key {
 }
 
 impl Key {
-    /// The octets of the path.
+    /// The octets of the key's path.
     pub fn as_slice(&self) -> &[u8]
         ensures { result.now ≡ self.now }
     {
@@ -42,20 +42,22 @@ impl Key {
     }
 }
 
-/// Why a text gives no settings: the first fault.
+/// The first fault of a text that gives no settings.
 #[derive(Debug, Drop)]
 pub enum SettingsFault {
     /// The text isn't UTF-8 or isn't TOML.
     NotToml,
-    /// A table has a key that isn't known.
+    /// A table has a key that isn't one of its own; of several the least.
     UnknownKey(Key),
-    /// A key that is needed isn't there.
+    /// A required key isn't there.
     Missing(Key),
-    /// A key's value isn't one that it may have.
+    /// A key has a value that it doesn't take.
     BadValue(Key),
-    /// An item of a list has the address, VLAN, EID, or second and address of an earlier one.
+    /// An item of a list has the address, VLAN, EID, second and address, or instance of an earlier
+    /// one.
     Duplicate(Key),
-    /// A list has too many items.
+    /// A list has too many items. With the key `limit` also: static mappings and limits come to
+    /// more mappings than a router may have, or limits to more open requests.
     TooMany(Key),
     /// The text has more than 16,777,216 octets.
     TooLong,

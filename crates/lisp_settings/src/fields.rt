@@ -13,7 +13,7 @@ use ip_headers::{Addr, Prefix};
 use std::alloc::Global;
 use toml::{Table, Value};
 
-/// Refuses a table with a key that isn't among these.
+/// Refuses a table that has a key other than the `known` ones.
 pub fn only_keys(alloc: Global, table: &Table, known: &[&str]) -> Result<(), SettingsFault>
     ensures ok { OnOk result (only_keys (map (λ key. key.now) known.now) (table_view table.now)
         ≡ Ok (table_view table.now)) }
@@ -46,7 +46,7 @@ fn is_among(key: &str, known: &[&str]) -> bool
     known.contains(&key)
 }
 
-/// The value at a key that must be there.
+/// The value at a required key of a table, or the fault that the key is missing.
 pub fn needed<'a>(alloc: Global, table: &'a Table, key: &str) -> Result<&'a Value, SettingsFault>
     ensures ok { IfOk result (λ value.
         value_at key.now (get_member key.now (table_view table.now)) ≡ Ok (view value.now)) }
@@ -66,7 +66,7 @@ pub fn value_at<'a>(table: &'a Table, key: &str) -> Option<&'a Value>
     table.get(key)
 }
 
-/// The value that was read at a key, or that its value is bad.
+/// The value that was read at a key, or the fault that the key has a bad value where none was read.
 pub fn taken<T: Drop>(alloc: Global, key: &str, read: Option<T>) -> Result<T, SettingsFault>
     ensures ok { IfOk result (λ value. read ≡ Some value) }
     ensures err { IfErr result (λ e. e ≢ fault.Memory → taken key.now read ≡ Err e) }
@@ -77,7 +77,7 @@ pub fn taken<T: Drop>(alloc: Global, key: &str, read: Option<T>) -> Result<T, Se
     }
 }
 
-/// The address at a key.
+/// The address at a required key.
 pub fn address_at(alloc: Global, table: &Table, key: &str) -> Result<Addr, SettingsFault>
     ensures ok { IfOk result (λ addr. required key.now address (table_view table.now) ≡ Ok addr) }
     ensures err { IfErr result (λ e. e ≢ fault.Memory
@@ -87,7 +87,7 @@ pub fn address_at(alloc: Global, table: &Table, key: &str) -> Result<Addr, Setti
     taken(alloc, key, values::address(value))
 }
 
-/// The prefix at a key.
+/// The prefix at a required key.
 pub fn prefix_at(alloc: Global, table: &Table, key: &str) -> Result<Prefix, SettingsFault>
     ensures ok { IfOk result (λ read. required key.now prefix (table_view table.now) ≡ Ok read) }
     ensures err { IfErr result (λ e. e ≢ fault.Memory
@@ -97,7 +97,7 @@ pub fn prefix_at(alloc: Global, table: &Table, key: &str) -> Result<Prefix, Sett
     taken(alloc, key, values::prefix(value))
 }
 
-/// The whole number at a key, from 0 to the greatest.
+/// The whole number at a required key, from 0 to `greatest`.
 pub fn number_at(
     alloc: Global,
     table: &Table,
@@ -114,7 +114,8 @@ pub fn number_at(
     taken(alloc, key, values::number(value, 0, greatest))
 }
 
-/// The whole number at a key, from the least to the greatest, and without one the default.
+/// The whole number at a key, within `bounds`: the least and the greatest. The default without the
+/// key.
 pub fn number_or(
     alloc: Global,
     table: &Table,
@@ -135,7 +136,7 @@ pub fn number_or(
     }
 }
 
-/// The truth value at a key, and without one the default.
+/// The truth value at a key, or the default without the key.
 pub fn flag_or(
     alloc: Global,
     table: &Table,
@@ -153,7 +154,7 @@ pub fn flag_or(
     }
 }
 
-/// The truth value at a key.
+/// The truth value at a required key.
 pub fn flag_at(alloc: Global, table: &Table, key: &str) -> Result<bool, SettingsFault>
     ensures ok { IfOk result (λ flag. required key.now as_bool (table_view table.now) ≡ Ok flag) }
     ensures err { IfErr result (λ e. e ≢ fault.Memory

@@ -1,11 +1,11 @@
-// Hexadecimal digits: read in either case, written in lower case.
+// Hexadecimal digits: read in either case, and written in lower case.
 ghost use Rattle.std.specs.Prelude.{◌≡◌, ◌<◌, ◌++◌, ◌∷◌, [], Some, IfOk, OnOk, length, string_bytes};
 ghost use Rattle.lisp_settings.specs.Hex.{digit, hex_number, hex_octets, octet_of, octets_in};
 
 use octets::NoMemory;
 use std::alloc::Global;
 
-/// The octets in a text of twice as many digits.
+/// The N octets that a text of 2 N hexadecimal digits spells, or None.
 pub fn hex_octets<const N: usize>(text: &[u8]) -> Option<[u8; N]>
     ensures { result ≡ hex_octets N text.now }
 {
@@ -25,7 +25,7 @@ fn octet_of(first: u8, second: u8) -> Option<u8>
     Some(digit(first)? * 16 + digit(second)?)
 }
 
-/// The value of a digit.
+/// The value of a hexadecimal digit, or None for any other octet.
 fn digit(octet: u8) -> Option<u8>
     ensures { result ≡ digit octet }
 {
@@ -37,14 +37,14 @@ fn digit(octet: u8) -> Option<u8>
     }
 }
 
-/// The text of a number: 16 digits.
+/// The text of a number: 16 hexadecimal digits.
 pub fn number_text(alloc: Global, number: u64) -> Result<String, NoMemory>
     ensures { IfOk result (λ text. hex_number (string_bytes text) ≡ Some number) }
 {
     octets_text(alloc, &number.to_be_bytes())
 }
 
-/// The text of octets: two digits for each.
+/// The text of octets: two hexadecimal digits for each.
 pub fn octets_text(alloc: Global, octets: &[u8]) -> Result<String, NoMemory>
     ensures { IfOk result (λ text.
         hex_octets (length octets.now) (string_bytes text) ≡ Some octets.now) }
@@ -56,7 +56,7 @@ pub fn octets_text(alloc: Global, octets: &[u8]) -> Result<String, NoMemory>
     Ok(text)
 }
 
-/// Adds the two digits of an octet at the end.
+/// Appends the two hexadecimal digits of an octet.
 fn push_octet(text: &mut String, octet: u8) -> Result<(), NoMemory>
     ensures { OnOk result ((known : _) → octets_in (string_bytes text.old) ≡ Some known
         → octets_in (string_bytes text.new) ≡ Some (known ++ octet ∷ [])) }
@@ -66,7 +66,7 @@ fn push_octet(text: &mut String, octet: u8) -> Result<(), NoMemory>
     Ok(())
 }
 
-/// The digit of a value.
+/// The hexadecimal digit of a value below 16.
 fn digit_of(value: u8) -> char
     requires { value < 16 }
     ensures ascii { result < 128 }

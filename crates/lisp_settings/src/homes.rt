@@ -14,7 +14,7 @@ impl HasEid for Database {
     }
 }
 
-/// The longest EID prefix of the site in that instance which covers the address.
+/// The longest EID prefix of the site in an instance that covers an address, or None.
 pub fn home<'a>(settings: &'a Settings, iid: u32, addr: &Addr) -> Option<&'a Database>
     ensures { option_map (λ database. database.now) result
         ≡ home_of settings.now.databases iid addr.now }

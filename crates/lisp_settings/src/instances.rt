@@ -1,4 +1,5 @@
-// The limits of the attached instances.
+// The limits of attached instances: how many mappings each may learn, and how many requests it may
+// have open.
 ghost use Rattle.std.specs.Prelude.{◌≡◌, ◌≤◌, ◌<◌, ◌+◌, ◌-◌, ◌/◌, ◌^◌, ℕ, count_by, is_none, unwrap_or, min, IfOk, IfSome, IsTrue, length, map, option_and_then, slice_get};
 ghost use Rattle.std.specs.List.Sorted.{IsStrictlySortedBy};
 ghost use Rattle.std.specs.Ordering.{nat_cmp};
@@ -15,7 +16,7 @@ use std::alloc::Global;
 use std::collections::BTreeMap;
 use std::marker::Model;
 
-/// What each attached instance may have at once, in ascending order of instance.
+/// The limits of the attached instances, in ascending order of instance.
 #[derive(Debug, Drop)]
 pub struct Limits {
     items: LimitItems,
@@ -34,7 +35,7 @@ impl Model for Limits {
 }
 
 impl Limits {
-    /// The limits, one for each instance that has one.
+    /// The limits, one for each attached instance.
     pub fn as_slice(&self) -> &[LimitItem]
         ensures items { result.now ≡ self.now }
         ensures limits { AreLimits self.now }
@@ -42,8 +43,8 @@ impl Limits {
         self.items.as_slice()
     }
 
-    /// Where the limit of an instance stands, found by halving. None where there is none, so that it
-    /// may have nothing.
+    /// The place of an instance's limit, found by halving. None for an instance without a limit,
+    /// which counts as 0 mappings and 0 requests.
     pub fn place(&self, iid: u32) -> Option<usize>
         ensures found { option_and_then (slice_get self.now) result ≡ stated self.now iid }
         ensures within { IfSome result (λ place. place < length self.now) }
@@ -51,7 +52,7 @@ impl Limits {
         place_in(self.items.as_slice(), iid)
     }
 
-    /// Limits of their own, the same.
+    /// A copy of the limits, which shares no memory with them.
     pub fn copy(&self, alloc: Global) -> Result<Limits, NoMemory>
         ensures { IfOk result (λ copy. copy ≡ self.now) }
     {
@@ -62,7 +63,8 @@ impl Limits {
     }
 }
 
-/// What each attached instance may have: what is stated of it, or an equal part of what is left.
+/// The limits of the attached instances: for each the stated one, or an equal part of what stated
+/// limits and static mappings leave.
 pub fn limits_of(alloc: Global, settings: &Settings) -> Result<Limits, NoMemory>
     requires { IsLawful settings.now }
     ensures limits { IfOk result (λ limits. limits ≡ limits_in settings.now) }
@@ -80,7 +82,7 @@ pub fn limits_of(alloc: Global, settings: &Settings) -> Result<Limits, NoMemory>
     })
 }
 
-// The instances to which VLANs are attached, each once, in order.
+// The instances to which VLANs are attached, each once, in ascending order.
 fn instances(alloc: Global, attachments: &[Attachment]) -> Result<Vec<u32>, NoMemory>
     ensures { IfOk result (λ iids. iids.items ≡ instances attachments.now) }
 {
@@ -92,7 +94,7 @@ fn instances(alloc: Global, attachments: &[Attachment]) -> Result<Vec<u32>, NoMe
     Ok(iids)
 }
 
-// The limits of these instances, which are the attached ones.
+// The limits of the attached instances `iids`, in their order.
 fn limited(alloc: Global, settings: &Settings, iids: &[u32]) -> Result<Vec<LimitItem>, NoMemory>
     requires lawful { IsLawful settings.now }
     requires attached { iids.now ≡ instances settings.now.attachments }
@@ -108,7 +110,7 @@ fn limited(alloc: Global, settings: &Settings, iids: &[u32]) -> Result<Vec<Limit
     Ok(items)
 }
 
-// How many of these instances no limit is stated for.
+// The number of these instances without a stated limit.
 fn unstated(limits: &[LimitItem], iids: &[u32]) -> u32
     requires sorted { IsStrictlySortedBy nat_cmp (map (λ limit. limit.iid) limits.now) }
     requires few { length iids.now < 2 ^ 32 }
@@ -123,7 +125,7 @@ fn unstated(limits: &[LimitItem], iids: &[u32]) -> u32
     count
 }
 
-// What is stated for an instance.
+// The stated limit of an instance, or None.
 fn stated_of(limits: &[LimitItem], iid: u32) -> Option<LimitItem>
     requires { IsStrictlySortedBy nat_cmp (map (λ limit. limit.iid) limits.now) }
     ensures { result ≡ stated limits.now iid }
@@ -134,7 +136,7 @@ fn stated_of(limits: &[LimitItem], iid: u32) -> Option<LimitItem>
     }
 }
 
-// Where the limit of an instance stands among limits in order of instance.
+// The place of an instance's limit in a list that is in ascending order of instance, or None.
 fn place_in(limits: &[LimitItem], iid: u32) -> Option<usize>
     requires { IsStrictlySortedBy nat_cmp (map (λ limit. limit.iid) limits.now) }
     ensures found { option_and_then (slice_get limits.now) result ≡ stated limits.now iid }
@@ -146,7 +148,8 @@ fn place_in(limits: &[LimitItem], iid: u32) -> Option<usize>
     }
 }
 
-/// What static mappings and the stated limits leave.
+/// The mappings that static mappings and stated limits leave, and the requests that stated limits
+/// leave.
 #[derive(Clone, Copy)]
 struct Left {
     mappings: u32,
@@ -164,7 +167,7 @@ fn what_is_left(statics: usize, limits: &[LimitItem]) -> Left
     }
 }
 
-// The limit of an instance, where so many share what is left.
+// The limit of an instance: the stated one, or one of `count` equal parts of what is left.
 fn limit_of(limits: &[LimitItem], left: Left, count: u32, iid: u32) -> LimitItem
     requires sorted { IsStrictlySortedBy nat_cmp (map (λ limit. limit.iid) limits.now) }
     requires shared { IsTrue (is_none (stated limits.now iid)) → 0 < count }

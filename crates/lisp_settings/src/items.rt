@@ -1,4 +1,4 @@
-// The tables of the settings' lists.
+// The tables of `locator`, `attachment` and `database`.
 ghost use Rattle.std.specs.Prelude.{◌≡◌, ◌≢◌, ◌≤◌, IfOk, IfErr, Ok, Err};
 ghost use Rattle.std.proofs.Common.{rules};
 ghost use Rattle.std.specs.Ordering.{nat_cmp};
@@ -151,7 +151,7 @@ impl Item for Database {
     ghost orders = { λ a b. Prim.search rules };
 }
 
-/// The EID at the keys `iid` and `prefix`.
+/// The EID at the required keys `iid` and `prefix`.
 pub fn eid_at(alloc: Global, table: &Table) -> Result<Eid, SettingsFault>
     ensures ok { IfOk result (λ eid. eid_in (table_view table.now) ≡ Ok eid) }
     ensures err { IfErr result (λ e. e ≢ fault.Memory → eid_in (table_view table.now) ≡ Err e) }
@@ -161,7 +161,8 @@ pub fn eid_at(alloc: Global, table: &Table) -> Result<Eid, SettingsFault>
     Ok(Eid { iid, prefix })
 }
 
-/// The Map-Version at the key `version`, which has 12 bits (RFC 9302, section 6).
+/// The Map-Version at the key `version`, which has 12 bits (RFC 9302, section 6); 0 without the
+/// key.
 pub fn version_at(alloc: Global, table: &Table) -> Result<u16, SettingsFault>
     ensures ok { IfOk result (λ version. version_in (table_view table.now) ≡ Ok version) }
     ensures err { IfErr result (λ e. e ≢ fault.Memory → version_in (table_view table.now) ≡ Err e) }
@@ -169,7 +170,7 @@ pub fn version_at(alloc: Global, table: &Table) -> Result<u16, SettingsFault>
     Ok(number_or(alloc, table, "version", (0, 4095), 0)? as u16)
 }
 
-/// A table with the EID at the keys `iid` and `prefix`.
+/// A table with an EID alone, at the keys `iid` and `prefix`.
 pub fn eid_table(alloc: Global, eid: Eid) -> Result<Table, NoMemory>
     ensures { IfOk result (λ table. IsEidTable eid (table_view table)) }
 {

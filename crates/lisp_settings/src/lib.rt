@@ -1,5 +1,5 @@
-//! The settings of a router: its TOML file read exactly, or refused by its first fault, and written
-//! back; its site and its nonces.
+//! The settings of a router: its TOML file, read exactly or refused by the first fault, and written
+//! back; the EID prefixes of its site, its nonces, and the limits of its instances.
 #![tactic(auto)]
 
 mod addresses;

@@ -1,4 +1,5 @@
-// The tables of limits: what an instance may have at once.
+// The `[[limit]]` tables: how many mappings an instance may learn, and how many requests it may
+// have open.
 ghost use Rattle.std.specs.Prelude.{◌≡◌, ◌≢◌, ◌<◌, ◌^◌, IfOk, IfErr, OnOk, Ok, Err, codes, length, min};
 ghost use Rattle.std.proofs.Common.{rules};
 ghost use Rattle.std.specs.Ordering.{nat_cmp};
@@ -21,7 +22,7 @@ use octets::NoMemory;
 use std::alloc::Global;
 use toml::{Table, Value};
 
-/// The limit of an instance.
+/// A limit as a table of `limit`: a VLAN must be attached to its instance.
 impl Item for LimitItem {
     type Key = u32;
 
@@ -70,7 +71,7 @@ impl Item for LimitItem {
     ghost orders = { λ a b. Prim.search rules };
 }
 
-/// The instance at the key `iid`, to which a VLAN is attached.
+/// The instance at the required key `iid`, to which a VLAN must be attached.
 fn attached_at(
     alloc: Global,
     attachments: &[Attachment],
@@ -105,14 +106,15 @@ fn only_attached(attachments: &[Attachment], iid: u32) -> Option<u32>
     }
 }
 
-/// Whether a VLAN is attached to the instance.
+/// Whether a VLAN is attached to an instance.
 fn is_attached(attachments: &[Attachment], iid: u32) -> bool
     ensures { result ≡ is_attached attachments.now iid }
 {
     attachments.iter().any(|attachment| attachment.iid == iid)
 }
 
-/// Refuses limits that are more in all than a router may learn and ask, beside its static mappings.
+/// Refuses limits that come, with the static mappings, to more mappings than a router may have, or
+/// to more open requests.
 pub fn only_within(
     alloc: Global,
     mappings: &[Record],
@@ -136,14 +138,14 @@ fn is_within(mappings: &[Record], limits: &[LimitItem]) -> bool
         && sums.requests <= MOST_OPEN
 }
 
-/// What limits come to, as far as 32 bits count.
+/// The sums of limits; a sum past 32 bits stands at the greatest number of 32 bits.
 #[derive(Clone, Copy)]
 pub struct Total {
     pub mappings: u32,
     pub requests: u32,
 }
 
-/// The limits added up.
+/// The sums of limits, in mappings and in requests.
 pub fn sums(limits: &[LimitItem]) -> Total
     ensures mappings { result.mappings ≡ min (all_mappings limits.now) 4294967295 }
     ensures requests { result.requests ≡ min (all_requests limits.now) 4294967295 }

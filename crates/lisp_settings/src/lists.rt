@@ -21,11 +21,11 @@ use std::alloc::{AllocError, Global};
 use std::collections::{BTreeMap, BTreeSet};
 use toml::{Table, Value};
 
-/// An item of a list: a table, of which no two have one key.
+/// An item of a list in the settings: a table with a key that no other item of the list has.
 pub trait Item: Drop {
     type Key: Ord + Drop;
 
-    /// What must be known of the settings before an item, to judge it.
+    /// The settings read earlier by which an item is judged.
     type Known;
 
     ghost reads: { Self.Known → Members → Result Self SettingsFault };
@@ -34,22 +34,23 @@ pub trait Item: Drop {
 
     ghost order: { Self.Key → Self.Key → Ordering };
 
-    // What an item keeps to where it can be written.
+    // The condition that an item must meet to be written.
     ghost lawful: { Self → Type 0 };
 
-    // What an item that is read keeps to, of what is known.
+    // The condition, by the settings read earlier, that a read item meets, and under which a
+    // written item is read again.
     ghost fits: { Self.Known → Self → Type 0 };
 
-    // How deep arrays and tables nest in an item's table.
+    // The most levels of arrays and tables inside an item's table.
     ghost nested: { ℕ };
 
-    /// The item in a table, or the first fault.
+    /// The item that a table spells, or the first fault.
     fn read(alloc: Global, known: &Self::Known, table: &Table) -> Result<Self, SettingsFault>
         ensures ok { IfOk result (λ item. reads known.now (table_view table.now) ≡ Ok item) }
         ensures err { IfErr result (λ e. e ≢ fault.Memory
             → reads known.now (table_view table.now) ≡ Err e) };
 
-    /// The table that reads as the item.
+    /// A table that reads as the item.
     fn write(&self, alloc: Global) -> Result<Table, NoMemory>
         requires { lawful self.now }
         ensures reads { IfOk result (λ table. (known : Self.Known) → fits known self.now
@@ -62,7 +63,7 @@ pub trait Item: Drop {
     ghost orders: { (a : Self.Key) (b : Self.Key) → Self.Key.cmp a b ≡ order a b };
 }
 
-/// The items of a list, in the order of the file.
+/// The items that an array of tables spells, in the order of the file, or the first fault.
 fn read_items<T: Item>(
     alloc: Global,
     known: &T::Known,
@@ -88,7 +89,7 @@ fn read_items<T: Item>(
     Ok(items)
 }
 
-/// The item at a position of a list.
+/// The item that the table at a position of a list spells, or its fault.
 fn read_item<T: Item>(
     alloc: Global,
     known: &T::Known,
@@ -114,7 +115,7 @@ fn read_item<T: Item>(
     }
 }
 
-/// Items in ascending order of their keys, which differ.
+/// These items, of different keys, in ascending order of their keys.
 pub fn ascending<T: Item>(alloc: Global, items: Vec<T>) -> Result<Items<T>, SettingsFault>
     ensures ok { IfOk result (λ sorted. sorted ≡ ascending T.key T.order items.items) }
     ensures err { IfErr result (λ e. e ≡ fault.Memory) }
@@ -133,7 +134,7 @@ fn sorted<T: Item>(alloc: Global, items: Vec<T>) -> Result<Vec<T>, AllocError>
     Ok(in_order)
 }
 
-/// The tables of a list, none where the key isn't there.
+/// The array of tables at the key of a list; empty without the key.
 fn tables_at<'a>(alloc: Global, table: &'a Table, list: &str) -> Result<&'a [Value], SettingsFault>
     ensures ok { IfOk result (λ items.
         value_or list.now tables no_items (get_member list.now (table_view table.now))
@@ -147,7 +148,7 @@ fn tables_at<'a>(alloc: Global, table: &'a Table, list: &str) -> Result<&'a [Val
     }
 }
 
-/// Refuses a list with no items.
+/// Refuses a list without items: its key counts as missing.
 fn some_items(alloc: Global, list: &str, items: &[Value]) -> Result<(), SettingsFault>
     ensures ok { OnOk result (some_items list.now (items_view items.now)
         ≡ Ok (items_view items.now)) }
@@ -160,7 +161,7 @@ fn some_items(alloc: Global, list: &str, items: &[Value]) -> Result<(), Settings
     Ok(())
 }
 
-/// Refuses a list with more items than that.
+/// Refuses a list with more than `most` items.
 pub fn few_items(
     alloc: Global,
     list: &str,
@@ -178,7 +179,7 @@ pub fn few_items(
     Ok(())
 }
 
-/// The items of a list, in the order of the file. None of them is needed.
+/// The items of a list of 0 to `most` tables, in the order of the file.
 pub fn any_number<T: Item>(
     alloc: Global,
     known: &T::Known,
@@ -198,7 +199,7 @@ pub fn any_number<T: Item>(
     read_items(alloc, known, list, items)
 }
 
-/// The items of a list, in the order of the file. One at least is needed.
+/// The items of a list of 1 to `most` tables, in the order of the file.
 pub fn one_or_more<T: Item>(
     alloc: Global,
     known: &T::Known,
@@ -219,7 +220,7 @@ pub fn one_or_more<T: Item>(
     read_items(alloc, known, list, items)
 }
 
-/// The items of a list in ascending order of their keys. None of them is needed.
+/// The items of a list of 0 to `most` tables, in ascending order of their keys.
 pub fn any_ascending<T: Item>(
     alloc: Global,
     known: &T::Known,
@@ -238,7 +239,7 @@ pub fn any_ascending<T: Item>(
     ascending(alloc, items)
 }
 
-/// The array of tables that reads as items of different keys.
+/// An array of tables that reads as these items, whose keys must differ.
 pub fn write_items<T: Item>(alloc: Global, items: &[T]) -> Result<Vec<Value>, NoMemory>
     requires lawful { All T.lawful items.now }
     requires distinct { IsDistinct (eq_by_cmp T.order) (map T.key items.now) }

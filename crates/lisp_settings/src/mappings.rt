@@ -1,4 +1,4 @@
-// The tables of static mappings.
+// The `[[mapping]]` tables: static mappings and their locators.
 ghost use Rattle.std.specs.Prelude.{◌≡◌, ◌≢◌, IfOk, IfErr, Ok, Err};
 ghost use Rattle.std.proofs.Common.{rules};
 ghost use Rattle.toml.specs.View.{table_view};
@@ -19,7 +19,7 @@ use octets::{Items, NoMemory};
 use std::alloc::Global;
 use toml::Table;
 
-/// The locator of another site.
+/// A locator of another site as a table of a mapping's `locator`.
 impl Item for Locator {
     type Key = Addr;
 
@@ -68,7 +68,7 @@ impl Item for Locator {
     ghost orders = { λ a b. Prim.search rules };
 }
 
-/// A static mapping.
+/// A static mapping as a table of `mapping`.
 impl Item for Record {
     type Key = Eid;
 
@@ -122,7 +122,7 @@ impl Item for Record {
     ghost orders = { λ a b. Prim.search rules };
 }
 
-/// The locators of a mapping, in the order of the file.
+/// The locators of a static mapping, in the order of the file.
 fn mapped_locators(alloc: Global, table: &Table) -> Result<Locators, SettingsFault>
     ensures ok { IfOk result (λ locators. mapped_locators (table_view table.now) ≡ Ok locators) }
     ensures err { IfErr result (λ e. e ≢ fault.Memory

@@ -1,4 +1,4 @@
-// Members of a table that is written.
+// Members of a table that is being written.
 ghost use Rattle.std.specs.Prelude.{◌≡◌, ◌≤◌, OnOk, pos, string_bytes};
 ghost use Rattle.toml.specs.Data.{array, boolean, integer, string};
 ghost use Rattle.toml.specs.View.{array_view, table_view, view};
@@ -8,7 +8,7 @@ use octets::NoMemory;
 use std::alloc::Global;
 use toml::{Table, Value};
 
-/// Sets the value at a key.
+/// Puts a value at a key of a table.
 fn put(alloc: Global, table: &mut Table, key: &str, value: Value) -> Result<(), NoMemory>
     ensures { OnOk result (table_view table.new
         ≡ with_member key.now (view value) (table_view table.old)) }
@@ -17,7 +17,7 @@ fn put(alloc: Global, table: &mut Table, key: &str, value: Value) -> Result<(), 
     Ok(())
 }
 
-/// Sets the text at a key.
+/// Puts a text at a key of a table.
 pub fn put_text(alloc: Global, table: &mut Table, key: &str, text: String) -> Result<(), NoMemory>
     ensures { OnOk result (table_view table.new
         ≡ with_member key.now (string (string_bytes text)) (table_view table.old)) }
@@ -25,7 +25,7 @@ pub fn put_text(alloc: Global, table: &mut Table, key: &str, text: String) -> Re
     put(alloc, table, key, Value::String(text))
 }
 
-/// Sets the whole number at a key.
+/// Puts a whole number at a key of a table.
 pub fn put_number(alloc: Global, table: &mut Table, key: &str, number: u32) -> Result<(), NoMemory>
     ensures ok { OnOk result (table_view table.new
         ≡ with_member key.now (integer (pos number)) (table_view table.old)) }
@@ -34,7 +34,7 @@ pub fn put_number(alloc: Global, table: &mut Table, key: &str, number: u32) -> R
     put(alloc, table, key, Value::Integer(i64::from(number)))
 }
 
-/// Sets the number of 8 bits at a key.
+/// Puts a number of 8 bits at a key of a table.
 pub fn put_octet(alloc: Global, table: &mut Table, key: &str, octet: u8) -> Result<(), NoMemory>
     ensures ok { OnOk result (table_view table.new
         ≡ with_member key.now (integer (pos octet)) (table_view table.old)) }
@@ -43,7 +43,7 @@ pub fn put_octet(alloc: Global, table: &mut Table, key: &str, octet: u8) -> Resu
     put_number(alloc, table, key, u32::from(octet))
 }
 
-/// Sets the truth value at a key.
+/// Puts a truth value at a key of a table.
 pub fn put_flag(alloc: Global, table: &mut Table, key: &str, flag: bool) -> Result<(), NoMemory>
     ensures { OnOk result (table_view table.new
         ≡ with_member key.now (boolean flag) (table_view table.old)) }
@@ -51,7 +51,7 @@ pub fn put_flag(alloc: Global, table: &mut Table, key: &str, flag: bool) -> Resu
     put(alloc, table, key, Value::Boolean(flag))
 }
 
-/// Sets the array at a key.
+/// Puts an array at a key of a table.
 pub fn put_array(
     alloc: Global,
     table: &mut Table,

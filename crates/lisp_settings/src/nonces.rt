@@ -1,4 +1,4 @@
-// Nonces: those that the settings list, then the words of a ChaCha8 stream.
+// The nonces of a router: those that its settings list, then words of a ChaCha8 stream.
 ghost use Rattle.std.specs.Prelude.{◌≡◌, ◌≢◌, ◌<◌, ◌-◌, ◌+◌, ◌*◌, ◌^◌, length, codes, IfOk, IfErr, Ok, Err, [], option_map};
 ghost use Rattle.toml.specs.Data.{as_array, get_member, no_items};
 ghost use Rattle.toml.specs.View.{array_view, items_view, table_view};
@@ -22,8 +22,8 @@ use rand_core::utils::NextWord;
 use std::alloc::Global;
 use toml::{Table, Value};
 
-/// Nonce `i`: that of the list, and past its end the next two words of the stream, the low one
-/// first.
+/// Nonce `i`, counted from 0: number `i` of the list, and past its end the next two words of the
+/// stream, the low one first.
 pub fn nonce_at(settings: &Settings, i: u64) -> u64
     requires { i - length settings.now.nonces < 2 ^ 63 }
     ensures { result ≡ nonce_of settings.now.seed settings.now.nonces i }
@@ -36,7 +36,7 @@ pub fn nonce_at(settings: &Settings, i: u64) -> u64
     }
 }
 
-/// Number `j` of the stream.
+/// Number `j` that the stream of a seed gives: words 2 `j` (low) and 2 `j` + 1 (high).
 fn drawn(seed: [u8; 32], j: u64) -> u64
     requires { j < 2 ^ 63 }
     ensures { result ≡ drawn seed j }
@@ -48,7 +48,7 @@ fn drawn(seed: [u8; 32], j: u64) -> u64
     u64::from(low) + u64::from(high) * 0x1_0000_0000
 }
 
-/// The nonces that the settings list.
+/// The nonces that the settings list at the key `nonces`; none without the key.
 pub fn nonces_at(alloc: Global, table: &Table) -> Result<Nonces, SettingsFault>
     ensures ok { IfOk result (λ nonces.
         nonces_at (codes "nonces") most_nonces (table_view table.now) ≡ Ok nonces) }
@@ -93,7 +93,7 @@ fn read_nonces(alloc: Global, items: &[Value]) -> Result<Nonces, SettingsFault>
     Ok(nonces)
 }
 
-/// The array of texts that reads as the nonces.
+/// An array of texts that reads as these nonces.
 pub fn write_nonces(alloc: Global, nonces: &[u64]) -> Result<Vec<Value>, NoMemory>
     ensures { IfOk result (λ array. IsNonceArray nonces.now (array_view array)) }
 {

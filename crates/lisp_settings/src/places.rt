@@ -1,4 +1,4 @@
-// Faults at their places.
+// The keys of faults in items of lists, as paths from the table that has the list.
 ghost use Rattle.std.specs.Prelude.{◌≡◌, IfOk};
 ghost use Rattle.lisp_settings.specs.Places.{fault_within, inner_key, item_key};
 
@@ -6,7 +6,7 @@ use crate::fault::{Key, SettingsFault};
 use octets::{NoMemory, Octets};
 use std::alloc::Global;
 
-/// The key of an item of a list, as `database.2`.
+/// The path to an item of a list, as `database.2`.
 pub fn item_key(alloc: Global, list: &str, position: usize) -> Result<Key, NoMemory>
     ensures { IfOk result (λ key. key ≡ item_key list.now position) }
 {
@@ -14,7 +14,7 @@ pub fn item_key(alloc: Global, list: &str, position: usize) -> Result<Key, NoMem
     Key::copied(alloc, text.as_str())
 }
 
-/// The key of an item's key, as `mapping.3.iid`.
+/// The path to a key of an item of a list, as `mapping.3.iid`.
 fn inner_key(alloc: Global, list: &str, position: usize, key: &Key) -> Result<Key, NoMemory>
     ensures { IfOk result (λ inner. inner ≡ inner_key list.now position key.now) }
 {
@@ -24,7 +24,7 @@ fn inner_key(alloc: Global, list: &str, position: usize, key: &Key) -> Result<Ke
     Ok(Key::new(text))
 }
 
-/// The fault of an item, seen from the table that has the list.
+/// The fault of an item, with its path from the table that has the list.
 pub fn within(
     alloc: Global,
     list: &str,

@@ -1,4 +1,4 @@
-// The settings in a text.
+// Reading of settings from a text.
 ghost use Rattle.std.specs.Prelude.{◌≡◌, ◌≢◌, ◌≤◌, IfOk, IfErr, Ok, Err, codes, false, length, replicate};
 ghost use Rattle.toml.specs.Data.{as_bool};
 ghost use Rattle.toml.specs.View.{table_view};
@@ -28,7 +28,7 @@ use mapping_records::{DEFAULT_MINUTES, MOST_LOCATORS, MOST_MAPPINGS};
 use std::alloc::Global;
 use toml::Table;
 
-/// The settings in a text, or its first fault.
+/// The settings that a text spells, or its first fault; `Memory` where memory is refused.
 pub fn read_settings(alloc: Global, text: &[u8]) -> Result<Settings, SettingsFault>
     ensures ok { IfOk result (λ settings. settings_of text.now ≡ Ok settings) }
     ensures err { IfErr result (λ e. e ≢ fault.Memory → settings_of text.now ≡ Err e) }
@@ -86,7 +86,7 @@ fn read_top(alloc: Global, top: &Table) -> Result<Settings, SettingsFault>
     })
 }
 
-// The keys that aren't lists.
+// The values of the keys `resolver`, `ttl`, `probe` and `echo`.
 fn choices_at(alloc: Global, top: &Table) -> Result<(Option<Addr>, u32, bool, bool), SettingsFault>
     ensures resolver { IfOk result (λ read. resolver_in (table_view top.now) ≡ Ok read.0) }
     ensures ttl { IfOk result (λ read. ttl_in (table_view top.now) ≡ Ok read.1) }
@@ -104,7 +104,7 @@ fn choices_at(alloc: Global, top: &Table) -> Result<(Option<Addr>, u32, bool, bo
     Ok((resolver, ttl, probe, echo))
 }
 
-// The lists.
+// The lists of tables of the top table, in order.
 fn lists_at(
     alloc: Global,
     top: &Table,

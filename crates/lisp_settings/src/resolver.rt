@@ -16,7 +16,7 @@ use octets::NoMemory;
 use std::alloc::Global;
 use toml::Table;
 
-/// The address of the resolver, if the settings name one.
+/// The address at the key `resolver`, or None without the key.
 pub fn resolver_at(alloc: Global, top: &Table) -> Result<Option<Addr>, SettingsFault>
     ensures ok { IfOk result (λ resolver. resolver_in (table_view top.now) ≡ Ok resolver) }
     ensures err { IfErr result (λ e. e ≢ fault.Memory → resolver_in (table_view top.now) ≡ Err e) }
@@ -27,7 +27,7 @@ pub fn resolver_at(alloc: Global, top: &Table) -> Result<Option<Addr>, SettingsF
     }
 }
 
-/// A table with the address of the resolver alone, and without one an empty table.
+/// A table with the address of the resolver alone; an empty table without a resolver.
 pub fn resolver_table(alloc: Global, resolver: Option<Addr>) -> Result<Table, NoMemory>
     ensures { IfOk result (λ table. IsResolverTable resolver (table_view table)) }
 {
@@ -38,7 +38,7 @@ pub fn resolver_table(alloc: Global, resolver: Option<Addr>) -> Result<Table, No
     Ok(table)
 }
 
-/// Refuses a resolver of whose family no own locator is up.
+/// Refuses a resolver if no own locator of its address's family is up.
 pub fn only_reachable(
     alloc: Global,
     locators: &[OwnLocator],

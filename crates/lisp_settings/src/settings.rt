@@ -1,4 +1,4 @@
-// The settings of a router.
+// The settings of a router as a value.
 use ip_headers::Addr;
 use mapping_records::{Eid, Record};
 use octets::Items;
@@ -6,13 +6,13 @@ use octets::Items;
 /// Nonces, in the order in which they are used.
 pub type Nonces = Items<u64>;
 
-/// The router's own locators, in ascending order of address.
+/// Own locators of the router, in ascending order of address.
 pub type OwnLocators = Items<OwnLocator>;
 
-/// The instances of the VLANs, in ascending order of VLAN.
+/// Attachments of VLANs to instances, in ascending order of VLAN.
 pub type Attachments = Items<Attachment>;
 
-/// The site's EID prefixes, in ascending order of EID.
+/// EID prefixes of the site, in ascending order of EID.
 pub type Databases = Items<Database>;
 
 /// Mappings, in ascending order of EID.
@@ -28,23 +28,24 @@ pub type LimitItems = Items<LimitItem>;
 #[derive(Clone, Copy, Debug, PartialEq, Eq)]
 pub struct OwnLocator {
     pub addr: Addr,
-    /// The lowest is taken first; 255 says never.
+    /// The priority in Map-Replies: the lowest is preferred, and 255 marks a locator that mustn't
+    /// be used.
     pub priority: u8,
-    /// The share of the flows among locators of one priority.
+    /// The weight in Map-Replies: the share of the flows among locators of one priority.
     pub weight: u8,
     pub up: bool,
 }
 
-/// The instance of the frames of a VLAN.
+/// An attachment: the instance of the frames of a VLAN.
 #[derive(Clone, Copy, Debug, PartialEq, Eq)]
 pub struct Attachment {
-    /// At most 4,095; 0 for frames without a tag.
+    /// The VLAN, at most 4,095; 0 stands for frames without a tag.
     pub vlan: u16,
     /// The Instance ID, below 2^24.
     pub iid: u32,
 }
 
-/// An EID prefix of the site.
+/// An EID prefix of the site, and its Map-Version.
 #[derive(Clone, Copy, Debug, PartialEq, Eq)]
 pub struct Database {
     pub eid: Eid,
@@ -52,24 +53,25 @@ pub struct Database {
     pub version: u16,
 }
 
-/// One of the router's own locators goes up or down.
+/// A change of an own locator: from a second on it is up or down.
 #[derive(Clone, Copy, Debug, PartialEq, Eq)]
 pub struct Change {
-    /// The second since 1970 from which the locator is up, or isn't.
+    /// The second since 1970 from which the locator is up or down.
     pub at: u32,
-    /// The own locator's.
+    /// The address of the own locator.
     pub address: Addr,
     pub up: bool,
 }
 
-/// What an instance may have at once.
+/// The limit of an instance: how many mappings it may learn, and how many requests it may have
+/// open.
 #[derive(Clone, Copy, Debug, PartialEq, Eq)]
 pub struct LimitItem {
     /// The Instance ID, below 2^24.
     pub iid: u32,
-    /// The mappings that it may learn, at most 65,536.
+    /// The learned mappings that the instance may have at once, at most 65,536.
     pub mappings: u32,
-    /// The requests for its EIDs that may wait, at most 1,024.
+    /// The requests for EIDs of the instance that may be open at once, at most 1,024.
     pub requests: u32,
 }
 
@@ -78,26 +80,27 @@ pub struct LimitItem {
 pub struct Settings {
     /// The key of the ChaCha8 stream that gives the nonces past the listed ones.
     pub seed: [u8; 32],
-    /// The nonces to use first; no text lists more than 4,096.
+    /// The nonces that are used first; no text lists more than 4,096.
     pub nonces: Nonces,
-    /// The Map-Resolver that Map-Requests go to; an own locator of its family is up.
+    /// The Map-Resolver that Map-Requests go to, if there is one; an own locator of its family is
+    /// up.
     pub resolver: Option<Addr>,
     /// The TTL of the router's own mappings, in minutes.
     pub ttl: u32,
     /// Whether locators are probed.
     pub probe: bool,
-    /// Whether locators are tested by echoed nonces.
+    /// Whether echoes of nonces are requested of locators.
     pub echo: bool,
-    /// 1 to 32.
+    /// The own locators: 1 to 32.
     pub locators: OwnLocators,
-    /// At most 4,096.
+    /// The attachments of VLANs to instances: at most 4,096.
     pub attachments: Attachments,
-    /// At most 64.
+    /// The EID prefixes of the site: at most 64.
     pub databases: Databases,
-    /// The static mappings, at most 65,536.
+    /// The static mappings: at most 65,536.
     pub mappings: Records,
-    /// What becomes of the own locators, at most 256 changes.
+    /// The changes of own locators: at most 256.
     pub changes: Changes,
-    /// Of instances that are attached, at most 4,096.
+    /// The stated limits, of attached instances: at most 4,096.
     pub limits: LimitItems,
 }

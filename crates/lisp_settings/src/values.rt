@@ -1,4 +1,4 @@
-// The values of a settings file.
+// The values in a settings file.
 ghost use Rattle.std.specs.Prelude.{◌≡◌, ◌≤◌, IfSome, option_map};
 ghost use Rattle.toml.specs.Data.{as_array};
 ghost use Rattle.toml.specs.View.{view, items_view};
@@ -10,7 +10,7 @@ use crate::hex::hex_octets;
 use ip_headers::{Addr, Prefix};
 use toml::Value;
 
-/// A whole number from the least to the greatest.
+/// The whole number in a value, if it is one from `least` to `greatest`.
 pub fn number(value: &Value, least: u32, greatest: u32) -> Option<u32>
     ensures { result ≡ number least greatest (view value.now) }
 {
@@ -27,28 +27,28 @@ fn in_range(number: i64, least: u32, greatest: u32) -> Option<u32>
     }
 }
 
-/// An address in a text.
+/// The address in a text value, or None.
 pub fn address(value: &Value) -> Option<Addr>
     ensures { result ≡ address (view value.now) }
 {
     read_address(value.as_str()?)
 }
 
-/// A prefix in a text.
+/// The prefix in a text value, or None.
 pub fn prefix(value: &Value) -> Option<Prefix>
     ensures { result ≡ prefix (view value.now) }
 {
     read_prefix(value.as_str()?)
 }
 
-/// A seed: 64 hexadecimal digits in a text.
+/// The seed in a text value of 64 hexadecimal digits, or None.
 pub fn seed(value: &Value) -> Option<[u8; 32]>
     ensures { result ≡ seed (view value.now) }
 {
     hex_octets(value.as_str()?.as_bytes())
 }
 
-/// A nonce: 16 hexadecimal digits in a text.
+/// The nonce in a text value of 16 hexadecimal digits, or None.
 pub fn nonce(value: &Value) -> Option<u64>
     ensures { result ≡ nonce (view value.now) }
 {
@@ -62,7 +62,7 @@ fn hex_number(text: &[u8]) -> Option<u64>
     Some(u64::from_be_bytes(octets))
 }
 
-/// The items of an array of tables.
+/// The items of an array whose items are all tables, or None.
 pub fn tables(value: &Value) -> Option<&[Value]>
     ensures { option_map (λ items. items_view items.now) result ≡ tables (view value.now) }
 {
@@ -70,7 +70,7 @@ pub fn tables(value: &Value) -> Option<&[Value]>
     if are_tables(items) { Some(items) } else { None }
 }
 
-/// The items of an array.
+/// The items of an array, or None for any other value.
 pub fn array(value: &Value) -> Option<&[Value]>
     ensures { option_map (λ items. items_view items.now) result ≡ as_array (view value.now) }
 {

@@ -1,4 +1,4 @@
-// Settings written back.
+// Writing of settings as a text.
 ghost use Rattle.std.specs.Prelude.{◌≡◌, ◌≤◌, IfOk, IfErr, Ok, length};
 ghost use Rattle.toml.specs.View.{table_view};
 ghost use Rattle.lisp_settings.specs.Lawful.{IsLawful};
@@ -19,9 +19,9 @@ use std::alloc::Global;
 use toml::Table;
 
 /// A text that reads as these settings: a TOML document with every key, also where its value is the
-/// default; only `resolver` has no key where there is none. It may have more octets than
-/// `read_settings` takes. No text reads as settings that list more nonces than the limit. Fails only
-/// where memory is refused.
+/// default; only `resolver` has no key where there is none. The text may have more octets than
+/// `read_settings` takes. No text reads as settings that list more nonces than the limit. Fails
+/// only where memory is refused.
 pub fn write_settings(alloc: Global, settings: &Settings) -> Result<Octets, SettingsFault>
     requires { IsLawful settings.now }
     ensures ok { IfOk result (λ text. length settings.now.nonces ≤ most_nonces
@@ -34,12 +34,12 @@ pub fn write_settings(alloc: Global, settings: &Settings) -> Result<Octets, Sett
             let octets = text.into_bytes();
             Ok(Octets::from_vec(octets))
         }
-        // The table has no date, so that only memory can be missing.
+        // The table holds no date, so printing it fails only where memory is refused.
         Err(_) => Err(SettingsFault::Memory),
     }
 }
 
-/// The table of the settings, which nests four levels of arrays and tables.
+/// A table that reads as the settings, with at most four levels of arrays and tables inside.
 fn top_table(alloc: Global, settings: &Settings) -> Result<Table, NoMemory>
     requires { IsLawful settings.now }
     ensures reads { IfOk result (λ top. length settings.now.nonces ≤ most_nonces
@@ -62,7 +62,7 @@ fn top_table(alloc: Global, settings: &Settings) -> Result<Table, NoMemory>
     Ok(top)
 }
 
-/// The keys of the top table that hold no tables.
+/// A table with the keys of the top table that hold no tables.
 fn front_table(alloc: Global, settings: &Settings) -> Result<Table, NoMemory>
     ensures { IfOk result (λ table. IsFrontTable settings.now (table_view table)) }
 {

@@ -1,11 +1,11 @@
--- FNV-1a of 32 bits: the hash of octets and that of a flow, and the source port that this gives.
+-- FNV-1a of 32 bits: the hash of octets, the hash of a flow, and the source port by a hash.
 use Rattle.std.specs.Prelude.{ℕ, ◌+◌, ◌-◌, ◌*◌, ◌%◌, ◌^◌, List, ◌∷◌, ◌++◌, fold, bit_xor}
 use Rattle.octets.specs.Numbers.{big_octets}
 use Rattle.ip_headers.specs.Udp.{addr_octets}
 use Rattle.ip_headers.specs.declared.tuple.FiveTuple.{FiveTuple}
 use Rattle.locator_choice.specs.Limits.{first_port}
 
--- the hash with one octet more
+-- a hash with one octet more
 abbrev pub hashed : ℕ → ℕ → ℕ
 hashed hash octet = bit_xor hash octet * 0x01000193 % 2 ^ 32
 
@@ -13,7 +13,7 @@ hashed hash octet = bit_xor hash octet * 0x01000193 % 2 ^ 32
 abbrev pub octets_hash : List ℕ → ℕ
 octets_hash octets = fold hashed 0x811c9dc5 octets
 
--- addresses, protocol and ports of a flow
+-- the octets of a flow that are hashed: addresses, protocol and ports
 abbrev pub flow_octets : FiveTuple → List ℕ
 flow_octets tuple =
     addr_octets tuple.source
@@ -24,6 +24,6 @@ flow_octets tuple =
 abbrev pub flow_hash : FiveTuple → ℕ
 flow_hash tuple = octets_hash (flow_octets tuple)
 
--- one of the ports from the first on (this router's choice)
+-- the source port of a tunnel packet by the hash of its flow: one of the ports from the first on (this router's choice)
 abbrev pub source_port : ℕ → ℕ
 source_port hash = first_port + hash % (2 ^ 16 - first_port)

@@ -1,7 +1,7 @@
 -- The limits of the choice, and the ports that flows get.
 use Rattle.std.specs.Prelude.{ℕ}
 
--- candidates that are chosen from, at most: the locators of one mapping (this router's choice)
+-- the most candidates among which one is chosen: the locators of one mapping (this router's choice)
 abbrev pub most_candidates : ℕ
 most_candidates = 32
 

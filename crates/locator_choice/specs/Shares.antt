@@ -3,7 +3,7 @@ use Rattle.std.specs.Prelude.{ℕ, zero, suc, ◌+◌, ◌==◌, Bool, false, Li
 use Rattle.locator_choice.specs.Choice.{chosen}
 use Rattle.locator_choice.specs.declared.choice.Candidate.{Candidate}
 
--- it is the one that was chosen
+-- whether index i is the one that was chosen, if one was
 abbrev pub is_index : ℕ → Option ℕ → Bool
 is_index i None = false
 is_index i (Some index) = index == i

@@ -4,18 +4,19 @@ ghost use Rattle.std.specs.List.{list_all, list_any};
 ghost use Rattle.locator_choice.specs.Choice.{chosen, interval_of, least_priority, one_weight, partaking, share, takes_part};
 ghost use Rattle.locator_choice.specs.Limits.{most_candidates};
 
-/// A locator that a flow may go to.
+/// A locator as a candidate of the choice: whether it is usable, its priority and its weight.
 #[derive(Clone, Copy, Debug, PartialEq, Eq)]
 pub struct Candidate {
     pub usable: bool,
-    /// Usable ones of a lower number go first.
+    /// The priority of the locator: usable locators of the least number go first.
     pub priority: u8,
-    /// Its share of the flows among those of its priority.
+    /// The locator's share of the flows among the locators of its priority.
     pub weight: u8,
 }
 
-/// The candidate for a flow with that hash: of the usable ones those of least priority share the
-/// flows by their weights, equally where all weights are equal. None where none is usable.
+/// The index of the candidate for a flow with that hash, or None where none is usable. Of the
+/// usable candidates those of least priority share the flows by their weights, equally where all
+/// weights are equal.
 pub fn choose(candidates: &[Candidate], hash: u32) -> Option<usize>
     requires { length candidates.now ≤ most_candidates }
     ensures chosen { result ≡ chosen candidates.now hash }
@@ -31,7 +32,8 @@ pub fn choose(candidates: &[Candidate], hash: u32) -> Option<usize>
     interval_of(candidates, priority, equal, hash % whole)
 }
 
-// The least priority of the usable ones. One of them has it, where there is one.
+// The least priority of the usable candidates, 255 without one. Where one is usable, one of them
+// has that priority.
 fn least_priority(candidates: &[Candidate]) -> u8
     ensures least { result ≡ least_priority candidates.now }
     ensures one { list_any (λ candidate. candidate.usable) candidates.now ≡ true
@@ -56,7 +58,7 @@ fn takes_part(candidate: &Candidate, priority: u8) -> bool
     candidate.usable && candidate.priority == priority
 }
 
-// All that take part have one weight.
+// Whether all candidates that take part have one weight.
 fn is_one_weight(candidates: &[Candidate], priority: u8) -> bool
     ensures { result ≡ one_weight (partaking priority candidates.now) }
 {
@@ -70,7 +72,7 @@ fn is_one_weight(candidates: &[Candidate], priority: u8) -> bool
     }
 }
 
-// All that take part have this weight.
+// Whether all candidates that take part have this weight.
 fn have_weight(candidates: &[Candidate], priority: u8, weight: u8) -> bool
     ensures { result ≡ list_all (λ other. other.weight == weight) (partaking priority candidates.now) }
 {
@@ -82,7 +84,7 @@ fn have_weight(candidates: &[Candidate], priority: u8, weight: u8) -> bool
     true
 }
 
-// A candidate's part of the flows, where all weights are equal or not.
+// A candidate's share of the flows, 0 where it takes no part; `equal` where all weights are equal.
 fn share(candidate: &Candidate, priority: u8, equal: bool) -> u32
     ensures share { result ≡ share equal priority candidate.now }
     ensures most { result ≤ 255 }
@@ -97,7 +99,7 @@ fn share(candidate: &Candidate, priority: u8, equal: bool) -> u32
     }
 }
 
-// The shares of all.
+// The sum of the shares of all candidates.
 fn whole(candidates: &[Candidate], priority: u8, equal: bool) -> u32
     requires { length candidates.now ≤ most_candidates }
     ensures whole { result ≡ sum (map (share equal priority) candidates.now) }
@@ -109,7 +111,7 @@ fn whole(candidates: &[Candidate], priority: u8, equal: bool) -> u32
     share(candidate, priority, equal) + whole(others, priority, equal)
 }
 
-// The candidate whose interval holds the number.
+// The index of the candidate whose interval holds the number.
 fn interval_of(candidates: &[Candidate], priority: u8, equal: bool, number: u32) -> Option<usize>
     requires { length candidates.now ≤ most_candidates }
     ensures interval { result ≡ interval_of (map (share equal priority) candidates.now) number }

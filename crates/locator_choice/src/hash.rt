@@ -1,4 +1,4 @@
-// The hash of octets and that of a flow, and the source port that this gives.
+// The hash of octets, the hash of a flow, and the source port by a hash.
 ghost use Rattle.std.specs.Prelude.{◌≡◌, fold};
 ghost use Rattle.ip_headers.specs.Udp.{addr_octets};
 ghost use Rattle.locator_choice.specs.Hash.{flow_hash, hashed, octets_hash, source_port};
@@ -6,17 +6,17 @@ ghost use Rattle.locator_choice.specs.Hash.{flow_hash, hashed, octets_hash, sour
 use crate::limits::FIRST_PORT;
 use ip_headers::{Addr, FiveTuple};
 
-// What the hash is before the first octet.
+// The value of the hash before the first octet.
 const BASIS: u32 = 0x811c_9dc5;
 
-/// FNV-1a of 32 bits over octets.
+/// The FNV-1a hash of 32 bits over octets.
 pub fn octets_hash(octets: &[u8]) -> u32
     ensures { result ≡ octets_hash octets.now }
 {
     hash_octets(BASIS, octets)
 }
 
-/// FNV-1a of 32 bits over source and destination address, protocol, and both ports.
+/// The FNV-1a hash of 32 bits over source and destination address, protocol, and both ports.
 pub fn flow_hash(tuple: &FiveTuple) -> u32
     ensures { result ≡ flow_hash tuple.now }
 {

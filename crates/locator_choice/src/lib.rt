@@ -1,5 +1,5 @@
-//! By which numbers a flow is spread: its hash (FNV-1a), the source port that this gives, and the
-//! choice among locators by priority and weight.
+//! The numbers by which flows are spread: the hash of a flow (FNV-1a), the source port by that
+//! hash, and the choice among locators by priority and weight.
 #![tactic(auto)]
 
 mod choice;

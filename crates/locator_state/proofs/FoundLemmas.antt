@@ -22,7 +22,7 @@ use Rattle.locator_state.specs.Solicits.{is_of}
 
 -- ### keys
 
-is_eq-then : (a b : Ordering) → is_eq (ordering_then a b) ≡ (is_eq a && is_eq b)
+pub is_eq-then : (a b : Ordering) → is_eq (ordering_then a b) ≡ (is_eq a && is_eq b)
 is_eq-then Less b = refl
 is_eq-then Equal b = refl
 is_eq-then Greater b = refl
@@ -30,7 +30,7 @@ is_eq-then Greater b = refl
 is_eq-nat : (x y : ℕ) → is_eq (nat_cmp x y) ≡ (x == y)
 is_eq-nat x y = grind (arith, nat_tests)
 
-is_eq-addr : (a b : Addr) → is_eq (addr_order a b) ≡ same_address a b
+pub is_eq-addr : (a b : Addr) → is_eq (addr_order a b) ≡ same_address a b
 is_eq-addr (V4 m) (V4 n) = is_eq-nat m n
 is_eq-addr (V4 m) (V6 n) = refl
 is_eq-addr (V6 m) (V4 n) = refl

@@ -15,33 +15,33 @@ probe_seconds = 600
 abbrev pub judged_seconds : ℕ
 judged_seconds = 3
 
--- the seconds between two probes of a locator (this router's choice)
+-- the seconds that a locator rests between two probes (this router's choice)
 abbrev pub rest_seconds : ℕ
 rest_seconds = 60
 
--- probes that count at once, at most: those of so many seconds
+-- probes that count at once, at most: those of all seconds for which one counts
 abbrev pub most_probes : ℕ
 most_probes = most_targets * probe_seconds
 
 -- ### echoes (RFC 9300, section 10.1)
 
--- the seconds for which an echo that was asked for counts (this router's choice)
+-- the seconds for which a requested echo counts (this router's choice)
 abbrev pub start_seconds : ℕ
 start_seconds = 60
 
--- the seconds for which it is asked for in each packet (this router's choice)
+-- the seconds for which each packet to a locator requests the echo (this router's choice)
 abbrev pub echo_seconds : ℕ
 echo_seconds = 10
 
--- the seconds for which an echo that is wanted counts (this router's choice)
+-- the seconds for which a wanted echo counts (this router's choice)
 abbrev pub wish_seconds : ℕ
 wish_seconds = 2
 
--- echoes that were asked for and count, at most (this router's choice)
+-- requested echoes that count, at most (this router's choice)
 abbrev pub most_starts : ℕ
 most_starts = 4096
 
--- echoes that are wanted, at most (this router's choice)
+-- wanted echoes that count, at most (this router's choice)
 abbrev pub most_wishes : ℕ
 most_wishes = 4096
 

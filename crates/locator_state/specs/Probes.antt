@@ -9,24 +9,24 @@ use Rattle.router_log.specs.declared.kept.ProbeState.TheVariants.{Open, Answered
 use Rattle.locator_state.specs.Limits.{judged_seconds, probe_seconds}
 use Rattle.locator_state.specs.Lists.{last_where, only_if}
 
--- a probe counts for so many seconds
+-- whether a probe still counts: for so many seconds
 abbrev pub probe_counts : ℕ → Probe → Bool
 probe_counts now probe = younger now probe_seconds probe.moment
 
--- a probe that is answered
+-- whether a probe was answered
 abbrev pub is_answered : Probe → Bool
 is_answered probe = elim probe.state [ Open ↦ false | Answered ↦ true | Lost ↦ false ]
 
--- a probe that is answered, or that has waited for so many seconds
+-- whether a probe is judged: it was answered, or has waited for so many seconds
 abbrev pub is_judged : ℕ → Probe → Bool
 is_judged now probe = is_answered probe || not (younger now judged_seconds probe.moment)
 
--- without such a probe the locator is up, and by one that is answered or counts no longer
+-- whether a locator may be used by its last judged probe: there is none, it was answered, or it counts no longer
 abbrev pub up_by : ℕ → Option Probe → Bool
 up_by now None = true
 up_by now (Some probe) = is_answered probe || not (younger now probe_seconds probe.moment)
 
--- what becomes of an open probe
+-- the state of a probe once an open one gets another state
 abbrev pub settled : ProbeState → ProbeState → ProbeState
 settled state Open = state
 settled state Answered = Answered
@@ -35,13 +35,13 @@ settled state Lost = Lost
 abbrev pub settle : ProbeState → Probe → Probe
 settle state probe = record probe { state = settled state probe.state }
 
--- that becomes of it where it has the nonce
+-- a probe, which gets another state where it is open and has the nonce
 abbrev pub settle_with : ProbeState → ℕ → Probe → Probe
 settle_with state nonce probe = if probe.nonce == nonce then settle state probe else probe
 
 -- ### lists of probes, the oldest first
 
--- no probe speaks against the locator: the last one that is judged
+-- whether a locator may be used, as far as its probes show: by the last one that is judged
 abbrev pub probe_up : ℕ → List Probe → Addr → Bool
 probe_up now probes rloc = up_by now (last_where (λ probe. same_address probe.rloc rloc && is_judged now probe) probes)
 
@@ -51,7 +51,7 @@ probe_open now probes nonce =
     option_map (λ probe. probe.rloc)
     (only_if (λ probe. not (is_judged now probe)) (last_where (λ probe. probe.nonce == nonce) probes))
 
--- the moment of the locator's last probe, if that counts
+-- the moment of the locator's last probe, if that one counts
 abbrev pub last_probe : ℕ → List Probe → Addr → Option ℕ
 last_probe now probes rloc =
     option_map (λ probe. probe.moment)
@@ -61,19 +61,19 @@ last_probe now probes rloc =
 abbrev pub probe_count : ℕ → List Probe → ℕ
 probe_count now probes = count_by (λ probe. younger now probe_seconds probe.moment) probes
 
--- those that still count
+-- the probes that still count
 abbrev pub counting_probes : ℕ → List Probe → List Probe
 counting_probes now probes = filter (probe_counts now) probes
 
--- the same of a list: what becomes of the open ones with that nonce
+-- probes, of which the open ones with that nonce get another state
 abbrev pub settle_nonce : ProbeState → ℕ → List Probe → List Probe
 settle_nonce state nonce probes = map (settle_with state nonce) probes
 
--- those that count, once a probe was made: the open ones with its nonce are lost
+-- the probes that count, behind a new one: open probes with its nonce are lost
 abbrev pub probed : ℕ → Addr → ℕ → List Probe → List Probe
 probed m rloc nonce probes =
     settle_nonce Lost nonce (counting_probes m probes) ++ record { moment = m; rloc = rloc; nonce = nonce; state = Open } ∷ []
 
--- those that count, once an answer came: the open ones with its nonce are answered
+-- the probes that count, behind an answer: open probes with its nonce are answered
 abbrev pub probe_answered : ℕ → ℕ → List Probe → List Probe
 probe_answered m nonce probes = settle_nonce Answered nonce (counting_probes m probes)

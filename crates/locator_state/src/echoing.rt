@@ -1,4 +1,4 @@
-// Which echoes count, which of them is meant, and what becomes of them.
+// Echoed nonces in code: which of them count, and which one is the last of a locator.
 ghost use Rattle.std.specs.Prelude.{◌≡◌, ◌≤◌, ◌+◌, ◌&&◌, count_by, length, map, nat_lt, true};
 ghost use Rattle.std.specs.List.{list_any};
 ghost use Rattle.std.specs.Option.{option_copied};
@@ -39,30 +39,30 @@ fn is_deaf(now: u64, start: &EchoStart) -> bool
         && start.came
 }
 
-/// The last echo that was asked of a locator.
+/// The last echo that was requested of a locator.
 fn last_start<'a>(rloc: &Addr, starts: &'a KeyedList<EchoStart>) -> Option<&'a EchoStart>
     ensures { option_copied result ≡ last_start starts.now.items rloc.now }
 {
-    // Mostly none is kept, and each packet asks.
+    // Mostly no echo is kept, and each data packet looks here.
     if starts.len() == 0 {
         return None;
     }
     starts.last(&Key::locator(*rloc), |_| true)
 }
 
-/// The last echo that a locator wanted.
+/// The last echo that a locator requested.
 fn last_wish<'a>(rloc: &Addr, wishes: &'a KeyedList<EchoWish>) -> Option<&'a EchoWish>
     ensures { option_copied result
         ≡ last_where (λ wish. same_address wish.rloc rloc.now) wishes.now.items }
 {
-    // Mostly none is kept, and each packet asks.
+    // Mostly no echo is kept, and each data packet looks here.
     if wishes.len() == 0 {
         return None;
     }
     wishes.last(&Key::locator(*rloc), |_| true)
 }
 
-/// The nonce of the echo that is asked of a locator.
+/// The nonce of the echo that is requested of a locator, or None where none is.
 pub(crate) fn echo_on(now: u64, rloc: &Addr, starts: &KeyedList<EchoStart>) -> Option<u32>
     ensures { result ≡ echo_on now starts.now.items rloc.now }
 {
@@ -73,7 +73,7 @@ pub(crate) fn echo_on(now: u64, rloc: &Addr, starts: &KeyedList<EchoStart>) -> O
     None
 }
 
-/// An echo is asked of a locator, and no packet came since.
+/// Whether an echo is requested of a locator, and no packet came from it since.
 pub(crate) fn data_due(now: u64, rloc: &Addr, starts: &KeyedList<EchoStart>) -> bool
     ensures { result ≡ data_due now starts.now.items rloc.now }
 {
@@ -83,7 +83,7 @@ pub(crate) fn data_due(now: u64, rloc: &Addr, starts: &KeyedList<EchoStart>) -> 
     }
 }
 
-/// No echo speaks against a locator.
+/// Whether the last echo that was requested of a locator leaves it usable.
 pub(crate) fn echo_up(now: u64, rloc: &Addr, starts: &KeyedList<EchoStart>) -> bool
     ensures { result ≡ echo_up now starts.now.items rloc.now }
 {
@@ -93,7 +93,7 @@ pub(crate) fn echo_up(now: u64, rloc: &Addr, starts: &KeyedList<EchoStart>) -> b
     }
 }
 
-/// The nonce that a locator wants echoed.
+/// The nonce that a locator wants echoed, or None where it wants none.
 pub(crate) fn echo_wanted(now: u64, rloc: &Addr, wishes: &KeyedList<EchoWish>) -> Option<u32>
     ensures { result ≡ echo_wanted now wishes.now.items rloc.now }
 {
@@ -104,7 +104,7 @@ pub(crate) fn echo_wanted(now: u64, rloc: &Addr, wishes: &KeyedList<EchoWish>) -
     None
 }
 
-/// The nonce isn't the one that is wanted.
+/// Whether a nonce differs from the one that a locator wants echoed.
 pub(crate) fn is_other(nonce: u32, wanted: Option<u32>) -> bool
     ensures { result ≡ is_other nonce wanted }
 {
@@ -114,7 +114,7 @@ pub(crate) fn is_other(nonce: u32, wanted: Option<u32>) -> bool
     }
 }
 
-/// An echo that counts was asked of a locator.
+/// Whether an echo that counts was requested of a locator.
 pub(crate) fn is_asked(now: u64, rloc: &Addr, starts: &KeyedList<EchoStart>) -> bool
     ensures { result
         ≡ list_any (λ start. same_address start.rloc rloc.now && start_counts now start)
@@ -128,21 +128,21 @@ pub(crate) fn is_asked(now: u64, rloc: &Addr, starts: &KeyedList<EchoStart>) -> 
         .is_some()
 }
 
-/// One more echo may be asked for.
+/// Whether fewer than `MOST_STARTS` requested echoes count.
 pub(crate) fn few_starts(now: u64, starts: &KeyedList<EchoStart>) -> bool
     ensures { result ≡ nat_lt (count_by (start_counts now) starts.now.items) most_starts }
 {
     starts.count(now, START_LIFE) < MOST_STARTS
 }
 
-/// One more echo may be wanted.
+/// Whether fewer than `MOST_WISHES` wanted echoes count.
 pub(crate) fn few_wishes(now: u64, wishes: &KeyedList<EchoWish>) -> bool
     ensures { result ≡ nat_lt (count_by (wish_counts now) wishes.now.items) most_wishes }
 {
     wishes.count(now, WISH_LIFE) < MOST_WISHES
 }
 
-/// An echo is asked for where one is on.
+/// Requests an echo where one is on, and is plain otherwise.
 pub(crate) fn ask_or_plain(on: Option<u32>) -> EchoOut
     ensures { result ≡ ask_or_plain on }
 {
@@ -152,7 +152,7 @@ pub(crate) fn ask_or_plain(on: Option<u32>) -> EchoOut
     }
 }
 
-/// An echo that is wanted is answered.
+/// Answers a wanted echo where there is one, and does the other thing otherwise.
 pub(crate) fn answer_or(other: EchoOut, wanted: Option<u32>) -> EchoOut
     ensures { result ≡ answer_or other wanted }
 {
@@ -180,7 +180,7 @@ fn come(start: &EchoStart) -> EchoStart
     }
 }
 
-/// The echo of a locator is heard.
+/// Marks the requested echoes of a locator as heard.
 pub(crate) fn hear_all(rloc: &Addr, starts: &mut KeyedList<EchoStart>)
     ensures items { starts.new.items ≡ map (hear_from rloc.now) starts.old.items }
     ensures len { length starts.new.items ≡ length starts.old.items }
@@ -190,7 +190,7 @@ pub(crate) fn hear_all(rloc: &Addr, starts: &mut KeyedList<EchoStart>)
     starts.change(&Key::locator(*rloc), |start| heard(start));
 }
 
-/// A packet came from a locator.
+/// Marks that a packet came from a locator, on its requested echoes.
 pub(crate) fn come_all(rloc: &Addr, starts: &mut KeyedList<EchoStart>)
     ensures items { starts.new.items ≡ map (come_from rloc.now) starts.old.items }
     ensures len { length starts.new.items ≡ length starts.old.items }
@@ -200,7 +200,7 @@ pub(crate) fn come_all(rloc: &Addr, starts: &mut KeyedList<EchoStart>)
     starts.change(&Key::locator(*rloc), |start| come(start));
 }
 
-/// Takes away what counts no longer at a moment.
+/// Takes away requested echoes that count no longer at a moment.
 pub(crate) fn drop_starts(now: u64, starts: &mut KeyedList<EchoStart>)
     ensures items { starts.new.items ≡ counting_starts now starts.old.items }
     ensures room { starts.old.room ≤ starts.new.room }
@@ -211,7 +211,7 @@ pub(crate) fn drop_starts(now: u64, starts: &mut KeyedList<EchoStart>)
     starts.purge(now, START_LIFE);
 }
 
-/// The same of echoes that are wanted.
+/// Takes away wanted echoes that count no longer at a moment.
 pub(crate) fn drop_wishes(now: u64, wishes: &mut KeyedList<EchoWish>)
     ensures items { wishes.new.items ≡ counting_wishes now wishes.old.items }
     ensures room { wishes.old.room ≤ wishes.new.room }

@@ -1,5 +1,5 @@
-//! What a router knows of locators: by probing them (RFC 9301, section 7.1), by echoed nonces
-//! (RFC 9300, section 10.1), and which of them were solicited (RFC 9301, section 6.1).
+//! What a router keeps of locators: probes (RFC 9301, section 7.1), echoed nonces (RFC 9300,
+//! section 10.1), and solicitations (RFC 9301, section 6.1).
 #![tactic(auto)]
 
 mod echoing;

@@ -7,7 +7,7 @@ ghost use Rattle.locator_state.specs.declared.limits.TheConstants.{ECHO_WAIT, MO
 /// The most probes in one second (this router's choice).
 pub const MOST_TARGETS: usize = 16;
 
-/// The most probes that count: those of all the seconds for which one does.
+/// The most probes that count: 16 a second for as long as one counts.
 pub const MOST_PROBES: usize = 9600;
 
 /// How long a probe counts, in nanoseconds (this router's choice).
@@ -19,19 +19,19 @@ pub const PROBE_WAIT: u64 = 3_000_000_000;
 /// How long a locator isn't probed again, in nanoseconds (this router's choice).
 pub const PROBE_REST: u64 = 60_000_000_000;
 
-/// The most echoes that were asked for and count (this router's choice).
+/// The most requested echoes that count (this router's choice).
 pub const MOST_STARTS: usize = 4096;
 
-/// The most echoes that are wanted and count (this router's choice).
+/// The most wanted echoes that count (this router's choice).
 pub const MOST_WISHES: usize = 4096;
 
-/// How long an echo that was asked for counts, in nanoseconds (this router's choice).
+/// How long a requested echo counts, in nanoseconds (this router's choice).
 pub const START_LIFE: u64 = 60_000_000_000;
 
-/// How long it is asked for in each packet, in nanoseconds (this router's choice).
+/// How long each packet to the locator requests the echo, in nanoseconds (this router's choice).
 pub const ECHO_WAIT: u64 = 10_000_000_000;
 
-/// How long an echo that is wanted counts, in nanoseconds (this router's choice).
+/// How long a wanted echo counts, in nanoseconds (this router's choice).
 pub const WISH_LIFE: u64 = 2_000_000_000;
 
 /// The most solicitations that count (this router's choice).
@@ -40,7 +40,7 @@ pub const MOST_SOLICITS: usize = 4096;
 /// How long a solicitation counts, in nanoseconds (this router's choice).
 pub const SOLICIT_LIFE: u64 = 10_000_000_000;
 
-/// The limits are the defined ones.
+/// Law: the constants are the defined numbers.
 pub fn limits_are()
     ensures targets { MOST_TARGETS ≡ most_targets }
     ensures probes { MOST_PROBES ≡ most_probes }

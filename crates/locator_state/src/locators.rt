@@ -1,4 +1,4 @@
-// What is known of locators.
+// The probes, echoes and solicitations that are kept of locators.
 ghost use Rattle.std.specs.Prelude.{◌≡◌, ◌≤◌, ◌<◌, ◌+◌, ◌*◌, ◌/◌, length, max, [], IfOk, OnOk, OnErr};
 ghost use Rattle.keyed_list.specs.Limits.{ring_names};
 ghost use Rattle.locator_state.specs.Echoes.{data_from, echo_heard, echo_started, wanted};
@@ -15,12 +15,11 @@ use keyed_list::{Keyed, KeyedList};
 use std::alloc::Global;
 use std::marker::Model;
 
-/// What is known of locators: their probes, the echoes that were asked of them (starts), the echoes
-/// that they want (wishes), and their solicitations; of each kind the oldest first. An item is kept
-/// until something is noted, or until a purge, at a moment at which it counts no longer: a probe
-/// counts for `PROBE_LIFE`, a start for `START_LIFE`, a wish for `WISH_LIFE`, a solicitation for
-/// `SOLICIT_LIFE`. What is asked at a moment is answered by those that count then. Moments are in
-/// nanoseconds.
+/// What is kept of locators: probes, echoes that were requested of them (starts), echoes that they
+/// want (wishes), and solicitations; of each kind the oldest first. An item is kept until an entry
+/// or a purge at a moment at which it counts no longer: a probe counts for `PROBE_LIFE`, a start
+/// for `START_LIFE`, a wish for `WISH_LIFE`, a solicitation for `SOLICIT_LIFE`. A question at a
+/// moment considers only items that count then. Moments are in nanoseconds.
 #[derive(Drop)]
 pub struct LocatorState {
     pub(crate) probes: KeyedList<Probe>,
@@ -54,7 +53,7 @@ impl Model for LocatorState {
 }
 
 impl LocatorState {
-    /// Nothing is known. Takes no memory.
+    /// A state without probes, echoes and solicitations. Takes no memory.
     pub fn new(alloc: Global) -> LocatorState
         ensures observed { result.observed
             ≡ record { probes = []; starts = []; wishes = []; solicits = [] } }
@@ -69,7 +68,7 @@ impl LocatorState {
         }
     }
 
-    /// The same of its own, with as much room.
+    /// An equal state of its own, with as much room.
     pub fn copy(&self) -> Result<LocatorState, NoMemory>
         ensures { IfOk result (λ copy. copy ≡ self.now) }
     {
@@ -83,8 +82,8 @@ impl LocatorState {
         })
     }
 
-    /// How many items are kept in all. What all lists have in all is at most 16 for each key for which
-    /// the one with the most has place, and one for each ring of names.
+    /// How many items are kept in all four lists. All lists behind them have at most 16 items for
+    /// each place of the kind with the most places, and one for each ring of names.
     pub fn len(&self) -> usize
         ensures len { result ≡ (length self.now.observed.probes + length self.now.observed.starts)
             + (length self.now.observed.wishes + length self.now.observed.solicits) }
@@ -94,7 +93,7 @@ impl LocatorState {
         self.probes.len() + self.starts.len() + (self.wishes.len() + self.solicits.len())
     }
 
-    /// Makes room for so many further probes, and for so many of each other kind.
+    /// Makes room for so many further probes, and for so many further items of each other kind.
     pub fn reserve(&mut self, probes: u32, others: u32) -> Result<(), NoMemory>
         requires probes { probes ≤ most_reserved }
         requires others { others ≤ most_reserved }
@@ -112,7 +111,7 @@ impl LocatorState {
         self.solicits.reserve(others)
     }
 
-    /// Takes away what counts no longer at a moment.
+    /// Takes away items that count no longer at a moment.
     pub fn purge(&mut self, m: u64)
         ensures observed { self.new.observed ≡ recent m self.old.observed }
         ensures room { UsesRoom 0 0 0 0 self.old self.new }
@@ -125,8 +124,8 @@ impl LocatorState {
         drop_solicits(m, &mut self.solicits);
     }
 
-    /// A probe of a locator was sent: it is open, and the open ones with its nonce are lost. Where
-    /// this is refused, nothing has changed.
+    /// Notes that a probe was sent to a locator: it is open, and open probes with its nonce are
+    /// lost. Where memory is refused, nothing changes.
     pub fn probed(&mut self, m: u64, rloc: Addr, nonce: u64) -> Result<(), NoMemory>
         ensures ok { OnOk result (self.new.observed
             ≡ with_probes m (probed m rloc nonce self.old.observed.probes) self.old.observed) }
@@ -149,7 +148,7 @@ impl LocatorState {
         Ok(())
     }
 
-    /// An answer came: the open probes with its nonce are answered.
+    /// Notes an answer: the open probes with its nonce are answered.
     pub fn probe_answered(&mut self, m: u64, nonce: u64)
         ensures observed { self.new.observed
             ≡ with_probes m (probe_answered m nonce self.old.observed.probes) self.old.observed }
@@ -161,7 +160,8 @@ impl LocatorState {
         settle_nonce(ProbeState::Answered, nonce, &mut self.probes);
     }
 
-    /// An echo is asked of a locator from now on. Where this is refused, nothing has changed.
+    /// Notes that an echo is requested of a locator from now on. Where memory is refused, nothing
+    /// changes.
     pub fn echo_started(&mut self, m: u64, rloc: Addr, nonce: u32) -> Result<(), NoMemory>
         ensures ok { OnOk result (self.new.observed
             ≡ with_starts m (echo_started m rloc nonce self.old.observed.starts) self.old.observed) }
@@ -184,7 +184,7 @@ impl LocatorState {
         Ok(())
     }
 
-    /// The echo of a locator came.
+    /// Notes that the echo of a locator came.
     pub fn echo_heard(&mut self, m: u64, rloc: &Addr)
         ensures observed { self.new.observed
             ≡ with_starts m (echo_heard m rloc.now self.old.observed.starts) self.old.observed }
@@ -196,7 +196,7 @@ impl LocatorState {
         hear_all(rloc, &mut self.starts);
     }
 
-    /// A packet came from a locator, with an echo or without a nonce.
+    /// Notes that a packet came from a locator, with an echo or without a nonce.
     pub fn data_from(&mut self, m: u64, rloc: &Addr)
         ensures observed { self.new.observed
             ≡ with_starts m (data_from m rloc.now self.old.observed.starts) self.old.observed }
@@ -208,7 +208,7 @@ impl LocatorState {
         come_all(rloc, &mut self.starts);
     }
 
-    /// A locator asked for an echo. Where this is refused, nothing has changed.
+    /// Notes that a locator requested an echo. Where memory is refused, nothing changes.
     pub fn echo_wanted(&mut self, m: u64, rloc: Addr, nonce: u32) -> Result<(), NoMemory>
         ensures ok { OnOk result (self.new.observed
             ≡ with_wishes m (wanted m rloc nonce self.old.observed.wishes) self.old.observed) }
@@ -229,7 +229,8 @@ impl LocatorState {
         Ok(())
     }
 
-    /// A locator was solicited for an EID of the site. Where this is refused, nothing has changed.
+    /// Notes that a locator was solicited for an EID of the site. Where memory is refused, nothing
+    /// changes.
     pub fn solicited(&mut self, m: u64, rloc: Addr, eid: Eid) -> Result<(), NoMemory>
         ensures ok { OnOk result (self.new.observed
             ≡ with_solicits m (solicited m rloc eid self.old.observed.solicits) self.old.observed) }
@@ -251,7 +252,7 @@ impl LocatorState {
     }
 }
 
-// Copies of two lists.
+// Copies of two lists, made together because each failure drops all that was copied before.
 fn copies<T: Keyed + Copy, U: Keyed + Copy>(
     first: &KeyedList<T>,
     second: &KeyedList<U>,

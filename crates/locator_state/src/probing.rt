@@ -1,4 +1,4 @@
-// Which probes count, which of them is meant, and what becomes of them.
+// Probes in code: which of them count, which one is meant, and what becomes of open ones.
 ghost use Rattle.std.specs.Prelude.{◌≡◌, ◌≤◌, ◌+◌, ◌&&◌, ◌==◌, length};
 ghost use Rattle.std.specs.Option.{option_copied};
 ghost use Rattle.mapping_records.specs.Eids.{same_address};
@@ -69,7 +69,7 @@ pub(crate) fn last_judged<'a>(
         ≡ last_where (λ probe. same_address probe.rloc rloc.now && is_judged now probe)
         probes.now.items }
 {
-    // Mostly none is kept, and each packet asks.
+    // Mostly no probe is kept, and each data packet looks here.
     if probes.len() == 0 {
         return None;
     }
@@ -95,7 +95,7 @@ fn settle(state: ProbeState, probe: &Probe) -> Probe
     }
 }
 
-/// Settles the open probes with that nonce.
+/// Gives the open probes with that nonce another state.
 pub(crate) fn settle_nonce(state: ProbeState, nonce: u64, probes: &mut KeyedList<Probe>)
     ensures items { probes.new.items ≡ settle_nonce state nonce probes.old.items }
     ensures len { length probes.new.items ≡ length probes.old.items }
@@ -105,7 +105,7 @@ pub(crate) fn settle_nonce(state: ProbeState, nonce: u64, probes: &mut KeyedList
     probes.change(&Key::nonce(nonce), |probe| settle(state, probe));
 }
 
-/// Takes away what counts no longer at a moment.
+/// Takes away probes that count no longer at a moment.
 pub(crate) fn drop_probes(now: u64, probes: &mut KeyedList<Probe>)
     ensures items { probes.new.items ≡ counting_probes now probes.old.items }
     ensures room { probes.old.room ≤ probes.new.room }

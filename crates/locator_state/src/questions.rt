@@ -1,4 +1,4 @@
-// What is asked of what is known of locators.
+// Questions about locators at a moment.
 ghost use Rattle.std.specs.Prelude.{◌≡◌, ◌<◌, ◌/◌, nat_lt};
 ghost use Rattle.locator_state.specs.Echoes.{data_due, echo_on, echo_out, may_start, may_want, wanted};
 ghost use Rattle.locator_state.specs.Limits.{most_probes};
@@ -16,7 +16,8 @@ use crate::soliciting::{few_solicits, is_solicited};
 use crate::{Addr, EchoOut, Eid, LocatorState};
 
 impl LocatorState {
-    /// The locator of the open probe with that nonce, for `PROBE_WAIT`. None where there is none.
+    /// The locator of the open probe with that nonce, or None where there is none. A probe is open
+    /// for `PROBE_WAIT`.
     pub fn probe_open(&self, m: u64, nonce: u64) -> Option<Addr>
         ensures { result ≡ probe_open m self.now.observed.probes nonce }
     {
@@ -27,7 +28,7 @@ impl LocatorState {
         Some(probe.rloc)
     }
 
-    /// The moment of the last probe of a locator. None where there is none, or it counts no longer.
+    /// The moment of the last probe of a locator in nanoseconds, or None where none counts.
     pub fn last_probe(&self, m: u64, rloc: &Addr) -> Option<u64>
         ensures { result ≡ last_probe m self.now.observed.probes rloc.now }
     {
@@ -42,34 +43,34 @@ impl LocatorState {
     pub fn probe_count(&self, m: u64) -> u32
         ensures { result ≡ probe_count m self.now.observed.probes }
     {
-        // There are no more of them than are kept.
+        // The length bounds their number.
         let _ = self.probes.len();
         self.probes.count(m, PROBE_LIFE) as u32
     }
 
-    /// There is room for one more probe at a moment.
+    /// Whether fewer than `MOST_PROBES` probes count at a moment.
     pub fn may_probe(&self, m: u64) -> bool
         ensures { result ≡ nat_lt (probe_count m self.now.observed.probes) most_probes }
     {
         self.probes.count(m, PROBE_LIFE) < MOST_PROBES
     }
 
-    /// The nonce of the echo that is asked of a locator, for `ECHO_WAIT` and until it is heard. None
-    /// where none is asked.
+    /// The nonce of the echo that is requested of a locator, for `ECHO_WAIT` and until it is heard;
+    /// None where none is.
     pub fn echo_on(&self, m: u64, rloc: &Addr) -> Option<u32>
         ensures { result ≡ echo_on m self.now.observed.starts rloc.now }
     {
         echo_on(m, rloc, &self.starts)
     }
 
-    /// An echo is asked of a locator, and no packet came from it since.
+    /// Whether an echo is requested of a locator, and no packet came from it since.
     pub fn data_due(&self, m: u64, rloc: &Addr) -> bool
         ensures { result ≡ data_due m self.now.observed.starts rloc.now }
     {
         data_due(m, rloc, &self.starts)
     }
 
-    /// What the header of a packet to a locator does about echoes: answering goes before asking.
+    /// How the header of a packet to a locator deals with echoes: an answer goes before a request.
     pub fn echo_out(&self, m: u64, rloc: &Addr) -> EchoOut
         ensures { result
             ≡ echo_out m self.now.observed.starts self.now.observed.wishes rloc.now }
@@ -80,8 +81,8 @@ impl LocatorState {
         )
     }
 
-    /// An echo may be asked of a locator: none was for `START_LIFE`, it wants none itself, and fewer
-    /// than `MOST_STARTS` are asked for.
+    /// Whether an echo may be requested of a locator: none was for `START_LIFE`, the locator wants
+    /// none itself, and fewer than `MOST_STARTS` are requested.
     pub fn may_start(&self, m: u64, rloc: &Addr) -> bool
         ensures { result
             ≡ may_start m self.now.observed.starts self.now.observed.wishes rloc.now }
@@ -91,25 +92,26 @@ impl LocatorState {
             && few_starts(m, &self.starts)
     }
 
-    /// That a locator wants this nonce may be noted: it doesn't want it already, and fewer than
-    /// `MOST_WISHES` are wanted.
+    /// Whether it may be noted that a locator wants this nonce: it doesn't want it already, and
+    /// fewer than `MOST_WISHES` are wanted.
     pub fn may_want(&self, m: u64, rloc: &Addr, nonce: u32) -> bool
         ensures { result ≡ may_want m self.now.observed.wishes rloc.now nonce }
     {
         is_other(nonce, echo_wanted(m, rloc, &self.wishes)) && few_wishes(m, &self.wishes)
     }
 
-    /// A locator may be solicited for an EID: it wasn't for `SOLICIT_LIFE`, and fewer than
-    /// `MOST_SOLICITS` were.
+    /// Whether a locator may be solicited for an EID: it wasn't for `SOLICIT_LIFE`, and fewer than
+    /// `MOST_SOLICITS` solicitations count.
     pub fn may_solicit(&self, m: u64, rloc: &Addr, eid: &Eid) -> bool
         ensures { result ≡ may_solicit m self.now.observed.solicits rloc.now eid.now }
     {
         !is_solicited(m, rloc, eid, &self.solicits) && few_solicits(m, &self.solicits)
     }
 
-    /// Nothing speaks against a locator: the last probe that is judged was answered, and packets
-    /// came with the echo that was asked for. A probe is judged once it is answered or
-    /// `PROBE_WAIT` old, until it is `PROBE_LIFE` old; an echo from `ECHO_WAIT` to `START_LIFE`.
+    /// Whether a locator may be used, as far as probes and echoes show: the last judged probe was
+    /// answered, and packets came with the echo that was requested. A probe is judged once it is
+    /// answered or `PROBE_WAIT` old, until it is `PROBE_LIFE` old; an echo from `ECHO_WAIT` to
+    /// `START_LIFE`.
     pub fn up(&self, m: u64, rloc: &Addr) -> bool
         ensures { result ≡ is_up m self.now.observed rloc.now }
     {

@@ -1,4 +1,4 @@
-// Which solicitations count.
+// Solicitations in code: which of them count.
 ghost use Rattle.std.specs.Prelude.{◌≡◌, ◌≤◌, ◌+◌, ◌&&◌, count_by, length, nat_lt};
 ghost use Rattle.std.specs.List.{list_any};
 ghost use Rattle.locator_state.specs.Limits.{most_solicits};
@@ -16,7 +16,7 @@ fn solicit_counts(now: u64, solicit: &Solicitation) -> bool
     now.saturating_sub(solicit.moment) < SOLICIT_LIFE
 }
 
-/// A solicitation of that locator for that EID counts.
+/// Whether a solicitation of that locator for that EID counts.
 pub(crate) fn is_solicited(
     now: u64,
     rloc: &Addr,
@@ -35,14 +35,14 @@ pub(crate) fn is_solicited(
         .is_some()
 }
 
-/// One more locator may be solicited.
+/// Whether fewer than `MOST_SOLICITS` solicitations count.
 pub(crate) fn few_solicits(now: u64, solicits: &KeyedList<Solicitation>) -> bool
     ensures { result ≡ nat_lt (count_by (solicit_counts now) solicits.now.items) most_solicits }
 {
     solicits.count(now, SOLICIT_LIFE) < MOST_SOLICITS
 }
 
-/// Takes away what counts no longer at a moment.
+/// Takes away solicitations that count no longer at a moment.
 pub(crate) fn drop_solicits(now: u64, solicits: &mut KeyedList<Solicitation>)
     ensures items { solicits.new.items ≡ counting_solicits now solicits.old.items }
     ensures room { solicits.old.room ≤ solicits.new.room }

@@ -2,7 +2,7 @@
 use ip_headers::Addr;
 use mapping_records::Eid;
 
-/// A locator, and an EID whose mapping names it.
+/// A locator that may be probed, and an EID whose mapping names it.
 #[derive(Clone, Copy, Debug, PartialEq, Eq)]
 pub struct Target {
     pub rloc: Addr,

@@ -1,4 +1,4 @@
-// Which locators are probed first.
+// The order in which locators are probed.
 ghost use Rattle.std.specs.Prelude.{◌≡◌, ◌≤◌, ◌<◌, ◌||◌, length, slice_get, take, vec_len, vec_capacity};
 ghost use Rattle.std.specs.List.{position_or_len};
 ghost use Rattle.mapping_records.specs.Eids.{same_address};
@@ -9,7 +9,7 @@ use crate::Target;
 use crate::limits::{MOST_TARGETS, PROBE_REST};
 use ip_headers::{is_below, same_address};
 
-/// The last probe of a locator, if one counts, is `PROBE_REST` old.
+/// Whether the last probe of a locator is `PROBE_REST` old, or none counts.
 pub fn has_rested(now: u64, last: Option<u64>) -> bool
     ensures { result ≡ has_rested now last }
 {
@@ -19,7 +19,8 @@ pub fn has_rested(now: u64, last: Option<u64>) -> bool
     }
 }
 
-// The turn of a locator: those without a probe come first, the others by its moment.
+// The turn of a locator: those without a probe come first, the others by the moment of the last
+// one.
 fn turn_of(last: Option<u64>) -> u128
     ensures { result ≡ turn_of last }
 {
@@ -36,7 +37,7 @@ fn goes_before(a: &Target, b: &Target) -> bool
     turn < other || (turn == other && is_below(&a.rloc, &b.rloc))
 }
 
-// A locator has its place before another, or is that one.
+// Whether a locator has its place before another, or is that one.
 fn is_placed(target: &Target, next: &Target) -> bool
     ensures { result ≡ (same_address target.now.rloc next.now.rloc || goes_before target.now next.now) }
 {
@@ -57,7 +58,7 @@ fn place(target: &Target, targets: &[Target]) -> usize
     targets.len()
 }
 
-// A locator stands at that place.
+// Whether a locator stands at that place.
 fn is_there(target: &Target, index: usize, targets: &[Target]) -> bool
     ensures { result ≡ is_at target.now.rloc (slice_get targets.now index) }
 {
@@ -67,8 +68,8 @@ fn is_there(target: &Target, index: usize, targets: &[Target]) -> bool
     }
 }
 
-/// Puts a locator in its place among the first in order, of which there are at most so many. One
-/// that is there keeps its EID.
+/// Puts a locator in its place among the first `MOST_TARGETS` in order. A locator that is there
+/// already keeps its EID.
 pub fn offer(target: Target, first: &mut Vec<Target>)
     requires few { vec_len first.old ≤ most_targets }
     requires room { most_targets < vec_capacity first.old }

@@ -23,14 +23,14 @@ use Rattle.map_messages.specs.declared.message.MapRequest.{MapRequest}
 use Rattle.map_messages.specs.declared.plain.Plain.{Plain}
 use Rattle.map_messages.specs.declared.plain.Plain.TheVariants.{Request, Reply}
 
--- the rules of the word in front of the packet: S is clear, which would add authentication
+-- the rules of the word in front of the packet: it is there, and its bit S, which would add authentication, is clear
 abbrev pub word_rules : ℕ → List ℕ → List (Bool × Refused)
 word_rules base octets =
     (nat_le 4 (length octets), refused base Short)
     ∷ (not (bit 8 (slice_index octets 0)), refused base Authenticated)
     ∷ []
 
--- the packet is a whole UDP datagram
+-- whether a packet is a whole UDP datagram
 abbrev pub is_datagram : IpHeader → Bool
 is_datagram header = (protocol_of header == 17) && not (is_fragment header)
 
@@ -61,7 +61,7 @@ inner_header octets = header_at (drop 4 octets)
 abbrev pub inner_packet : List ℕ → List ℕ
 inner_packet octets = packet_in (drop 4 octets)
 
--- the octets of its datagram behind the UDP header
+-- the payload of the datagram inside, behind its UDP header
 abbrev pub inner_payload : List ℕ → List ℕ
 inner_payload octets =
     payload_in (inner_packet octets) (udp_of (inner_header octets) (inner_packet octets))
@@ -73,18 +73,18 @@ ecm_rules base octets =
     ++ (ip_rules (base + 4) (drop 4 octets)
     ++ carried_rules (base + 4) (inner_header octets) (inner_packet octets))
 
--- the octets of the word, the IP header, the UDP header and the message
+-- the octets of an Encapsulated Control Message: the word, the IP header, the UDP header and the message
 unfoldable pub ecm_size : List ℕ → ℕ
 ecm_size octets = 4 + payload_place (inner_header octets) + 8 + plain_size (inner_payload octets)
 
--- the message that is carried, of which exactly one is there
+-- a fact of the message that is carried: exactly one of Map-Request and Map-Reply is there, and the fact holds of it
 abbrev pub Carries : (Plain → Type 0) → Option MapRequest → Option MapReply → Type 0
 Carries Is (Some request) None = Is (Request request)
 Carries Is None (Some reply) = Is (Reply reply)
 Carries Is (Some request) (Some reply) = ⊥
 Carries Is None None = ⊥
 
--- the Encapsulated Control Message at the front
+-- the Encapsulated Control Message at the front of the octets
 pub record IsEcmAt (octets : List ℕ) (ecm : Ecm) : Type 0 where
   pub message_type : kind octets ≡ 8
   pub source : ecm.source ≡ source_of (inner_header octets)
@@ -92,7 +92,7 @@ pub record IsEcmAt (octets : List ℕ) (ecm : Ecm) : Type 0 where
   pub source_port : ecm.source_port ≡ (udp_of (inner_header octets) (inner_packet octets)).source
   pub carried : Carries (IsPlainAt (inner_payload octets)) ecm.request ecm.reply
 
--- the octets are this Encapsulated Control Message, and so many left over behind its layers
+-- the octets spell this Encapsulated Control Message, with so many left over behind its layers
 pub record SpellsEcm (octets : List ℕ) (ecm : Ecm) (left : ℕ) : Type 0 where
   pub head : 4 ≤ length octets
   pub message_type : kind octets ≡ 8
@@ -153,7 +153,7 @@ unfoldable pub control_header : Addr → Addr → ℕ → List ℕ
 control_header (V4 source) to size = canonical_v4 (control_v4 source (number to) size)
 control_header (V6 source) to size = canonical_v6 (control_v6 source (number to) size)
 
--- the octets of a message in its control packet, its checksum computed
+-- the octets of a message in its control packet, with a computed UDP checksum
 unfoldable pub control_packet : Addr → Addr → ℕ → List ℕ → List ℕ
 control_packet from to port payload =
     control_header from to (8 + length payload) ++ canonical_udp from to port 4342 payload true

@@ -10,7 +10,7 @@ items_rules rules size (suc count) base octets =
     rules base octets
     ++ items_rules rules size count (base + size octets) (drop (size octets) octets)
 
--- the octets of so many items
+-- the octets that so many items take
 abbrev pub items_size : (List ℕ → ℕ) → ℕ → List ℕ → ℕ
 items_size size zero octets = 0
 items_size size (suc count) octets = size octets + items_size size count (drop (size octets) octets)

@@ -1,7 +1,7 @@
 -- The limits of the messages that are written, and of the packets in which they go.
 use Rattle.std.specs.Prelude.{ℕ}
 
--- octets of a message that is written, at most (this router's choice)
+-- the most octets of a message that is written (this router's choice)
 abbrev pub most_message_octets : ℕ
 most_message_octets = 65000
 

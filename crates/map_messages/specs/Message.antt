@@ -13,15 +13,15 @@ use Rattle.map_messages.specs.declared.message.Message.TheVariants.{Request, Rep
 abbrev pub message_rules : ℕ → List ℕ → List (Bool × Refused)
 message_rules base octets = if is_ecm octets then ecm_rules base octets else plain_rules base octets
 
--- the octets that are part of the message and the headers in front of it
+-- the octets that are part of a message and of the headers in front of it
 abbrev pub message_size : List ℕ → ℕ
 message_size octets = if is_ecm octets then ecm_size octets else plain_size octets
 
--- the octets that are left over
+-- the octets that are left over behind a message
 abbrev pub left_over : List ℕ → ℕ
 left_over octets = length octets - message_size octets
 
--- the message at the front
+-- the message at the front of the octets
 abbrev pub IsMessageAt : List ℕ → Message → Type 0
 IsMessageAt octets (Request request) = IsRequestAt octets request
 IsMessageAt octets (Reply reply) = IsReplyAt octets reply

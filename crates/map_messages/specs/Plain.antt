@@ -9,7 +9,8 @@ use Rattle.map_messages.specs.Reply.{canonical_reply, reply_rules, reply_size, I
 use Rattle.map_messages.specs.declared.plain.Plain.{Plain}
 use Rattle.map_messages.specs.declared.plain.Plain.TheVariants.{Request, Reply}
 
--- the rules up to the nonce: a Map-Request, or a Map-Reply without S, by which it is authenticated
+-- the rules up to the nonce: the message is a Map-Request, or a Map-Reply whose bit S, which would add authentication,
+-- is clear
 abbrev pub front_rules : ℕ → List ℕ → List (Bool × Refused)
 front_rules base octets =
     (nat_le 4 (length octets), refused base Short)
@@ -24,21 +25,21 @@ plain_rules base octets =
     front_rules base octets
     ++ (if is_request octets then request_rules base octets else reply_rules base octets)
 
--- its octets
+-- the octets of a Map-Request or a Map-Reply
 abbrev pub plain_size : List ℕ → ℕ
 plain_size octets = if is_request octets then request_size octets else reply_size octets
 
--- the Map-Request or Map-Reply at the front
+-- the Map-Request or Map-Reply at the front of the octets
 abbrev pub IsPlainAt : List ℕ → Plain → Type 0
 IsPlainAt octets (Request request) = IsRequestAt octets request
 IsPlainAt octets (Reply reply) = IsReplyAt octets reply
 
--- the octets begin with it
+-- the octets begin with this Map-Request or Map-Reply of so many octets
 abbrev pub SpellsPlain : List ℕ → Plain → ℕ → Type 0
 SpellsPlain octets (Request request) size = SpellsRequest octets request size
 SpellsPlain octets (Reply reply) size = SpellsReply octets reply size
 
--- its one spelling
+-- the one spelling of a Map-Request or a Map-Reply
 abbrev pub canonical_plain : Plain → List ℕ
 canonical_plain (Request request) = canonical_request request
 canonical_plain (Reply reply) = canonical_reply reply

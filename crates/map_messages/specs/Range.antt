@@ -12,7 +12,7 @@ use Rattle.map_messages.specs.declared.message.Message.TheVariants.{Request, Rep
 use Rattle.map_messages.specs.declared.plain.Plain.{Plain}
 use Rattle.map_messages.specs.declared.plain.Plain.TheVariants as plain
 
--- an instance of 24 bits, 1 to 32 ITR-RLOCs, at most 255 EIDs
+-- a Map-Request that can be written: an instance of 24 bits, 1 to 32 ITR-RLOCs, at most 255 EIDs
 pub record InRangeRequest (request : MapRequest) : Type 0 where
   pub instance : IfSome request.source (λ source. source.0 < 2 ^ 24)
   pub some : 1 ≤ length request.replies_to
@@ -20,17 +20,17 @@ pub record InRangeRequest (request : MapRequest) : Type 0 where
   pub count : length request.eids ≤ 255
   pub each : IfSome request.piggyback InRangeRecord
 
--- at most 255 records
+-- a Map-Reply that can be written: at most 255 records
 pub record InRangeReply (reply : MapReply) : Type 0 where
   pub count : length reply.mappings ≤ 255
   pub each : All InRangeRecord reply.mappings
 
--- either of them
+-- a Map-Request or a Map-Reply that can be written
 abbrev pub InRangePlain : Plain → Type 0
 InRangePlain (plain.Request request) = InRangeRequest request
 InRangePlain (plain.Reply reply) = InRangeReply reply
 
--- addresses of one family
+-- an Encapsulated Control Message that can be written: its addresses are of one family
 pub record InRangeEcm (ecm : Ecm) : Type 0 where
   pub family : width ecm.source ≡ width ecm.dest
   pub requests : IfSome ecm.request InRangeRequest

@@ -7,11 +7,11 @@ use Rattle.map_messages.specs.Items.{items_rules, items_size, AreItems, SpellIte
 use Rattle.map_messages.specs.Words.{bit, kind, nonce_at}
 use Rattle.map_messages.specs.declared.message.MapReply.{MapReply}
 
--- how many records follow the nonce
+-- how many records a Map-Reply has
 abbrev pub mapping_count : List ℕ → ℕ
 mapping_count octets = slice_index octets 3
 
--- the rules of what follows the nonce
+-- the rules of a Map-Reply behind its nonce
 abbrev pub reply_rules : ℕ → List ℕ → List (Bool × Refused)
 reply_rules base octets =
     items_rules record_rules record_size (mapping_count octets) (base + 12) (drop 12 octets)
@@ -20,7 +20,7 @@ reply_rules base octets =
 abbrev pub reply_size : List ℕ → ℕ
 reply_size octets = 12 + items_size record_size (mapping_count octets) (drop 12 octets)
 
--- the Map-Reply at the front
+-- the Map-Reply at the front of the octets
 pub record IsReplyAt (octets : List ℕ) (reply : MapReply) : Type 0 where
   pub message_type : kind octets ≡ 2
   pub probe : reply.probe ≡ bit 8 (slice_index octets 0)
@@ -40,11 +40,11 @@ pub record SpellsReply (octets : List ℕ) (reply : MapReply) (size : ℕ) : Typ
   pub mappings : SpellItems SpellsRecord (drop 12 octets) reply.mappings records_octets
   pub end : size ≡ 12 + records_octets
 
--- the twelve octets up to the nonce
+-- the first twelve octets of a Map-Reply, up to and with its nonce
 abbrev pub reply_head : MapReply → List ℕ
 reply_head reply =
     (32 + flag reply.probe 8) ∷ 0 ∷ 0 ∷ length reply.mappings ∷ big_octets 8 reply.nonce
 
--- the one spelling of a Map-Reply, with all that is ignored 0
+-- the one spelling of a Map-Reply, its ignored bits 0
 abbrev pub canonical_reply : MapReply → List ℕ
 canonical_reply reply = reply_head reply ++ flat_map canonical_record reply.mappings

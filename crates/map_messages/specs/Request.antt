@@ -25,7 +25,7 @@ reply_addr_rules base octets =
     ∷ (nat_le (reply_addr_size octets) (length octets), refused (base + 2) Short)
     ∷ []
 
--- the ITR-RLOC at the front
+-- the ITR-RLOC at the front of the octets
 abbrev pub IsReplyAddr : List ℕ → Addr → Type 0
 IsReplyAddr octets addr = addr ≡ addr_at (big 2 octets 0) octets 2
 
@@ -39,11 +39,11 @@ asked_eid_rules base octets =
     (nat_le 2 (length octets), refused base Short)
     ∷ eid_prefix_rules (base + 2) (drop 2 octets) (slice_index octets 1) (base + 1)
 
--- the EID record at the front
+-- the EID record at the front of the octets
 abbrev pub IsAskedEid : List ℕ → Eid → Type 0
 IsAskedEid octets eid = IsEidPrefix (drop 2 octets) (slice_index octets 1) eid
 
--- the Source EID at the front, an instance and an address; none for AFI 0
+-- the Source EID at the front of the octets, an instance and an address; none for AFI 0
 abbrev pub source_at : List ℕ → Option (ℕ × Addr)
 source_at octets = if is_none octets then None else Some (instance_at octets, eid_addr octets)
 
@@ -103,7 +103,7 @@ piggyback_rules base octets =
     items_rules record_rules record_size (record_count octets)
     (base + record_place octets) (drop (record_place octets) octets)
 
--- the rules of what follows the nonce
+-- the rules of a Map-Request behind its nonce
 unfoldable pub request_rules : ℕ → List ℕ → List (Bool × Refused)
 request_rules base octets =
     source_rules base octets
@@ -120,13 +120,13 @@ abbrev pub AreAskedEids : List ℕ → List Eid → Type 0
 AreAskedEids octets eids =
     AreItems IsAskedEid asked_eid_size (eid_count octets) (drop (eids_place octets) octets) eids
 
--- the record of a Map-Request, if there is one
+-- the Map-Reply record of a Map-Request, if there is one
 abbrev pub IsPiggyback : List ℕ → Option Record → Type 0
 IsPiggyback octets mapping =
     AreItems IsRecordAt record_size (record_count octets) (drop (record_place octets) octets)
     (option_to_list mapping)
 
--- the Map-Request at the front
+-- the Map-Request at the front of the octets
 pub record IsRequestAt (octets : List ℕ) (request : MapRequest) : Type 0 where
   pub message_type : kind octets ≡ 1
   pub probe : request.probe ≡ bit 2 (slice_index octets 0)
@@ -194,14 +194,14 @@ abbrev pub canonical_source : Option (ℕ × Addr) → List ℕ
 canonical_source None = canonical_eid 0 None
 canonical_source (Some source) = canonical_eid source.0 (Some source.1)
 
--- the twelve octets up to the nonce
+-- the first twelve octets of a Map-Request, up to and with its nonce
 abbrev pub request_head : MapRequest → List ℕ
 request_head request =
     (16 + flag (is_some request.piggyback) 4 + flag request.probe 2 + flag request.smr 1)
     ∷ flag request.invoked 64 ∷ (length request.replies_to - 1) ∷ length request.eids
     ∷ big_octets 8 request.nonce
 
--- the one spelling of a Map-Request, with all that is ignored 0
+-- the one spelling of a Map-Request, its ignored bits 0
 abbrev pub canonical_request : MapRequest → List ℕ
 canonical_request request =
     request_head request

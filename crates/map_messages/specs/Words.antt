@@ -2,23 +2,23 @@
 use Rattle.std.specs.Prelude.{ℕ, ◌/◌, ◌%◌, ◌==◌, Bool, List, slice_index}
 use Rattle.octets.specs.Numbers.{big}
 
--- the type, in the first four bits
+-- the type of a message, in its first four bits
 abbrev pub kind : List ℕ → ℕ
 kind octets = slice_index octets 0 / 16
 
--- it is a Map-Request
+-- whether a message is a Map-Request
 abbrev pub is_request : List ℕ → Bool
 is_request octets = kind octets == 1
 
--- it is a Map-Reply
+-- whether a message is a Map-Reply
 abbrev pub is_reply : List ℕ → Bool
 is_reply octets = kind octets == 2
 
--- it is an Encapsulated Control Message
+-- whether a message is an Encapsulated Control Message
 abbrev pub is_ecm : List ℕ → Bool
 is_ecm octets = kind octets == 8
 
--- the bit of that weight is set in an octet
+-- whether the bit of that weight is set in an octet
 abbrev pub bit : ℕ → ℕ → Bool
 bit weight octet = octet / weight % 2 == 1
 

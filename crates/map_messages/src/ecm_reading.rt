@@ -53,7 +53,7 @@ fn word_refusal(octets: &[u8], base: u32) -> Option<Refused>
     None
 }
 
-// The datagram of a packet with the message in it, and the octets of the message.
+// The datagram of a packet with the message in it, and the octets of that message.
 fn read_carried(alloc: Global, packet: &IpPacket) -> Result<(Ecm, u32), MessageFault>
     ensures refused { let rules = carried_rules packet.now.base packet.now.header packet.now.octets.now in
         RefusesBy (first_failing rules) result }

@@ -44,7 +44,7 @@ fn carried_octets(alloc: Global, ecm: &Ecm) -> Result<Octets, NoMemory>
     Ok(octets)
 }
 
-// A message in its packet.
+// Appends a message in its packet: IP header, UDP header, and the message.
 #[tactic(auto, unfolding(crate::specs::Control::control_packet))]
 fn write_packet(
     from: Addr,

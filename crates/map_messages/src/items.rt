@@ -9,10 +9,11 @@ use crate::{MessageFault, NoMemory, Octets};
 use octets::Items;
 use std::alloc::Global;
 
-/// The octets of the least item, an ITR-RLOC: a count that lies takes no memory that isn't sent.
+/// The octets of the least item, an ITR-RLOC. They bound the room for items, so that a wrong count
+/// reserves no more than the octets can hold.
 const LEAST: usize = 6;
 
-/// What stands in a message as often as a count says.
+/// An item that stands in a message as often as a count states.
 pub(crate) trait Item: Drop {
     ghost rules: { ℕ → List ℕ → List (Bool × Refused) };
 
@@ -39,7 +40,7 @@ pub(crate) trait Item: Drop {
         ensures { OnOk result (out.new ≡ out.old ++ canonical self.now) };
 }
 
-/// So many items at a place of the octets, and where they end.
+/// So many items at a place of the octets, and the place where they end.
 pub(crate) fn read_items<T: Item>(
     alloc: Global,
     count: u8,

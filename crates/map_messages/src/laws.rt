@@ -1,17 +1,18 @@
-// Laws of what is read and written. Each function only states its law.
+// Laws of reading and writing messages. Each function has an empty body and states one law.
 ghost use Rattle.std.specs.Prelude.{◌≡◌, ◌++◌, ℕ, List, None, length};
 ghost use Rattle.octets.specs.Rules.{first_failing};
 ghost use Rattle.map_messages.specs.Message.{canonical_message, left_over, message_rules, IsMessageAt, SpellsMessage};
 ghost use Rattle.map_messages.specs.Range.{IsLawful};
 ghost use Rattle.map_messages.specs.declared.message.Message.{Message};
 
-/// What is written of a message spells it, whatever follows, and what follows is left over.
+/// Law: the written octets of a message spell it, whatever follows, and the octets that follow are
+/// left over.
 pub fn canonical_message_spells()
     ensures { (message : Message) (rest : List ℕ) → IsLawful message
         → SpellsMessage (canonical_message message ++ rest) message (length rest) }
 {}
 
-/// Octets that obey the rules spell exactly one message, with one number of octets left over.
+/// Law: octets that obey the rules spell exactly one message, with one number of octets left over.
 pub fn one_message_is_spelled()
     ensures some { (base : ℕ) (octets : List ℕ) → first_failing (message_rules base octets) ≡ None
         → (message : Message) × IsMessageAt octets message }
@@ -22,7 +23,7 @@ pub fn one_message_is_spelled()
         → SpellsMessage octets a m → SpellsMessage octets b n → (a ≡ b) × (m ≡ n) }
 {}
 
-/// A message that was written is read again, and just what follows is left over.
+/// Law: a message that was written is read again, and just the octets that follow are left over.
 pub fn written_message_is_read_again()
     ensures rules { (base : ℕ) (message : Message) (rest : List ℕ) → IsLawful message
         → first_failing (message_rules base (canonical_message message ++ rest)) ≡ None }

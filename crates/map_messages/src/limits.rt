@@ -6,13 +6,13 @@ ghost use Rattle.map_messages.specs.declared.limits.TheConstants.{CONTROL_HOPS, 
 /// The most octets of a message that can be written.
 pub const MOST_MESSAGE_OCTETS: usize = 65_000;
 
-/// Octets that are made room for before a message is written: most have no more.
+/// How many octets are reserved before a message is written: most messages have no more.
 pub(crate) const FIRST_ROOM: usize = 256;
 
 /// The TTL or Hop Limit of the packets that this router makes.
 pub const CONTROL_HOPS: u8 = 64;
 
-/// The limits are the defined ones.
+/// Law: the constants are the defined numbers.
 pub fn limits_are()
     ensures octets { MOST_MESSAGE_OCTETS ≡ most_message_octets }
     ensures hops { CONTROL_HOPS ≡ control_hops }

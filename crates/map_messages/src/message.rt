@@ -22,18 +22,18 @@ pub type Records = Items<Record>;
 /// A Map-Request (RFC 9301, section 5.2).
 #[derive(Debug, Drop)]
 pub struct MapRequest {
-    /// P: it probes the locator to which it goes.
+    /// P: the Map-Request probes the locator to which it goes.
     pub probe: bool,
-    /// S: it solicits a Map-Request of the receiver.
+    /// S: the Map-Request is an SMR, which solicits a Map-Request of its receiver.
     pub smr: bool,
-    /// s: it was solicited.
+    /// s: an SMR led to the Map-Request.
     pub invoked: bool,
     pub nonce: u64,
     /// The instance, below 2^24, and the address of the Source EID.
     pub source: Option<(u32, Addr)>,
-    /// The ITR-RLOCs, 1 to 32: where replies may go.
+    /// The ITR-RLOCs, 1 to 32: the addresses to which a reply may go.
     pub replies_to: Addrs,
-    /// The EIDs that are asked for, at most 255.
+    /// The EIDs for which the Map-Request asks, at most 255.
     pub eids: Eids,
     /// M: a record of the sender's own mapping.
     pub piggyback: Option<Record>,
@@ -42,11 +42,11 @@ pub struct MapRequest {
 /// A Map-Reply (RFC 9301, section 5.4).
 #[derive(Debug, Drop)]
 pub struct MapReply {
-    /// P: it answers a probe.
+    /// P: the Map-Reply answers a probe.
     pub probe: bool,
-    /// That of the Map-Request.
+    /// The nonce of the Map-Request that is answered.
     pub nonce: u64,
-    /// At most 255.
+    /// The mapping records, at most 255.
     pub mappings: Records,
 }
 
@@ -54,7 +54,7 @@ pub struct MapReply {
 /// have carried it. Exactly one of the two messages is there.
 #[derive(Debug, Drop)]
 pub struct Ecm {
-    /// Of the inner packet, as is `dest`.
+    /// The source address of the inner packet; `dest` is its destination.
     pub source: Addr,
     pub dest: Addr,
     /// The inner UDP source port.

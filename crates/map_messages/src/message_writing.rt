@@ -11,8 +11,8 @@ use crate::request_writing::write_request;
 use crate::{Message, NoMemory, Octets};
 use std::alloc::Global;
 
-/// Appends a message, with all that is ignored 0. The packet in an Encapsulated Control Message has
-/// TTL `CONTROL_HOPS`, no DSCP and ECN, and its checksums. Without memory `out` stays as it was.
+/// Appends a message, its ignored bits 0. The packet in an Encapsulated Control Message has TTL
+/// `CONTROL_HOPS`, no DSCP and ECN, and its checksums. Without memory `out` stays as it was.
 pub fn write_message(alloc: Global, message: &Message, out: &mut Octets) -> Result<(), NoMemory>
     requires range { InRange message.now }
     requires short { length (canonical_message message.now) ≤ most_message_octets }

@@ -1,4 +1,4 @@
-// What stands at fixed places.
+// Fields at fixed places of a message.
 ghost use Rattle.std.specs.Prelude.{◌≡◌, ◌≤◌, length};
 ghost use Rattle.map_messages.specs.Words.{bit, kind, nonce_at};
 
@@ -12,7 +12,7 @@ pub(crate) fn kind(octets: &[u8]) -> u8
     octets[0] / 16
 }
 
-/// The bit of that weight is set. The weight isn't 0.
+/// Whether the bit of that weight is set in an octet. The weight isn't 0.
 pub(crate) fn bit(weight: u8, octet: u8) -> bool
     requires { 1 ≤ weight }
     ensures { result ≡ bit weight octet }

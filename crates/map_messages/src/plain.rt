@@ -1,4 +1,4 @@
-// What an Encapsulated Control Message may carry.
+// Messages that an Encapsulated Control Message may carry.
 use crate::{MapReply, MapRequest};
 
 /// A message that isn't encapsulated.

@@ -14,7 +14,7 @@ use mapping_records::refused;
 use octets::{Refused, Why};
 use std::alloc::Global;
 
-/// The first of the rules up to the nonce that fails.
+/// The first failing rule among those up to the nonce, or None.
 pub(crate) fn front_refusal(octets: &[u8], base: u32) -> Option<Refused>
     requires { base + length octets.now < 2 ^ 32 }
     ensures { result ≡ first_failing (front_rules base octets.now) }
@@ -35,7 +35,7 @@ pub(crate) fn front_refusal(octets: &[u8], base: u32) -> Option<Refused>
     None
 }
 
-/// The Map-Reply whose nonce is there, and the octets consumed.
+/// The Map-Reply at the front of octets that hold its nonce, and the octets consumed.
 pub(crate) fn read_reply(
     alloc: Global,
     octets: &[u8],

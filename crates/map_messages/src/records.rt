@@ -30,7 +30,8 @@ impl Item for Record {
     }
 }
 
-/// The record at its place where one follows, and where it ends.
+/// The Map-Reply record of a Map-Request, which is there where M is set, and the place where the
+/// Map-Request ends.
 #[tactic(auto, unfolding(crate::specs::Request::request_size))]
 pub(crate) fn read_piggyback(
     alloc: Global,
@@ -56,7 +57,8 @@ pub(crate) fn read_piggyback(
     Ok((Some(mapping), at + size))
 }
 
-/// Appends the record, if there is one. Without memory a part of it stays.
+/// Appends the Map-Reply record of a Map-Request, if there is one. Without memory a part of it
+/// stays.
 pub(crate) fn write_piggyback(
     alloc: Global,
     mapping: &Option<Record>,

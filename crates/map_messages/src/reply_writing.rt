@@ -16,7 +16,7 @@ pub fn write_reply(alloc: Global, reply: &MapReply, out: &mut Octets) -> Result<
     write_items(alloc, reply.mappings.as_slice(), out)
 }
 
-// The twelve octets up to the nonce.
+// The first twelve octets of a Map-Reply, up to and with its nonce.
 fn head(reply: &MapReply) -> [u8; 12]
     requires { InRangeReply reply.now }
     ensures { result ≡ reply_head reply.now }

@@ -15,7 +15,7 @@ use mapping_records::read_eid;
 use octets::Refused;
 use std::alloc::Global;
 
-/// The Map-Request whose nonce is there, and the octets consumed.
+/// The Map-Request at the front of octets that hold its nonce, and the octets consumed.
 pub(crate) fn read_request(
     alloc: Global,
     octets: &[u8],
@@ -47,7 +47,7 @@ pub(crate) fn read_request(
     Ok((request, end))
 }
 
-// The Source EID, and where it ends.
+// The Source EID, and the place where it ends.
 #[tactic(auto, unfolding(crate::specs::Request::addrs_place))]
 fn read_source(octets: &[u8], base: u32) -> Result<(Option<(u32, Addr)>, u32), Refused>
     requires room { base + length octets.now < 2 ^ 32 }
@@ -66,7 +66,7 @@ fn read_source(octets: &[u8], base: u32) -> Result<(Option<(u32, Addr)>, u32), R
     }
 }
 
-// The ITR-RLOCs at their place, and where they end.
+// The ITR-RLOCs at their place, and the place where they end.
 #[tactic(auto, unfolding(crate::specs::Request::eids_place))]
 fn read_replies_to(
     alloc: Global,
@@ -86,7 +86,7 @@ fn read_replies_to(
     read_items(alloc, octets[2] % 32 + 1, octets, at, base)
 }
 
-// The EID records at their place, and where they end.
+// The EID records at their place, and the place where they end.
 #[tactic(auto, unfolding(crate::specs::Request::record_place))]
 fn read_eids(alloc: Global, octets: &[u8], at: u32, base: u32) -> Result<(Eids, u32), MessageFault>
     requires room { base + length octets.now < 2 ^ 32 }

@@ -25,7 +25,7 @@ pub(crate) fn write_request(
     write_piggyback(alloc, &request.piggyback, out)
 }
 
-// The twelve octets up to the nonce.
+// The first twelve octets of a Map-Request, up to and with its nonce.
 fn head(request: &MapRequest) -> [u8; 12]
     requires { InRangeRequest request.now }
     ensures { result ≡ request_head request.now }

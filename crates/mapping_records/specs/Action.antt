@@ -1,4 +1,4 @@
--- What becomes of packets to a mapping without locators, RFC 9301 section 5.4.
+-- Actions of mappings without locators, RFC 9301 section 5.4.
 use Rattle.std.specs.Prelude.{ℕ, ◌==◌, if◌then◌else◌}
 use Rattle.mapping_records.specs.declared.action.Action.{Action}
 use Rattle.mapping_records.specs.declared.action.Action.TheVariants.{NoAction, NativelyForward, SendMapRequest, DropNoReason, DropPolicy, DropAuth}

@@ -12,7 +12,7 @@ use Rattle.ip_headers.specs.declared.addr.Addr.TheVariants.{V4, V6}
 abbrev pub refused : ℕ → Why → Refused
 refused place why = record { layer = Message; place = place; why = why }
 
--- an address follows that AFI
+-- whether an address follows that AFI
 abbrev pub has_addr : ℕ → Bool
 has_addr afi = (afi == 1) || (afi == 2)
 
@@ -33,7 +33,7 @@ afi_of (V6 n) = 2
 abbrev pub canonical_addr : Addr → List ℕ
 canonical_addr addr = big_octets 2 (afi_of addr) ++ addr_octets addr
 
--- how many octets an address has
+-- how many octets an address has, without its AFI
 abbrev pub octets_of : Addr → ℕ
 octets_of (V4 n) = 4
 octets_of (V6 n) = 16

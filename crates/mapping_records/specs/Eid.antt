@@ -11,11 +11,11 @@ use Rattle.mapping_records.specs.Address.{refused, has_addr, addr_size, addr_at,
 abbrev pub afi : List ℕ → ℕ
 afi octets = big 2 octets 0
 
--- there is no EID
+-- whether there is no EID: the AFI is 0
 abbrev pub is_none : List ℕ → Bool
 is_none octets = afi octets == 0
 
--- the address stands in an LCAF, behind its own AFI
+-- whether the address stands in an LCAF, behind its own AFI
 abbrev pub is_lcaf : List ℕ → Bool
 is_lcaf octets = afi octets == 16387
 
@@ -27,12 +27,12 @@ inner_afi octets = big 2 octets 12
 abbrev pub plain_size : List ℕ → ℕ
 plain_size octets = 2 + addr_size (afi octets)
 
--- the address is there
+-- the rule of an AFI and its address: the address is there
 abbrev pub plain_rules : ℕ → List ℕ → List (Bool × Refused)
 plain_rules base octets =
     (is_none octets || nat_le (plain_size octets) (length octets), refused (base + 2) Short) ∷ []
 
--- an LCAF is of type 2, has the length of its address, and an instance of 24 bits
+-- the rules of an LCAF: it is of type 2, has the length of its address, and an instance of 24 bits
 abbrev pub lcaf_rules : ℕ → List ℕ → List (Bool × Refused)
 lcaf_rules base octets =
     (nat_le 8 (length octets), refused (base + 2) Short)
@@ -55,12 +55,12 @@ eid_rules base octets =
 abbrev pub instance_at : List ℕ → ℕ
 instance_at octets = if is_lcaf octets then big 4 octets 8 else 0
 
--- the address, if an EID is there
+-- the address of an EID, where one is there
 abbrev pub eid_addr : List ℕ → Addr
 eid_addr octets =
     if is_lcaf octets then addr_at (inner_afi octets) octets 14 else addr_at (afi octets) octets 2
 
--- the octets of the EID
+-- the octets of an EID, from its AFI on
 abbrev pub eid_size : List ℕ → ℕ
 eid_size octets =
     if is_lcaf octets then 14 + addr_size (inner_afi octets)
@@ -77,14 +77,14 @@ abbrev pub InRangeEid : ℕ → Option Addr → Type 0
 InRangeEid iid None = iid ≡ 0
 InRangeEid iid (Some addr) = (iid < 2 ^ 24) × IsAddr addr
 
--- the octets begin with AFI 0
+-- the octets begin with AFI 0: there is no EID
 pub record SpellsNone (octets : List ℕ) (iid size : ℕ) : Type 0 where
   pub whole : size ≤ length octets
   pub none : afi octets ≡ 0
   pub instance : iid ≡ 0
   pub end : size ≡ 2
 
--- the octets begin with the AFI and the address
+-- the octets begin with the AFI and the address of an EID of instance 0
 pub record SpellsPlain (octets : List ℕ) (iid : ℕ) (host : Addr) (size : ℕ) : Type 0 where
   pub whole : size ≤ length octets
   pub address : SpellsAddr octets 0 host
@@ -115,7 +115,7 @@ canonical_lcaf iid host =
     ++ (0 ∷ 0 ∷ 2 ∷ 0
     ∷ (big_octets 2 (6 + octets_of host) ++ (big_octets 4 iid ++ canonical_addr host)))
 
--- the one spelling: an LCAF exactly where the instance isn't 0, and what is ignored 0
+-- the one spelling of an EID: an LCAF exactly where the instance isn't 0, ignored bits 0
 abbrev pub canonical_eid : ℕ → Option Addr → List ℕ
 canonical_eid iid None = 0 ∷ 0 ∷ []
 canonical_eid iid (Some host) = if iid == 0 then canonical_addr host else canonical_lcaf iid host

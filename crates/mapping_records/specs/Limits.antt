@@ -1,11 +1,11 @@
 -- The limits of mappings, and the default of their TTL.
 use Rattle.std.specs.Prelude.{ℕ}
 
--- locators of one mapping, at most (this router's choice; RFC 9301 section 5.4 has room for 255)
+-- the most locators of one mapping (this router's choice; RFC 9301 section 5.4 has room for 255)
 abbrev pub most_locators : ℕ
 most_locators = 32
 
--- mappings that are kept or set, at most (this router's choice)
+-- the most mappings that are kept or set (this router's choice)
 abbrev pub most_mappings : ℕ
 most_mappings = 65536
 

@@ -45,7 +45,7 @@ locators_rules (suc count) base octets =
     locator_rules base octets
     ++ locators_rules count (base + locator_size octets) (drop (locator_size octets) octets)
 
--- so many locators
+-- so many locators at the front, one after another
 abbrev pub locators_at : ℕ → List ℕ → List Locator
 locators_at zero octets = []
 locators_at (suc count) octets =
@@ -57,7 +57,7 @@ locators_size zero octets = 0
 locators_size (suc count) octets =
     locator_size octets + locators_size count (drop (locator_size octets) octets)
 
--- the octets of a locator up to its address
+-- the first eight octets of a locator, up to its address
 abbrev pub locator_head : Locator → ℕ → List ℕ
 locator_head locator afi =
     locator.priority ∷ locator.weight ∷ locator.m_priority ∷ locator.m_weight
@@ -68,11 +68,11 @@ locator_head locator afi =
 abbrev pub canonical_locator : Locator → List ℕ
 canonical_locator locator = locator_head locator (afi_of locator.addr) ++ addr_octets locator.addr
 
--- locators, one after another
+-- the one spelling of locators, one after another
 abbrev pub canonical_locators : List Locator → List ℕ
 canonical_locators locators = flat_map canonical_locator locators
 
--- the octets that locators need
+-- the octets that locators take
 abbrev pub octets_of_locators : List Locator → ℕ
 octets_of_locators [] = 0
 octets_of_locators (locator ∷ locators) = 8 + octets_of locator.addr + octets_of_locators locators
@@ -96,7 +96,7 @@ SpellsLocators octets (locator ∷ locators) =
     SpellsLocator octets locator
     × SpellsLocators (drop (8 + octets_of locator.addr) octets) locators
 
--- the numbers of a locator fit
+-- the numbers of a locator fit their fields
 pub record InRangeLocator (locator : Locator) : Type 0 where
   pub addr : IsAddr locator.addr
   pub priority : locator.priority < 2 ^ 8
@@ -104,7 +104,7 @@ pub record InRangeLocator (locator : Locator) : Type 0 where
   pub m_priority : locator.m_priority < 2 ^ 8
   pub m_weight : locator.m_weight < 2 ^ 8
 
--- the numbers of each locator fit
+-- the numbers of each locator fit their fields
 abbrev pub AreLocators : List Locator → Type 0
 AreLocators [] = Unit {0}
 AreLocators (locator ∷ locators) = InRangeLocator locator × AreLocators locators

@@ -13,7 +13,7 @@ use Rattle.mapping_records.specs.declared.fault.RecordFault.{RecordFault}
 use Rattle.mapping_records.specs.declared.fault.RecordFault.TheVariants as fault
 use Rattle.mapping_records.specs.declared.record.Record.{Record}
 
--- an EID is there, and its family has as many bits as its mask length says, which stands at a place
+-- the rules of a mask length, which stands at a place: an EID is there, and its family has at least so many bits
 abbrev pub mask_rules : ℕ → List ℕ → ℕ → ℕ → List (Bool × Refused)
 mask_rules base octets mask place =
     (not (is_none octets), refused base Afi)
@@ -24,13 +24,13 @@ mask_rules base octets mask place =
 abbrev pub eid_prefix_rules : ℕ → List ℕ → ℕ → ℕ → List (Bool × Refused)
 eid_prefix_rules base octets mask place = eid_rules base octets ++ mask_rules base octets mask place
 
--- the EID at the front with that mask length, its further bits cleared
+-- the EID prefix at the front with that mask length, its further bits cleared
 pub record IsEidPrefix (octets : List ℕ) (mask : ℕ) (eid : Eid) : Type 0 where
   pub instance : eid.iid ≡ instance_at octets
   pub addr : eid.prefix.addr ≡ cleared (eid_addr octets) mask
   pub len : eid.prefix.len ≡ mask
 
--- the octets begin with this EID of so many octets; its bits past the mask are free
+-- the octets begin with this EID prefix of so many octets; its bits past the mask are free
 pub record SpellsEidPrefix (octets : List ℕ) (mask : ℕ) (eid : Eid) (size : ℕ) : Type 0 where
   pub mask_length : mask ≡ eid.prefix.len
   pub host : Addr
@@ -38,11 +38,11 @@ pub record SpellsEidPrefix (octets : List ℕ) (mask : ℕ) (eid : Eid) (size : 
   pub fits : eid.prefix.len ≤ width host
   pub cleared_host : eid.prefix.addr ≡ cleared host eid.prefix.len
 
--- where the locators begin: behind ten octets and the EID
+-- the place where the locators of a record begin: behind ten octets and the EID
 abbrev pub locators_place : List ℕ → ℕ
 locators_place octets = 10 + eid_size (drop 10 octets)
 
--- how many locators follow
+-- how many locators a record has
 abbrev pub locator_count : List ℕ → ℕ
 locator_count octets = slice_index octets 4
 
@@ -70,7 +70,7 @@ record_size octets =
     locators_place octets
     + locators_size (locator_count octets) (drop (locators_place octets) octets)
 
--- a reader refuses by the first rule that fails, want of memory apart
+-- the result of a reader that refuses by the first rule that fails, unless an allocation is refused
 abbrev pub RefusesBy : {T : Type 0} → Option Refused → Result T RecordFault → Type 0
 RefusesBy refusal (Ok read) = refusal ≡ None
 RefusesBy refusal (Err (fault.Refused refused)) = refusal ≡ Some refused
@@ -82,7 +82,7 @@ pub record InRange (mapping : Record) : Type 0 where
   pub version : mapping.version ≤ 4095
   pub count : length mapping.locators ≤ 255
 
--- the ten octets before the EID
+-- the first ten octets of a record, up to its EID
 abbrev pub canonical_head : Record → List ℕ
 canonical_head mapping =
     big_octets 4 mapping.ttl
@@ -90,7 +90,7 @@ canonical_head mapping =
     ∷ (mapping.action * 32 + flag mapping.authoritative 16) ∷ 0
     ∷ big_octets 2 mapping.version)
 
--- the one spelling of a record, with all that is ignored 0
+-- the one spelling of a record, its ignored bits 0
 abbrev pub canonical_record : Record → List ℕ
 canonical_record mapping =
     canonical_head mapping

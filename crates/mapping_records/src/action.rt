@@ -1,19 +1,19 @@
-// What becomes of packets to a mapping without locators.
+// Actions of mappings without locators.
 
 /// The action of a mapping without locators (RFC 9301, section 5.4).
 #[derive(Clone, Copy, Debug, PartialEq, Eq)]
 pub enum Action {
-    /// 0: nothing is said of them.
+    /// 0: no action is stated.
     NoAction,
-    /// 1: they are forwarded past the tunnels.
+    /// 1: packets are forwarded natively, past the tunnels.
     NativelyForward,
-    /// 2: a Map-Request is due.
+    /// 2: a Map-Request is to be sent.
     SendMapRequest,
-    /// 3: they are dropped, for no stated reason.
+    /// 3: packets are dropped, for no stated reason.
     DropNoReason,
-    /// 4: they are dropped by policy.
+    /// 4: packets are dropped by policy.
     DropPolicy,
-    /// 5: they are dropped for want of authentication.
+    /// 5: packets are dropped for want of authentication.
     DropAuth,
 }
 

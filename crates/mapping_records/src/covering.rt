@@ -1,4 +1,4 @@
-// Which EIDs cover which, and the longest of a list that does.
+// Which EIDs cover which, and the longest EID of a list that covers an address.
 ghost use Rattle.std.specs.Prelude.{◌≡◌, option_map};
 ghost use Rattle.ip_headers.specs.Addr.{width};
 ghost use Rattle.mapping_records.specs.Eids.{covers_eid, covers_prefix, longer, longest};
@@ -24,7 +24,8 @@ impl HasEid for Record {
 }
 
 impl Eid {
-    /// Same instance, and the prefix of `self` covers that of `other`. Each EID covers itself.
+    /// Whether both EIDs are of one instance, and the prefix of `self` covers that of `other`. Each
+    /// EID covers itself.
     pub fn covers(&self, other: &Eid) -> bool
         ensures { result ≡ covers_eid self.now other.now }
     {
@@ -38,7 +39,8 @@ impl Eid {
     }
 }
 
-/// The item with the longest EID prefix of that instance that covers the address.
+/// The item with the longest EID prefix of that instance that covers the address, or None where
+/// none covers it.
 pub fn longest<'a, T: HasEid>(items: &'a [T], iid: u32, addr: Addr) -> Option<&'a T>
     ensures { option_map (λ item. item.now) result ≡ longest T.eid items.now iid addr (width addr) }
 {

@@ -1,4 +1,4 @@
-// Laws of what is read and written. Each function only states its law.
+// Laws of reading and writing EIDs and records. Each function has an empty body and states one law.
 ghost use Rattle.std.specs.Prelude.{◌≡◌, ◌↔◌, ◌++◌, ℕ, List, All, Option, None, IfSome, IsFalse, length};
 ghost use Rattle.octets.specs.Rules.{first_failing};
 ghost use Rattle.ip_headers.specs.declared.addr.Addr.{Addr};
@@ -8,13 +8,13 @@ ghost use Rattle.mapping_records.specs.Eid.{canonical_eid, eid_at, eid_rules, In
 ghost use Rattle.mapping_records.specs.Eids.{covers_prefix, longest, IsLongest};
 ghost use Rattle.mapping_records.specs.declared.eid.Eid.{Eid};
 
-/// What is written of an EID spells it, whatever follows.
+/// Law: the written octets of an EID spell it, whatever follows.
 pub fn canonical_eid_spells()
     ensures { (iid : ℕ) (host : Option Addr) (rest : List ℕ) → InRangeEid iid host
         → SpellsEid (canonical_eid iid host ++ rest) (iid, host, length (canonical_eid iid host)) }
 {}
 
-/// Octets that obey the rules begin with exactly one EID, of one size.
+/// Law: octets that obey the rules begin with exactly one EID, of one size.
 pub fn one_eid_is_spelled()
     ensures spells { (base : ℕ) (octets : List ℕ) → first_failing (eid_rules base octets) ≡ None
         → SpellsEid octets (eid_at octets) }
@@ -22,7 +22,7 @@ pub fn one_eid_is_spelled()
         → SpellsEid octets a → SpellsEid octets b → a ≡ b }
 {}
 
-/// An EID that was written is read again, with exactly its octets consumed, whatever follows.
+/// Law: an EID that was written is read again, with exactly its octets consumed, whatever follows.
 pub fn written_eid_is_read_again()
     ensures rules { (base iid : ℕ) (host : Option Addr) (rest : List ℕ) → InRangeEid iid host
         → first_failing (eid_rules base (canonical_eid iid host ++ rest)) ≡ None }
@@ -30,13 +30,13 @@ pub fn written_eid_is_read_again()
         → eid_at (canonical_eid iid host ++ rest) ≡ (iid, host, length (canonical_eid iid host)) }
 {}
 
-/// What is written of a record spells it, whatever follows.
+/// Law: the written octets of a record spell it, whatever follows.
 pub fn canonical_record_spells()
     ensures { (mapping : Record) (rest : List ℕ) → IsLawful mapping
         → SpellsRecord (canonical_record mapping ++ rest) mapping (length (canonical_record mapping)) }
 {}
 
-/// Octets that obey the rules begin with exactly one record, of one size.
+/// Law: octets that obey the rules begin with exactly one record, of one size.
 pub fn one_record_is_spelled()
     ensures some { (base : ℕ) (octets : List ℕ) → first_failing (record_rules base octets) ≡ None
         → (mapping : Record) × IsRecordAt octets mapping }
@@ -47,7 +47,8 @@ pub fn one_record_is_spelled()
         → SpellsRecord octets a m → SpellsRecord octets b n → (a ≡ b) × (m ≡ n) }
 {}
 
-/// A record that was written is read again, with exactly its octets consumed, whatever follows.
+/// Law: a record that was written is read again, with exactly its octets consumed, whatever
+/// follows.
 pub fn written_record_is_read_again()
     ensures rules { (base : ℕ) (mapping : Record) (rest : List ℕ) → IsLawful mapping
         → first_failing (record_rules base (canonical_record mapping ++ rest)) ≡ None }
@@ -57,8 +58,8 @@ pub fn written_record_is_read_again()
         → record_size (canonical_record mapping ++ rest) ≡ length (canonical_record mapping) }
 {}
 
-/// The longest is one of the items, and covers; none that covers is longer. There is none exactly
-/// where none of them covers.
+/// Law: the longest item that covers a prefix is one of the items, and covers it; no item that
+/// covers it is longer. There is no longest one exactly where no item covers the prefix.
 pub fn no_longer_one_covers<T>()
     ensures some { (key : T → Eid) (items : List T) (iid : ℕ) (addr : Addr) (len : ℕ)
         → IfSome (longest key items iid addr len) (IsLongest key items iid addr len) }

@@ -12,7 +12,7 @@ pub const MOST_MAPPINGS: usize = 65_536;
 /// The minutes for which a mapping holds whose record leaves its TTL to the receiver.
 pub const DEFAULT_MINUTES: u32 = 1440;
 
-/// The limits are the defined ones.
+/// Law: the constants are the defined numbers.
 pub fn limits_are()
     ensures locators { MOST_LOCATORS ≡ most_locators }
     ensures mappings { MOST_MAPPINGS ≡ most_mappings }

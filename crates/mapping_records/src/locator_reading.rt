@@ -10,7 +10,8 @@ use crate::{Locator, Locators, RecordFault};
 use octets::{Refused, Why, big_16};
 use std::alloc::Global;
 
-/// The octets of the least locator: a count that lies takes no memory that isn't sent.
+/// The octets of the least locator. They bound the room for locators, so that a wrong count
+/// reserves no more than the octets can hold.
 const LEAST: usize = 12;
 
 /// So many locators at the front of the octets, and the octets consumed.

@@ -8,10 +8,10 @@ use ip_headers::Addr;
 use octets::{NoMemory, Octets};
 use std::alloc::Global;
 
-// Octets that are made room for before a record is written: most have no more.
+// How many octets are reserved before a record is written: most records have no more.
 const FIRST_ROOM: usize = 64;
 
-/// Appends a record, with all that is ignored 0. Without memory `out` stays as it was.
+/// Appends a record, its ignored bits 0. Without memory `out` stays as it was.
 pub fn write_record(alloc: Global, mapping: &Record, out: &mut Octets) -> Result<(), NoMemory>
     requires { InRange mapping.now }
     ensures ok { OnOk result (out.new ≡ out.old ++ canonical_record mapping.now) }
@@ -24,7 +24,7 @@ pub fn write_record(alloc: Global, mapping: &Record, out: &mut Octets) -> Result
     out.append(octets.as_slice())
 }
 
-// The ten octets before the EID.
+// The first ten octets of a record, up to its EID.
 fn head(mapping: &Record) -> [u8; 10]
     requires { InRange mapping.now }
     ensures { result ≡ canonical_head mapping.now }
@@ -55,7 +55,7 @@ fn write_locator(locator: &Locator, out: &mut Octets) -> Result<(), NoMemory>
     }
 }
 
-// The eight octets before the address.
+// The first eight octets of a locator, up to its address.
 fn locator_head(locator: &Locator, afi: u8) -> [u8; 8]
     ensures { result ≡ locator_head locator.now afi }
 {

@@ -1,6 +1,6 @@
--- The names of a ring.
+-- The number of names in a ring.
 use Rattle.std.specs.Prelude.{ℕ}
 
--- so many names has a ring (this router's choice)
+-- the number of names in a ring (this router's choice)
 abbrev pub ring_names : ℕ
 ring_names = 512

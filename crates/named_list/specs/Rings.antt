@@ -2,26 +2,26 @@
 use Rattle.std.specs.Prelude.{ℕ, ◌+◌, ◌*◌, ◌/◌, ◌≤◌, List, [], ◌∷◌, ◌++◌, All, length, take, drop}
 use Rattle.named_list.specs.Limits.{ring_names}
 
--- what a contract sees of names in order: the names, and for how many there is place
+-- names in order as contracts see them: the names, and for how many there is place
 pub record Order : Type 0 where
   pub names : List ℕ
   pub places : ℕ
 
--- the names of a ring, the one at its head first
+-- the names of a ring in order, the one at its head first
 abbrev pub rolled : ℕ → List ℕ → List ℕ
 rolled head ring = drop head ring ++ take head ring
 
--- the names of rings of that size, one ring for each head, and the names that lie behind them
+-- the names of rings of that size, one ring for each head, and behind them the names that lie behind the rings
 abbrev pub joined : ℕ → List ℕ → List ℕ → List ℕ
 joined size [] slots = slots
 joined size (head ∷ heads) slots = rolled head (take size slots) ++ joined size heads (drop size slots)
 
--- no head is past its ring
+-- no head is past the end of its ring
 abbrev pub AreHeads : List ℕ → Type 0
 AreHeads heads = All (λ head. head ≤ ring_names) heads
 
--- the rings are full, no more names lie behind them than would be one, and there is place for the heads
--- of so many rings as there may be
+-- names are laid out soundly: the rings are full, at most as many names as one ring has lie behind them, and there is
+-- place for the heads of all rings that there may be
 pub record IsOrder (heads slots : List ℕ) (places heads_places : ℕ) : Type 0 where
   pub each : AreHeads heads
   pub full : length heads * ring_names ≤ length slots

@@ -1,12 +1,12 @@
-// The names of a ring.
+// The number of names in a ring.
 ghost use Rattle.std.specs.Prelude.{◌≡◌};
 ghost use Rattle.named_list.specs.Limits.{ring_names};
 ghost use Rattle.named_list.specs.declared.limits.TheConstants.{RING_NAMES};
 
-/// The names of a ring (this router's choice).
+/// The number of names in a ring (this router's choice).
 pub const RING_NAMES: usize = 512;
 
-/// The number of names is the defined one.
+/// Law: the constant is the defined number.
 pub fn limits_are()
     ensures { RING_NAMES ≡ ring_names }
 {}

@@ -13,9 +13,9 @@ use node_store::{NoMemory, NodeStore, Reads};
 use std::alloc::Global;
 use std::marker::Model;
 
-/// A list of items, each under a name that it keeps while it is in the list. What comes into the
-/// middle of the list moves names and no items: those of one ring, of four octets each, and one of each
-/// ring behind it. A ring has 512 names.
+/// A list of items, each under a name that it keeps while it is in the list. An item that comes
+/// into the middle of the list moves names, of four octets each, and no items: the names of one
+/// ring, and one name of each ring behind it. A ring has 512 names.
 #[derive(Drop)]
 pub struct NamedList<T> {
     store: NodeStore<T>,
@@ -36,7 +36,7 @@ impl<T> Model for NamedList<T> {
 impl<T> NamedList<T> {
     ghost use Rattle.named_list.specs.Lends.{lends_item};
 
-    /// An empty list, with no room. Takes no memory.
+    /// An empty list without room. Takes no memory.
     pub fn new(alloc: Global) -> Self
         ensures items { result.items ≡ [] }
         ensures names { result.names ≡ [] }
@@ -48,7 +48,7 @@ impl<T> NamedList<T> {
         }
     }
 
-    /// Makes room for `n` further items in all, with those that there is room for already.
+    /// Makes room for `n` further items; room that is there already counts.
     pub fn reserve(&mut self, n: u32) -> Result<(), NoMemory>
         requires { length self.old.items + n < 2 ^ 32 }
         ensures items { self.new.items ≡ self.old.items }
@@ -67,7 +67,7 @@ impl<T> NamedList<T> {
         Ok(())
     }
 
-    /// For how many more items there is room.
+    /// The number of further items for which there is room.
     pub fn spare(&self) -> u32
         ensures { result ≡ self.now.spare }
     {
@@ -85,7 +85,7 @@ impl<T> NamedList<T> {
         self.order.len()
     }
 
-    /// The item at a place of the list. None behind its end.
+    /// The item at a place of the list, or None behind its end.
     pub fn get(&self, index: usize) -> Option<&T>
         ensures { option_copied result ≡ slice_get self.now.items index }
     {
@@ -96,8 +96,8 @@ impl<T> NamedList<T> {
         }
     }
 
-    /// The first place whose item isn't below, found by halving, where those that are stand before
-    /// those that aren't: the item before that place is below, the one at it isn't.
+    /// The first place whose item isn't below, where items that are below stand before those that
+    /// aren't, found by halving: the item before that place is below, the one at it isn't.
     pub fn place<F: Fn(&T) -> bool>(&self, is_below: F) -> usize
         requires { F.IsAlwaysCallable is_below }
         ensures within { result ≤ length self.now.items }
@@ -119,8 +119,8 @@ impl<T> NamedList<T> {
         low
     }
 
-    /// Puts an item at a place of the list, before the one that stands there, under a name that it
-    /// gives back. Takes no memory.
+    /// Puts an item at a place of the list, before the one that stands there, and returns the name
+    /// that it gets. Takes no memory.
     pub fn insert(&mut self, index: usize, item: T) -> u32
         requires place { index ≤ length self.old.items }
         requires room { 0 < self.old.spare }
@@ -135,7 +135,8 @@ impl<T> NamedList<T> {
         name
     }
 
-    /// Takes the item at a place out of the list. Its room is spare again. Takes no memory.
+    /// Takes the item at a place out of the list and returns it. Its room is spare again. Takes no
+    /// memory.
     pub fn remove(&mut self, index: usize) -> T
         requires { index < length self.old.items }
         ensures item { slice_get self.old.items index ≡ Some result }
@@ -148,7 +149,7 @@ impl<T> NamedList<T> {
         self.store.drop_node(name)
     }
 
-    /// The item at a place of the list, to be written. It keeps its name.
+    /// The item at a place of the list, to be changed. The item keeps its name.
     pub fn edit(&mut self, index: usize) -> &mut T
         requires { index < length self.old.items }
         ensures* writes_back { sem 𝓛 (lends_item T.row self.entry index result) }
@@ -159,8 +160,8 @@ impl<T> NamedList<T> {
 }
 
 impl<T: Drop> NamedList<T> {
-    /// A list of its own with the same items under the same names, and with as much room. `each`
-    /// makes the copy of an item.
+    /// A copy of the list: the same items under the same names, and as much room. `each` copies an
+    /// item.
     pub fn copy<F: Fn(&T) -> Result<T, NoMemory>>(&self, each: F) -> Result<Self, NoMemory>
         requires callable { F.IsAlwaysCallable each }
         requires copies { MakesCopies (FnReturnsAt F.Fn each) }

@@ -1,4 +1,5 @@
-// Names in order: full rings, and fewer names behind them, as they lie.
+// Names in order: full rings, and behind them at most as many names as one ring has, which lie in
+// order.
 ghost use Rattle.std.specs.Prelude.{◌≡◌, ◌≤◌, ◌<◌, ◌+◌, ◌*◌, [], length, max, slice_index_or, IfOk, OnOk, vec_len, vec_capacity};
 ghost use Rattle.std.specs.List.{insert, remove};
 ghost use Rattle.named_list.specs.Limits.{ring_names};
@@ -10,12 +11,12 @@ use node_store::{NoMemory, copied};
 use std::alloc::Global;
 use std::marker::Model;
 
-// Names in order. What comes in among many moves those of one ring, of four octets each, and one of each
-// ring behind it.
+// Names in order. A name that comes into the middle moves the names of one ring, of four octets
+// each, and one name of each ring behind it.
 #[derive(Drop)]
 pub(crate) struct Names {
     slots: Vec<u32>,
-    // Where each full ring begins.
+    // The place in each full ring at which its names begin.
     heads: Vec<usize>,
 }
 
@@ -35,7 +36,7 @@ impl Model for Names {
         (vec_capacity order.slots) (vec_capacity order.heads) };
 }
 
-// Where as many names lie behind the rings as a ring has, they are one.
+// Makes the names behind the rings a ring, where they are as many as a ring has.
 fn close_last(slots: &Vec<u32>, heads: &mut Vec<usize>)
     requires { IsOrder heads.old.items slots.now.items (vec_capacity slots.now)
         (vec_capacity heads.old) }
@@ -50,7 +51,7 @@ fn close_last(slots: &Vec<u32>, heads: &mut Vec<usize>)
     }
 }
 
-// Where no names lie behind the rings, those of the last ring do then.
+// Takes the last ring apart, so that its names lie behind the rings, where no other names do.
 fn open_last(slots: &mut Vec<u32>, heads: &mut Vec<usize>)
     requires order { IsOrder heads.old.items slots.old.items (vec_capacity slots.old)
         (vec_capacity heads.old) }
@@ -70,7 +71,7 @@ fn open_last(slots: &mut Vec<u32>, heads: &mut Vec<usize>)
     }
 }
 
-// Puts a name at a place, where there is place for one behind the rings.
+// Puts a name at a place, with room for one more name behind the rings.
 fn insert_name(slots: &mut Vec<u32>, heads: &mut [usize], index: usize, name: u32)
     requires each { AreHeads heads.old }
     requires full { length heads.old * ring_names ≤ length slots.old.items }
@@ -96,7 +97,7 @@ fn insert_name(slots: &mut Vec<u32>, heads: &mut [usize], index: usize, name: u3
     }
 }
 
-// Takes the name at a place out, where one lies behind the rings.
+// Takes the name at a place out and returns it, where at least one name lies behind the rings.
 fn remove_name(slots: &mut Vec<u32>, heads: &mut [usize], index: usize) -> u32
     requires each { AreHeads heads.old }
     requires full { length heads.old * ring_names < length slots.old.items }
@@ -119,7 +120,7 @@ fn remove_name(slots: &mut Vec<u32>, heads: &mut [usize], index: usize) -> u32
 }
 
 impl Names {
-    // No names, with no place. Takes no memory.
+    // No names, without room. Takes no memory.
     pub(crate) fn new(alloc: Global) -> Names
         ensures { result.names ≡ [] }
     {
@@ -129,8 +130,9 @@ impl Names {
         }
     }
 
-    // Makes place for `n` further names. Where there isn't, twice as much is made as is asked for in all, so that the
-    // names are seldom moved, also where more place is kept than there are names.
+    // Makes room for `n` further names. Where there is too little, it makes room for twice the
+    // names and `n` together, so that names are seldom moved, even where there is more room than
+    // names.
     pub(crate) fn reserve(&mut self, n: u32) -> Result<(), NoMemory>
         ensures names { self.new.names ≡ self.old.names }
         ensures ok { OnOk result (length self.old.names + n ≤ self.new.places) }
@@ -181,7 +183,7 @@ impl Names {
         insert_name(&mut self.slots, &mut self.heads, index, name);
     }
 
-    // Takes the name at a place out.
+    // Takes the name at a place out and returns it.
     pub(crate) fn remove(&mut self, index: usize) -> u32
         requires { index < length self.old.names }
         ensures name { result ≡ slice_index_or self.old.names index result }
@@ -192,7 +194,7 @@ impl Names {
         remove_name(&mut self.slots, &mut self.heads, index)
     }
 
-    // The same of their own, with as much place.
+    // A copy of the names, with as much room.
     pub(crate) fn copy(&self) -> Result<Names, NoMemory>
         ensures { IfOk result (λ copy. copy ≡ self.now) }
     {

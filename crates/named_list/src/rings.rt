@@ -1,5 +1,5 @@
-// Full rings of names, each with a head. A name that comes in at one end of a ring lets one out at the
-// other, and moves none.
+// Full rings of names, each with a head. A name that comes in at one end of a ring pushes one out
+// at the other end, and moves none.
 ghost use Rattle.std.specs.Prelude.{◌≡◌, ◌≤◌, ◌<◌, ◌+◌, ◌*◌, ℕ, List, [], ◌∷◌, ◌++◌, length, slice_index_or};
 ghost use Rattle.std.specs.List.{insert, remove};
 ghost use Rattle.named_list.specs.Limits.{ring_names};
@@ -8,7 +8,7 @@ ghost use Rattle.named_list.specs.Rings.{AreHeads, joined, rolled};
 use crate::RING_NAMES;
 use std::mem;
 
-// The place in a ring of the one that stands at a place from its head on.
+// The place in a ring of the name that is number `place` from the ring's head on.
 pub(crate) fn turned(head: usize, place: usize) -> usize
     requires head { head ≤ ring_names }
     requires place { place < ring_names }
@@ -24,7 +24,7 @@ pub(crate) fn turned(head: usize, place: usize) -> usize
     }
 }
 
-// Puts a name before those of a ring. The last of them goes.
+// Puts a name before those of a ring, and returns the last of them, which goes out.
 fn roll_on(ring: &mut [u32], head: &mut usize, name: u32) -> u32
     requires full { length ring.old ≡ ring_names }
     requires head { head.old ≤ ring_names }
@@ -38,7 +38,7 @@ fn roll_on(ring: &mut [u32], head: &mut usize, name: u32) -> u32
     mem::replace(&mut ring[last], name)
 }
 
-// Puts a name behind those of a ring. The first of them goes.
+// Puts a name behind those of a ring, and returns the first of them, which goes out.
 fn roll_back(ring: &mut [u32], head: &mut usize, name: u32) -> u32
     requires full { length ring.old ≡ ring_names }
     requires head { head.old ≤ ring_names }
@@ -51,7 +51,7 @@ fn roll_back(ring: &mut [u32], head: &mut usize, name: u32) -> u32
     mem::replace(&mut ring[first], name)
 }
 
-// Puts a name before those of all rings. The last of them goes.
+// Puts a name before those of all rings, and returns the last of them, which goes out.
 fn push_on(slots: &mut [u32], heads: &mut [usize], name: u32) -> u32
     requires full { length slots.old ≡ length heads.old * ring_names }
     requires heads { AreHeads heads.old }
@@ -75,7 +75,7 @@ fn push_on(slots: &mut [u32], heads: &mut [usize], name: u32) -> u32
     carried
 }
 
-// Puts a name behind those of all rings. The first of them goes.
+// Puts a name behind those of all rings, and returns the first of them, which goes out.
 fn pull_back(slots: &mut [u32], heads: &mut [usize], name: u32) -> u32
     requires full { length slots.old ≡ length heads.old * ring_names }
     requires heads { AreHeads heads.old }
@@ -99,7 +99,7 @@ fn pull_back(slots: &mut [u32], heads: &mut [usize], name: u32) -> u32
     carried
 }
 
-// Lays a ring out from its first place on.
+// Lays a ring out anew, so that its names begin at its first place.
 pub(crate) fn straighten(ring: &mut [u32], head: usize)
     requires head { head ≤ length ring.old }
     ensures names { ring.new ≡ rolled head ring.old }
@@ -108,7 +108,8 @@ pub(crate) fn straighten(ring: &mut [u32], head: usize)
     ring.rotate_left(head);
 }
 
-// Puts a name at a place of a ring, which is laid out anew. The last name goes.
+// Puts a name at a place of a ring, which is laid out anew, and returns the last name, which goes
+// out.
 fn put_in(ring: &mut [u32], head: usize, place: usize, name: u32) -> u32
     requires place { place < length ring.old }
     requires head { head ≤ length ring.old }
@@ -121,7 +122,8 @@ fn put_in(ring: &mut [u32], head: usize, place: usize, name: u32) -> u32
     mem::replace(&mut part[0], name)
 }
 
-// Takes the name at a place out of a ring, which is laid out anew, with a name put behind the others.
+// Takes the name at a place out of a ring, which is laid out anew, and puts another name behind the
+// rest.
 fn take_out(ring: &mut [u32], head: usize, place: usize, name: u32) -> u32
     requires place { place < length ring.old }
     requires head { head ≤ length ring.old }
@@ -135,7 +137,7 @@ fn take_out(ring: &mut [u32], head: usize, place: usize, name: u32) -> u32
     mem::replace(&mut ring[last], name)
 }
 
-// Puts a name at a place of the rings. The last name of all goes.
+// Puts a name at a place of the rings, and returns the last name of all, which goes out.
 pub(crate) fn insert_below(slots: &mut [u32], heads: &mut [usize], index: usize, name: u32) -> u32
     requires full { length slots.old ≡ length heads.old * ring_names }
     requires heads { AreHeads heads.old }
@@ -155,7 +157,7 @@ pub(crate) fn insert_below(slots: &mut [u32], heads: &mut [usize], index: usize,
     push_on(&mut slots[end..], &mut heads[ring + 1..], carried)
 }
 
-// Takes the name at a place out of the rings, with a name put behind those of all.
+// Takes the name at a place out of the rings, and puts another name behind all of them.
 pub(crate) fn remove_below(slots: &mut [u32], heads: &mut [usize], index: usize, name: u32) -> u32
     requires full { length slots.old ≡ length heads.old * ring_names }
     requires heads { AreHeads heads.old }

@@ -1,7 +1,7 @@
 -- How a store lays out its nodes. No public clause cites this file.
 use Rattle.std.specs.Prelude.{◌≡◌, ℕ, ◌+◌, ◌≤◌, ◌<◌, ◌^◌, ◌==◌, Bool, false, List, length, map, Option, is_some, is_none, count_by, slice_index_or, if◌then◌else◌}
 
--- there is a slot at that place, and it has no node
+-- whether there is a slot at that place, and it has no node
 abbrev pub is_vacant : {T : Type 0} → List (Option T) → ℕ → Bool
 is_vacant slots place = slice_index_or (map is_none slots) place false
 
@@ -9,8 +9,8 @@ is_vacant slots place = slice_index_or (map is_none slots) place false
 abbrev pub times : List ℕ → ℕ → ℕ
 times names name = count_by (λ n. n == name) names
 
--- the free names are those of the vacant slots, each once. Slots and names have room for those that
--- were used and for the fresh ones
+-- a store is laid out soundly: the free names are those of the vacant slots, each once, and there is room for the slots
+-- and the free names of all names, used and fresh
 pub record IsSound {T : Type 0} (slots : List (Option T)) (free : List ℕ) (fresh slots_capacity free_capacity : ℕ) : Type 0 where
   pub once : (name : ℕ) → times free name ≡ (if is_vacant slots name then 1 else 0)
   pub total : count_by is_some slots + length free ≡ length slots

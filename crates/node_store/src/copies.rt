@@ -7,7 +7,7 @@ ghost use Rattle.node_store.specs.Store.{node_at};
 use crate::{NoMemory, NodeStore, Reads};
 use std::alloc::Global;
 
-/// A vector of its own with the same items, and with as much room in all.
+/// A copy of a vector: the same items, and as much room in all. The two share no memory.
 pub fn copied<T: Copy>(items: &Vec<T>) -> Result<Vec<T>, NoMemory>
     ensures items { IfOk result (λ copy. copy.items ≡ items.now.items) }
     ensures capacity { IfOk result (λ copy. vec_capacity copy ≡ vec_capacity items.now) }
@@ -19,7 +19,7 @@ pub fn copied<T: Copy>(items: &Vec<T>) -> Result<Vec<T>, NoMemory>
     Ok(copy)
 }
 
-// A copy of the node of that name, if there is one.
+// A copy of the node of that name, or None where there is none.
 fn copied_slot<T: Drop, F: Fn(&T) -> Result<T, NoMemory>>(
     store: &NodeStore<T>,
     name: u32,

@@ -1,4 +1,4 @@
-//! Nodes under names, each read of one counted.
+//! Nodes under names, with a count of each read of a node.
 #![tactic(auto)]
 
 mod copies;

@@ -12,15 +12,15 @@ use std::alloc::Global;
 use std::marker::Model;
 use std::mem;
 
-/// Nodes, each under a name. A name keeps its node until that is dropped. `read` alone shows a node
-/// to a reader, and counts.
+/// Nodes, each under a name that it keeps until it is dropped. A reader gets a node by `read`
+/// alone, which counts it.
 #[derive(Drop)]
 pub struct NodeStore<T> {
     // A slot is pushed when its name is first used.
     slots: Vec<Option<T>>,
-    // The names of the vacant slots, with room for the names of all.
+    // The names of the vacant slots, with room for all names.
     free: Vec<u32>,
-    // For how many names more, from the number of slots on, there is room.
+    // For how many further names, from the number of slots on, there is room.
     fresh: u32,
 }
 
@@ -51,7 +51,7 @@ fn node_mut<T>(slot: &mut Option<T>) -> &mut T
     }
 }
 
-// The node's name is the number of slots before it.
+// Pushes a node into a new slot. Its name is the number of slots before it.
 fn push_node<T>(slots: &mut Vec<Option<T>>, node: T) -> u32
     requires room { vec_len slots.old < vec_capacity slots.old }
     requires few { vec_len slots.old < 2 ^ 32 }
@@ -67,7 +67,7 @@ fn push_node<T>(slots: &mut Vec<Option<T>>, node: T) -> u32
 impl<T> NodeStore<T> {
     ghost use Rattle.node_store.specs.Lends.{lends_node};
 
-    /// An empty store, with no room. Takes no memory.
+    /// An empty store without room. Takes no memory.
     pub fn new(alloc: Global) -> Self
         ensures empty { result.slots ≡ [] }
         ensures rooms { result.rooms ≡ 0 }
@@ -79,7 +79,7 @@ impl<T> NodeStore<T> {
         }
     }
 
-    /// Makes room for `n` nodes in all, with those that there is room for already.
+    /// Makes room for `n` further nodes; room that is there already counts.
     pub fn make_room(&mut self, n: u32) -> Result<(), NoMemory>
         requires { live self.old + n < 2 ^ 32 }
         ensures nodes { SameNodes self.old self.new }
@@ -100,7 +100,7 @@ impl<T> NodeStore<T> {
         Ok(())
     }
 
-    /// For how many nodes there is room.
+    /// The number of nodes for which there is room.
     pub fn rooms(&self) -> u32
         ensures rooms { result ≡ self.now.rooms }
         ensures slots { length self.now.slots ≡ live self.now + result }
@@ -108,7 +108,7 @@ impl<T> NodeStore<T> {
         self.free.len() as u32 + self.fresh
     }
 
-    /// The node of that name. The count of reads rises by one.
+    /// The node of that name. The read is counted in `reads`.
     pub fn read(&self, id: u32, reads: &mut Reads) -> &T
         requires live { IsLive self.now id }
         requires counts { reads.old + 1 < 2 ^ 64 }
@@ -122,7 +122,7 @@ impl<T> NodeStore<T> {
         node
     }
 
-    // A node has that name.
+    // Whether there is a node of that name.
     pub(crate) fn has(&self, name: u32) -> bool
         ensures { result ≡ is_some (node_at self.now name) }
     {
@@ -132,7 +132,7 @@ impl<T> NodeStore<T> {
         }
     }
 
-    /// Puts a node under a name that had none. Takes no memory.
+    /// Puts a node under a name that has none, and returns the name. Takes no memory.
     pub fn put(&mut self, node: T) -> u32
         requires { 0 < self.old.rooms }
         ensures fresh { node_at self.old result ≡ None }
@@ -150,7 +150,7 @@ impl<T> NodeStore<T> {
         }
     }
 
-    /// The node of that name, to be written.
+    /// The node of that name, to be changed.
     pub fn edit(&mut self, id: u32) -> &mut T
         requires { IsLive self.old id }
         ensures* writes_back { sem 𝓛 (lends_node T.row self.entry id result) }
@@ -159,7 +159,7 @@ impl<T> NodeStore<T> {
         node_mut(&mut self.slots[id as usize])
     }
 
-    /// Takes the node of that name out, which leaves room for another.
+    /// Takes the node of that name out and returns it, which leaves room for another.
     pub fn drop_node(&mut self, id: u32) -> T
         requires { IsLive self.old id }
         ensures node { node_at self.old id ≡ Some result }
@@ -178,8 +178,8 @@ impl<T> NodeStore<T> {
 }
 
 impl<T: Drop> NodeStore<T> {
-    /// A store of its own with the same nodes under the same names, and with as much room. `each`
-    /// makes the copy of a node, which is read once.
+    /// A copy of the store: the same nodes under the same names, and as much room. `each` copies a
+    /// node, which is read, and counted, once.
     pub fn copy<F: Fn(&T) -> Result<T, NoMemory>>(
         &self,
         each: F,

@@ -1,4 +1,4 @@
--- Counts of faults, by which an answer shows its cause.
+-- Counts of faults, which show the cause of an error.
 use Rattle.std.specs.Prelude.{ℕ, ◌+◌, ◌-◌, ◌^◌, ◌≤◌, min}
 
 -- a count of 64 bits rose, or stands at its type's end, where it can't rise

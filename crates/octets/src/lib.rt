@@ -1,5 +1,5 @@
-//! What every layer stands on: lists over memory that may run out, numbers in octets, and the
-//! answer for malformed octets.
+//! The base of every layer: lists over memory that may run out, numbers in octets, and the one
+//! refusal of malformed octets.
 #![tactic(auto)]
 
 mod items;

@@ -1,4 +1,4 @@
-// The one answer for malformed octets.
+// The one value for malformed octets.
 
 /// The layer whose rule failed.
 #[derive(Clone, Copy, Debug, PartialEq, Eq)]
@@ -15,10 +15,10 @@ pub enum Layer {
     Message,
 }
 
-/// Which kind of rule failed.
+/// Which rule failed.
 #[derive(Clone, Copy, Debug, PartialEq, Eq)]
 pub enum Why {
-    /// Octets are lacking of what begins at the place, by the layout of its layer.
+    /// Fewer octets are there than the layout of the layer needs from the place on.
     Short,
     /// The type of an Ethernet frame, behind one VLAN tag or none, is neither IPv4 nor IPv6 (IEEE
     /// 802.3, 802.1Q).
@@ -41,15 +41,15 @@ pub enum Why {
     Afi,
     /// A mask length is greater than its EID's address has bits (RFC 9301, sections 5.2 and 5.4).
     MaskLength,
-    /// An LCAF is of another type than 2, which names an instance (RFC 8060, section 4.1).
+    /// An LCAF has another type than 2, which holds an instance (RFC 8060, section 4.1).
     LcafType,
     /// The length of an LCAF isn't that of its instance and address (RFC 8060, section 4.1).
     LcafLength,
     /// An instance doesn't fit the 24 bits of a LISP header (RFC 8060, section 4.1).
     InstanceTooLarge,
-    /// The message is none of those that are read where it stands (RFC 9301, section 5.1).
+    /// The message's type isn't one that is read where it stands (RFC 9301, section 5.1).
     MessageType,
-    /// The S bit says that authentication follows, which isn't read (RFC 9301, sections 5.4 and 5.8).
+    /// The S bit is set: authentication follows, which isn't read (RFC 9301, sections 5.4 and 5.8).
     Authenticated,
     /// The packet in an encapsulated message has no whole datagram (RFC 9301, section 5.8).
     InnerProtocol,
@@ -58,7 +58,7 @@ pub enum Why {
 }
 
 /// Malformed octets, by the first rule that fails. The place counts octets from the start of the
-/// frame, or of what the reader was given.
+/// frame, or of the octets that the reader was given.
 #[derive(Clone, Copy, Debug, PartialEq, Eq)]
 pub struct Refused {
     pub layer: Layer,

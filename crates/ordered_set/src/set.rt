@@ -33,7 +33,7 @@ impl<K: Ordered> Model for OrderedSet<K> {
 }
 
 impl<K: Ordered> OrderedSet<K> {
-    /// An empty set, with no room. Takes no memory.
+    /// An empty set without room. Takes no memory.
     pub fn new(alloc: Global) -> Self
         ensures keys { result.keys ≡ [] }
         ensures spare { result.spare ≡ 0 }
@@ -43,7 +43,7 @@ impl<K: Ordered> OrderedSet<K> {
         }
     }
 
-    /// Makes room for `n` further keys in all, with those that there is room for already.
+    /// Makes room for `n` further keys; room that is there already counts.
     pub fn reserve(&mut self, n: u32) -> Result<(), NoMemory>
         requires { length self.old.keys + n < 2 ^ 32 }
         ensures keys { self.new.keys ≡ self.old.keys }
@@ -56,7 +56,7 @@ impl<K: Ordered> OrderedSet<K> {
         self.list.reserve(n)
     }
 
-    /// For how many more keys there is room.
+    /// The number of further keys for which there is room.
     pub fn spare(&self) -> u32
         ensures { result ≡ self.now.spare }
     {
@@ -73,15 +73,15 @@ impl<K: Ordered> OrderedSet<K> {
         self.list.len()
     }
 
-    /// The key at a place, the least at 0. None behind the end.
+    /// The key at a place, the least at 0, or None behind the end.
     pub fn get(&self, index: usize) -> Option<&K>
         ensures { option_copied result ≡ slice_get self.now.keys index }
     {
         self.list.get(index)
     }
 
-    /// The first place whose key isn't below, found by halving, where those that are stand before
-    /// those that aren't: the key before that place is below, the one at it isn't.
+    /// The first place whose key isn't below, where keys that are below stand before those that
+    /// aren't, found by halving: the key before that place is below, the one at it isn't.
     pub fn place<F: Fn(&K) -> bool>(&self, is_below: F) -> usize
         requires { F.IsAlwaysCallable is_below }
         ensures within { result ≤ length self.now.keys }
@@ -93,14 +93,14 @@ impl<K: Ordered> OrderedSet<K> {
         self.list.place(is_below)
     }
 
-    /// The key is in the set.
+    /// Whether the key is in the set.
     pub fn contains(&self, key: &K) -> bool
         ensures { result ≡ has K.order key.now self.now.keys }
     {
         self.is_at(self.place_of(key), key)
     }
 
-    /// Puts a key into the set, and answers whether it is new there. Takes no memory.
+    /// Puts a key into the set, and returns whether it is new there. Takes no memory.
     pub fn insert(&mut self, key: K) -> bool
         requires { has K.order key self.old.keys ≡ false → 0 < self.old.spare }
         ensures new { result ≡ not (has K.order key self.old.keys) }
@@ -118,7 +118,7 @@ impl<K: Ordered> OrderedSet<K> {
         true
     }
 
-    /// Takes a key out of the set, and answers whether it was there. Its room is spare again. Takes
+    /// Takes a key out of the set, and returns whether it was there. Its room is spare again. Takes
     /// no memory.
     pub fn remove(&mut self, key: &K) -> bool
         ensures was { result ≡ has K.order key.now self.old.keys }
@@ -136,14 +136,15 @@ impl<K: Ordered> OrderedSet<K> {
         true
     }
 
-    // Where the key is, or where it would go.
+    // The place of a key, or the one at which it would be put.
     fn place_of(&self, key: &K) -> usize
         ensures { IsPlace K.order key.now self.now.keys result }
     {
         self.list.place(|other| other.compare(key).is_lt())
     }
 
-    // The same, for a key that comes. It is mostly the greatest.
+    // The place at which a key would be put. The end is tried first, because a key that comes is
+    // mostly the greatest.
     fn place_to_put(&self, key: &K) -> usize
         ensures { IsPlace K.order key.now self.now.keys result }
     {
@@ -154,11 +155,12 @@ impl<K: Ordered> OrderedSet<K> {
         self.place_of(key)
     }
 
-    // The same, for a key that goes. It is mostly the least.
+    // The place of a key that is to be taken out. Place 0 is tried first, because a key that goes
+    // is mostly the least.
     fn place_to_take(&self, key: &K) -> usize
         ensures { IsPlace K.order key.now self.now.keys result }
     {
-        // The set says that its keys ascend.
+        // Naming the list brings the fact that its keys ascend.
         let _ = &self.list;
         if self.is_at(0, key) {
             return 0;
@@ -166,7 +168,7 @@ impl<K: Ordered> OrderedSet<K> {
         self.place_of(key)
     }
 
-    // The key at that place is below another.
+    // Whether the key at that place is below another.
     fn is_below(&self, place: usize, key: &K) -> bool
         requires { place < length self.now.keys }
         ensures { IfSome (slice_get self.now.keys place)
@@ -178,7 +180,7 @@ impl<K: Ordered> OrderedSet<K> {
         }
     }
 
-    // The key stands at that place.
+    // Whether the key stands at that place.
     fn is_at(&self, place: usize, key: &K) -> bool
         ensures { result ≡ ties K.order key.now (slice_get self.now.keys place) }
     {
@@ -190,7 +192,7 @@ impl<K: Ordered> OrderedSet<K> {
 }
 
 impl<K: Ordered + Copy> OrderedSet<K> {
-    /// A set of its own with the same keys, and with as much room.
+    /// A copy of the set: the same keys, and as much room.
     pub fn copy(&self) -> Result<Self, NoMemory>
         ensures { IfOk result (λ copy. copy ≡ self.now) }
     {

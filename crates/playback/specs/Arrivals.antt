@@ -1,4 +1,4 @@
--- Frames that came to be played, whatever the capture's format and its octets are.
+-- Frames that were read to be played, whatever the capture's format and octets.
 use Rattle.std.specs.Prelude.{◌≤◌, List, length}
 use Rattle.std.specs.List.{All}
 use Rattle.capture_io.specs.Frame.{Frame}
@@ -6,7 +6,7 @@ use Rattle.capture_io.specs.Run.{AreLater}
 use Rattle.capture_events.specs.Came.{IsRead}
 use Rattle.playback.specs.Limits.{most_frames}
 
--- each of them is one that a capture may have, their moments don't fall, and they are no more than may come
+-- frames that were read: each is one that a capture may have, moments don't fall, and they are at most `most_frames`
 pub record Arrived (frames : List Frame) : Type 0 where
   pub read : All IsRead frames
   pub later : AreLater 0 frames

@@ -1,4 +1,4 @@
--- Plays whose outcome is determined at each event, by that outcome.
+-- Plays in which the outcome of each event is determined: what they leave at the desk.
 use Rattle.std.specs.Prelude.{◌≡◌, ℕ, List, Option, Some}
 use Rattle.desk.specs.World.{World, Shown, shown}
 use Rattle.capture_io.specs.Frame.{Frame}
@@ -10,15 +10,16 @@ use Rattle.playback.specs.Playing.{outcome_of, with_outcome, with_output, Ends, 
 use Rattle.playback.specs.declared.plays.Ending.{Ending}
 
 module _ {S : Type 0} (step : S → Event → Outcome S) (start : S) (file : Option ℕ) (old : Shown) where
-  -- a capture of that run was played to its end, and left a state
+  -- a capture was played to its end from `start`: report and file have all of its outcome, and the state is the one
+  -- after it
   pub record EndPlay (run : InputRun) (ending : Ending) (after : S) (now : Option World) : Type 0 where
     pub came : Arrived run.frames
     pub ends : Ends (outcome_of step start run) run ending
     pub shown : shown now ≡ Some (with_outcome file (outcome_of step start run) old)
     pub left : after ≡ (outcome_of step start run).after
 
-  -- these frames of a run were read, and a beginning of what is done for their events was said and written: of the
-  -- first of the events each line was said, and no packet but theirs was written
+  -- a play was cut short: some frames of the capture were read, and report and file have a beginning of the outcome of
+  -- their events; all lines of the first events are reported, and no packets but theirs are written
   pub record CutPlay (run : InputRun) (now : Option World) : Type 0 where
     pub frames : List Frame
     pub within : IsFront frames run.frames
@@ -34,19 +35,19 @@ module _ {S : Type 0} (step : S → Event → Outcome S) (start : S) (file : Opt
 
 -- ### laws
 
--- what may be done for steps is what is done for their events
+-- an outcome of steps that is determined at each event is the outcome of the events among the steps
 abbrev pub StepsArePlayed : Type 0 → Type 0
 StepsArePlayed S =
     (step : S → Event → Outcome S) (start : S) (steps : List Step) (outcome : Outcome S)
     → Played (Determined step) start steps outcome → outcome ≡ played step start (happened steps)
 
--- a play to the end says and writes it
+-- a play to the end leaves the outcome of the capture's events, where the outcome of each event is determined
 abbrev pub EndsArePlayed : Type 0 → Type 0
 EndsArePlayed S =
     (step : S → Event → Outcome S) (start : S) (file : Option ℕ) (old : Shown) (run : InputRun) (ending : Ending) (after : S) (now : Option World)
     → HasPlayed (Determined step) start file old run ending after now → EndPlay step start file old run ending after now
 
--- one that is cut short a beginning of it
+-- a play that is cut short leaves a beginning of the outcome of events, where the outcome of each event is determined
 abbrev pub CutsArePlayed : Type 0 → Type 0
 CutsArePlayed S =
     (step : S → Event → Outcome S) (start : S) (file : Option ℕ) (old : Shown) (run : InputRun) (now : Option World)

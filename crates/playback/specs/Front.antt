@@ -1,4 +1,4 @@
--- What a play that is cut short leaves at its desk: a beginning of all that it was to say and write.
+-- What a play that is cut short leaves at its desk: a beginning of all its output.
 use Rattle.std.specs.Prelude.{◌≡◌, ℕ, ◌+◌, List, [], ◌∷◌, ◌++◌, length, Option, Some, Result, ◌⊎◌, option_map}
 use Rattle.std.specs.Result.{MatchResult}
 use Rattle.desk.specs.World.{World, Shown, shown}
@@ -9,17 +9,17 @@ use Rattle.playback.specs.Input.{InputRun}
 use Rattle.playback.specs.Playing.{after_output, handed_on, with_output, with_outcome}
 use Rattle.playback.specs.declared.output.Output.{Output}
 
--- the list begins with that one
+-- one list is a beginning of another
 abbrev pub IsFront : {X : Type 0} → List X → List X → Type 0
 IsFront {X} front whole = (rest : List X) × (front ++ rest ≡ whole)
 
--- nothing is handed on, or all that was gathered
+-- handing on: output and world stay as they were, or all gathered output is handed on and none is left
 abbrev pub Hands : Option ℕ → Output → Option World → Output → Option World → Type 0
 Hands file old told new now =
     ((new ≡ old) × (now ≡ told))
     ⊎ ((new.lines ≡ []) × (new.records ≡ []) × (now ≡ handed_on file old told))
 
--- a fault while all that is gathered is handed on: no octet is written before all lines are said
+-- a fault while gathered output is handed on: the desk has a beginning of it, and no octet of a record before all lines
 pub record Breaks (file : Option ℕ) (output : Output) (told now : Option World) : Type 0 where
   pub lines : List ℕ
   pub octets : List ℕ
@@ -29,7 +29,8 @@ pub record Breaks (file : Option ℕ) (output : Output) (told now : Option World
   pub order : (octets ≡ []) ⊎ (lines ≡ output.lines)
 
 module _ {S : Type 0} (does : S → Step → Outcome S → Type 0) (start : S) (file : Option ℕ) (old : Shown) where
-  -- steps were played to a state; what was done for the first of them is handed on, and the rest is gathered
+  -- steps were played from `start` to a state: the output of the first ones is handed on, and that of the others is
+  -- gathered
   pub record Stands (all : List Step) (state : S) (output : Output) (now : Option World) : Type 0 where
     pub first : List Step
     pub others : List Step
@@ -44,8 +45,8 @@ module _ {S : Type 0} (does : S → Step → Outcome S → Type 0) (start : S) (
     pub records : output.records ≡ records_of held.packets
     pub written : output.written ≡ length done.packets + length held.packets
 
-  -- some of these steps were played, and a beginning of what was done for them was said and written: of the first of
-  -- them each line was said, and no packet but theirs was written
+  -- a play of steps was cut short: some of them were played, and report and file have a beginning of their output; all
+  -- lines of the first steps are reported, and no packets but theirs are written
   pub record Cut (all : List Step) (now : Option World) : Type 0 where
     pub first : List Step
     pub others : List Step
@@ -61,7 +62,8 @@ module _ {S : Type 0} (does : S → Step → Outcome S → Type 0) (start : S) (
     pub reported : IsFront done.lines lines
     pub written : IsFront octets (records_of done.packets)
 
-  -- the same of a run, of which these frames came, and perhaps its end
+  -- a play of a capture was cut short: some of its frames were read, perhaps also its end, and the play of their steps
+  -- was cut short
   pub record CutRun (run : InputRun) (now : Option World) : Type 0 where
     pub frames : List Frame
     pub within : IsFront frames run.frames
@@ -70,7 +72,7 @@ module _ {S : Type 0} (does : S → Step → Outcome S → Type 0) (start : S) (
     pub steps_are : AreStepsOf frames steps
     pub cut : Cut steps now ⊎ ((frames ≡ run.frames) × Cut (steps ++ End ∷ []) now)
 
--- steps are played after others: either all of them, or it is cut short
+-- steps are played after earlier ones: all of them where the result is Ok; where it is an error, the play is cut short
 abbrev pub Goes : {S T E : Type 0} → (S → Step → Outcome S → Type 0) → Option ℕ → S → S → List Step → Output → Option World → Result T E → Output → Option World → Type 0
 Goes {S} does file before after next output told result new now =
     (start : S) (old : Shown) (past : List Step)

@@ -1,4 +1,4 @@
--- A play under way: which frames came and were played, and what is left of the capture.
+-- A play under way: the frames that were read and played, and those that are left of the capture.
 use Rattle.std.specs.Prelude.{◌≡◌, ◌≤◌, ℕ, List, [], ◌++◌, length, Option, Some, None, option_map, unwrap_or, IfSome, IsSomeAnd, Result}
 use Rattle.std.specs.List.{All}
 use Rattle.std.specs.Result.{MatchResult}
@@ -18,35 +18,35 @@ use Rattle.playback.specs.declared.plays.Turn.{Turn}
 use Rattle.playback.specs.declared.plays.Turn.TheVariants.{Full, Ended}
 use Rattle.playback.specs.declared.progress.Progress.{Progress}
 
--- a play stands between two frames, as far as its reader has come
+-- a play is between two frames: its reader is open, and has come as far as the play
 pub record IsBetween {R : Type 0} (is_open : R → Type 0) (progress_of : R → Progress) (play : Play R) : Type 0 where
   pub open_still : is_open play.reader
   pub progress : progress_of play.reader ≡ play.progress
   pub most : play.progress.frames ≤ most_frames
 
--- it reads the same file, and writes into the same file
+-- two states of a play have the same file to read and the same file to write
 pub record IsSamePlay {R : Type 0} (id_of : R → ℕ) (before after : Play R) : Type 0 where
   pub id : id_of after.reader ≡ id_of before.reader
   pub file : after.file ≡ before.file
 
--- as it begins: no frame was read, and nothing is gathered
+-- a play as it begins: no frame was read, and no output is gathered
 pub record IsBegun {R : Type 0} (play : Play R) : Type 0 where
   pub progress : play.progress ≡ beginning
   pub lines : play.output.lines ≡ []
   pub records : play.output.records ≡ []
   pub written : play.output.written ≡ 0
 
--- the file's id
+-- the id of the file that a play writes, if there is one
 abbrev pub file_of : {R : Type 0} → Play R → Option ℕ
 file_of play = option_map (λ id. id.number) play.file
 
--- a fact of a play that waits for its caller
+-- a fact of a play that paused because its machine is full
 abbrev pub IfFull : Turn → Type 0 → Type 0
 IfFull Full P = P
 IfFull (Ended fault) P = Unit {0}
 
 module _ {S : Type 0} (does : S → Step → Outcome S → Type 0) where
-  -- frames came and were played, with pauses among their events, and the others are left
+  -- some frames of a capture were read and played, with pauses among their events, and the others are left
   pub record Passed (file : Option ℕ) (start : S) (run : InputRun) (old : Shown) (left : World → InputRun) (at : Progress) (state : S) (output : Output) (now : Option World) (w : World) : Type 0 where
     pub frames : List Frame
     pub whole : frames ++ (left w).frames ≡ run.frames
@@ -61,13 +61,14 @@ module _ {S : Type 0} (does : S → Step → Outcome S → Type 0) where
     pub stands : Stands does start file old steps state output now
 
   module _ {R : Type 0} (left : R → World → InputRun) where
-    -- a play that began from a state, in a world in which that run was left to it, has come to a state
+    -- a play that began in state `start`, in a world in which the capture `run` was left, has come to `state`; always
+    -- so of an opaque desk
     abbrev pub IsPassing : S → (World → InputRun) → Play R → S → Option World → Option World → Type 0
     IsPassing start run play state None now = Unit {0}
     IsPassing start run play state (Some w) now =
         IsSomeAnd now (Passed (file_of play) start (run w) (shown_of w) (left play.reader) play.progress state play.output now)
 
-  -- all frames of a run came and were played, with pauses among their events, and then came its end or its fault
+  -- all frames of a capture were read and played, with pauses among their events, and then came its end or its fault
   pub record IsOver (file : Option ℕ) (start : S) (run : InputRun) (old : Shown) (count : ℕ) (fault : Option InputFault) (state : S) (output : Output) (now : Option World) : Type 0 where
     pub fault_is : fault ≡ run.fault
     pub came : Arrived run.frames
@@ -77,13 +78,13 @@ module _ {S : Type 0} (does : S → Step → Outcome S → Type 0) where
     pub stands : Stands does start file old steps state output now
 
   module _ {R : Type 0} (left : R → World → InputRun) where
-    -- where a play stands still
+    -- how far a play has come when its machine is full, or when its capture has ended
     abbrev pub ComesTo : Turn → S → (World → InputRun) → Play R → Play R → S → Option World → Option World → Type 0
     ComesTo Full start run before after state old now = IsPassing left start run after state old now
     ComesTo (Ended fault) start run before after state old now =
         IfSome old (λ w. IsOver (file_of before) start (run w) (shown_of w) after.progress.frames fault state after.output now)
 
-    -- it goes on to there, or is cut short
+    -- a play goes on from where it is to its next pause or the end; where the result is an error, it is cut short
     abbrev pub PassesOn : {E : Type 0} → Play R → Play R → S → S → Option World → Result Turn E → Option World → Type 0
     PassesOn before after state next told result now =
         (start : S) (run : World → InputRun) (old : Option World)

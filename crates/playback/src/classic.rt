@@ -1,4 +1,4 @@
-// A classic capture, as a play reads it.
+// A classic capture as the frames of a play.
 use crate::fault::InputFault;
 use crate::reader::{FrameReader, Next};
 use capture_io::{CaptureFault, CaptureReader};

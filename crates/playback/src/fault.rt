@@ -2,7 +2,8 @@
 use capture_io::CaptureFault;
 use capture_ng::NgFault;
 
-/// The first fault of a capture, by its format; it tells of the file, and not of the desk or of memory.
+/// The first fault of a capture, by its format: a fault of the file, never one of the desk or of
+/// memory.
 #[derive(Clone, Copy, Debug, PartialEq, Eq)]
 pub enum InputFault {
     Classic(CaptureFault),

@@ -1,4 +1,5 @@
-// Laws of plays, and of captures that are written. Each function only states its law.
+// Laws of plays and of captures that were written. Each function has an empty body and states one
+// law.
 ghost use Rattle.std.specs.Prelude.{◌≡◌, ◌≤◌, ℕ, List, ◌++◌, length, None};
 ghost use Rattle.octets.specs.Rules.{first_failing};
 ghost use Rattle.capture_io.specs.Capture.{begin, format_of, header_rules};
@@ -9,17 +10,18 @@ ghost use Rattle.capture_events.specs.Events.{Packet, records_of};
 ghost use Rattle.playback.specs.Limits.{most_records};
 ghost use Rattle.playback.specs.Written.{AreInOrder, frames_of, out_format};
 
-/// Where it is determined what is done at each event, and nothing is done at a pause and at the end, a play
-/// says and writes that, and one that is cut short a beginning of it.
+/// Law: where the outcome of each event is determined, and pauses and the end have none, a play
+/// reports and writes these outcomes, and a play that is cut short reports and writes a beginning
+/// of them.
 pub fn determined_plays_are_played<S>()
     ensures steps { StepsArePlayed S }
     ensures ends { EndsArePlayed S }
     ensures cuts { CutsArePlayed S }
 {}
 
-/// The packets of a capture that was written, in order and no more than it may have,
-/// are the frames that are read of it, and it has no fault. Its header breaks no rule, whatever stands behind it,
-/// and says little-endian, nanoseconds and raw IP.
+/// Law: a capture written from packets that may follow one another, no more than it may have, is
+/// read as frames with these packets, in order and without a fault. Its header breaks no rule,
+/// whatever octets follow, and marks little-endian, nanoseconds and raw IP.
 pub fn what_is_written_is_read()
     ensures header { (rest : List ℕ) →
         first_failing (header_rules (out_header ++ rest)) ≡ None }

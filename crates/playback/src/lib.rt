@@ -1,5 +1,5 @@
-//! The events of a capture, played through a machine: frames are read one by one, and what the
-//! machine says and writes goes out in pieces.
+//! The events of a capture, played through a machine: frames are read one by one, and the machine's
+//! lines and packets go out in pieces.
 #![tactic(auto)]
 
 mod classic;

@@ -1,4 +1,4 @@
-// What is done for the events of a capture.
+// Machines, which handle the events of a capture.
 ghost use Rattle.std.specs.Prelude.{◌≡◌, ◌<◌, ◌≤◌, ◌+◌, ◌*◌, ◌^◌, ℕ, Bool, false, Some, length, unwrap_or, IfOk, OnOk};
 ghost use Rattle.capture_events.specs.Events.{Arrival, Happens, Outcome, Step, Tick};
 ghost use Rattle.playback.specs.Limits.{most_arrival_octets, most_frames};
@@ -11,24 +11,26 @@ use capture_io::Frame;
 use octets::{NoMemory, Octets};
 use std::alloc::Global;
 
-/// What is done for the events of a capture, one after another. A machine may gather events, and leave
-/// it to its caller to do what they ask for once it is full; and what is done need not be determined.
+/// A machine, which handles the events of a capture one after another and gathers lines and packets
+/// for them. A machine may also gather events, and leave their work to its caller once it is full.
+/// Its outcomes need not be determined.
 pub trait Machine {
     ghost State: { Type 0 };
 
     ghost state: { Self → State };
 
-    /// What may be done at a step, and the state after it.
+    /// The possible outcomes of a step in a state, each with the state after it.
     ghost Does: { State → Step → Outcome State → Type 0 };
 
-    /// Its caller is to work before the next event.
+    /// Whether the machine's caller must do the gathered work before the next event.
     ghost full: { State → Bool };
 
-    /// What the calls ask of it, and keep, at a progress, with so many packets written.
+    /// The condition under which the machine may be called, by the progress and the number of
+    /// packets written. A call that succeeds leaves it true.
     ghost IsReady: { Progress → ℕ → Self → Type 0 };
 
-    /// Lets a second begin, and gathers lines and packets. Where memory is refused, a part of them may be
-    /// gathered, and the machine may not be called again.
+    /// Begins a second, and gathers its lines and packets. Where memory is refused, a part of them
+    /// may be gathered, and the machine mustn't be called again.
     fn tick(
         &mut self,
         alloc: Global,
@@ -47,8 +49,8 @@ pub trait Machine {
         ensures gathers { OnOk result (GathersOne (Does (state self.old) (Happens (Tick second)))
             output.old output.new (state self.new)) };
 
-    /// Takes a frame, and gathers lines and packets. Answers that the machine is full. Where memory is
-    /// refused, a part of them may be gathered, and the machine may not be called again.
+    /// Takes a frame, and gathers its lines and packets. Returns whether the machine is full. Where
+    /// memory is refused, a part of them may be gathered, and the machine mustn't be called again.
     fn take(
         &mut self,
         alloc: Global,
@@ -70,7 +72,8 @@ pub trait Machine {
         ensures gathers { OnOk result (GathersOne (Does (state self.old) (Happens (Arrival frame)))
             output.old output.new (state self.new)) };
 
-    /// The list of the frame that it took last, where it needs that no more.
+    /// The list of the frame that the machine took last, for reuse, if the machine no longer needs
+    /// it.
     fn spare(&mut self) -> Option<Octets>
         ensures ready { (progress : Progress) (written : ℕ) →
             IsReady progress written self.old → IsReady progress written self.new }

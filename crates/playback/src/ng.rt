@@ -1,4 +1,4 @@
-// A pcapng capture, as a play reads it.
+// A pcapng capture as the frames of a play.
 use crate::fault::InputFault;
 use crate::reader::{FrameReader, Next};
 use capture_ng::{NgFault, NgReader};
@@ -35,6 +35,6 @@ impl FrameReader for NgReader {
         }
     }
 
-    // A block's list holds more than its frame, so this reader makes one for each.
+    // A block's list holds more than its frame, so this reader makes a list for each block.
     fn take_back(&mut self, _octets: Octets) {}
 }

@@ -1,4 +1,4 @@
-// What is said and written, gathered and handed on in pieces.
+// Lines and records of packets: gathered, and handed on to the desk in pieces.
 ghost use Rattle.std.specs.Prelude.{◌≡◌, ◌<◌, ◌≤◌, ◌+◌, ◌*◌, ◌-◌, ◌^◌, ◌++◌, [], false, length, option_map, IsErrOf, OnErr, OnOk};
 ghost use Rattle.desk.specs.declared.fault.DeskFault.TheVariants.{Failed};
 ghost use Rattle.desk.specs.Causes.{HasCause, StaysSteady};
@@ -14,7 +14,8 @@ use desk::{Desk, DeskFault, FileId};
 use octets::{NoMemory, Octets};
 use std::alloc::Global;
 
-/// Lines and records of packets that are to go out, and the number of packets so far.
+/// The output of a play: lines and records of packets that are gathered to go out, and the number
+/// of packets so far.
 #[derive(Drop)]
 pub struct Output {
     pub lines: Octets,
@@ -23,7 +24,7 @@ pub struct Output {
 }
 
 impl Output {
-    /// Nothing. Takes no memory.
+    /// An output without lines and records. Takes no memory.
     pub fn new(alloc: Global) -> Output
         ensures lines { result.lines ≡ [] }
         ensures records { result.records ≡ [] }
@@ -36,8 +37,8 @@ impl Output {
         }
     }
 
-    /// Gathers a packet at its moment, in nanoseconds. Where memory is refused, nothing is said of what
-    /// is gathered.
+    /// Gathers the record of a packet at its moment, in nanoseconds. Where memory is refused, the
+    /// gathered octets are unspecified.
     pub fn push_packet(&mut self, moment: u64, packet: &[u8]) -> Result<(), NoMemory>
         requires moment { moment < 2 ^ 32 * 1000000000 }
         requires size { length packet.now ≤ most_frame_octets }
@@ -52,7 +53,7 @@ impl Output {
         Ok(())
     }
 
-    // Enough is gathered for a piece: lines or records.
+    // Whether lines or records are enough for a piece.
     fn is_full(&self) -> bool
         ensures { result ≡ is_full self.now }
     {
@@ -60,7 +61,8 @@ impl Output {
     }
 }
 
-/// Hands on what is gathered, where that is enough for a piece. So less than a piece is left.
+/// Hands on all lines and records to the desk, if they are enough for a piece. Less than a piece is
+/// left gathered.
 pub(crate) fn hand_on_full<D: Desk>(
     alloc: Global,
     desk: &mut D,
@@ -84,7 +86,8 @@ pub(crate) fn hand_on_full<D: Desk>(
     Ok(())
 }
 
-/// Says all lines that are gathered, and then writes all records into the file, if there is one.
+/// Appends all gathered lines to the report, then all gathered records to the file, if there is
+/// one.
 pub(crate) fn hand_on<D: Desk>(
     alloc: Global,
     desk: &mut D,

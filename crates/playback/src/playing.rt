@@ -19,9 +19,9 @@ use capture_io::Frame;
 use desk::{Desk, DeskFault, FileId};
 use std::alloc::Global;
 
-/// Plays the frames of a capture of which none was read, and the seconds between them, through a
-/// machine that is never full and has nothing to do at the end. Its lines are said; its packets are
-/// written into the file, if there is one.
+/// Plays a capture of which no frame was read: its frames, and the seconds between them, through a
+/// machine that is never full and has no work at the end. Appends lines to the report, and packets
+/// to the file, if there is one.
 pub fn play<D: Desk, M: Machine, R: FrameReader>(
     alloc: Global,
     desk: &mut D,
@@ -40,7 +40,7 @@ pub fn play<D: Desk, M: Machine, R: FrameReader>(
         (left_in R.id R.run reader w) ending
         (M.state machine.new) (D.told desk.new))) }
 
-    // After a fault a beginning of what may be done was said and written.
+    // After a fault, report and file have a beginning of a possible output.
     ensures cut { OnErr result (IfSome (D.told desk.old) (λ w.
         CutRun M.Does (M.state machine.old) (option_map (λ id. id.number) file) (shown_of w)
         (left_in R.id R.run reader w) (D.told desk.new))) }
@@ -57,8 +57,8 @@ pub fn play<D: Desk, M: Machine, R: FrameReader>(
     }
 }
 
-/// Plays a frame behind the seconds before it; less than a piece is left gathered. Answers that the
-/// machine is full.
+/// Plays the seconds before a frame, then the frame. Less than a piece is left gathered. Returns
+/// whether the machine is full.
 pub(crate) fn play_frame<D: Desk, M: Machine>(
     alloc: Global,
     desk: &mut D,

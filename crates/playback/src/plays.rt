@@ -19,8 +19,8 @@ use crate::reader::{FrameReader, Next};
 use desk::{Desk, DeskFault, FileId};
 use std::alloc::Global;
 
-/// A play of a capture: what is left to read, the file into which packets are written, if there is
-/// one, how far it has come, and what is gathered to go out.
+/// A play of a capture: its reader, the file for packets, if there is one, how far the play has
+/// come, and the output that is gathered.
 #[derive(Drop)]
 pub struct Play<R> {
     pub reader: R,
@@ -29,16 +29,17 @@ pub struct Play<R> {
     pub output: Output,
 }
 
-/// Why a play stands still.
+/// Why a play pauses or ends.
 #[derive(Clone, Copy, Debug, PartialEq, Eq)]
 pub enum Turn {
-    /// The machine is full: its caller is to work before the play goes on.
+    /// The machine is full: its caller must do the gathered work before the play goes on.
     Full,
-    /// The capture is at its end, or at its fault.
+    /// The capture has ended, or has a fault.
     Ended(Option<InputFault>),
 }
 
-/// How a capture ended: its fault, if it has one, the frames before that, and the packets written.
+/// How a capture ended: its fault, if it has one, the number of frames before it, and the number of
+/// packets written.
 #[derive(Clone, Copy)]
 pub struct Ending {
     pub fault: Option<InputFault>,
@@ -67,9 +68,9 @@ impl<R: FrameReader> Play<R> {
         }
     }
 
-    /// Plays frames, each behind the seconds before it, until the machine is full or none is left. What
-    /// is gathered goes out in pieces: lines are said, packets are written into the file. So less than a
-    /// piece is left gathered behind each frame.
+    /// Plays frames, each behind the seconds before it, until the machine is full, or the capture
+    /// is at its end or its fault. Gathered output goes out in pieces, lines to the report and
+    /// packets to the file, so less than a piece is left gathered behind each frame.
     pub fn on<D: Desk, M: Machine>(
         &mut self,
         alloc: Global,
@@ -125,7 +126,8 @@ impl<R: FrameReader> Play<R> {
         }
     }
 
-    /// Hands on what is still gathered, at the end of a capture or at its fault.
+    /// Ends a play: hands on the output that is still gathered, at the end of the capture or at its
+    /// fault.
     pub fn end<D: Desk>(
         self,
         alloc: Global,
@@ -161,7 +163,7 @@ impl<R: FrameReader> Play<R> {
     }
 }
 
-// Hands the list of the frame that the machine took last back to the reader, if it is no longer needed.
+// Hands the list of the machine's last frame back to the reader, if the machine no longer needs it.
 fn hand_back<M: Machine, R: FrameReader>(machine: &mut M, reader: &mut R)
     requires open { R.IsOpen reader.old }
     ensures id { R.id reader.new ≡ R.id reader.old }

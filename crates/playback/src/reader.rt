@@ -1,4 +1,4 @@
-// A capture that is read frame by frame, in any format.
+// Captures that are read frame by frame, in any format.
 ghost use Rattle.std.specs.Prelude.{◌≡◌, ℕ, List, IfOk, IfSome, IsErrOf};
 ghost use Rattle.desk.specs.declared.fault.DeskFault.TheVariants.{Failed};
 ghost use Rattle.desk.specs.Causes.{HasCause, StaysSteady};
@@ -12,7 +12,7 @@ use desk::{Desk, DeskFault};
 use octets::Octets;
 use std::alloc::Global;
 
-/// What is next in a capture.
+/// The next item of a capture: a frame, its end, or its fault.
 #[derive(Drop)]
 pub enum Next {
     Frame(Frame),
@@ -20,23 +20,24 @@ pub enum Next {
     Fault(InputFault),
 }
 
-/// A capture that is read frame by frame.
+/// A reader of a capture, frame by frame.
 pub trait FrameReader: Drop {
     ghost id: { Self → ℕ };
 
-    /// What is still to come, where these octets are left of its file.
+    /// The frames and the fault still to be read, where these octets are left of the reader's file.
     ghost run: { Self → List ℕ → InputRun };
 
-    /// The frames that it gave.
+    /// How far the reader has come: the number of frames returned, and the moment of the last one.
     ghost progress: { Self → Progress };
 
-    /// How many frames it gives at most.
+    /// The most frames that a reader returns.
     ghost most: { ℕ };
 
-    /// It gave frames alone so far.
+    /// Whether the reader has returned frames alone so far.
     ghost IsOpen: { Self → Type 0 };
 
-    /// The next frame, the end, or a fault of the file. After the latter two, and after an error, it isn't read on.
+    /// The next frame, the end of the file, or its fault. After an end, a fault or an error the
+    /// reader mustn't be called again.
     fn next_frame<D: Desk>(&mut self, alloc: Global, desk: &mut D) -> Result<Next, DeskFault>
         requires open { IsOpen self.old }
         ensures comes { IfOk result (λ next. IfSome (D.told desk.old) (λ w.
@@ -53,7 +54,7 @@ pub trait FrameReader: Drop {
         ensures steady { StaysSteady (D.steady desk.old) (D.steady desk.new)
             (IsGiven (id self.old) to_read (D.given desk.old)) (IsErrOf result Failed) };
 
-    /// Takes the list of a frame that nobody needs any more, for the next one.
+    /// Takes back the list of a frame that is no longer needed, for reuse by the next frame.
     fn take_back(&mut self, octets: Octets)
         requires open { IsOpen self.old }
         ensures id { id self.new ≡ id self.old }

@@ -13,8 +13,8 @@ use crate::progress::Progress;
 use desk::{Desk, DeskFault, FileId};
 use std::alloc::Global;
 
-/// Plays the seconds that begin after the last event, up to that of a moment (in nanoseconds) and
-/// with it; none before the first frame. Answers how far the play has come.
+/// Plays the seconds that begin after the last event, up to and with the second of a moment (in
+/// nanoseconds); none before the first frame. Returns how far the play has come.
 pub(crate) fn play_seconds<D: Desk, M: Machine>(
     alloc: Global,
     desk: &mut D,
@@ -56,7 +56,7 @@ pub(crate) fn play_seconds<D: Desk, M: Machine>(
     Ok(reached)
 }
 
-// Plays a second.
+// Plays a second, and hands on gathered output that is enough for a piece.
 fn play_second<D: Desk, M: Machine>(
     alloc: Global,
     desk: &mut D,

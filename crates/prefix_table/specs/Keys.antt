@@ -4,19 +4,19 @@ use Rattle.ip_headers.specs.Addr.{width, number, first_bits}
 use Rattle.mapping_records.specs.declared.eid.Eid.{Eid}
 use Rattle.prefix_table.specs.declared.key.Key.{Key}
 
--- the number of bits of its family's addresses
+-- the number of bits of the addresses of an EID's family
 abbrev pub key_width : Eid → ℕ
 key_width key = width key.prefix.addr
 
--- how many bits count
+-- how many bits of an EID count
 abbrev pub key_len : Eid → ℕ
 key_len key = key.prefix.len
 
--- its first bits, as a number
+-- the first bits of an EID's address, as a number
 abbrev pub key_bits : Eid → ℕ → ℕ
 key_bits key len = first_bits key.prefix.addr len
 
--- what a node keeps of its EID
+-- the key of an EID, which a node keeps
 abbrev pub key_of : Eid → Key
 key_of eid = record {
   high = number eid.prefix.addr / 2 ^ 64;

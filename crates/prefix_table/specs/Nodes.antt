@@ -1,4 +1,4 @@
--- Nodes as they are kept, and the EIDs beside them.
+-- Nodes as they are stored, and the EIDs beside them.
 use Rattle.std.specs.Prelude.{◌≡◌, ℕ, List, [], ◌∷◌, length, slice_get, Option, Some, None, IfSome}
 use Rattle.std.specs.Option.{option_map}
 use Rattle.mapping_records.specs.declared.eid.Eid.{Eid}
@@ -8,17 +8,17 @@ use Rattle.prefix_table.specs.declared.node.Node.{Node}
 use Rattle.prefix_table.specs.declared.node.SlimNode.{SlimNode}
 
 module _ {V : Type 0} where
-  -- a node with its EID
+  -- a stored node, with its EID
   abbrev pub with_eid : Eid → SlimNode V → Node V
   with_eid eid slim = record { eid = eid; value = slim.value; zero = slim.zero; one = slim.one }
 
-  -- each slot with the EID beside it
+  -- each slot of a store, with the EID beside it
   abbrev pub slots_with : List (Option (SlimNode V)) → List Eid → List (Option (Node V))
   slots_with [] eids = []
   slots_with (slot ∷ slots) [] = None ∷ slots_with slots []
   slots_with (slot ∷ slots) (eid ∷ eids) = option_map (with_eid eid) slot ∷ slots_with slots eids
 
-  -- what a contract sees of nodes that are kept so
+  -- a store as contracts see it: its nodes, with the EIDs beside them
   abbrev pub whole : Store (SlimNode V) → List Eid → Store (Node V)
   whole store eids = record { slots = slots_with store.slots eids; rooms = store.rooms }
 

@@ -4,7 +4,7 @@ use Rattle.std.specs.Ordering.{is_lt}
 use Rattle.mapping_records.specs.Orders.{eid_order}
 use Rattle.mapping_records.specs.declared.eid.Eid.{Eid}
 
--- the first EID comes before the second
+-- whether the first EID comes before the second
 abbrev pub is_below : Eid → Eid → Bool
 is_below a b = is_lt (eid_order a b)
 
@@ -13,7 +13,7 @@ abbrev pub Ascends : {V : Type 0} → List (Eid × V) → Type 0
 Ascends pairs = AllPairs (λ a b. IsTrue (is_below a.0 b.0)) pairs
 
 module _ {V : Type 0} (eid : Eid) where
-  -- the pairs with the EID's value, in its place
+  -- the pairs with that value for the EID, in its place
   abbrev pub with_pair : V → List (Eid × V) → List (Eid × V)
   with_pair value [] = (eid, value) ∷ []
   with_pair value ((key, old) ∷ rest) =
@@ -21,7 +21,7 @@ module _ {V : Type 0} (eid : Eid) where
       else if is_below eid key then (eid, value) ∷ ((key, old) ∷ rest)
       else (eid, value) ∷ rest
 
-  -- the pairs without that of the EID
+  -- the pairs without the one of the EID
   abbrev pub without_pair : List (Eid × V) → List (Eid × V)
   without_pair [] = []
   without_pair ((key, old) ∷ rest) =
@@ -29,7 +29,7 @@ module _ {V : Type 0} (eid : Eid) where
       else if is_below eid key then (key, old) ∷ rest
       else rest
 
-  -- the value of the EID
+  -- the value of the EID, or None
   abbrev pub value_in : List (Eid × V) → Option V
   value_in [] = None
   value_in ((key, old) ∷ rest) =

@@ -1,4 +1,4 @@
--- What tries and their roots are once a pair was put or taken under one.
+-- Tries and their roots, before and after a pair is put or taken under one.
 use Rattle.std.specs.Prelude.{◌≡◌, ◌+◌, List, length, Option}
 use Rattle.mapping_records.specs.declared.eid.Eid.{Eid}
 use Rattle.node_store.specs.Store.{Store}
@@ -7,7 +7,7 @@ use Rattle.prefix_table.specs.declared.node.Root.{Root}
 use Rattle.prefix_table.specs.Pairs.{with_pair, without_pair, value_in}
 use Rattle.prefix_table.specs.Table.{pairs_under, size_under, IsForest}
 
--- a pair was put under a root
+-- a pair was put under a root: the roots then (`after`), the pairs with it, and the EID's value before (`was`)
 pub record PutUnder {V : Type 0} (old new : Store (Node V)) (roots after : List Root) (eid : Eid) (value : V) (was : Option V) : Type 0 where
   pub forest : IsForest new after
   pub pairs : pairs_under new after ≡ with_pair eid value (pairs_under old roots)
@@ -15,7 +15,8 @@ pub record PutUnder {V : Type 0} (old new : Store (Node V)) (roots after : List 
   pub rooms : new.rooms + size_under new after ≡ old.rooms + size_under old roots
   pub slots : length new.slots ≡ length old.slots
 
--- a pair was taken from under a root
+-- the pair of an EID was taken from under a root: the roots then (`after`), the pairs without it, and the EID's value
+-- before (`was`)
 pub record TakenUnder {V : Type 0} (old new : Store (Node V)) (roots after : List Root) (eid : Eid) (was : Option V) : Type 0 where
   pub forest : IsForest new after
   pub pairs : pairs_under new after ≡ without_pair eid (pairs_under old roots)

@@ -7,8 +7,8 @@ ghost use Rattle.prefix_table.specs.Common.{IsCommon};
 use crate::search::next_bit;
 use mapping_records::{Eid, Prefix};
 
-/// The longest EID that covers both of two that don't cover each other, whose first `least` bits
-/// are the same.
+/// The longest EID that covers both of two EIDs that don't cover each other, and whose first
+/// `least` bits are the same.
 pub(crate) fn common(key: Eid, eid: Eid, least: u8) -> Eid
     requires same_iid { key.iid ≡ eid.iid }
     requires same_width { key_width key ≡ key_width eid }

@@ -1,4 +1,4 @@
-// A pair is put into a trie.
+// Insertion of a pair into a trie.
 ghost use Rattle.std.specs.Prelude.{◌≡◌, ◌≢◌, ◌<◌, ◌≤◌, ◌+◌, true, false, Some, None, IsSome};
 ghost use Rattle.node_store.specs.Store.{node_at, IsLive};
 ghost use Rattle.mapping_records.specs.Eids.{covers_eid};
@@ -14,8 +14,8 @@ use crate::search::next_bit;
 use mapping_records::Eid;
 use node_store::Reads;
 
-/// Puts a pair into the trie under a name, whose keys have at least that length, or replaces the
-/// value of its EID. The name of the trie then, and the former value. Takes no memory.
+/// Puts a pair into the trie under a name, whose keys have at least `least` bits, or replaces the
+/// value of its EID. Returns the trie's name then, and the former value. Takes no memory.
 pub(crate) fn put_below<V>(
     store: &mut Nodes<V>,
     at: Option<u32>,
@@ -31,7 +31,8 @@ pub(crate) fn put_below<V>(
     (name, value)
 }
 
-// The same, of an EID with its key. The value is exchanged for the former one.
+// Puts a pair into the trie under a name, by its EID and the EID's key, and returns the trie's name
+// then. Exchanges the value for the former one.
 fn put_under<V>(
     store: &mut Nodes<V>,
     at: Option<u32>,
@@ -71,7 +72,7 @@ fn put_under<V>(
     at
 }
 
-// A leaf, where nothing was.
+// Makes a leaf where there was no node, and returns its name.
 fn put_leaf<V>(store: &mut Nodes<V>, eid: &Eid, value: &mut Option<V>) -> u32
     requires { 2 ≤ store.old.rooms }
     ensures { (given : _) → value.old ≡ Some given
@@ -85,8 +86,8 @@ fn put_leaf<V>(store: &mut Nodes<V>, eid: &Eid, value: &mut Option<V>) -> u32
     })
 }
 
-// A node above the trie or beside it, where the EID doesn't begin with the key of its node. Apart
-// from the way down, each step of which would clear room for what is held here.
+// Makes a node above the trie or beside it, where the EID doesn't begin with the key of the trie's
+// node. Apart from the way down, because each step of it would clear room for what is held here.
 fn put_apart<V>(store: &mut Nodes<V>, at: u32, eid: &Eid, value: &mut Option<V>, least: u8) -> u32
     requires takes { Takes store.old (Some at) least eid.now }
     requires apart { (top : _) → node_at store.old at ≡ Some top
@@ -103,7 +104,7 @@ fn put_apart<V>(store: &mut Nodes<V>, at: u32, eid: &Eid, value: &mut Option<V>,
     put_beside(store, at, key, *eid, value.take(), least)
 }
 
-// A node above the trie, whose keys it covers.
+// Makes a node above the trie, whose keys it covers, and returns its name.
 fn put_above<V>(store: &mut Nodes<V>, at: u32, key: Eid, eid: Eid, value: Option<V>) -> u32
     requires rooms { 2 ≤ store.old.rooms }
     requires top { (top : _) → node_at store.old at ≡ Some top → top.eid ≡ key }
@@ -129,7 +130,7 @@ fn put_above<V>(store: &mut Nodes<V>, at: u32, key: Eid, eid: Eid, value: Option
     })
 }
 
-// A node with no value above the trie and a new leaf.
+// Makes a node without a value above the trie and a new leaf, and returns its name.
 fn put_beside<V>(
     store: &mut Nodes<V>,
     at: u32,

@@ -1,4 +1,4 @@
-// The pairs one after another.
+// An iterator over pairs.
 ghost use Rattle.std.specs.Prelude.{◌≡◌, ◌∷◌, [], All, MatchOption};
 ghost use Rattle.std.specs.Iterator.{YieldsFirstBy, item_count};
 ghost use Rattle.prefix_table.specs.Longest.{seen};
@@ -12,13 +12,14 @@ use mapping_records::Eid;
 use node_store::Reads;
 use std::marker::Model;
 
-/// The pairs of a table that are still to come, in ascending order of the EIDs. Takes no memory.
+/// An iterator over the pairs of a table, in ascending order of the EIDs; contracts see those that
+/// it hasn't returned. Takes no memory.
 #[derive(Drop)]
 pub struct Iter<'a, V> {
     store: &'a Nodes<V>,
-    // Under these names come the first pairs.
+    // The first pairs are under these names, those under the last name first.
     stack: Stack,
-    // Under these the others.
+    // The other pairs are under these roots.
     roots: &'a [Root],
 }
 
@@ -37,7 +38,7 @@ impl<'a, V> Model for Iter<'a, V> {
 }
 
 impl<'a, V> Iter<'a, V> {
-    /// Those under roots.
+    /// The iterator over the pairs under roots.
     pub(crate) fn new(store: &'a Nodes<V>, roots: &'a [Root]) -> Self
         requires { All (IsRootIn store.now) roots.now }
         ensures { result ≡ pairs_under store.now roots.now }
@@ -69,7 +70,8 @@ impl<'a, V> Iterator for Iter<'a, V> {
     }
 }
 
-// The first pair under the names of a stack.
+// The first pair under the names of a stack, or None. The stack then has the names of the pairs
+// behind it.
 fn next_of<'a, V>(store: &'a Nodes<V>, stack: &mut Stack) -> Option<(&'a Eid, &'a V)>
     requires { AreUnder store.now 0 stack.old }
     ensures first { MatchOption result

@@ -1,4 +1,4 @@
-// What a way down compares.
+// Keys of EIDs, which a way down compares.
 ghost use Rattle.std.specs.Prelude.{◌≡◌, ◌≤◌, ◌<◌, ◌+◌, ◌*◌, ◌^◌, ◌/◌, ◌%◌, ◌==◌};
 ghost use Rattle.ip_headers.specs.Addr.{first_bits, number};
 ghost use Rattle.mapping_records.specs.Eids.{covers_eid};
@@ -7,10 +7,10 @@ ghost use Rattle.prefix_table.specs.Keys.{key_of, key_width};
 
 use mapping_records::{Addr, Eid};
 
-/// An EID in 24 octets, where it takes 64 itself, so that nodes lie close together.
+/// The key of an EID: 24 octets, where an `Eid` takes 64, so that nodes lie close together.
 #[derive(Clone, Copy, Drop)]
 pub(crate) struct Key {
-    // The address as a number.
+    // The address as a number, in two halves.
     high: u64,
     low: u64,
     iid: u32,
@@ -19,7 +19,7 @@ pub(crate) struct Key {
     pub(crate) len: u8,
 }
 
-// Fields lie in the order of the source: in another one it takes more.
+// Fields lie in the order of the source: in another one a `Key` takes more octets.
 const _: () = prove!(std::mem::size_of::<Key>() == 24);
 
 impl Key {
@@ -38,7 +38,7 @@ impl Key {
         }
     }
 
-    /// The EID of the one covers that of the other.
+    /// Whether the EID of this key covers that of the other.
     pub(crate) fn covers(&self, other: &Key) -> bool
         requires len { self.now.len ≤ self.now.width }
         requires width { self.now.width ≤ 128 }
@@ -51,7 +51,8 @@ impl Key {
         self.begins(other)
     }
 
-    /// The same, of EIDs of one instance and family.
+    /// Whether the EID of this key covers that of the other, where both are of one instance and
+    /// family.
     pub(crate) fn begins(&self, other: &Key) -> bool
         requires len { self.now.len ≤ self.now.width }
         requires width { self.now.width ≤ 128 }
@@ -76,7 +77,7 @@ impl Key {
     }
 }
 
-// Two numbers, each in two halves, are the same but for so many of their lowest bits.
+// Whether two numbers, each in two halves, are the same but for `past` of their lowest bits.
 #[tactic(auto, using(crate::proofs::HalfLemmas::same_high, crate::proofs::HalfLemmas::high_differs, crate::proofs::HalfLemmas::same_upper))]
 fn is_same_above(past: u8, high: u64, low: u64, other_high: u64, other_low: u64) -> bool
     requires { past ≤ 128 }
@@ -86,11 +87,11 @@ fn is_same_above(past: u8, high: u64, low: u64, other_high: u64, other_low: u64)
     if past < 64 {
         return high == other_high && low >> past == other_low >> past;
     }
-    // A half isn't shifted by all of its bits.
+    // A half can't be shifted by all of its bits.
     past == 128 || high >> (past - 64) == other_high >> (past - 64)
 }
 
-// The bit of a number in two halves that has so many below it.
+// The bit of a number in two halves that has `place` bits below it.
 #[tactic(auto, using(crate::proofs::HalfLemmas::bit_lower, crate::proofs::HalfLemmas::bit_upper))]
 fn is_set(place: u8, high: u64, low: u64) -> bool
     requires { place < 128 }
@@ -102,7 +103,7 @@ fn is_set(place: u8, high: u64, low: u64) -> bool
     (high >> (place - 64)) % 2 == 1
 }
 
-// The address as a number, in two halves.
+// An address as a number, in two halves.
 fn halves(addr: Addr) -> (u64, u64)
     ensures high { result.0 ≡ number addr / 2 ^ 64 }
     ensures low { result.1 ≡ number addr % 2 ^ 64 }

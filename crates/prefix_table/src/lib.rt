@@ -1,4 +1,4 @@
-//! Pairs of EIDs and values, with the longest match.
+//! Pairs of EIDs and values, found by longest match.
 #![tactic(auto)]
 
 mod common;

@@ -9,7 +9,7 @@ pub const MOST_NODES: u64 = 129;
 /// The most pairs of a table, with those that there is room for (this router's choice).
 pub const MOST_PAIRS: u32 = 1 << 30;
 
-/// The limits are the defined ones.
+/// Law: the constants are the defined numbers.
 pub fn limits_are()
     ensures nodes { MOST_NODES ≡ most_nodes }
     ensures pairs { MOST_PAIRS ≡ most_pairs }

@@ -2,7 +2,7 @@
 use crate::key::Key;
 use mapping_records::Eid;
 
-/// A node. One with no value has something on both sides.
+/// A node of a trie. One without a value has nodes below it on both sides.
 #[derive(Drop)]
 pub(crate) struct Node<V> {
     pub(crate) eid: Eid,
@@ -11,7 +11,7 @@ pub(crate) struct Node<V> {
     pub(crate) one: Option<u32>,
 }
 
-/// A node as it is kept: the key of its EID in place of that.
+/// A node as it is stored: with the key of its EID in place of the EID.
 #[derive(Drop)]
 pub(crate) struct SlimNode<V> {
     pub(crate) key: Key,
@@ -20,7 +20,7 @@ pub(crate) struct SlimNode<V> {
     pub(crate) value: Option<V>,
 }
 
-/// The trie of an instance and family.
+/// The root of the trie of an instance and family.
 #[derive(Clone, Copy, Drop)]
 pub(crate) struct Root {
     pub(crate) key: u64,

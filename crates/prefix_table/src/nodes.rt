@@ -14,11 +14,11 @@ use node_store::{NoMemory, NodeStore, Reads, copied};
 use std::alloc::Global;
 use std::marker::Model;
 
-/// Nodes, each under a name, their EIDs apart from them.
+/// Nodes, each under a name, with their EIDs in a list of their own.
 #[derive(Drop)]
 pub(crate) struct Nodes<V> {
     pub(crate) slim: NodeStore<SlimNode<V>>,
-    // That of the node of each name. At a name that has no node stands any.
+    // The EID of the node of each name. A name without a node has any EID.
     pub(crate) eids: Vec<Eid>,
 }
 
@@ -35,7 +35,7 @@ impl<V> Model for Nodes<V> {
 }
 
 impl<V> Nodes<V> {
-    /// No nodes, and no room. Takes no memory.
+    /// A store without nodes and without room. Takes no memory.
     pub(crate) fn new(alloc: Global) -> Self
         ensures empty { result.slots ≡ [] }
         ensures rooms { result.rooms ≡ 0 }
@@ -46,7 +46,7 @@ impl<V> Nodes<V> {
         }
     }
 
-    /// Makes room for `n` nodes in all, with those that there is room for already.
+    /// Makes room for `n` further nodes, with those that there is room for already.
     pub(crate) fn make_room(&mut self, n: u32) -> Result<(), NoMemory>
         requires { live self.old + n < 2 ^ 32 }
         ensures nodes { SameNodes self.old self.new }
@@ -66,7 +66,7 @@ impl<V> Nodes<V> {
         Ok(())
     }
 
-    /// For how many nodes there is room.
+    /// For how many further nodes there is room.
     pub(crate) fn rooms(&self) -> u32
         ensures rooms { result ≡ self.now.rooms }
         ensures slots { length self.now.slots ≡ live self.now + result }
@@ -74,7 +74,7 @@ impl<V> Nodes<V> {
         self.slim.rooms()
     }
 
-    /// The node of that name, and where its EID is. The count of reads rises by one.
+    /// The node of that name, and a reference to its EID. The count of reads rises by one.
     pub(crate) fn read(&self, name: u32, reads: &mut Reads) -> (&Eid, &SlimNode<V>)
         requires live { IsLive self.now name }
         requires counts { reads.old + 1 < 2 ^ 64 }
@@ -86,7 +86,7 @@ impl<V> Nodes<V> {
         (&self.eids[name as usize], node)
     }
 
-    /// Puts a node under a name that had none. Takes no memory.
+    /// Puts a node under a name that had none, and returns the name. Takes no memory.
     pub(crate) fn put(&mut self, node: Node<V>) -> u32
         requires { 0 < self.old.rooms }
         ensures fresh { node_at self.old result ≡ None }
@@ -107,8 +107,8 @@ impl<V> Nodes<V> {
 }
 
 impl<V: Drop> Nodes<V> {
-    /// Nodes of their own, the same under the same names, and with as much room. `each` makes the
-    /// copy of a value.
+    /// An equal store of its own, with the same names and with as much room. `each` makes the copy
+    /// of a value.
     pub(crate) fn copy<F: Fn(&V) -> Result<V, NoMemory>>(&self, each: F) -> Result<Self, NoMemory>
         requires callable { F.IsAlwaysCallable each }
         requires copies { MakesCopies (FnReturnsAt F.Fn each) }
@@ -154,7 +154,7 @@ fn copied_node<V: Drop, F: Fn(&V) -> Result<V, NoMemory>>(
     })
 }
 
-// Adds EIDs, whichever, until there are so many. Takes no memory.
+// Adds EIDs, whichever, until there are `all`. Takes no memory.
 fn add_eids(eids: &mut Vec<Eid>, all: usize)
     requires more { length eids.old.items ≤ all }
     requires room { all ≤ vec_capacity eids.old }

@@ -18,7 +18,7 @@ pub(crate) fn swap_value<V>(store: &mut Nodes<V>, at: u32, value: &mut Option<V>
     mem::swap(&mut node.value, value);
 }
 
-/// Names what is below a node on the side of the next bit 0.
+/// Sets the name of the node below a node on the side of the next bit 0.
 pub(crate) fn link_zero<V>(store: &mut Nodes<V>, at: u32, below: Option<u32>)
     requires { IsLive store.old at }
     ensures changes { Becomes store.old store.new at (λ top. record top { zero = below }) }
@@ -29,7 +29,7 @@ pub(crate) fn link_zero<V>(store: &mut Nodes<V>, at: u32, below: Option<u32>)
     node.zero = below;
 }
 
-/// Names what is below a node on the side of the next bit 1.
+/// Sets the name of the node below a node on the side of the next bit 1.
 pub(crate) fn link_one<V>(store: &mut Nodes<V>, at: u32, below: Option<u32>)
     requires { IsLive store.old at }
     ensures changes { Becomes store.old store.new at (λ top. record top { one = below }) }
@@ -40,7 +40,7 @@ pub(crate) fn link_one<V>(store: &mut Nodes<V>, at: u32, below: Option<u32>)
     node.one = below;
 }
 
-/// Takes the value of a node, which stays.
+/// Takes the value out of a node, which stays, and returns it.
 pub(crate) fn clear_value<V>(store: &mut Nodes<V>, at: u32) -> Option<V>
     requires { IsLive store.old at }
     ensures was { (top : _) → node_at store.old at ≡ Some top → result ≡ top.value }
@@ -52,7 +52,7 @@ pub(crate) fn clear_value<V>(store: &mut Nodes<V>, at: u32) -> Option<V>
     node.value.take()
 }
 
-/// Takes the value of a node, which goes.
+/// Removes a node, and returns its value.
 pub(crate) fn drop_value<V>(store: &mut Nodes<V>, at: u32) -> Option<V>
     requires { IsLive store.old at }
     ensures was { (top : _) → node_at store.old at ≡ Some top → result ≡ top.value }

@@ -1,4 +1,4 @@
-// A pair is taken out of a trie.
+// Removal of a pair from a trie.
 ghost use Rattle.std.specs.Prelude.{◌≡◌, length, Some, is_some};
 ghost use Rattle.node_store.specs.Store.{node_at, IsLive};
 ghost use Rattle.prefix_table.specs.Keys.{key_of};
@@ -10,8 +10,8 @@ use crate::place::{clear_value, drop_value, link_one, link_zero};
 use mapping_records::Eid;
 use node_store::Reads;
 
-/// Takes the pair of an EID out of the trie under a name, whose keys have at least that length. The
-/// name of the trie then, if something is left of it, and the value. Takes no memory.
+/// Takes the pair of an EID out of the trie under a name, whose keys have at least `least` bits.
+/// Returns the trie's name then, None where no node is left, and the value. Takes no memory.
 pub(crate) fn take_below<V>(
     store: &mut Nodes<V>,
     at: Option<u32>,
@@ -24,7 +24,8 @@ pub(crate) fn take_below<V>(
     take_under(store, at, eid, &Key::of(eid), least)
 }
 
-// The same, of an EID with its key.
+// Takes the pair of an EID out of the trie under a name, by the EID and its key. Returns the trie's
+// name then, and the value.
 fn take_under<V>(
     store: &mut Nodes<V>,
     at: Option<u32>,
@@ -62,8 +63,8 @@ fn take_under<V>(
     (relink_zero(store, at, valued, one, below), was)
 }
 
-// Names what is left below a node on the side of the next bit 0, or drops the node where it has no
-// value and nothing is left there. The name of the trie then.
+// Sets the name of what is left below a node on the side of the next bit 0, or removes the node
+// where it has no value and no node is left there. Returns the trie's name then.
 fn relink_zero<V>(
     store: &mut Nodes<V>,
     at: u32,
@@ -87,7 +88,8 @@ fn relink_zero<V>(
     }
 }
 
-// The same on the side of the next bit 1.
+// Sets the name of what is left below a node on the side of the next bit 1, or removes the node
+// where it has no value and no node is left there. Returns the trie's name then.
 fn relink_one<V>(
     store: &mut Nodes<V>,
     at: u32,

@@ -1,4 +1,4 @@
-// A pair is put or taken under the root of its instance and family.
+// Insertion and removal of a pair under the root of its instance and family.
 ghost use Rattle.std.specs.Prelude.{◌≡◌, ◌≤◌, ◌<◌, None, vec_len, vec_capacity};
 ghost use Rattle.ip_headers.specs.Addr.{first_bits};
 ghost use Rattle.prefix_table.specs.Pairs.{value_in};
@@ -13,7 +13,7 @@ use crate::removal::take_below;
 use crate::roots::find_root;
 use mapping_records::{Addr, Eid};
 
-// An address has no bits above its width.
+// Brings the fact that an address has no bits above its width.
 fn no_more_bits(addr: Addr)
     ensures { first_bits addr 0 ≡ 0 }
 {
@@ -27,7 +27,7 @@ fn no_more_bits(addr: Addr)
     }
 }
 
-/// Puts a pair under its root, which is made where there is none.
+/// Puts a pair under its root, which is made where there is none, and returns the former value.
 pub(crate) fn put<V>(
     store: &mut Nodes<V>,
     roots: &mut Vec<Root>,
@@ -50,7 +50,7 @@ pub(crate) fn put<V>(
     }
 }
 
-/// Puts a pair under the root that stands at `at`.
+/// Puts a pair under the root that stands at `at`, and returns the former value.
 pub(crate) fn put_at<V>(
     store: &mut Nodes<V>,
     roots: &mut Vec<Root>,
@@ -75,7 +75,7 @@ pub(crate) fn put_at<V>(
     was
 }
 
-/// Puts a pair under a new root at the gap for it.
+/// Puts a pair under a new root, at the gap for it.
 pub(crate) fn put_new<V>(
     store: &mut Nodes<V>,
     roots: &mut Vec<Root>,
@@ -100,7 +100,8 @@ pub(crate) fn put_new<V>(
     was
 }
 
-/// Takes the pair of an EID from under its root, which goes with the last pair under it.
+/// Takes the pair of an EID from under its root, and returns the value. The root goes with the last
+/// pair under it.
 pub(crate) fn take<V>(store: &mut Nodes<V>, roots: &mut Vec<Root>, key: u64, eid: Eid) -> Option<V>
     requires forest { IsForest store.old roots.old.items }
     requires key { key ≡ root_key eid }
@@ -113,7 +114,8 @@ pub(crate) fn take<V>(store: &mut Nodes<V>, roots: &mut Vec<Root>, key: u64, eid
     }
 }
 
-/// Takes the pair of an EID from under the root that stands at `at`.
+/// Takes the pair of an EID from under the root that stands at `at`, and returns the value. The
+/// root goes with the last pair under it.
 pub(crate) fn take_at<V>(
     store: &mut Nodes<V>,
     roots: &mut Vec<Root>,

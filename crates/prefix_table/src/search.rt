@@ -1,4 +1,4 @@
-// Lookups: down from a root, one read a node.
+// Look-ups: down from a root, one read for each node.
 ghost use Rattle.std.specs.Prelude.{◌≡◌, ◌≤◌, ◌+◌, ◌^◌, ◌<◌, ◌%◌, ◌==◌, IsTrue, IsSome, All, MatchOption, Some, None};
 ghost use Rattle.std.specs.Fn.{FnReturnsAt};
 ghost use Rattle.std.specs.Option.{option_map};
@@ -25,7 +25,8 @@ pub(crate) fn next_bit(addr: Addr, len: u8) -> bool
     }
 }
 
-// What was found so far, after a look at the node.
+// The best pair after a look at a node: the node's, where its value passes the test, else the best
+// before.
 fn better<'a, V, F: Fn(&V) -> bool>(
     eid: &'a Eid,
     value: &'a Option<V>,
@@ -45,8 +46,8 @@ fn better<'a, V, F: Fn(&V) -> bool>(
     best
 }
 
-/// The longest pair of the trie that covers the EID and passes the test. Each node on the way down
-/// is read once.
+/// The longest pair of the trie that covers the EID and passes the test, or None. Each node on the
+/// way down is read once.
 pub(crate) fn longest_where<'a, V, F: Fn(&V) -> bool>(
     store: &'a Nodes<V>,
     root: Option<u32>,

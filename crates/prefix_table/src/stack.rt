@@ -1,4 +1,4 @@
-// Names of nodes, the last one the next.
+// A stack of names of nodes.
 ghost use Rattle.std.specs.Prelude.{◌≡◌, ◌<◌, ◌++◌, ◌∷◌, [], length, IsSome, MatchOption};
 ghost use Rattle.prefix_table.specs.Limits.{most_nodes};
 ghost use Rattle.prefix_table.specs.Stacked.{given};
@@ -6,7 +6,7 @@ ghost use Rattle.prefix_table.specs.Stacked.{given};
 use crate::MOST_NODES;
 use std::marker::Model;
 
-/// Names in a stack, which takes no memory of its own.
+/// A stack of at most `MOST_NODES` names. Takes no memory.
 #[derive(Drop)]
 pub(crate) struct Stack {
     names: [u32; MOST_NODES as usize],
@@ -25,7 +25,7 @@ impl Model for Stack {
 }
 
 impl Stack {
-    /// No names.
+    /// A stack without names.
     pub(crate) fn new() -> Stack
         ensures { result ≡ [] }
     {
@@ -46,7 +46,7 @@ impl Stack {
         }
     }
 
-    /// Takes the last name.
+    /// Takes the last name out, and returns it, or None where there is none.
     pub(crate) fn pop(&mut self) -> Option<u32>
         ensures { MatchOption result ((self.old ≡ []) × (self.new ≡ []))
             (λ name. self.old ≡ self.new ++ name ∷ []) }

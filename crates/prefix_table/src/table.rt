@@ -17,11 +17,11 @@ use node_store::{NoMemory, Reads, copied};
 use std::alloc::Global;
 use std::marker::Model;
 
-/// Pairs of EIDs and values, in ascending order of the EIDs.
+/// A table of pairs of EIDs and values, in ascending order of the EIDs.
 #[derive(Drop)]
 pub struct PrefixTable<V> {
     store: Nodes<V>,
-    // In ascending order of their keys.
+    // The roots, in ascending order of their keys.
     roots: Vec<Root>,
     spare: u32,
     len: u32,
@@ -46,7 +46,7 @@ fn root_key(eid: &Eid) -> u64
 }
 
 impl<V> PrefixTable<V> {
-    /// An empty table, with no room. Takes no memory.
+    /// An empty table, without room. Takes no memory.
     pub fn new(alloc: Global) -> Self
         ensures empty { result.pairs ≡ [] }
         ensures spare { result.spare ≡ 0 }
@@ -59,7 +59,7 @@ impl<V> PrefixTable<V> {
         }
     }
 
-    /// Makes room for `n` further EIDs in all, with those that there is room for already.
+    /// Makes room for `n` further EIDs, with those that there is room for already.
     pub fn reserve(&mut self, n: u32) -> Result<(), NoMemory>
         requires { length self.old.pairs + n ≤ most_pairs }
         ensures pairs { self.new.pairs ≡ self.old.pairs }
@@ -78,8 +78,8 @@ impl<V> PrefixTable<V> {
         Ok(())
     }
 
-    /// The longest pair that has the EID's instance, covers it and passes the test. Each node on the
-    /// way down is read once.
+    /// The longest pair that has the EID's instance, covers the EID and passes the test, or None.
+    /// Each node on the way down is read once.
     pub fn longest_where<F: Fn(&V) -> bool>(
         &self,
         eid: &Eid,
@@ -103,14 +103,14 @@ impl<V> PrefixTable<V> {
         }
     }
 
-    /// The value of an EID, if it is there.
+    /// The value of an EID, or None where the table doesn't have it.
     pub fn get(&self, eid: &Eid, reads: &mut Reads) -> Option<&V>
         requires { reads.old < 2 ^ 63 }
         ensures value { option_copied result ≡ value_in eid.now self.now.pairs }
         ensures counted { reads.old ≤ reads.new }
         ensures reads { reads.new ≤ reads.old + most_nodes }
     {
-        // The fields are named, since the proof rests on what is kept of them.
+        // The fields are named, because the proof rests on the facts that are kept of them.
         let _ = &self.roots;
         match self.longest_where(eid, |_| true, reads) {
             Some((key, value)) => {
@@ -124,7 +124,8 @@ impl<V> PrefixTable<V> {
         }
     }
 
-    /// Puts a pair, or replaces the value of its EID, which is handed back. Takes no memory.
+    /// Adds a pair, or replaces the value of its EID, and returns the former value, or None. Takes
+    /// no memory.
     pub fn insert(&mut self, eid: Eid, value: V) -> Option<V>
         requires { value_in eid self.old.pairs ≡ None → 0 < self.old.spare }
         ensures pairs { self.new.pairs ≡ with_pair eid value self.old.pairs }
@@ -140,8 +141,8 @@ impl<V> PrefixTable<V> {
         was
     }
 
-    /// Takes the pair of an EID out, and hands its value back. Its room is spare again. Takes no
-    /// memory.
+    /// Takes the pair of an EID out, and returns its value, or None where there is none. The pair's
+    /// room is spare again. Takes no memory.
     pub fn remove(&mut self, eid: &Eid) -> Option<V>
         ensures pairs { self.new.pairs ≡ without_pair eid.now self.old.pairs }
         ensures was { result ≡ value_in eid.now self.old.pairs }
@@ -173,8 +174,7 @@ impl<V> PrefixTable<V> {
 }
 
 impl<V: Drop> PrefixTable<V> {
-    /// A table of its own with the same pairs, and with as much room. `each` makes the copy of a
-    /// value.
+    /// An equal table of its own, with as much room. `each` makes the copy of a value.
     pub fn copy<F: Fn(&V) -> Result<V, NoMemory>>(
         &self,
         each: F,

@@ -1,4 +1,4 @@
--- What a run answers, by its words and the files.
+-- The answer of a run, by its words and the files at the desk.
 use Rattle.std.specs.Prelude.{◌≡◌, ℕ, Bool, true, false, List, [], ◌∷◌, ◌++◌, codes, length, map, Option, Some, None, Result, Ok, Err, IsSomeAnd}
 use Rattle.command_words.specs.Words.{words_of}
 use Rattle.command_words.specs.declared.words.Words.{Words}
@@ -24,27 +24,28 @@ use Rattle.replay.specs.declared.finding.Finding.{Finding}
 use Rattle.replay.specs.declared.status.Status.{Status}
 use Rattle.replay.specs.declared.status.Status.TheVariants.{Done, Usage, Settings as BadSettings, Capture, Host, Memory, Differs}
 
--- a status, a report, and the file that was made, if one was
+-- the answer of a run: a status, a report, and the file that was made, if one was
 pub record Answer : Type 0 where
   pub status : Status
   pub said : List ℕ
   pub made : List NamedFile
 
--- the status, by the fault of the capture
+-- the status of a replay or a show, by the fault of its capture
 abbrev pub status_of : Option InputFault → Status
 status_of None = Done
 status_of (Some fault) = Capture
 
--- the last line: that of the capture's fault, or else this one
+-- the last line of a replay or a show: the line of the capture's fault, or else this line
 abbrev pub closing : Option InputFault → List ℕ → List ℕ
 closing None line = line
 closing (Some fault) line = fault_line fault
 
--- a status and a line, and no file
+-- an answer of a status and one line, without a file
 abbrev pub told_off : Status → List ℕ → Answer
 told_off status line = record { status = status; said = line; made = [] }
 
--- the answer to the frames of a capture that are replayed into a file, by what is said and written for them
+-- the answer to a replay of a run of frames into the file `output`, by the outcome of the router: lines, packets and
+-- journal
 abbrev pub answer_by : Outcome (Router Journal) → List ℕ → InputRun → Answer
 answer_by outcome output run = record {
   status = status_of run.fault;
@@ -54,11 +55,11 @@ answer_by outcome output run = record {
   made = record { name = output; octets = out_header ++ records_of outcome.packets } ∷ [];
 }
 
--- by what the plain router says and writes
+-- the answer to a replay of a run of frames into the file `output` by the plain router
 unfoldable pub replayed : Settings → List ℕ → InputRun → Answer
 replayed settings output run = answer_by (played plain (started settings) (events run.frames)) output run
 
--- the messages in the frames of a capture, shown
+-- the answer to a show of a run of frames: the lines of each frame
 unfoldable pub messages_shown : InputRun → Answer
 messages_shown run =
     let outcome = played showing tt (events run.frames) in
@@ -68,21 +69,21 @@ messages_shown run =
       made = [];
     }
 
--- the answer to a capture, by what is read of it
+-- the answer to a capture: that of its frames, or the line of the fault in its header
 abbrev pub after_opening : (InputRun → Answer) → Opened → Answer
 after_opening frames (Err fault) = told_off Capture (fault_line fault)
 after_opening frames (Ok run) = frames run
 
--- the answer to a replay of a capture, by its settings
+-- the answer to a replay of a capture into the file `output`, by its settings or their fault
 abbrev pub after_settings : List ℕ → Arriving → Result Settings SettingsFault → Answer
 after_settings output input (Err fault) = told_off BadSettings (settings_line fault)
 after_settings output input (Ok settings) = after_opening (replayed settings output) (input settings)
 
--- the answer to an audit, by what it finds
+-- the answer to an audit, by its finding
 abbrev pub after_finding : Finding → Answer
 after_finding finding = told_off (finding_status finding) (finding_line finding)
 
--- the answer to what words say
+-- the answer to a command, at a desk with these files; None stands for words of no form
 abbrev pub after_words : List NamedFile → Option Words → Answer
 after_words files None = told_off Usage (codes "usage\n")
 after_words files (Some (Replay settings input output intake workers round)) =
@@ -92,11 +93,11 @@ after_words files (Some (Trial n)) = told_off Done (trial_text n)
 after_words files (Some (Audit settings input sent nonces)) =
     after_finding (found_by nonces (settings_of (content settings files)) (opened Classic (content input files)) (opened Classic (content sent files)))
 
--- the answer to words, where these files are there
+-- the answer to words, at a desk with these files
 unfoldable pub answer : List (List ℕ) → List NamedFile → Answer
 answer words files = after_words files (words_of words)
 
--- the status tells of the desk or of memory, and not of words and files
+-- whether a status is that of a failed call or of refused memory, and not of words and files
 abbrev pub is_outside : Status → Bool
 is_outside Host = true
 is_outside Memory = true
@@ -106,18 +107,18 @@ is_outside _ = false
 abbrev pub made_files : List (ℕ × NamedFile) → List NamedFile
 made_files writers = map (λ writer. writer.1) writers
 
--- what a run leaves: the files that were there, and its report and its made file after those before
+-- a run leaves its answer: the files that were there, and the answer's report and made file behind those of before
 pub record Leaves (a : Answer) (old new : Shown) : Type 0 where
   pub files : new.files ≡ old.files
   pub said : new.said ≡ old.said ++ a.said
   pub made : made_files new.writers ≡ made_files old.writers ++ a.made
 
--- a run ends by the answer, and leaves what it says
+-- a run gives its answer: the status `s` is the answer's, and the answer's report and made file are left
 pub record Gives (a : Answer) (s : Status) (old : Shown) (new : Option Shown) : Type 0 where
   pub status : s ≡ a.status
   pub left : IsSomeAnd new (Leaves a old)
 
--- the words were of a form
+-- whether a status is that of words of a form, with neither `Host` nor `Memory`
 abbrev pub is_of_form : Status → Bool
 is_of_form Done = true
 is_of_form BadSettings = true
@@ -125,13 +126,13 @@ is_of_form Capture = true
 is_of_form Differs = true
 is_of_form _ = false
 
--- words, settings and captures were lawful
+-- whether a status is that of lawful words, settings and captures
 abbrev pub is_lawful_end : Status → Bool
 is_lawful_end Done = true
 is_lawful_end Differs = true
 is_lawful_end _ = false
 
--- the capture was read to its end, or to its fault
+-- whether a status is that of a capture that was read to its end, or to its fault
 abbrev pub is_end : Status → Bool
 is_end Done = true
 is_end Capture = true

@@ -1,4 +1,4 @@
--- What an audit finds: what a router sent, held against the packets of the plain router.
+-- The finding of an audit: what a router sent, compared with the packets of the plain router.
 use Rattle.std.specs.Prelude.{◌≡◌, ℕ, Bool, false, List, codes, Option, Some, None, Result, Ok, Err, if◌then◌else◌}
 use Rattle.audit.specs.Compared.{compared}
 use Rattle.audit.specs.Lifted.{lifted}
@@ -25,17 +25,17 @@ use Rattle.replay.specs.declared.finding.Finding.TheVariants as finding
 use Rattle.replay.specs.declared.status.Status.{Status}
 use Rattle.replay.specs.declared.status.Status.TheVariants.{Capture, Differs as SentDiffers, Done, Settings as BadSettings}
 
--- the nonces are lifted, and some of them may be those of echoes, of which no request tells
+-- whether nonces are lifted, and some of them may be those of echoes, which no packet carries whole
 abbrev pub lifts_echoes : NonceSource → Settings → Bool
 lifts_echoes FromSettings settings = false
 lifts_echoes FromSent settings = settings.echo
 
--- the settings, with the nonces that were lifted out of these records in place of their own, or as they are
+-- the settings of an audit: with the nonces lifted out of the sent records in place of their own, or as they are
 abbrev pub with_nonces : NonceSource → Settings → List Frame → Settings
 with_nonces FromSettings settings records = settings
 with_nonces FromSent settings records = record settings { nonces = lifted settings records }
 
--- how the packets that the plain router sends for frames compare with the records of what was sent
+-- how the packets that the plain router sends for frames compare with the records of a sent capture
 unfoldable pub comparison : Settings → List Frame → List Frame → Comparison
 comparison settings frames records =
     compared (octets_of (played plain (started settings) (events frames)).packets) records
@@ -45,20 +45,21 @@ abbrev pub whole : Opened → Result (List Frame) InputFault
 whole (Err fault) = Err fault
 whole (Ok run) = elim run.fault [ Some fault ↦ Err fault | None ↦ Ok run.frames ]
 
--- by the capture that the router was given, and that of what it sent
+-- the finding of an audit by lawful settings, by the input capture and the sent one: a fault of the input goes first
 abbrev pub found : NonceSource → Settings → Result (List Frame) InputFault → Result (List Frame) InputFault → Finding
 found source settings (Err fault) sent = finding.Input fault
 found source settings (Ok frames) (Err fault) = finding.Sent fault
 found source settings (Ok frames) (Ok records) =
     finding.Compared (comparison (with_nonces source settings records) frames records)
 
--- and by the settings
+-- the finding of an audit, by its settings and both captures: a fault of the settings goes first, then `echo` where
+-- nonces are lifted
 abbrev pub found_by : NonceSource → Result Settings SettingsFault → Opened → Opened → Finding
 found_by source (Err fault) input sent = finding.Settings fault
 found_by source (Ok settings) input sent =
     if lifts_echoes source settings then finding.Echo else found source settings (whole input) (whole sent)
 
--- the line of what was found
+-- the report's line of an audit's finding
 abbrev pub finding_line : Finding → List ℕ
 finding_line (finding.Settings fault) = settings_line fault
 finding_line finding.Echo = settings_line (BadValue (codes "echo"))
@@ -73,7 +74,7 @@ comparison_status (Differs position place) = SentDiffers
 comparison_status (Missing position) = SentDiffers
 comparison_status (Extra position) = SentDiffers
 
--- and of what was found
+-- the status of an audit's finding
 abbrev pub finding_status : Finding → Status
 finding_status (finding.Settings fault) = BadSettings
 finding_status finding.Echo = BadSettings
@@ -88,18 +89,18 @@ abbrev pub fault_in : Result (List Frame) InputFault → Option InputFault
 fault_in (Ok frames) = None
 fault_in (Err fault) = Some fault
 
--- what is found where the capture of what was sent has that fault
+-- the finding of an audit whose sent capture has this fault: the fault, unless the input capture has one of its own
 abbrev pub refused : Result (List Frame) InputFault → InputFault → Finding
 refused (Ok frames) fault = finding.Sent fault
 refused (Err own) fault = finding.Input own
 
--- nonces were lifted out of the frames of a capture, or it has that fault
+-- the result of lifting nonces from a sent capture: the nonces in its frames, or the capture's fault
 abbrev pub LiftsFrom : Settings → Result (List Frame) InputFault → Result (List ℕ) InputFault → Type 0
 LiftsFrom settings sent (Ok nonces) =
     (records : List Frame) × (sent ≡ Ok records) × (nonces ≡ lifted settings records)
 LiftsFrom settings sent (Err fault) = sent ≡ Err fault
 
--- an audit of two captures by the plain router
+-- the result of an audit of two classic captures by the plain router: their comparison, or the fault of one of them
 abbrev pub AuditsAs : Settings → Run CaptureFault → Run CaptureFault → Audited → Type 0
 AuditsAs settings input sent (Compared outcome) =
     (input.fault ≡ None) × ((sent.fault ≡ None) × (outcome ≡ comparison settings input.frames sent.frames))

@@ -12,17 +12,17 @@ use Rattle.playback.specs.declared.fault.InputFault.{InputFault}
 use Rattle.playback.specs.declared.fault.InputFault.TheVariants as input
 use Rattle.router_log.specs.Numbers.{named}
 
--- the counts at the end of a capture: its frames, the packets written, the journal's length
+-- the last line of a replay: its frames, the packets written, and the journal's length
 abbrev pub end_line : ℕ → ℕ → ℕ → List ℕ
 end_line frames written entries =
     named (codes "end frames=") frames
     ++ (named (codes " written=") written ++ (named (codes " entries=") entries ++ 10 ∷ []))
 
--- the number of frames, at the end of a capture that was shown
+-- the last line of a show: the number of frames
 abbrev pub count_line : ℕ → List ℕ
 count_line frames = named (codes "end frames=") frames ++ 10 ∷ []
 
--- a word, and the key that is at fault
+-- the text of a fault of settings: a word, and the key that is at fault, if one is
 abbrev pub settings_text : SettingsFault → List ℕ
 settings_text settings_fault.NotToml = codes "not-toml"
 settings_text settings_fault.TooLong = codes "too-long"
@@ -33,11 +33,11 @@ settings_text (settings_fault.Duplicate key) = codes "duplicate " ++ key
 settings_text (settings_fault.TooMany key) = codes "too-many " ++ key
 settings_text settings_fault.Memory = []
 
--- the last line where the settings are refused
+-- the last line of a run whose settings are refused
 abbrev pub settings_line : SettingsFault → List ℕ
 settings_line f = codes "settings " ++ (settings_text f ++ 10 ∷ [])
 
--- a word, and the numbers of the fault: of a classic capture
+-- the text of a fault of a classic capture: a word, and the numbers of the fault
 abbrev pub fault_text : CaptureFault → List ℕ
 fault_text fault.BadMagic = codes "bad-magic"
 fault_text fault.BadVersion = codes "bad-version"
@@ -52,7 +52,7 @@ fault_text fault.TooManyRecords = codes "too-many-records"
 fault_text fault.Host = []
 fault_text fault.Memory = []
 
--- and of one in the pcapng format
+-- the text of a fault of a pcapng capture: a word, and the numbers of the fault
 abbrev pub ng_text : NgFault → List ℕ
 ng_text ng.TooManyRecords = codes "too-many-records"
 ng_text (ng.CutBlock place) = named (codes "cut-block ") place
@@ -70,20 +70,21 @@ ng_text (ng.SpanTooLong number) = named (codes "span-too-long ") number
 ng_text ng.Host = []
 ng_text ng.Memory = []
 
--- by its format
+-- the text of a capture's fault, by the capture's format
 abbrev pub input_text : InputFault → List ℕ
 input_text (input.Classic f) = fault_text f
 input_text (input.Ng f) = ng_text f
 
--- the last line where the capture is refused
+-- the last line of a run whose input capture is refused
 abbrev pub fault_line : InputFault → List ℕ
 fault_line f = codes "capture " ++ (input_text f ++ 10 ∷ [])
 
--- the same of a capture of what a router sent
+-- the last line of an audit whose sent capture is refused
 abbrev pub sent_line : InputFault → List ℕ
 sent_line f = codes "sent " ++ (input_text f ++ 10 ∷ [])
 
--- how what was sent compares: the packets; or the record at which it departs, and the octet
+-- the last line of an audit: how many packets are the same; or the record at which the sent capture differs, and the
+-- octet; or the record that is missing or extra
 abbrev pub comparison_line : Comparison → List ℕ
 comparison_line (Same packets) = named (codes "audit same packets=") packets ++ 10 ∷ []
 comparison_line (Differs position place) =

@@ -1,4 +1,4 @@
--- The files that a steady desk owes a run: those that it reads, each by what was read before.
+-- The files that a steady desk owes a run: those that the run reads, each if those read before it let the run go on.
 use Rattle.std.specs.Prelude.{◌≡◌, ℕ, false, List, Option, Some, IfOk, IfSome}
 use Rattle.command_words.specs.declared.intake.InputFormat.TheVariants.{Classic}
 use Rattle.command_words.specs.declared.nonce_source.NonceSource.{NonceSource}
@@ -10,29 +10,29 @@ use Rattle.lisp_settings.specs.declared.settings.Settings.{Settings}
 use Rattle.replay.specs.Audit.{lifts_echoes}
 use Rattle.replay.specs.Opening.{opened}
 
--- it is so of the settings in the file of that name, where they are lawful
+-- if the desk shows the settings in the file of that name, and they are lawful, then `So` holds for them
 abbrev pub IfLawful : List ℕ → Option World → (Settings → Type 0) → Type 0
 IfLawful name told So = IfSome told (λ w. IfOk (settings_of (content name w.files)) So)
 
--- of a replay the settings, and the capture where these are lawful
+-- the files of a replay are there: the settings, and the capture if these are lawful
 abbrev pub AreReplayed : List ℕ → List ℕ → Option World → Type 0
 AreReplayed settings input told = IsThere settings told × IfLawful settings told (λ _. IsThere input told)
 
--- of two captures the first, and the second where the first has a header
+-- the captures of an audit are there: the input, and the sent one if the input's header is lawful
 abbrev pub AreCompared : List ℕ → List ℕ → Option World → Type 0
 AreCompared input sent told =
     IsThere input told × IfSome told (λ w. IfOk (opened Classic (content input w.files)) (λ _. IsThere sent told))
 
--- of an audit by these settings both captures, unless it ends for `echo`
+-- the captures of an audit by these settings are there, unless it ends for `echo`
 abbrev pub AreHeld : NonceSource → List ℕ → List ℕ → Option World → Settings → Type 0
 AreHeld source input sent told settings = lifts_echoes source settings ≡ false → AreCompared input sent told
 
--- of an audit the settings, and the captures where these are lawful
+-- the files of an audit are there: the settings, and the captures if these are lawful
 abbrev pub AreAudited : NonceSource → List ℕ → List ℕ → List ℕ → Option World → Type 0
 AreAudited source settings input sent told =
     IsThere settings told × IfLawful settings told (AreHeld source input sent told)
 
--- the desk tells that the files are there which words read, one after another
+-- the desk shows that the files are there which a command reads, one after another
 abbrev pub AreThere : Option Words → Option World → Type 0
 AreThere (Some (Replay settings input output intake workers round)) told = AreReplayed settings input told
 AreThere (Some (Show input)) told = IsThere input told

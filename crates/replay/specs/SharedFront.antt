@@ -1,4 +1,5 @@
--- What a run with forwarders leaves that is cut short: a beginning of its answer, by numbers that its data packets may have.
+-- A run with forwarders that is cut short, and the beginning of its answer that it leaves, by numbers that its data
+-- packets may have.
 use Rattle.std.specs.Prelude.{ℕ, zero, suc, List, Option, Some, Result, Ok, Err}
 use Rattle.command_words.specs.Words.{words_of}
 use Rattle.command_words.specs.declared.words.Words.{Words}
@@ -16,60 +17,65 @@ use Rattle.replay.specs.Front.{EndsFront, Part, no_part, part_after_opening, par
 use Rattle.replay.specs.Opening.{Arriving, Opened, arriving}
 use Rattle.replay.specs.Shared.{AreChosen, AreChosenOf, MayHave, after_settings_by, after_words_by, answer_with, frames_by, shared}
 
--- for so many rounds of a capture that is replayed into a file with these numbers: their lines, and the file with their
--- packets
+-- the part of a replay of a run of frames into the file `output` after so many rounds with these numbers: their lines,
+-- and the file with their packets
 unfoldable pub shared_part : List ℕ → ℕ → List (List ℕ) → Settings → InputRun → ℕ → Part
 shared_part output size ns settings run count = part_by (first_rounds settings run.frames size ns count) output
 
--- by the settings of a replay
+-- the part of a replay, by its settings and by the part of its frames: no line and no file where the settings have a
+-- fault
 abbrev pub part_after_settings_by : (Settings → InputRun → ℕ → Part) → Arriving → Result Settings SettingsFault → ℕ → Part
 part_after_settings_by frames input (Err fault) = no_part
 part_after_settings_by frames input (Ok settings) = part_after_opening (frames settings) (input settings)
 
--- with so many forwarders, of which there may be none
+-- the part of a replay of a run of frames with so many forwarders: without any after so many events, else after so many
+-- rounds
 abbrev pub parts_by : ℕ → ℕ → List (List ℕ) → List ℕ → Settings → InputRun → ℕ → Part
 parts_by zero size ns output settings run = replayed_part settings output run
 parts_by (suc workers) size ns output settings run = shared_part output size ns settings run
 
--- by what words say: without forwarders for so many events
+-- the part of a command with these numbers after so many rounds, or without forwarders after so many events
 abbrev pub part_after_words_by : List NamedFile → List (List ℕ) → Option Words → ℕ → Part
 part_after_words_by files ns (Some (Replay settings input output intake workers round)) =
     part_after_settings_by (parts_by workers round ns output) (arriving intake (content input files)) (settings_of (content settings files))
 part_after_words_by files ns words = part_after_words files words
 
--- what words have said and made for so many rounds of their capture
+-- the part of a run of words with these numbers after so many rounds, or without forwarders after so many events
 unfoldable pub part_with : List (List ℕ) → List NamedFile → List (List ℕ) → ℕ → Part
 part_with words files ns = part_after_words_by files ns (words_of words)
 
--- there are such numbers for which a beginning of the answer is left
+-- a run that is cut short leaves a beginning of its answer, for some numbers that it may have
 pub record EndsBy (may : List (List ℕ) → Type 0) (a : List (List ℕ) → Answer) (parts : List (List ℕ) → ℕ → Part) (old : Shown) (new : Option World) : Type 0 where
   pub ns : List (List ℕ)
   pub lawful : may ns
   pub ends : EndsFront (a ns) (parts ns) old new
 
--- of words
+-- a run of words that is cut short leaves a beginning of its answer, for some numbers that it may have
 abbrev pub EndsWith : List (List ℕ) → List NamedFile → Shown → Option World → Type 0
 EndsWith words files old new =
     EndsBy (λ ns. MayHave files ns (words_of words)) (answer_with words files) (part_with words files) old new
 
--- of what words say
+-- a run of a command that is cut short leaves a beginning of its answer, for some numbers that it may have
 abbrev pub EndsAfter : List NamedFile → Option Words → Shown → Option World → Type 0
 EndsAfter files words old new =
     EndsBy (λ ns. MayHave files ns words) (λ ns. after_words_by files ns words) (λ ns. part_after_words_by files ns words) old new
 
--- of a replay with so many forwarders
+-- a replay with so many forwarders, by a settings text, that is cut short leaves a beginning of its answer, for some
+-- numbers that it may have
 abbrev pub EndsFor : ℕ → ℕ → List ℕ → Arriving → List ℕ → Shown → Option World → Type 0
 EndsFor workers size output input text old new =
     EndsBy (λ ns. AreChosen workers size ns input (settings_of text)) (λ ns. after_settings_by (frames_by workers size ns output) input (settings_of text))
     (λ ns. part_after_settings_by (parts_by workers size ns output) input (settings_of text)) old new
 
--- of a capture, by what is read of it
+-- a replay of a capture with so many forwarders, by lawful settings, that is cut short leaves a beginning of its
+-- answer, for some numbers that it may have
 abbrev pub EndsOf : ℕ → ℕ → Settings → List ℕ → Opened → Shown → Option World → Type 0
 EndsOf workers size settings output input old new =
     EndsBy (λ ns. AreChosenOf workers size ns settings input) (λ ns. after_opening (frames_by workers size ns output settings) input)
     (λ ns. part_after_opening (parts_by workers size ns output settings) input) old new
 
--- of its frames, in rounds
+-- a replay of a run of frames in rounds that is cut short leaves a beginning of its answer, for some numbers that it
+-- may have
 abbrev pub EndsRun : ℕ → Settings → List ℕ → InputRun → Shown → Option World → Type 0
 EndsRun size settings output run old new =
     EndsBy (λ ns. Lawful settings run.frames size ns) (λ ns. shared output size ns settings run)

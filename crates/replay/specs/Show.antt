@@ -1,4 +1,4 @@
--- What `show` says of each frame.
+-- The lines of `show` for each frame.
 use Rattle.std.specs.Prelude.{ℕ, ◌+◌, ◌-◌, true, false, List, [], ◌∷◌, ◌++◌, codes, length, take, flat_map, Option, Some, None}
 use Rattle.std.specs.Fmt.{decimal}
 use Rattle.octets.specs.Rules.{first_failing}
@@ -17,26 +17,26 @@ use Rattle.router_log.specs.declared.verdict.Verdict.TheVariants.{Drop}
 use Rattle.router_model.specs.Course.{Course, FramePacket, Settled, Data, Control, arriving, frame_packet, frame_refusal}
 use Rattle.replay.specs.Messages.{message_at}
 
--- a frame that a rule refuses
+-- the line of a frame that a rule refuses
 abbrev pub refused_line : Refused → List ℕ
 refused_line refused = codes "refused " ++ (refused_text refused ++ 10 ∷ [])
 
--- that line, or else what follows
+-- the line of a refusal, or else the text that follows
 abbrev pub unless_refused : Option Refused → List ℕ → List ℕ
 unless_refused None text = text
 unless_refused (Some refused) text = refused_line refused
 
--- a packet that is no message of LISP
+-- the line of a packet that holds neither LISP data nor a control message
 abbrev pub other_line : List ℕ
 other_line = codes "other\n"
 
--- a packet in a tunnel: the eight octets of its LISP header, and how many octets are behind it
+-- the line of a packet in a tunnel: the eight octets of its LISP header, and how many octets are behind them
 unfoldable pub data_line : List ℕ → List ℕ
 data_line payload =
     codes "data header="
     ++ (flat_map (fixed_hex 2) (take 8 payload) ++ (named (codes " left=") (length payload - 8) ++ 10 ∷ []))
 
--- the octets of a datagram to the port of LISP data, whose checksum may be 0
+-- the line of a datagram to the LISP data port, whose UDP checksum may be 0
 unfoldable pub data_text : FramePacket → UdpHeader → List ℕ
 data_text packet udp =
     let payload = payload_in packet.octets udp in
@@ -44,7 +44,7 @@ data_text packet udp =
     (unless_refused (first_failing (lisp_rules (packet.base + udp.at + 8) payload))
     (data_line payload))
 
--- those of a datagram from or to the port of control messages, whose checksum may not be 0
+-- the lines of a datagram from or to the port of control messages, whose UDP checksum may not be 0
 unfoldable pub control_text : FramePacket → UdpHeader → List ℕ
 control_text packet udp =
     let payload = payload_in packet.octets udp in
@@ -52,27 +52,27 @@ control_text packet udp =
     (unless_refused (first_failing (message_rules (packet.base + udp.at + 8) payload))
     (message_at payload))
 
--- a packet without a datagram of LISP, which a rule of UDP may refuse
+-- the line of a packet without a LISP datagram, which a rule of UDP may refuse
 abbrev pub settled_text : Verdict → List ℕ
 settled_text (Drop (IsRefused refused)) = refused_line refused
 settled_text _ = other_line
 
--- a packet by what it is where it comes to an own locator
+-- the lines of a packet, by the course that it has if it is to an own locator
 abbrev pub course_text : Course → List ℕ
 course_text (Settled verdict) = settled_text verdict
 course_text (Data d) = data_text d.packet d.udp
 course_text (Control d) = control_text d.packet d.udp
 course_text _ = other_line
 
--- a frame, without its number
+-- the lines of a frame, without its number
 unfoldable pub frame_text : Frame → List ℕ
 frame_text frame = unless_refused (frame_refusal frame) (course_text (arriving (frame_packet frame)))
 
--- the lines of a frame
+-- the lines of a frame, the first one behind its number
 abbrev pub shown_frame : Frame → List ℕ
 shown_frame frame = decimal frame.number ++ (32 ∷ frame_text frame)
 
--- what is done at an event: the lines of a frame are said, and nothing is written
+-- the outcome of an event in a show: the lines of a frame, and no packet
 abbrev pub showing : Unit {0} → Event → Outcome (Unit {0})
 showing nothing (Tick second) = idle nothing
 showing nothing (Arrival frame) =

@@ -1,4 +1,4 @@
--- What a frame adds to a replay, for contracts of parts alone.
+-- The change and the packets of an event in a replay, for contracts inside the crate.
 use Rattle.std.specs.Prelude.{◌≡◌, ◌≤◌, ◌+◌, ◌*◌, ℕ, List, ◌++◌, length, unwrap_or}
 use Rattle.lisp_settings.specs.declared.settings.Settings.{Settings}
 use Rattle.capture_events.specs.Events.{Outcome, Packet, records_of, second_of}
@@ -16,16 +16,16 @@ use Rattle.router_model.specs.Plain.{Router}
 abbrev pub router_of : Settings → Parts → Router Parts
 router_of settings parts = record { settings = settings; memory = parts }
 
--- notices, noted one after another over the settings that stand
+-- the change by notices, noted one after another at a moment, by the settings as they stand
 abbrev pub all_noted : Settings → Parts → ℕ → List Notice → Change Parts
 all_noted settings parts moment notices =
     each (noted table (standing_in settings parts) moment) notices (unchanged parts)
 
--- the most packets of so many frames and of the seconds so far
+-- the most packets of the frames and of the seconds so far
 abbrev pub most_packets : Progress → ℕ
 most_packets progress = most_event_packets * (progress.frames + second_of (unwrap_or progress.moment 0))
 
--- an outcome of no more packets than that was gathered
+-- an outcome was gathered, of no more packets than an event sends at most
 pub record GathersFew {S : Type 0} (outcome : Outcome S) (old new : Output) : Type 0 where
   pub gathers : Gathers outcome old new
   pub few : length outcome.packets ≤ most_event_packets

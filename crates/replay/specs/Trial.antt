@@ -1,4 +1,4 @@
--- What `trial` says: the plain router, over an input that is made from a number.
+-- The line of `trial`: the plain router, over an input that is made from a number.
 use Rattle.std.specs.Prelude.{ℕ, List, [], ◌∷◌, ◌++◌, codes, flat_map, length}
 use Rattle.octets.specs.Numbers.{big_octets}
 use Rattle.capture_io.specs.Output.{out_header}
@@ -10,15 +10,15 @@ use Rattle.router_model.specs.Journal.{Journal}
 use Rattle.router_model.specs.Plain.{Router, plain, started}
 use Rattle.trial_input.specs.Trial.{trial_packets, trial_settings}
 
--- the input's file
+-- the input capture of a trial, as a file
 abbrev pub trial_file : ℕ → List ℕ
 trial_file n = out_header ++ records_of (trial_packets n)
 
--- the hash of a capture that was written, in hexadecimal digits
+-- the hash of a capture's octets, in hexadecimal digits
 unfoldable pub hash_text : List ℕ → List ℕ
 hash_text file = flat_map (fixed_hex 2) (big_octets 4 (octets_hash file))
 
--- the number, the frames, the packets written, the journal's length, and the hash of the output
+-- the line of a trial: its number, the frames, the packets written, the journal's length, and the hash of the output
 unfoldable pub trial_line : ℕ → ℕ → ℕ → ℕ → List ℕ → List ℕ
 trial_line n frames written entries file =
     named (codes "trial ") n
@@ -26,13 +26,13 @@ trial_line n frames written entries file =
     ++ (named (codes " written=") written
     ++ (named (codes " entries=") entries ++ (codes " hash=" ++ (hash_text file ++ 10 ∷ [])))))
 
--- the line of an outcome
+-- the line of a trial, by its number of frames and the outcome of its replay
 abbrev pub line_of : ℕ → ℕ → Outcome (Router Journal) → List ℕ
 line_of n frames outcome =
     trial_line n frames (length outcome.packets) (length outcome.after.memory)
     (out_header ++ records_of outcome.packets)
 
--- the line of the input that n makes
+-- the line of the trial of n, whose input the plain router replays
 unfoldable pub trial_text : ℕ → List ℕ
 trial_text n =
     let frames = frames_of (trial_packets n) in

@@ -1,4 +1,5 @@
-// What a router sent, audited: found and said.
+// The audit command: compares what a router sent with what the plain router sends, and reports the
+// finding.
 ghost use Rattle.std.specs.Prelude.{◌≡◌, Ok, IfOk, IfSome, IsErrOf, IsTrue, OnErr};
 ghost use Rattle.desk.specs.declared.fault.DeskFault.TheVariants.{Failed};
 ghost use Rattle.desk.specs.Causes.{HasCause, StaysSteady};
@@ -29,7 +30,8 @@ use desk::{Desk, DeskFault};
 use lisp_settings::{Nonces, Settings};
 use std::alloc::Global;
 
-/// Audits the capture of what was sent by the settings, and says what is found.
+/// Audits the capture named by `sent`, by the settings file and the input capture: reports the line
+/// of the finding, and returns its status.
 pub(crate) fn audit_capture<D: Desk>(
     alloc: Global,
     desk: &mut D,
@@ -57,7 +59,7 @@ pub(crate) fn audit_capture<D: Desk>(
     Ok(finding_status(&finding))
 }
 
-// What an audit finds. Nothing is said.
+// The finding of an audit. Report and made files stay as they are.
 fn find<D: Desk>(
     alloc: Global,
     desk: &mut D,
@@ -80,7 +82,7 @@ fn find<D: Desk>(
     }
 }
 
-// By these settings.
+// The finding of an audit by lawful settings.
 fn find_by<D: Desk>(
     alloc: Global,
     desk: &mut D,
@@ -107,7 +109,7 @@ fn find_by<D: Desk>(
     }
 }
 
-// Whether nonces are lifted, and some of them may be those of echoes.
+// Whether an audit lifts nonces, and some of them may be those of echoes.
 fn lifts_echoes(source: NonceSource, settings: &Settings) -> bool
     ensures { result ≡ lifts_echoes source settings.now }
 {
@@ -117,7 +119,8 @@ fn lifts_echoes(source: NonceSource, settings: &Settings) -> bool
     }
 }
 
-// For the capture of that name, which was opened.
+// The finding of an audit by lawful settings, with the input capture in `reader`, open behind its
+// header.
 fn find_opened<D: Desk>(
     alloc: Global,
     desk: &mut D,
@@ -147,7 +150,7 @@ fn find_opened<D: Desk>(
     }
 }
 
-// With the nonces in what was sent.
+// The finding of an audit by the nonces that are lifted out of the sent capture.
 fn find_lifted<D: Desk>(
     alloc: Global,
     desk: &mut D,
@@ -179,7 +182,7 @@ fn find_lifted<D: Desk>(
     }
 }
 
-// The settings with these nonces.
+// The settings with these nonces in place of their own.
 fn with_nonces(settings: Settings, nonces: Nonces) -> Settings
     ensures { result ≡ record settings { nonces = nonces } }
 {

@@ -1,4 +1,5 @@
-// Two captures, held against one another by the plain router.
+// Two captures compared: the packets that the plain router sends for the one, and the records of
+// the other.
 ghost use Rattle.std.specs.Prelude.{◌≡◌, ◌≢◌, Ok, IfOk, IfSome, IsErrOf, OnOk};
 ghost use Rattle.desk.specs.declared.fault.DeskFault.TheVariants.{Failed};
 ghost use Rattle.desk.specs.Causes.{HasCause, StaysSteady};
@@ -23,8 +24,9 @@ use lisp_settings::{Nonces, Settings};
 use playback::InputFault;
 use std::alloc::Global;
 
-/// Holds what the plain router sends for a capture that was opened, of that name, against the capture of
-/// what was sent.
+/// Compares the packets that the plain router sends for the capture in `reader`, which `input`
+/// names and which is open behind its header, with the records of the capture named by `sent`.
+/// Returns the finding.
 pub(crate) fn compare<D: Desk>(
     alloc: Global,
     desk: &mut D,
@@ -53,7 +55,9 @@ pub(crate) fn compare<D: Desk>(
     }
 }
 
-// The same, where the capture of what was sent was opened, too.
+// Compares the packets that the plain router sends for the capture in `reader`, which `input`
+// names, with the records of the sent capture in `records`. Both are open behind their headers.
+// Returns the finding.
 fn compare_with<D: Desk>(
     alloc: Global,
     desk: &mut D,
@@ -85,8 +89,8 @@ fn compare_with<D: Desk>(
     }
 }
 
-/// What is found where the capture of what was sent has a fault: that, unless the capture of that name
-/// has one of its own.
+/// The finding of an audit whose sent capture has this fault: the fault, unless the capture named
+/// by `input` has one of its own.
 pub(crate) fn refuse_sent<D: Desk>(
     alloc: Global,
     desk: &mut D,
@@ -106,7 +110,7 @@ pub(crate) fn refuse_sent<D: Desk>(
     }
 }
 
-// The fault of the capture of that name, if it has one.
+// The fault of the classic capture of that name, or None where it has none.
 fn find_fault<D: Desk>(
     alloc: Global,
     desk: &mut D,
@@ -128,7 +132,8 @@ fn find_fault<D: Desk>(
     }
 }
 
-/// The nonces that the router of these settings sent in the capture of that name; or the fault of that.
+/// The nonces that the router of these settings sent, lifted out of the capture named by `sent`; or
+/// the fault of that capture.
 pub(crate) fn lift_from<D: Desk>(
     alloc: Global,
     desk: &mut D,

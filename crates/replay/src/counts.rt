@@ -1,9 +1,9 @@
-// How a replay ended.
+// The counts of a replay at its end.
 
 use playback::InputFault;
 
-/// How a replay ended: the capture's fault, if it has one, the frames before that, the packets
-/// written, and the length of the journal.
+/// How a replay ended: the capture's fault, if it has one, the frames before that fault, the
+/// packets written, and the length of the journal.
 #[derive(Clone, Copy)]
 pub struct Counts {
     pub fault: Option<InputFault>,

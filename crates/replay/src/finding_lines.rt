@@ -1,4 +1,4 @@
-// The line and the status of what an audit finds.
+// The report's line and the status of an audit's finding.
 ghost use Rattle.std.specs.Prelude.{◌≡◌, ◌++◌, ◌∷◌, [], codes, IfOk, OnOk};
 ghost use Rattle.router_log.specs.Numbers.{named};
 ghost use Rattle.replay.specs.Audit.{comparison_status, finding_line, finding_status};
@@ -12,7 +12,7 @@ use octets::{NoMemory, Octets};
 use router_log::push_named;
 use std::alloc::Global;
 
-/// The line of what was found.
+/// The report's line of an audit's finding.
 pub(crate) fn finding_line(alloc: Global, finding: &Finding) -> Result<Octets, NoMemory>
     ensures { IfOk result (λ line. line ≡ finding_line finding.now) }
 {
@@ -25,7 +25,7 @@ pub(crate) fn finding_line(alloc: Global, finding: &Finding) -> Result<Octets, N
     }
 }
 
-/// The status of what was found.
+/// The status of an audit's finding.
 pub(crate) fn finding_status(finding: &Finding) -> Status
     ensures { result ≡ finding_status finding.now }
 {
@@ -73,7 +73,7 @@ fn push_difference(position: u64, place: u32, out: &mut Octets) -> Result<(), No
     push_ended(b" place=", u64::from(place), out)
 }
 
-// A name and a number at the end of a line.
+// Appends a name and a number, and the line's end.
 fn push_ended(name: &[u8], number: u64, out: &mut Octets) -> Result<(), NoMemory>
     ensures { OnOk result (out.new ≡ out.old ++ (named name.now number ++ 10 ∷ [])) }
 {

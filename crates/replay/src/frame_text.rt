@@ -1,4 +1,4 @@
-// What `show` says of each frame.
+// The lines of `show` for a frame.
 ghost use Rattle.std.specs.Prelude.{◌≡◌, ◌∷◌, ◌++◌, ◌≤◌, [], codes, flat_map, length, OnOk};
 ghost use Rattle.std.specs.Fmt.{decimal};
 ghost use Rattle.router_log.specs.Numbers.{fixed_hex, named};
@@ -18,7 +18,7 @@ use router_log::{
 };
 use std::alloc::Global;
 
-/// Appends the lines of a frame.
+/// Appends the lines of `show` for a frame, the first one behind the frame's number.
 pub(crate) fn push_shown(alloc: Global, frame: &Frame, out: &mut Octets) -> Result<(), NoMemory>
     ensures { OnOk result (out.new ≡ out.old ++ shown_frame frame.now) }
 {
@@ -37,7 +37,7 @@ fn push_frame_number(number: u32, out: &mut Octets) -> Result<(), NoMemory>
     out.append(&text[from..])
 }
 
-// The lines without the frame's number.
+// Appends the lines of `show` for a frame, without the frame's number.
 #[tactic(auto, unfolding(crate::specs::Show::frame_text))]
 fn push_frame(alloc: Global, frame: &Frame, out: &mut Octets) -> Result<(), NoMemory>
     ensures { OnOk result (out.new ≡ out.old ++ frame_text frame.now) }
@@ -62,7 +62,7 @@ fn push_other(out: &mut Octets) -> Result<(), NoMemory>
     out.append(b"other\n")
 }
 
-// The lines of a packet that is this where it comes to an own locator.
+// Appends the lines of a packet, by the course that it has if it is to an own locator.
 fn push_course(alloc: Global, course: Course, out: &mut Octets) -> Result<(), NoMemory>
     ensures { OnOk result (out.new ≡ out.old ++ course_text (course_seen course.entry)) }
 {
@@ -74,7 +74,7 @@ fn push_course(alloc: Global, course: Course, out: &mut Octets) -> Result<(), No
     }
 }
 
-// Those of one without a datagram of LISP.
+// Appends the line of a packet without a LISP datagram, which a rule of UDP may refuse.
 fn push_settled(settled: Settled, out: &mut Octets) -> Result<(), NoMemory>
     ensures { OnOk result (out.new ≡ out.old ++ settled_text (settled_seen settled)) }
 {
@@ -84,7 +84,7 @@ fn push_settled(settled: Settled, out: &mut Octets) -> Result<(), NoMemory>
     }
 }
 
-// A datagram to the port of LISP data, whose checksum may be 0.
+// Appends the line of a datagram to the LISP data port, whose UDP checksum may be 0.
 #[tactic(auto, unfolding(crate::specs::Show::data_text))]
 fn push_data(datagram: &Datagram, out: &mut Octets) -> Result<(), NoMemory>
     ensures { OnOk result (out.new ≡ out.old
@@ -109,11 +109,11 @@ fn push_data_line(payload: &[u8], out: &mut Octets) -> Result<(), NoMemory>
     push_header_line(&payload[..8], payload.len() - 8, out)
 }
 
-// The most octets of that line: a word, two digits for each octet of the header, a number behind its name,
-// and a line's end.
+// The most octets of a LISP header's line: a word, two digits for each octet of the header, a
+// number behind its name, and a line's end.
 const MOST_HEADER_LINE: usize = 12 + 2 * 8 + 6 + MOST_DIGITS + 1;
 
-// The line of a LISP header with so many octets behind it.
+// Appends the line of a LISP header, with the number of octets behind the header.
 fn push_header_line(header: &[u8], left: usize, out: &mut Octets) -> Result<(), NoMemory>
     requires { length header.now ≤ 8 }
     ensures { OnOk result (out.new ≡ out.old ++ (codes "data header="
@@ -127,7 +127,8 @@ fn push_header_line(header: &[u8], left: usize, out: &mut Octets) -> Result<(), 
     out.append(&text[from..])
 }
 
-// A datagram from or to the port of control messages, whose checksum may not be 0.
+// Appends the lines of a datagram from or to the port of control messages, whose UDP checksum may
+// not be 0.
 #[tactic(auto, unfolding(crate::specs::Show::control_text))]
 fn push_control(alloc: Global, datagram: &Datagram, out: &mut Octets) -> Result<(), NoMemory>
     ensures { OnOk result (out.new ≡ out.old

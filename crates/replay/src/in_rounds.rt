@@ -1,4 +1,4 @@
-// A capture, replayed in rounds with forwarders.
+// The replay of a capture in rounds with forwarders.
 ghost use Rattle.std.specs.Prelude.{◌≡◌, ◌≤◌, IfOk, IfSome, IsErrOf, OnErr};
 ghost use Rattle.command_words.specs.Limits.{most_round_frames, most_workers};
 ghost use Rattle.desk.specs.declared.fault.DeskFault.TheVariants.{Failed};
@@ -20,7 +20,8 @@ use std::alloc::Global;
 use std::sync::Wait;
 use std::thread::Threads;
 
-/// Replays a capture of which no frame was read into the output, but for the last line.
+/// Replays a capture, of which no frame was read, in rounds with forwarders: makes the output,
+/// reports all lines but the last, and returns the counts.
 pub(crate) fn replay_in_rounds<R: Threads + Wait + Sync, D: Desk, G: Gate, I: FrameReader>(
     crew: &Crew<'_, R, G>,
     alloc: Global,

@@ -1,4 +1,4 @@
-// A capture of either format, as it is read.
+// A reader of captures, of either format.
 ghost use Rattle.std.specs.Prelude.{◌≡◌, None, IfOk, IfSome, IsErrOf, OnOk, option_map};
 ghost use Rattle.desk.specs.declared.fault.DeskFault.TheVariants.{Failed};
 ghost use Rattle.desk.specs.Causes.{HasCause, StaysSteady};
@@ -16,7 +16,7 @@ use octets::Octets;
 use playback::{FrameReader, InputFault, Next};
 use std::alloc::Global;
 
-/// A capture that is read, by its format.
+/// A reader of a capture, by the capture's format.
 #[derive(Drop)]
 pub(crate) enum Input {
     Classic(CaptureReader),
@@ -52,7 +52,8 @@ impl FrameReader for Input {
     }
 }
 
-/// Opens the capture of that name, and reads a classic one's header; or answers the fault of that.
+/// Opens the capture of that name, and reads the header of a classic one. Returns the reader, or
+/// the fault of that header.
 pub(crate) fn open_input<D: Desk>(
     alloc: Global,
     desk: &mut D,
@@ -76,7 +77,8 @@ pub(crate) fn open_input<D: Desk>(
     }
 }
 
-// Reads the header of a classic capture.
+// Reads the header of a classic capture that is open. Returns its reader, or the fault of the
+// header.
 fn start_classic<D: Desk>(
     alloc: Global,
     desk: &mut D,
@@ -99,7 +101,8 @@ fn start_classic<D: Desk>(
     }
 }
 
-/// Opens the classic capture of that name, and reads its header; or answers the fault of that.
+/// Opens the classic capture of that name, and reads its header. Returns the reader, or the fault
+/// of the header.
 pub(crate) fn open_classic<D: Desk>(
     alloc: Global,
     desk: &mut D,

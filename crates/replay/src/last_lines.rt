@@ -1,4 +1,4 @@
-// The last lines of runs, and what is said at their end.
+// The last lines of reports, and the statuses that go with them.
 ghost use Rattle.std.specs.Prelude.{◌≡◌, ◌++◌, ◌∷◌, [], codes, IfOk, IsErrOf, OnErr, OnOk, option_map};
 ghost use Rattle.desk.specs.declared.fault.DeskFault.TheVariants.{Failed};
 ghost use Rattle.desk.specs.Causes.{HasCause, StaysSteady};
@@ -19,7 +19,7 @@ use playback::InputFault;
 use router_log::push_named;
 use std::alloc::Global;
 
-/// Says that the words are of no form.
+/// Reports that the words are of no form, and returns the status `Usage`.
 pub(crate) fn refuse_words<D: Desk>(alloc: Global, desk: &mut D) -> Result<Status, DeskFault>
     ensures status { IfOk result (λ s. s ≡ Usage) }
     ensures told { OnOk result (D.told desk.new
@@ -33,7 +33,7 @@ pub(crate) fn refuse_words<D: Desk>(alloc: Global, desk: &mut D) -> Result<Statu
     Ok(Status::Usage)
 }
 
-/// Says the line of the settings' fault.
+/// Reports the line of the settings' fault, and returns the status `Settings`.
 pub(crate) fn refuse_settings<D: Desk>(
     alloc: Global,
     desk: &mut D,
@@ -52,7 +52,8 @@ pub(crate) fn refuse_settings<D: Desk>(
     Ok(Status::Settings)
 }
 
-/// Says the last line: that of a capture's fault, or else this one.
+/// Reports the last line: the line of the capture's fault, or `line` where it has none. Returns the
+/// status.
 pub(crate) fn close<D: Desk>(
     alloc: Global,
     desk: &mut D,
@@ -76,7 +77,7 @@ pub(crate) fn close<D: Desk>(
     }
 }
 
-/// Says the line of a capture's fault.
+/// Reports the line of the capture's fault, and returns the status `Capture`.
 pub(crate) fn refuse_capture<D: Desk>(
     alloc: Global,
     desk: &mut D,
@@ -95,7 +96,7 @@ pub(crate) fn refuse_capture<D: Desk>(
     Ok(Status::Capture)
 }
 
-/// The last line where settings are refused.
+/// The last line of a run whose settings are refused.
 pub(crate) fn settings_line(alloc: Global, fault: &SettingsFault) -> Result<Octets, NoMemory>
     ensures { IfOk result (λ line. line ≡ settings_line fault.now) }
 {
@@ -128,8 +129,8 @@ fn push_key(word: &[u8], key: &Key, out: &mut Octets) -> Result<(), NoMemory>
     out.append(key.as_slice())
 }
 
-/// The line at the end of a capture: the frames that were read, the packets that were written, and
-/// the length of the journal.
+/// The last line of a replay: the frames that were read, the packets that were written, and the
+/// length of the journal.
 pub(crate) fn end_line(
     alloc: Global,
     frames: u32,
@@ -146,7 +147,7 @@ pub(crate) fn end_line(
     Ok(line)
 }
 
-/// The line at the end of a capture that was shown: the frames that were read.
+/// The last line of a show: the frames that were read.
 pub(crate) fn count_line(alloc: Global, frames: u32) -> Result<Octets, NoMemory>
     ensures { IfOk result (λ line. line ≡ count_line frames) }
 {
@@ -156,7 +157,7 @@ pub(crate) fn count_line(alloc: Global, frames: u32) -> Result<Octets, NoMemory>
     Ok(line)
 }
 
-/// The last line where a capture is refused.
+/// The last line of a run whose input capture is refused.
 pub(crate) fn fault_line(alloc: Global, fault: InputFault) -> Result<Octets, NoMemory>
     ensures { IfOk result (λ line. line ≡ fault_line fault) }
 {
@@ -167,7 +168,7 @@ pub(crate) fn fault_line(alloc: Global, fault: InputFault) -> Result<Octets, NoM
     Ok(line)
 }
 
-/// The same of a capture of what a router sent.
+/// The last line of an audit whose sent capture is refused.
 pub(crate) fn sent_line(alloc: Global, fault: InputFault) -> Result<Octets, NoMemory>
     ensures { IfOk result (λ line. line ≡ sent_line fault) }
 {

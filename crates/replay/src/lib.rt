@@ -1,4 +1,4 @@
-//! The commands: a run from its words to its status.
+//! The commands: a run, from the words of a command to its status.
 #![tactic(auto)]
 
 mod audits;

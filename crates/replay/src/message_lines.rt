@@ -9,7 +9,7 @@ use router_log::{
     write_octet, write_octets,
 };
 
-/// Appends the lines of a message, of whose octets so many are left over.
+/// Appends the lines of a control message, with the number of octets that are left over.
 pub(crate) fn push_message(message: &Message, left: u32, out: &mut Octets) -> Result<(), NoMemory>
     ensures { OnOk result (out.new ≡ out.old ++ lines_of_message left message.now) }
 {
@@ -23,7 +23,7 @@ pub(crate) fn push_message(message: &Message, left: u32, out: &mut Octets) -> Re
     }
 }
 
-// The message that is encapsulated.
+// Appends the lines of an encapsulated message, a Map-Request or a Map-Reply.
 fn push_carried(
     request: &Option<MapRequest>,
     reply: &Option<MapReply>,
@@ -50,7 +50,7 @@ fn push_request(request: &MapRequest, left: u32, out: &mut Octets) -> Result<(),
 // the counts.
 const MOST_REQUEST_LINE: usize = 14 + 16 + 2 * (3 + 1) + MOST_COUNTS;
 
-// The line of a Map-Request with so many EIDs.
+// Appends the line of a Map-Request, with its number of EIDs.
 #[tactic(auto, unfolding(crate::specs::Messages::request_line))]
 fn push_request_line(
     request: &MapRequest,
@@ -83,7 +83,7 @@ fn push_reply(reply: &MapReply, left: u32, out: &mut Octets) -> Result<(), NoMem
 // counts.
 const MOST_REPLY_LINE: usize = 12 + 16 + 3 + 1 + MOST_COUNTS;
 
-// The line of a Map-Reply with so many records.
+// Appends the line of a Map-Reply, with its number of records.
 #[tactic(auto, unfolding(crate::specs::Messages::reply_line))]
 fn push_reply_line(
     reply: &MapReply,
@@ -150,7 +150,8 @@ fn push_eid_line(eid: &Eid, out: &mut Octets) -> Result<(), NoMemory>
 // The most octets of an EID: two numbers, an address, and two octets between them.
 const MOST_EID: usize = 2 * MOST_DIGITS + MOST_ADDRESS + 2;
 
-// Instance, address and mask length.
+// Writes the text of an EID, which ends at `end`: instance, address and mask length. Returns where
+// it begins.
 #[tactic(auto, using(router_log::proofs::DigitLemmas::length_any), unfolding(crate::specs::Messages::eid_text))]
 fn write_eid(eid: &Eid, text: &mut [u8], end: usize) -> usize
     requires { (MOST_EID ≤ end) × (end ≤ length text.old) }
@@ -173,7 +174,7 @@ fn push_records(mappings: &[Record], out: &mut Octets) -> Result<(), NoMemory>
     Ok(())
 }
 
-// The most octets of a record's line: a word, its EID, and what it has beside.
+// The most octets of a record's line: a word, the EID, and the details.
 const MOST_RECORD_LINE: usize = 8 + MOST_EID + MOST_DETAILS;
 
 fn push_record_line(mapping: &Record, out: &mut Octets) -> Result<(), NoMemory>
@@ -189,7 +190,8 @@ fn push_record_line(mapping: &Record, out: &mut Octets) -> Result<(), NoMemory>
 // The most octets of four numbers, which have names of 5, 8, 9 and 10 octets, and of a line's end.
 const MOST_DETAILS: usize = 5 + 8 + 9 + 10 + 4 * MOST_DIGITS + 1;
 
-// What a record has beside its EID, with so many locators.
+// Writes a record's details, which end at `end`: TTL, action, Map-Version and number of locators.
+// Returns where they begin.
 #[tactic(auto, unfolding(crate::specs::Messages::details_text))]
 fn write_details(mapping: &Record, locators: usize, text: &mut [u8], end: usize) -> usize
     requires { (MOST_DETAILS ≤ end) × (end ≤ length text.old) }

@@ -11,7 +11,7 @@ use desk::{Desk, DeskFault, FileId};
 use octets::{NoMemory, Octets};
 use std::alloc::Global;
 
-/// Makes the output, with the header of a capture.
+/// Makes the output file, and writes a capture's header into it. Returns the file's id.
 pub(crate) fn make_output<D: Desk>(
     alloc: Global,
     desk: &mut D,

@@ -1,4 +1,4 @@
-// A capture, replayed by the plain router.
+// The replay of a capture by the plain router.
 ghost use Rattle.std.specs.Prelude.{◌≡◌, ◌≢◌, false, ◌≤◌, ◌+◌, ◌*◌, unwrap_or, IfOk, IfSome, IsErrOf, OnErr};
 ghost use Rattle.desk.specs.declared.fault.DeskFault.TheVariants.{Failed};
 ghost use Rattle.desk.specs.Causes.{HasCause, StaysSteady};
@@ -31,11 +31,11 @@ use playback::{FrameReader, Machine, Output, Progress, play};
 use router_core::Table;
 use std::alloc::Global;
 
-/// A router that is replayed.
+/// A router that replays a capture, frame by frame.
 struct Replay<'a> {
     settings: &'a Settings,
     table: Table,
-    /// The list of the frame that was taken last.
+    /// The octets' list of the frame that was taken last, for the reader to use again.
     spare: Option<Octets>,
 }
 
@@ -48,8 +48,10 @@ impl<'a> Machine for Replay<'a> {
 
     ghost full = { λ _. false };
 
-    // The table is for the settings, whichever own locators are up. What frames and seconds add at most
-    // to the static mappings, and how many packets they send.
+    // Ready: the table has the own locators of the settings, whichever are up, and a moment no
+    // later than the last frame's. Its entries are at most as many as there may be static mappings,
+    // and as the frames and seconds so far may add; the packets written are at most as many as
+    // these may send.
     ghost IsReady = { λ progress written replay. IsLawful replay.settings.now
         × ((without_ups replay.table.parts.own ≡ without_ups replay.settings.now.locators)
         × ((replay.table.parts.now ≤ unwrap_or progress.moment 0)
@@ -84,7 +86,8 @@ impl<'a> Machine for Replay<'a> {
     }
 }
 
-/// Replays a capture of which no frame was read into the output, but for the last line.
+/// Replays a capture, of which no frame was read, by the plain router: makes the output, reports
+/// all lines but the last, and returns the counts.
 pub(crate) fn replay_plainly<D: Desk, R: FrameReader>(
     alloc: Global,
     desk: &mut D,
@@ -124,8 +127,8 @@ pub(crate) fn replay_plainly<D: Desk, R: FrameReader>(
     })
 }
 
-/// Holds the packets that the router sends for a capture against the records of another. No record was
-/// read of either.
+/// Compares the packets that the plain router sends for the capture `input` with the records of the
+/// capture `sent`. No record was read of either.
 pub(crate) fn audit_plainly<D: Desk>(
     alloc: Global,
     desk: &mut D,
@@ -156,8 +159,8 @@ pub(crate) fn audit_plainly<D: Desk>(
     audited
 }
 
-// The length of a router's journal. It ends here, so that nothing is left to be dropped where a call
-// is refused.
+// Ends a router, and returns the length of its journal. A router ends here, so that no later exit
+// has a table to drop.
 fn entries_of(router: Replay<'_>) -> u64
     ensures { result ≡ router.entry.table.parts.count }
 {

@@ -1,4 +1,4 @@
-// A capture, replayed by the settings, with forwarders or without.
+// The replay command: by a settings file, with forwarders or without.
 ghost use Rattle.std.specs.Prelude.{◌≡◌, ◌≤◌, Ok, IfOk, IfSome, IsErrOf, IsTrue, OnErr};
 ghost use Rattle.command_words.specs.Limits.{most_round_frames, most_workers};
 ghost use Rattle.desk.specs.declared.fault.DeskFault.TheVariants.{Failed};
@@ -32,7 +32,8 @@ use std::alloc::Global;
 use std::sync::Wait;
 use std::thread::Threads;
 
-/// Replays the capture of that name and format by the settings in a file, into the output.
+/// Replays the capture named by `input`, by the settings in a file, into the output. Reports all
+/// lines, and returns the status.
 pub(crate) fn replay_capture<R: Threads + Wait + Sync, D: Desk, G: Gate>(
     crew: &Crew<'_, R, G>,
     alloc: Global,
@@ -61,7 +62,8 @@ pub(crate) fn replay_capture<R: Threads + Wait + Sync, D: Desk, G: Gate>(
     }
 }
 
-// Replays the capture by these settings, and says the last line.
+// Replays the capture named by `input`, by lawful settings, into the output. Reports all lines, and
+// returns the status.
 fn replay_by<R: Threads + Wait + Sync, D: Desk, G: Gate>(
     crew: &Crew<'_, R, G>,
     alloc: Global,
@@ -94,8 +96,9 @@ fn replay_by<R: Threads + Wait + Sync, D: Desk, G: Gate>(
     }
 }
 
-/// Replays the capture of that name and format into the output, but for the last line; or answers the
-/// fault of its header.
+/// Replays the capture named by `input` into the output, and reports all lines but the last.
+/// Returns the counts; or the fault of the capture's header, with no line reported and no output
+/// made.
 pub(crate) fn replay_file<R: Threads + Wait + Sync, D: Desk, G: Gate>(
     crew: &Crew<'_, R, G>,
     alloc: Global,
@@ -127,7 +130,8 @@ pub(crate) fn replay_file<R: Threads + Wait + Sync, D: Desk, G: Gate>(
     }
 }
 
-// Replays a capture that was opened into the output, with its large packets split or not, but for the last line.
+// Replays an open capture into the output, with its large packets split or not, and reports all
+// lines but the last. Returns the counts.
 fn replay_taken<R: Threads + Wait + Sync, D: Desk, G: Gate>(
     crew: &Crew<'_, R, G>,
     alloc: Global,
@@ -159,7 +163,8 @@ fn replay_taken<R: Threads + Wait + Sync, D: Desk, G: Gate>(
     replay_frames(crew, alloc, desk, settings, reader, output)
 }
 
-// Replays a capture of which no frame was read into the output, with forwarders or without, but for the last line.
+// Replays a capture, of which no frame was read, into the output, with forwarders or without, and
+// reports all lines but the last. Returns the counts.
 fn replay_frames<R: Threads + Wait + Sync, D: Desk, G: Gate, I: FrameReader>(
     crew: &Crew<'_, R, G>,
     alloc: Global,

@@ -1,4 +1,4 @@
-// The run: the top call.
+// The run of a command: the top call.
 ghost use Rattle.std.specs.Prelude.{◌≡◌, ◌≢◌, ◌↔◌, ◌⊎◌, None, Some, false, true, map, string_bytes, IfOk, IfSome, IsErrOf, IsSomeAnd, IsTrue, OnErr, OnOk};
 ghost use Rattle.octets.specs.Causes.{Rose};
 ghost use Rattle.desk.specs.declared.fault.DeskFault.TheVariants.{Failed};
@@ -25,11 +25,26 @@ use std::alloc::Global;
 use std::sync::Wait;
 use std::thread::Threads;
 
-/// A run of the words over a desk. Where the desk tells its octets, status, report and output are
-/// those of the router that decides each frame by its journal. With forwarders, each data packet is decided
-/// by the journal's first entries, of which its line has the number.
+/// Runs the command that the words give, over a desk, and returns the exit status. The clauses
+/// compare a run with `answer`: the status, the report and the made file that words and files
+/// determine, where the plain router decides each frame by its journal. Over a desk that shows its
+/// content, any status but `Host` and `Memory` is that of `answer` (`status`), and without
+/// forwarders the run leaves the report and the made file of `answer` (`left`). With forwarders it
+/// leaves those of `answer_with` for some lawful numbers (`shared`): a data packet is decided by
+/// the first n entries of its round's journal, and its line has that n. After `Host` or `Memory`
+/// the run leaves a beginning of such a report and made file: all lines of some first events (with
+/// forwarders, rounds) were reported, and no packet of a later one was written (`front`,
+/// `shared_front`). The files that were there stay as they are. If `answer` has `Done` or
+/// `Differs`, the status is the answer's or `Memory`, provided that by the desk's count of faults
+/// no call failed, or that the desk is steady and shows that the files are there which the words
+/// read (`complete`).
 ///
-/// With forwarders it starts threads, and waits for them. A forwarder calls the gate before each decision.
+/// Over every desk, a status other than `Host` and `Memory` is `Usage` exactly if the words are of
+/// no form (`usage`), `Host` comes only if the desk's count of faults rose or stands at 2^64 - 1
+/// (`host`), and any other status leaves that count as it was (`kept`). A steady desk stays steady,
+/// and if it shows that the files are there which the words read, the status isn't `Host`
+/// (`steady`). With forwarders the run starts threads and waits for them. A forwarder calls the
+/// gate before each decision.
 pub fn run<R: Threads + Wait + Sync, D: Desk, G: Gate>(
     rt: &R,
     alloc: Global,
@@ -43,36 +58,40 @@ pub fn run<R: Threads + Wait + Sync, D: Desk, G: Gate>(
         → IfSome (shown (D.told desk.old)) (λ old. IsSomeAnd (shown (D.told desk.new))
         (Leaves (answer (map string_bytes words.now) old.files) old)) }
 
-    // With forwarders there are numbers that the packets may have, for which it is so.
+    // With forwarders too: status, report and made file are those of the answer for some numbers
+    // that the data packets may have.
     ensures shared { is_outside result ≡ false → IfSome (D.told desk.old) (λ w.
         GivesWith (map string_bytes words.now) w.files result (shown_of w) (shown (D.told desk.new))) }
 
-    // After `Host` or `Memory` a beginning of that report was said, and no output was made, or one with a
-    // beginning of that output. Each packet that was written was reported before.
+    // After `Host` or `Memory`, without forwarders: the report has a beginning of the answer's, and
+    // no output was made, or one with a beginning of the answer's. All lines of some first events
+    // were reported, and no packet of a later event was written. An octet of the last line was
+    // reported only if the output is whole.
     ensures front { is_outside result ≡ true → has_workers (words_of (map string_bytes words.now)) ≡ false
         → IfSome (shown (D.told desk.old)) (λ old. IsSomeAnd (shown (D.told desk.new))
         (LeavesFront (answer (map string_bytes words.now) old.files)
         (part (map string_bytes words.now) old.files) old)) }
 
-    // With forwarders there are numbers for which it is so; then all lines of so many rounds were said, and
-    // no packet but theirs was written.
+    // After `Host` or `Memory`, with forwarders too: a beginning of the answer for some numbers
+    // that the data packets may have is left. With forwarders, rounds stand in place of events.
     ensures shared_front { is_outside result ≡ true → IfSome (D.told desk.old) (λ w.
         EndsWith (map string_bytes words.now) w.files (shown_of w) (D.told desk.new)) }
 
-    // The causes, also where the desk tells nothing.
+    // Causes, also over a desk that doesn't show its content: `Usage` marks words of no form,
+    // `Host` comes only if the count of faults rose, and any other status leaves that count.
     ensures usage { is_outside result ≡ false
         → ((result ≡ Usage) ↔ (words_of (map string_bytes words.now) ≡ None)) }
     ensures host { result ≡ Host → Rose (D.faults desk.old) (D.faults desk.new) }
     ensures kept { result ≢ Host → D.faults desk.new ≡ D.faults desk.old }
 
-    // A steady desk stays one, and where the files are there that the words read, one after another, it is no
-    // cause of `Host`.
+    // A steady desk stays steady, and where it shows that the files are there which the words read,
+    // in order, the status isn't `Host`.
     ensures steady { StaysSteady (D.steady desk.old) (D.steady desk.new)
         (AreThere (words_of (map string_bytes words.now)) (D.told desk.old))
         (result ≡ Host) }
 
-    // Where words, settings and captures are lawful, and no call fails or none can, only memory can
-    // be wanting.
+    // Where the answer is that of lawful words, settings and captures, and no call failed, or the
+    // desk is steady and has the files that the words read, the status is the answer's or `Memory`.
     ensures complete { IfSome (D.told desk.old) (λ w.
         IsTrue (is_lawful_end (answer (map string_bytes words.now) w.files).status)
         → ((¬ Rose (D.faults desk.old) (D.faults desk.new))
@@ -121,7 +140,7 @@ fn answer_words<R: Threads + Wait + Sync, D: Desk, G: Gate>(
     }
 }
 
-// Does what the words say.
+// Runs the command of the words: a replay, a show, a trial or an audit.
 fn do_words<R: Threads + Wait + Sync, D: Desk, G: Gate>(
     rt: &R,
     alloc: Global,

@@ -1,4 +1,4 @@
-// The settings file, read piece by piece.
+// The settings file, read in pieces.
 ghost use Rattle.std.specs.Prelude.{◌≡◌, length, IfOk, IfSome, IsErrOf};
 ghost use Rattle.desk.specs.declared.fault.DeskFault.TheVariants.{Failed};
 ghost use Rattle.desk.specs.Causes.{HasCause, StaysSteady};
@@ -12,7 +12,7 @@ use lisp_settings::{MOST_TEXT_OCTETS, Settings, SettingsFault, read_settings};
 use octets::Octets;
 use std::alloc::{AllocError, Global};
 
-// The octets that are read at once.
+// The octets of a piece, which are read at once.
 const PIECE: usize = 65_536;
 
 /// The settings in the file of that name, or their first fault.
@@ -39,7 +39,8 @@ pub(crate) fn load_settings<D: Desk>(
     }
 }
 
-// The text of a settings file; of one that is too long only so much as shows that.
+// The text of a settings file; of a file that is too long only a beginning, which is itself too
+// long for settings.
 fn read_text<D: Desk>(alloc: Global, desk: &mut D, name: &str) -> Result<Octets, DeskFault>
     ensures text { IfOk result (λ text. IfSome (D.told desk.old) (λ w.
         ReadsAs text (content name.now w.files))) }

@@ -1,4 +1,4 @@
-// The messages of a capture, shown.
+// The show command: the lines of each frame of a capture.
 ghost use Rattle.std.specs.Prelude.{◌≡◌, false, IfOk, IfSome, IsErrOf, IsTrue, OnErr};
 ghost use Rattle.desk.specs.declared.fault.DeskFault.TheVariants.{Failed};
 ghost use Rattle.desk.specs.Causes.{HasCause, StaysSteady};
@@ -22,10 +22,10 @@ use octets::{NoMemory, Octets};
 use playback::{Machine, Output, Progress, play};
 use std::alloc::Global;
 
-/// A show, which keeps nothing of a frame but its list.
+/// A machine that shows a capture, and keeps no more of a frame than its octets' list.
 #[derive(Drop)]
 struct Show {
-    /// That of the frame that was taken last.
+    /// The octets' list of the frame that was taken last, for the reader to use again.
     spare: Option<Octets>,
 }
 
@@ -67,7 +67,7 @@ impl Machine for Show {
     }
 }
 
-/// Shows the messages in the classic capture of that name.
+/// Reports the lines of each frame of the classic capture of that name, and returns the status.
 pub(crate) fn show_capture<D: Desk>(
     alloc: Global,
     desk: &mut D,

@@ -14,20 +14,20 @@ use playback::{FrameReader, Next};
 use split_v4::split_frame;
 use std::alloc::Global;
 
-/// A reader over another one: each frame whose packet is too large for a tunnel is given as two halves. What it gives
-/// is numbered from 1.
+/// A reader over another reader, which returns each frame whose packet is too large for a tunnel as
+/// two halves. The frames that it returns are numbered from 1.
 #[derive(Drop)]
 pub(crate) struct Splitting<'a, R: FrameReader> {
     reader: R,
     settings: &'a Settings,
-    // The second half of the frame that was read last, until it is given.
+    // The second half of the frame that was read last, until it is returned.
     half: Option<Frame>,
-    // How many frames were given.
+    // The number of frames that were returned.
     given: u32,
 }
 
 impl<'a, R: FrameReader> Splitting<'a, R> {
-    /// A reader of which no frame was given. Takes no memory.
+    /// A splitting reader that has returned no frame yet. Takes no memory.
     pub(crate) fn new(settings: &'a Settings, reader: R) -> Splitting<'a, R>
         ensures reader { result.reader ≡ reader }
         ensures settings { result.settings.now ≡ settings.now }
@@ -42,7 +42,7 @@ impl<'a, R: FrameReader> Splitting<'a, R> {
         }
     }
 
-    // A frame under the next number.
+    // Gives a frame the next number.
     fn numbered(&mut self, frame: Frame) -> Frame
         requires { self.old.given + 1 < 2 ^ 32 }
         ensures frame { result ≡ under (self.old.given + 1) frame }
@@ -60,7 +60,8 @@ impl<'a, R: FrameReader> Splitting<'a, R> {
         }
     }
 
-    // A frame that was read, or the first half of it; then the second is kept.
+    // Returns a frame that was read, or its first half, under the next number; the second half is
+    // kept.
     fn split(&mut self, alloc: Global, frame: Frame) -> Result<Frame, NoMemory>
         requires lawful { IsLawful self.old.settings.now }
         requires none { self.old.half ≡ None }

@@ -1,4 +1,4 @@
-// A frame of a capture, taken by a router.
+// The events of a capture, seconds and frames, taken by the plain router.
 ghost use Rattle.std.specs.Prelude.{◌≡◌, ◌<◌, ◌≤◌, ◌+◌, ◌*◌, ◌^◌, ◌∷◌, [], true, length, All, None, OnOk};
 ghost use Rattle.std.specs.List.{list_all};
 ghost use Rattle.lisp_settings.specs.Lawful.{IsLawful};
@@ -25,7 +25,7 @@ use router_core::{Course, Decision, Own, Table, course_of, emit_octets};
 use router_log::{Emit, Notice, Verdict, push_frame_line};
 use std::alloc::Global;
 
-/// Lets a second begin, and gathers the packets that are sent at it.
+/// Plays a second on the table, and gathers the packets that are sent at it.
 pub(crate) fn take_second(
     alloc: Global,
     settings: &Settings,
@@ -58,7 +58,8 @@ pub(crate) fn take_second(
     )
 }
 
-/// Hears a frame or decides it, and gathers its line and the packets that are sent for it.
+/// Takes a frame: hears a control message or decides any other frame, and gathers its line and the
+/// packets that are sent for it.
 pub(crate) fn take_frame(
     alloc: Global,
     settings: &Settings,
@@ -130,8 +131,8 @@ fn hear(
     )
 }
 
-// Decides a frame that is no control message, and gathers its line, its packet and those of what is
-// noted of it.
+// Decides a frame that is no control message, and notes its notices. Gathers its line, its packet
+// and the packets of the notices.
 fn decide(
     alloc: Global,
     settings: &Settings,
@@ -190,7 +191,7 @@ fn push_sent(verdict: Verdict, moment: u64, output: &mut Output) -> Result<(), N
     }
 }
 
-// The packet that a verdict sends.
+// The packet that a verdict sends, if it sends one.
 fn sent_packet(verdict: Verdict) -> Option<Octets>
     ensures { result ≡ packet_of verdict }
 {
@@ -202,7 +203,7 @@ fn sent_packet(verdict: Verdict) -> Option<Octets>
     }
 }
 
-// Notes what a decision noticed, one notice after another, and gathers the packets that are sent.
+// Notes the notices of a decision one after another, and gathers the packets that are sent.
 fn note_all(
     alloc: Global,
     settings: &Settings,
@@ -243,7 +244,7 @@ fn note_all(
     note_all(alloc, settings, memory, moment, others, output)
 }
 
-// Gathers the packets of emits, by the own locators and versions that stand.
+// Gathers the packets of emits, by the own locators and versions as they stand.
 fn push_emits(
     alloc: Global,
     settings: &Settings,
@@ -265,7 +266,7 @@ fn push_emits(
     Ok(())
 }
 
-// Gathers the packet of an emit, by those.
+// Gathers the packet of an emit, by the own locators and versions as they stand.
 fn push_emit(
     alloc: Global,
     settings: &Settings,

@@ -1,4 +1,4 @@
-// An input that is made from a number, replayed.
+// The trial command: an input that is made from a number, replayed.
 ghost use Rattle.std.specs.Prelude.{◌≡◌, ◌≤◌, ◌++◌, ◌∷◌, [], None, OnErr, OnOk, IfOk, IsErrOf, codes, option_map};
 ghost use Rattle.desk.specs.declared.fault.DeskFault.TheVariants.{Failed};
 ghost use Rattle.desk.specs.Causes.{HasCause, StaysSteady};
@@ -33,7 +33,8 @@ const INPUT: &str = "in";
 
 const OUTPUT: &str = "out";
 
-/// Replays the input that the number makes, over a desk of its own, and says its line.
+/// Replays the input that is made from `n`, over a desk of its own, and reports the line of the
+/// trial.
 pub(crate) fn try_number<R: Threads + Wait + Sync, D: Desk, G: Gate>(
     rt: &R,
     alloc: Global,
@@ -55,7 +56,7 @@ pub(crate) fn try_number<R: Threads + Wait + Sync, D: Desk, G: Gate>(
     Ok(Status::Done)
 }
 
-// The line of the input that the number makes, replayed without forwarders.
+// The line of the trial of `n`, whose input is replayed without forwarders.
 fn replay_trial<R: Threads + Wait + Sync, G: Gate>(
     rt: &R,
     alloc: Global,
@@ -92,7 +93,7 @@ fn replay_trial<R: Threads + Wait + Sync, G: Gate>(
     }
 }
 
-// A desk that has the capture of a trial.
+// A desk in memory that has the capture of the trial of `n`.
 fn trial_desk(alloc: Global, n: u32) -> Result<SteadyDesk, NoMemory>
     requires { n ≤ most_trial_mappings }
     ensures desk { IfOk result (λ desk. desk

@@ -9,7 +9,8 @@ use std::process::ExitCode;
 use std::sync::Wait;
 use std::thread::Threads;
 
-// The runtime may start threads and wait only in `main`, which hands it on once more as one that may.
+// The runtime may start threads and wait only in `main`, which hands it on a second time as one
+// that may.
 fn answer<R: Threads + Wait + Sync>(host: &HostRuntime, rt: &R) -> Status {
     let Some(words) = words(host) else {
         return Status::Memory;
@@ -18,8 +19,8 @@ fn answer<R: Threads + Wait + Sync>(host: &HostRuntime, rt: &R) -> Status {
     run(rt, host.alloc(), &words, &mut desk, &OpenGate)
 }
 
-// The words after the program's name, unless memory is wanting. Where one is no text, none are
-// handed on, so that they are of no form.
+// The words after the program's name, or None where memory is refused. Where one is no text, an
+// empty list is handed on, which is of no form.
 fn words(rt: &HostRuntime) -> Option<Vec<Word>> {
     match env::args(rt) {
         Ok(words) => words.skip(1).collect(rt.alloc()).ok(),

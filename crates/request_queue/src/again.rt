@@ -1,4 +1,4 @@
-// Requests that are sent again.
+// Open requests that are sent again.
 ghost use Rattle.std.specs.Prelude.{◌≡◌, ◌≤◌, ◌<◌, ◌+◌, min, true, IsTrue};
 ghost use Rattle.request_queue.specs.Lists.{all_may_again, all_rest, rests};
 ghost use Rattle.request_queue.specs.Queue.{sent_again};
@@ -43,7 +43,7 @@ fn again(request: &Request) -> Request
     }
 }
 
-/// The request with that nonce was sent again once more.
+/// Marks the request with that nonce as sent once more.
 pub(crate) fn send_each_again(nonce: u64, requests: &mut KeyedList<Request>)
     requires { IsTrue (all_may_again nonce requests.old.items) }
     ensures items { requests.new.items ≡ sent_again nonce requests.old.items }

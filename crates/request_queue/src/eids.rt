@@ -13,8 +13,8 @@ use crate::{Reads, Request};
 use mapping_records::Eid;
 use prefix_table::PrefixTable;
 
-/// A request that waits is for an EID that covers this one. Reads at most `MOST_NODES` nodes, and
-/// nothing else.
+/// Whether an open request is for an EID that covers this one. Reads at most `MOST_NODES` nodes of
+/// the trie, and no request.
 pub(crate) fn is_covered(m: u64, eid: &Eid, eids: &PrefixTable<u64>, reads: &mut Reads) -> bool
     requires { reads.old < 2 ^ 63 }
     ensures covered { (requests : List Request) → AreEids eids.now.pairs requests
@@ -26,7 +26,7 @@ pub(crate) fn is_covered(m: u64, eid: &Eid, eids: &PrefixTable<u64>, reads: &mut
         .is_some()
 }
 
-// The later of two starts, where there are two.
+// The later of two starts, or the only one.
 fn later(best: Option<&u64>, start: u64) -> u64
     ensures { result ≡ greater (option_copied best.entry) start }
 {
@@ -36,7 +36,7 @@ fn later(best: Option<&u64>, start: u64) -> u64
     }
 }
 
-/// Tells the EID of a request that comes at the end. Takes no memory.
+/// Adds the EID of a request that comes at the end of the list to the trie. Takes no memory.
 pub(crate) fn add_eid(request: &Request, eids: &mut PrefixTable<u64>)
     requires { 0 < eids.old.spare }
     ensures eids { (requests : List Request) → AreEids eids.old.pairs requests
@@ -47,11 +47,11 @@ pub(crate) fn add_eid(request: &Request, eids: &mut PrefixTable<u64>)
 {
     let start = later(eids.get(&request.eid, &mut Reads::new()), request.start);
     eids.insert(request.eid, start);
-    // The length says that EIDs ascend.
+    // The call of `len` brings the fact that EIDs ascend.
     let _ = eids.len();
 }
 
-/// The EID has that latest start, or goes where there is none. Takes no memory.
+/// Gives an EID its latest start in the trie, or takes it out where there is none. Takes no memory.
 pub(crate) fn tell_latest(eid: &Eid, latest: Option<u64>, eids: &mut PrefixTable<u64>)
     requires { IsSome (value_in eid.now eids.old.pairs) }
     ensures pairs { eids.new.pairs ≡ with_latest eid.now latest eids.old.pairs }

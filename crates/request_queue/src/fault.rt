@@ -4,10 +4,10 @@ ghost use Rattle.request_queue.specs.declared.fault.AskFault.TheVariants.{Memory
 
 use octets::NoMemory;
 
-/// A request wasn't taken. Only the purge has taken place.
+/// Why a request wasn't added. Only the purge has taken place.
 #[derive(Clone, Copy, Debug, PartialEq, Eq)]
 pub enum AskFault {
-    /// So many requests of the EID's instance wait that there is no place for one more.
+    /// As many requests are open for the EID's instance as it may have.
     QueueFull,
     /// An allocation was refused.
     Memory,

@@ -1,4 +1,4 @@
-// How requests are found.
+// The public face of a request that was found.
 use crate::Request;
 use keyed_list::{Key, Keyed, Marks};
 

@@ -1,4 +1,5 @@
-// What finds requests, and counts them.
+// Two indexes of the list of requests: EIDs with the latest start of their requests, and terms that
+// count an instance's requests.
 ghost use Rattle.std.specs.Prelude.{◌≡◌, ◌≤◌, ◌<◌, ◌+◌, ◌^◌, ◌++◌, ◌∷◌, [], true, length, max, IfOk, IsOk, OnOk};
 ghost use Rattle.std.specs.List.{remove};
 ghost use Rattle.prefix_table.specs.Limits.{most_pairs};
@@ -14,17 +15,17 @@ use ordered_set::OrderedSet;
 use prefix_table::PrefixTable;
 use std::alloc::Global;
 
-/// What finds requests by EID, and counts those of an instance.
+/// Finds requests by EID, and counts those of an instance.
 #[derive(Drop)]
 pub(crate) struct Index {
-    // Those that requests are for, each with the latest start of its requests.
+    // The EIDs of the requests, each with the latest start of its requests.
     pub(crate) eids: PrefixTable<u64>,
-    // One for each request.
+    // One term for each request.
     pub(crate) terms: OrderedSet<Term>,
 }
 
 impl Index {
-    /// That of no requests. Takes no memory.
+    /// The index of an empty list. Takes no memory.
     pub(crate) fn new(alloc: Global) -> Index
         ensures eids { result.eids.pairs ≡ [] }
         ensures terms { result.terms.keys ≡ [] }
@@ -37,7 +38,7 @@ impl Index {
         }
     }
 
-    /// The same of its own, with as much room.
+    /// An equal index of its own, with as much room.
     pub(crate) fn copy(&self) -> Result<Index, NoMemory>
         ensures { IfOk result (λ copy. copy ≡ self.now) }
     {
@@ -66,19 +67,19 @@ impl Index {
     }
 }
 
-/// There are no more EIDs than requests, and no more terms.
+/// Law: there are no more EIDs than requests, and no more terms.
 pub(crate) fn count_found(requests: &KeyedList<Request>, index: &Index) -> usize
     requires { AreFound index.now requests.now.items }
     ensures len { result ≡ length requests.now.items }
     ensures eids { length index.now.eids.pairs ≤ result }
     ensures terms { length index.now.terms.keys ≤ result }
 {
-    // The lengths say that EIDs ascend, and terms.
+    // The calls of `len` bring the fact that EIDs and terms ascend.
     let _ = (index.eids.len(), index.terms.len());
     requests.len()
 }
 
-/// Adds a request at the end. Takes no memory.
+/// Adds a request at the end of the list, and to the index. Takes no memory.
 pub(crate) fn add_request(request: Request, requests: &mut KeyedList<Request>, index: &mut Index)
     requires room { 0 < requests.old.room }
     requires least { length requests.old.items < least_of index.old }
@@ -98,7 +99,7 @@ pub(crate) fn add_request(request: Request, requests: &mut KeyedList<Request>, i
     requests.push(request);
 }
 
-/// Takes the request at a place away. Takes no memory.
+/// Takes the request at a place out of the list and the index. Takes no memory.
 pub(crate) fn drop_request(place: usize, requests: &mut KeyedList<Request>, index: &mut Index)
     requires place { place < length requests.old.items }
     requires distinct { are_distinct requests.old.items ≡ true }
@@ -115,7 +116,7 @@ pub(crate) fn drop_request(place: usize, requests: &mut KeyedList<Request>, inde
     let request = requests.remove(place);
     let latest = requests.latest(&Key::eid(&request.eid));
     tell_latest(&request.eid, latest, &mut index.eids);
-    // The length says that EIDs ascend.
+    // The call of `len` brings the fact that EIDs ascend.
     let _ = index.eids.len();
     drop_term(&request, &mut index.terms);
 }

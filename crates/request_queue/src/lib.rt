@@ -1,4 +1,5 @@
-//! Map-Requests that were sent and wait for an answer (RFC 9301, section 5.3), in asking order.
+//! Map-Requests that were sent and are open (RFC 9301, section 5.3), in the order in which they
+//! were made.
 #![tactic(auto)]
 
 mod again;

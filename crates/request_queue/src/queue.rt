@@ -22,18 +22,18 @@ use mapping_records::Eid;
 use std::alloc::Global;
 use std::marker::Model;
 
-/// Requests in asking order. One is kept until it is answered, until another with its nonce is
-/// made, or until a purge at a moment at which it waits no longer. What is asked at a moment is
-/// answered by those that wait then.
+/// Requests in the order in which they were made. One is kept until it is answered, until another
+/// with its nonce is made, or until a purge at a moment at which it is no longer open. A question
+/// at a moment considers only requests that are open then.
 #[derive(Drop)]
 pub struct RequestQueue {
     requests: KeyedList<Request>,
     index: Index,
-    // Of each instance no more are kept.
+    // How many requests of each instance may be open.
     limits: Limits,
-    // Before that moment none is to be sent again.
+    // Before this moment no request is to be sent again.
     wake: u64,
-    // Of copies.
+    // For copies.
     alloc: Global,
 }
 
@@ -60,7 +60,7 @@ impl Model for RequestQueue {
 }
 
 impl RequestQueue {
-    /// A queue with no requests, of which so many of each instance may wait.
+    /// A queue without requests, with the limits of the instances.
     pub fn new(alloc: Global, limits: &Limits) -> Result<RequestQueue, NoMemory>
         ensures requests { IfOk result (λ queue. queue.requests ≡ []) }
         ensures spare { IfOk result (λ queue. queue.spare ≡ 0) }
@@ -116,8 +116,8 @@ impl RequestQueue {
         self.index.reserve(len as u32 + n)
     }
 
-    /// How many requests are kept. No two have one nonce. What all lists have in all is at most 9 items
-    /// for each key for which there is place, and one for each limit.
+    /// How many requests are kept. No two have one nonce. All lists behind them have at most 9
+    /// items for each key for which there is place, and one for each limit.
     pub fn len(&self) -> usize
         ensures len { result ≡ length self.now.requests }
         ensures most { result ≤ most_open }
@@ -126,13 +126,13 @@ impl RequestQueue {
         ensures kept { self.now.kept ≤ 9 * self.now.places + length self.now.limits }
         ensures limits { AreLimits self.now.limits }
     {
-        // The lengths say how much is kept, and the limits how many may be.
+        // The lengths bound what is kept, and the limits how many requests may be open.
         let _ = (self.index.eids.len(), self.index.terms.len());
         let _ = self.limits.as_slice();
         self.requests.len()
     }
 
-    /// Takes away what waits no longer at a moment.
+    /// Takes away requests that are no longer open at a moment.
     pub fn purge(&mut self, m: u64)
         ensures requests { self.new.requests ≡ waiting m self.old.requests }
         ensures spare { self.old.spare ≤ self.new.spare }
@@ -146,7 +146,7 @@ impl RequestQueue {
         }
     }
 
-    /// Adds a request at the end, in place of that with its nonce. Where it is refused, only the
+    /// Adds a request at the end, in place of the one with its nonce. Where it is refused, only the
     /// purge has taken place.
     pub fn ask(
         &mut self,
@@ -203,7 +203,7 @@ impl RequestQueue {
         }
     }
 
-    /// The request with that nonce. None where there is none, or it waits no longer.
+    /// The open request with that nonce, or None where there is none.
     pub fn find(&self, m: u64, nonce: u64) -> Option<&Request>
         ensures { option_copied result ≡ with_nonce (waiting m self.now.requests) nonce }
     {
@@ -211,8 +211,8 @@ impl RequestQueue {
             .last(&Key::nonce(nonce), |request| is_waiting(m, request))
     }
 
-    /// A request that waits is for an EID that covers this one. Reads at most `MOST_NODES` nodes, and
-    /// nothing else.
+    /// Whether an open request is for an EID that covers this one. Reads at most `MOST_NODES` nodes
+    /// of the trie, and no request.
     pub fn open_for(&self, m: u64, eid: &Eid, reads: &mut Reads) -> bool
         requires { reads.old < 2 ^ 63 }
         ensures covered { result ≡ covered (waiting m self.now.requests) eid.now }
@@ -222,9 +222,9 @@ impl RequestQueue {
         is_covered(m, eid, &self.index.eids, reads)
     }
 
-    /// The first request that waits, is to be sent again, and was asked after the one with the nonce
-    /// `after`; without a nonce, the first of all. Nothing is searched before the moment that
-    /// `look_ahead` found. The request may be handed to `retry`.
+    /// The first open request that is to be sent again and was made after the one with the nonce
+    /// `after`; without a nonce, the first of all. Before the moment that `look_ahead` found it
+    /// searches no list. The request may be handed to `retry`.
     pub fn next_due(&self, m: u64, after: Option<u64>) -> Option<&Request>
         ensures first { option_copied result
             ≡ slice_get (all_due m (asked_after after self.now.requests)) 0 }
@@ -241,7 +241,7 @@ impl RequestQueue {
         first_due(m, from, &self.requests)
     }
 
-    /// The request with that nonce was sent again once more.
+    /// Marks the request with that nonce as sent once more.
     pub fn retry(&mut self, nonce: u64)
         requires { IsTrue (may_send_again nonce self.old.requests) }
         ensures requests { self.new.requests ≡ sent_again nonce self.old.requests }
@@ -253,8 +253,8 @@ impl RequestQueue {
         send_each_again(nonce, &mut self.requests);
     }
 
-    /// Looks for the next moment at which a request is to be sent again, so that `next_due` searches
-    /// nothing before it. Changes nothing that is seen.
+    /// Finds the next moment at which a request is to be sent again, so that `next_due` searches no
+    /// list before it. What callers see stays.
     pub fn look_ahead(&mut self)
         ensures requests { self.new.requests ≡ self.old.requests }
         ensures spare { self.new.spare ≡ self.old.spare }
@@ -264,26 +264,26 @@ impl RequestQueue {
         self.wake = least_wake(&self.requests);
     }
 
-    /// How many requests wait at a moment.
+    /// How many requests are open at a moment.
     pub fn open_count(&self, m: u64) -> u32
         ensures count { result ≡ length (waiting m self.now.requests) }
         ensures most { result ≤ most_open }
     {
-        // The length says that they are few.
+        // The length bounds their number.
         let _ = self.len();
         self.requests.count(m, LIFE) as u32
     }
 
-    /// How many requests for EIDs of an instance wait at a moment, found by halving.
+    /// How many requests for EIDs of an instance are open at a moment, found by halving.
     pub fn open_in(&self, m: u64, iid: u32) -> u32
         ensures { result ≡ open_in iid (waiting m self.now.requests) }
     {
-        // The length says that they are few.
+        // The length bounds their number.
         let _ = self.len();
         open_in(m, iid, &self.index.terms) as u32
     }
 
-    /// One more request for an EID of an instance may wait at a moment.
+    /// Whether one more request for an EID of an instance may be open at a moment.
     pub fn has_place_in(&self, m: u64, iid: u32) -> bool
         ensures { result ≡ nat_lt (open_in iid (waiting m self.now.requests))
             (requests_in self.now.limits iid) }

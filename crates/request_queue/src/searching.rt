@@ -1,4 +1,4 @@
-// Which requests wait, and which of them is meant.
+// Which requests are open, and which one is meant.
 ghost use Rattle.std.specs.Prelude.{◌≡◌, ◌≤◌, ◌&&◌, drop, length, slice_get, true};
 ghost use Rattle.std.specs.Option.{option_copied};
 ghost use Rattle.router_log.specs.Moments.{younger};
@@ -10,7 +10,7 @@ use crate::Request;
 use crate::limits::{FIRST_RETRY, LAST_RETRY, LIFE};
 use keyed_list::{Key, KeyedList};
 
-/// A request of that start waits at a moment.
+/// Whether a request of that start is open at a moment.
 pub(crate) fn waits(now: u64, start: u64) -> bool
     ensures { result ≡ younger now request_seconds start }
 {
@@ -32,7 +32,7 @@ fn is_due(now: u64, request: &Request) -> bool
             || request.sent_again == 1 && age >= LAST_RETRY)
 }
 
-/// The first that waits and is to be sent again, from a place on.
+/// The first open request that is to be sent again, from a place on.
 pub(crate) fn first_due(now: u64, from: usize, requests: &KeyedList<Request>) -> Option<&Request>
     requires { from ≤ length requests.now.items }
     ensures { option_copied result ≡ slice_get (all_due now (drop from requests.now.items)) 0 }
@@ -50,7 +50,8 @@ pub(crate) fn first_due(now: u64, from: usize, requests: &KeyedList<Request>) ->
     None
 }
 
-/// The place of the first that was asked after the one with a nonce; without a nonce, of the first.
+/// The place of the first request made after the one with a nonce; without a nonce, of the first of
+/// all.
 pub(crate) fn place_after(after: Option<u64>, requests: &KeyedList<Request>) -> usize
     requires { are_distinct requests.now.items ≡ true }
     ensures after { drop result requests.now.items ≡ asked_after after requests.now.items }

@@ -1,4 +1,4 @@
-// By what requests are counted.
+// The terms by which requests of an instance are counted.
 ghost use Rattle.std.specs.Prelude.{◌≡◌};
 ghost use Rattle.request_queue.specs.Terms.{term_of};
 
@@ -6,11 +6,11 @@ use crate::Request;
 use ordered_set::Ordered;
 use std::cmp::Ordering;
 
-/// The term of a request, which no other has.
+/// The term of a request, which no other request has.
 #[derive(Clone, Copy, Debug, PartialEq, Eq, Drop)]
 pub(crate) struct Term {
     pub iid: u32,
-    /// When it was sent first, in nanoseconds.
+    /// The moment of the request's first transmission, in nanoseconds.
     pub start: u64,
     pub nonce: u64,
 }

@@ -36,7 +36,7 @@ pub(crate) fn drop_term(request: &Request, terms: &mut OrderedSet<Term>)
     terms.remove(&term_of(request));
 }
 
-// It stands before those of the instance that wait.
+// Whether a term stands before those of the instance's open requests.
 fn is_past(m: u64, iid: u32, term: &Term) -> bool
     ensures { result ≡ is_past m iid term.now }
 {
@@ -49,12 +49,12 @@ fn is_upto(iid: u32, term: &Term) -> bool
     term.iid <= iid
 }
 
-/// How many requests of an instance wait. Terms are in order, so that it is found by halving.
+/// How many requests of an instance are open. Terms are in order, so that halving finds the number.
 pub(crate) fn open_in(m: u64, iid: u32, terms: &OrderedSet<Term>) -> usize
     ensures { (requests : List Request) → are_distinct requests ≡ true
         → AreTerms terms.now.keys requests → result ≡ open_in iid (waiting m requests) }
 {
-    // The length says that terms ascend.
+    // The call of `len` brings the fact that terms ascend.
     let _ = terms.len();
     let first = terms.place(|term| is_past(m, iid, term));
     let end = terms.place(|term| is_upto(iid, term));

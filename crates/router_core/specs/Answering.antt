@@ -1,4 +1,4 @@
--- The databases that answer a Map-Request, by those that its EIDs hit.
+-- The database prefixes that answer a Map-Request, by the prefixes that its EIDs hit.
 use Rattle.std.specs.Prelude.{ℕ, Bool, List, Option}
 use Rattle.std.specs.List.{list_any}
 use Rattle.ip_headers.specs.declared.addr.Addr.{Addr}
@@ -10,10 +10,10 @@ use Rattle.lisp_settings.specs.declared.settings.Settings.{Settings}
 use Rattle.router_model.specs.Hear.{own_record}
 use Rattle.router_model.specs.Standing.{stood}
 
--- the database lies within one that was hit
+-- whether a database prefix lies within one that was hit
 abbrev pub is_hit : List Eid → Database → Bool
 is_hit hits database = list_any (λ hit. covers_eid hit database.eid) hits
 
--- the record of a database prefix whose version is so many steps on
+-- the record of a database prefix with its version that many steps on
 unfoldable pub standing_record : Settings → ℕ → Option Addr → Database → Record
 standing_record site steps probed database = own_record site probed (stood steps database)

@@ -1,4 +1,4 @@
--- What a table keeps fits the headers that are made of it, and keeps to a size.
+-- Bounds of a table: its numbers fit the headers made of them, its lists keep to a size, its mappings keep to limits.
 use Rattle.std.specs.Prelude.{◌≡◌, ◌≤◌, ◌<◌, ◌+◌, ◌*◌, ◌^◌, ℕ, List, All, count_by}
 use Rattle.lisp_settings.specs.Instances.{all_mappings, mappings_in}
 use Rattle.lisp_settings.specs.declared.settings.LimitItem.{LimitItem}
@@ -19,22 +19,22 @@ use Rattle.router_log.specs.declared.kept.EchoWish.{EchoWish}
 abbrev pub IsVersioned : Mapping → Type 0
 IsVersioned mapping = mapping.details.version ≤ 4095
 
--- each of them has
+-- the Map-Version of each of the mappings has 12 bits
 abbrev pub AreVersioned : List Mapping → Type 0
 AreVersioned mappings = All IsVersioned mappings
 
--- the nonce of an echo has 24 bits (RFC 9300, section 5.1)
+-- the nonce of a requested echo has 24 bits (RFC 9300, section 5.1)
 abbrev pub IsShortStart : EchoStart → Type 0
 IsShortStart start = start.nonce < 2 ^ 24
 
 abbrev pub IsShortWish : EchoWish → Type 0
 IsShortWish wish = wish.nonce < 2 ^ 24
 
--- each of them has
+-- the nonces of all requested and of all wanted echoes have 24 bits
 abbrev pub AreShort : Observed → Type 0
 AreShort o = All IsShortStart o.starts × All IsShortWish o.wishes
 
--- so has that of a header
+-- the nonce of an echo in a header, if it has one, has 24 bits
 abbrev pub IsShortOut : EchoOut → Type 0
 IsShortOut Plain = Unit {0}
 IsShortOut (Answer nonce) = nonce < 2 ^ 24
@@ -42,12 +42,12 @@ IsShortOut (Ask nonce) = nonce < 2 ^ 24
 
 -- ### size
 
--- items of all lists of a table, at most, which is no sharp bound
+-- the most items in all lists of a table together, which is no sharp bound
 abbrev pub most_kept : ℕ
 most_kept = 12000000
 
--- the lists of locators are as short as the limits make them, and all have place for no more than is kept at most
--- and what is reserved at once: all mappings of a reply, requests, probes
+-- the lists of a table are bounded: each list of the state of locators by the most probes that count, and all places by
+-- the items that are kept at most and those that are reserved at once (all mappings of a reply, requests, probes)
 pub record AreBounded (cache : Cache) (queue : Queue) (located : Located) (own_count : ℕ) : Type 0 where
   pub mappings : cache.mapping_places ≤ most_mappings + most_message_records
   pub requests : queue.places ≤ 2 * (most_open + most_reserved_requests)
@@ -57,7 +57,8 @@ pub record AreBounded (cache : Cache) (queue : Queue) (located : Located) (own_c
 
 -- ### limits of instances
 
--- no instance has learned more than its limit, and the fixed mappings and all limits are no more than may live
+-- no instance has learned more mappings than its limit, and the fixed mappings and all limits together are no more than
+-- may live
 pub record KeepLimits (limits : List LimitItem) (mappings : List Mapping) : Type 0 where
   pub each : (iid : ℕ) → learned_in iid mappings ≤ mappings_in limits iid
   pub all : count_by (λ mapping. mapping.fixed) mappings + all_mappings limits ≤ most_mappings

@@ -13,30 +13,30 @@ use Rattle.router_log.specs.declared.kept.Probe.{Probe}
 use Rattle.router_model.specs.Site.{is_own, ours}
 use Rattle.router_model.specs.Tick.{may_take}
 
--- until that moment a locator rests after its last probe; without one there is no such moment but 0
+-- whether a locator rests until that moment after its last probe; without a probe it rests until 0 alone
 abbrev pub is_recent : ℕ → Option Probe → Bool
 is_recent until None = until == 0
 is_recent until (Some probe) = nat_le until (probe.moment + seconds rest_seconds)
 
--- the last probe of a locator
+-- the last probe of a locator among these, or None
 abbrev pub last_of : List Probe → Addr → Option Probe
 last_of probes rloc = last_where (λ probe. same_address probe.rloc rloc) probes
 
--- a locator isn't to be probed until that moment, where these are the own locators
+-- whether a locator isn't to be probed until that moment, by the own locators and the probes
 abbrev pub rests : List OwnLocator → ℕ → List Probe → Locator → Bool
 rests own until probes locator =
     not (may_take locator)
     || (is_own own locator.addr || (is_none (ours own locator.addr) || is_recent until (last_of probes locator.addr)))
 
--- none of these
+-- whether none of the locators is to be probed until that moment
 abbrev pub all_rest : List OwnLocator → ℕ → List Probe → List Locator → Bool
 all_rest own until probes locators = list_all (rests own until probes) locators
 
--- none that a mapping names; it needn't be known of moment 0
+-- no locator that a mapping names is to be probed until that moment; 0 stands for an unknown moment
 abbrev pub IsAtRest : List OwnLocator → ℕ → List Probe → List Mapping → Type 0
 IsAtRest own until probes mappings =
     ((until == 0) || list_all (λ mapping. all_rest own until probes mapping.details.locators) mappings) ≡ true
 
--- what is known of that moment behind an entry
+-- the moment until which no locator is to be probed, behind an entry: 0, for unknown, once it has come
 abbrev pub rest_behind : ℕ → ℕ → ℕ
 rest_behind until now = if nat_lt now until then until else 0

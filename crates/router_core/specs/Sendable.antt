@@ -11,13 +11,14 @@ use Rattle.router_log.specs.declared.emit.Emit.{Emit}
 use Rattle.router_log.specs.declared.emit.Emit.TheVariants.{Request, Probe, Solicit, Reply}
 use Rattle.router_model.specs.Site.{ours}
 
--- a reply that can be written, between addresses of one family
+-- a Map-Reply that can be written, between two addresses of one family
 pub record IsSendableReply (from to : Addr) (reply : MapReply) : Type 0 where
   pub family : width from ≡ width to
   pub range : InRangeReply reply
   pub short : length (canonical_reply reply) ≤ most_message_octets
 
--- an own locator of the receiver's family is up; a reply can be written
+-- the packet of an emit can be made: for a probe and an SMR an own locator of the receiver's family is up; a Map-Reply
+-- can be written
 abbrev pub IsSendable : Settings → Emit → Type 0
 IsSendable settings (Request eid source invoked nonce) = Unit {0}
 IsSendable settings (Probe to eid nonce) = IsTrue (is_some (ours settings.locators to))

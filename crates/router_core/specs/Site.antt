@@ -1,4 +1,4 @@
--- What the router asks of its own site.
+-- The demands of the router on its own site.
 use Rattle.std.specs.Prelude.{◌≤◌, length, map}
 use Rattle.std.specs.List.{All}
 use Rattle.std.specs.List.Sorted.{IsStrictlySortedBy}
@@ -8,7 +8,7 @@ use Rattle.lisp_settings.specs.Limits.{most_databases}
 use Rattle.lisp_settings.specs.declared.settings.Settings.{Settings}
 use Rattle.router_model.specs.Limits.{most_locators}
 
--- lawful settings, whichever own locators are up, and however many steps their versions are on
+-- a site of lawful settings, whichever own locators are up, and however many steps the versions are on
 pub record IsSite (site : Settings) : Type 0 where
   pub ttl : (1 ≤ site.ttl) × (site.ttl ≤ 4294967294)
   pub few_locators : length site.locators ≤ most_locators

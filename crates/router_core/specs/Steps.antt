@@ -1,4 +1,4 @@
--- What a step of a table asks for, and what it leaves.
+-- The demands of a table's step, and its results.
 use Rattle.std.specs.Prelude.{◌≡◌, ◌≤◌, ◌<◌, ◌+◌, ◌^◌, ℕ, List, Result, All, OnErr, OnOk, Vec, length, vec_len, vec_capacity}
 use Rattle.std.specs.Global.{Global}
 use Rattle.lisp_settings.specs.declared.settings.Settings.{Settings}
@@ -9,57 +9,60 @@ use Rattle.router_core.specs.Sendable.{IsSendable}
 
 -- ### what goes in
 
--- a step may be taken at a moment: it isn't before the last entry's, and the journal is far from as long as a number of
--- 64 bits can say
+-- a step may be taken at m: the last entry isn't later, and the journal has fewer than 2^61 entries, far fewer than 64
+-- bits can count
 pub record MayStep (m : ℕ) (parts : Parts) : Type 0 where
   pub later : parts.now ≤ m
   pub count : parts.count < 2 ^ 61
 
--- so many entries may be taken within a step, one after another
+-- a step may apply `most` entries one after another at m: the last entry isn't later, and with them the journal has at
+-- most 2^62 entries
 pub record MayEnter (most m : ℕ) (parts : Parts) : Type 0 where
   pub later : parts.now ≤ m
   pub count : parts.count + most ≤ 2 ^ 62
 
--- there is room for so many entries and as many emits
+-- the lists of entries and of emits have room for so many more items each
 pub record HaveRoom (most : ℕ) (written : Vec Entry Global) (sent : Vec Emit Global) : Type 0 where
   pub entries : vec_len written + most ≤ vec_capacity written
   pub emits : vec_len sent + most ≤ vec_capacity sent
 
 -- ### what comes out
 
--- at most so many entries were taken, none of a change of own locators, and the last isn't past the moment
+-- at most so many entries were applied, none of them a change of an own locator, and the last entry isn't later than m
 pub record HasEntered (most m : ℕ) (old new : Parts) : Type 0 where
   pub now : new.now ≤ m
   pub count : new.count ≤ old.count + most
   pub own : new.own ≡ old.own
   pub steps : new.steps ≡ old.steps
 
--- the same of a second, at which own locators may change
+-- at most so many entries were applied in a second, at which own locators may change, and the last entry isn't later
+-- than m
 pub record HasTicked (most m : ℕ) (old new : Parts) : Type 0 where
   pub now : new.now ≤ m
   pub count : new.count ≤ old.count + most
 
--- a step took at most so many entries; where it is refused, all is as it was
+-- a step applied at most so many entries, none of them a change of an own locator; where it is refused, the parts are
+-- as they were
 pub record IsStep {T E : Type 0} (most m : ℕ) (old new : Parts) (result : Result T E) : Type 0 where
   pub entered : OnOk result (HasEntered most m old new)
   pub err : OnErr result (new ≡ old)
 
--- a second took at most so many entries; where it is refused, all is as it was
+-- a second applied at most so many entries; where it is refused, the parts are as they were
 pub record IsSecond {T E : Type 0} (most m : ℕ) (old new : Parts) (result : Result T E) : Type 0 where
   pub entered : OnOk result (HasTicked most m old new)
   pub err : OnErr result (new ≡ old)
 
--- just this entry was taken; where that is refused, all is as it was
+-- exactly this entry was applied; where it is refused, the parts are as they were
 pub record IsTaken {T E : Type 0} (entry : Entry) (old new : Parts) (result : Result T E) : Type 0 where
   pub ok : OnOk result (new ≡ with_entry entry old)
   pub err : OnErr result (new ≡ old)
 
--- at most so many emits, and the packet of each can be made
+-- there are at most so many emits, and the packet of each can be made
 pub record AreSent (settings : Settings) (most : ℕ) (emits : List Emit) : Type 0 where
   pub sendable : All (IsSendable settings) emits
   pub few : length emits ≤ most
 
--- at most so many items were added, within the room that there was
+-- at most so many items were added to a list, within the room that it had
 pub record AreAdded {T : Type 0} (most : ℕ) (old new : Vec T Global) : Type 0 where
   pub more : vec_len old ≤ vec_len new
   pub most_more : vec_len new ≤ vec_len old + most

@@ -10,25 +10,26 @@ use Rattle.request_queue.specs.Queue.{with_nonce}
 use Rattle.request_queue.specs.declared.request.Request.{Request}
 use Rattle.router_model.specs.Site.{ours}
 
--- a request may be sent again: it is the one with its nonce among those that wait, and may be sent again once more
+-- a request may be sent again: it is the one with its nonce among those that wait, and was sent again less often than
+-- it may be
 pub record IsOwed (waits : List Request) (request : Request) : Type 0 where
   pub found : with_nonce waits request.nonce ≡ Some request
   pub again : nat_lt request.sent_again most_retries ≡ true
 
--- these have other nonces
+-- whether all these requests have other nonces
 abbrev pub are_apart : ℕ → List Request → Bool
 are_apart nonce requests = list_all (λ request. not (request.nonce == nonce)) requests
 
--- each of these may, and none has the nonce of another
+-- each of these requests may be sent again, and no two of them share a nonce
 abbrev pub AreOwed : List Request → List Request → Type 0
 AreOwed waits [] = Unit {0}
 AreOwed waits (request ∷ others) =
     IsOwed waits request × ((are_apart request.nonce others ≡ true) × AreOwed waits others)
 
--- there is an own locator of its family
+-- an own locator of the target's family is up
 abbrev pub HasSender : Settings → Target → Type 0
 HasSender settings target = IsTrue (is_some (ours settings.locators target.rloc))
 
--- the first in order, as many as are probed at a second, once these were offered too
+-- the first targets in order, as many as are probed at a second, once these targets were offered
 abbrev pub offered : List Target → List Target → List Target
 offered targets first = take most_targets (fold (λ so_far target. with_target target so_far) first targets)

@@ -1,4 +1,4 @@
-// Whether an entry may be taken as it is.
+// The test of whether an entry may be applied as it is.
 ghost use Rattle.router_model.specs.Standing.{may_change};
 ghost use Rattle.std.specs.Prelude.{◌≡◌, ◌<◌, ◌==◌, ◌||◌, ◌&&◌, ◌^◌, nat_le, nat_lt, is_some, length};
 ghost use Rattle.std.specs.Option.{option_copied};
@@ -19,8 +19,8 @@ use request_queue::Request;
 use router_log::Entry;
 
 impl Table {
-    /// An entry may follow what the table stands for, but for its nonce: `apply` takes it then. Takes
-    /// no memory.
+    /// Whether an entry may follow the journal that the table stands for, whatever its nonce and
+    /// whichever change is next; `apply` requires it. Takes no memory.
     #[tactic(auto, unfolding(router_model::specs::Parts::admits))]
     pub fn admits(&self, entry: &Entry) -> bool
         ensures { result ≡ admits self.now.parts entry.now }
@@ -28,7 +28,8 @@ impl Table {
         (self.may_follow(moment_of(entry)) && self.suits(entry)) && self.may_change(entry)
     }
 
-    // The journal isn't full, and that moment isn't before its last one.
+    // Whether an entry of that moment may follow: the journal has fewer than 2^62 entries, and the
+    // last one isn't later.
     fn may_follow(&self, m: u64) -> bool
         ensures { result ≡ (nat_lt self.now.parts.count (2 ^ 62)
             && nat_le self.now.parts.now m) }
@@ -36,7 +37,8 @@ impl Table {
         self.count < 1 << 62 && self.cache.now() <= m
     }
 
-    // The entry of a change has the address of an own locator, and fewer were made than may be.
+    // Whether the entry of a change has the address of an own locator, and fewer changes were made
+    // than may be. Each other entry passes.
     fn may_change(&self, entry: &Entry) -> bool
         ensures { result ≡ may_change self.now.parts.own self.now.parts.steps entry.now }
     {
@@ -48,7 +50,7 @@ impl Table {
         }
     }
 
-    // The entry suits what is seen at its moment.
+    // Whether an entry suits the view of the table at its moment, by the limits of instances.
     fn suits(&self, entry: &Entry) -> bool
         ensures { result ≡ suits self.now.parts.limits
             (view_in self.now.parts (moment_of entry.now)) entry.now }
@@ -92,7 +94,7 @@ impl Table {
         }
     }
 
-    // The open request with that nonce may be sent again once more.
+    // Whether there is an open request with that nonce, and it may be sent again once more.
     fn may_retry(&self, m: u64, nonce: u64) -> bool
         ensures { result ≡ may_retry (with_nonce (view_in self.now.parts m).requests nonce) }
     {
@@ -102,7 +104,8 @@ impl Table {
         }
     }
 
-    // Status bits of so many locators may be told of a live mapping of that EID.
+    // Whether status bits of that width may be applied to the mapping of an EID: the width is 8 or
+    // 32, and a mapping of exactly that EID is live.
     fn is_told(&self, m: u64, eid: &Eid, width: u8) -> bool
         ensures { result ≡ (is_some (exact (view_in self.now.parts m).mappings eid.now)
             && ((width == 8) || (width == 32))) }
@@ -112,7 +115,7 @@ impl Table {
 
     // ### Questions that only entries ask
 
-    // The open request with that nonce.
+    // The open request with that nonce at a moment, or None.
     #[tactic(auto, unfolding(router_model::specs::Parts::view_in))]
     fn open_request(&self, m: u64, nonce: u64) -> Option<&Request>
         ensures { option_copied result ≡ with_nonce (view_in self.now.parts m).requests nonce }
@@ -120,7 +123,7 @@ impl Table {
         self.queue.find(self.moment_at(m), nonce)
     }
 
-    // There is room for one more probe.
+    // Whether there is room for one more probe at a moment.
     #[tactic(auto, unfolding(router_model::specs::Parts::view_in))]
     fn few_probes(&self, m: u64) -> bool
         ensures { result ≡ nat_lt (view_in self.now.parts m).probe_count most_probes }
@@ -128,7 +131,7 @@ impl Table {
         self.locators.may_probe(self.moment_at(m))
     }
 
-    // A probe with that nonce is open.
+    // Whether a probe with that nonce is open at a moment.
     #[tactic(auto, unfolding(router_model::specs::Parts::view_in))]
     fn is_probe_open(&self, m: u64, nonce: u64) -> bool
         ensures { result ≡ is_some ((view_in self.now.parts m).probe_open nonce) }
@@ -136,7 +139,7 @@ impl Table {
         self.locators.probe_open(self.moment_at(m), nonce).is_some()
     }
 
-    // An echo is asked of the locator.
+    // Whether an echo is requested of a locator at a moment.
     #[tactic(auto, unfolding(router_model::specs::Parts::view_in))]
     fn is_echo_on(&self, m: u64, rloc: &Addr) -> bool
         ensures { result ≡ is_some ((view_in self.now.parts m).echo_on rloc.now) }
@@ -144,7 +147,7 @@ impl Table {
         self.locators.echo_on(self.moment_at(m), rloc).is_some()
     }
 
-    /// The locator may be sent an SMR for the EID.
+    /// Whether earlier SMRs allow one more to a locator for an EID at a moment.
     #[tactic(auto, unfolding(router_model::specs::Parts::view_in))]
     pub(crate) fn may_be_solicited(&self, m: u64, rloc: &Addr, eid: &Eid) -> bool
         ensures { result ≡ (view_in self.now.parts m).may_solicit rloc.now eid.now }
@@ -174,7 +177,8 @@ fn moment_of(entry: &Entry) -> u64
     }
 }
 
-// Action and version of a record have their bits, and its locators are no more than a mapping may have.
+// Whether a record's action and version fit their bits, and it has no more locators than a mapping
+// may.
 fn is_in_range(mapping: &Record) -> bool
     ensures { result ≡ is_in_range mapping.now }
 {
@@ -182,7 +186,7 @@ fn is_in_range(mapping: &Record) -> bool
         && (mapping.version <= MOST_VERSION && mapping.locators.len() <= MOST_LOCATORS)
 }
 
-// The nonce has 24 bits.
+// Whether a nonce has the 24 bits of an echo.
 fn is_short(nonce: u32) -> bool
     ensures { result ≡ is_short nonce }
 {

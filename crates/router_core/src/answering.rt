@@ -1,4 +1,4 @@
-// A Map-Request for mappings of the site, answered (RFC 9301, sections 5.3 to 5.5).
+// Answers to Map-Requests for mappings of the site (RFC 9301, sections 5.3 to 5.5).
 ghost use Rattle.std.specs.Prelude.{◌≡◌, ◌≤◌, ◌++◌, Some, None, filter, filter_map, length, map, option_map, All, IfOk, IfSome, OnOk, if◌then◌else◌};
 ghost use Rattle.ip_headers.specs.Addr.{width};
 ghost use Rattle.map_messages.specs.Range.{InRangeReply};
@@ -30,7 +30,8 @@ use octets::{Items, NoMemory};
 use router_log::{Done, Emit, Reason, Verdict};
 use std::alloc::{AllocFailed, Global};
 
-/// How a Map-Request came: to which own address, from which port, and whether as a probe.
+/// The asker of a Map-Request: the own locator that the request came to, the port that it came
+/// from, and whether it is a probe.
 #[derive(Clone, Copy)]
 pub(crate) struct Asker {
     pub dest: Addr,
@@ -38,15 +39,15 @@ pub(crate) struct Asker {
     pub probe: bool,
 }
 
-// Between which addresses a reply goes.
+// The path of a Map-Reply: the addresses between which it goes.
 #[derive(Clone, Copy)]
 pub(crate) struct Path {
     pub from: Addr,
     pub to: Addr,
 }
 
-// What each record of a reply is made by: the site, the steps of its versions, and the own address that
-// a probe came to.
+// The facts by which each record of a reply is made: the site, the number of steps that its
+// versions are on, and the own locator that a probe came to.
 #[derive(Clone, Copy)]
 struct Told<'a> {
     site: &'a Site<'a>,
@@ -55,7 +56,7 @@ struct Told<'a> {
 }
 
 impl Table {
-    /// Answers a Map-Request for mappings of the site, which changes nothing.
+    /// Answers a Map-Request for mappings of the site. The table stays as it is.
     pub(crate) fn answer_request(
         &self,
         site: &Site<'_>,
@@ -78,7 +79,8 @@ impl Table {
         self.reply(asker, path, reply)
     }
 
-    // Sends a reply out.
+    // A Map-Request that is answered: the emit of its reply along that path, and a verdict with the
+    // number of the reply's records.
     fn reply(&self, asker: Asker, path: Path, reply: MapReply) -> Result<Heard, NoMemory>
         requires { IsSendableReply path.from path.to reply }
         ensures parts { IfOk result (λ heard. heard_seen self.now.parts heard
@@ -103,7 +105,7 @@ impl Table {
     }
 }
 
-// The reply to a Map-Request, with the records of the databases that answer it.
+// The reply to a Map-Request, with the records of the database prefixes that answer it.
 fn reply_of(
     alloc: Global,
     site: &Site<'_>,
@@ -135,14 +137,14 @@ fn reply_of(
     })
 }
 
-// The own address that a probe came to.
+// The own locator that a probe came to, or None where the request is no probe.
 fn probed(asker: Asker) -> Option<Addr>
     ensures { result ≡ (if asker.probe then Some asker.dest else None) }
 {
     if asker.probe { Some(asker.dest) } else { None }
 }
 
-// Adds the EID of the longest database that covers each of these EIDs, if one does.
+// Adds for each EID the EID of the longest database prefix that covers it, if there is one.
 fn add_hits(
     databases: &[Database],
     eids: &[Eid],
@@ -161,7 +163,7 @@ fn add_hits(
     add_hits(databases, others, hits)
 }
 
-// The longest database that covers an EID.
+// The longest database prefix that covers an EID, or None.
 fn database_of<'a>(databases: &'a [Database], eid: &Eid) -> Option<&'a Database>
     ensures { option_map (λ database. database.now) result ≡ database_of databases.now eid.now }
 {
@@ -185,7 +187,7 @@ fn longer<'a>(best: Option<&'a Database>, next: &'a Database) -> Option<&'a Data
     }
 }
 
-// Adds the records of the databases that lie within a hit.
+// Adds the records of the database prefixes that lie within a hit.
 fn add_records(
     alloc: Global,
     told: &Told<'_>,
@@ -207,7 +209,7 @@ fn add_records(
     add_records(alloc, told, hits, others, records)
 }
 
-// The record of a database, with its version as it stands.
+// The record of a database prefix, with its version as it stands.
 #[tactic(auto, unfolding(crate::specs::Answering::standing_record))]
 fn standing_record(alloc: Global, told: &Told<'_>, database: &Database) -> Result<Record, NoMemory>
     requires { database.now.version ≤ most_version }
@@ -217,7 +219,7 @@ fn standing_record(alloc: Global, told: &Told<'_>, database: &Database) -> Resul
     own_record(alloc, told.site, told.probed, &stood(database, told.steps))
 }
 
-// The database lies within a hit.
+// Whether a database prefix lies within a hit.
 fn is_hit(hits: &[Eid], database: &Database) -> bool
     ensures { result ≡ is_hit hits.now database.now }
 {
@@ -227,7 +229,8 @@ fn is_hit(hits: &[Eid], database: &Database) -> bool
     hit.covers(&database.eid) || is_hit(others, database)
 }
 
-// Between which addresses the reply goes, if there are any.
+// The path of the reply to a Map-Request, or None. A probe is answered from the address that it
+// came to.
 fn reply_path(site: &Site<'_>, asker: Asker, request: &MapRequest) -> Option<Path>
     ensures path { option_map path_seen result
         ≡ reply_path site.now (asker_seen asker) request.now }
@@ -240,7 +243,7 @@ fn reply_path(site: &Site<'_>, asker: Asker, request: &MapRequest) -> Option<Pat
     first_path(site, replies_to)
 }
 
-// To the first address whose family has an own one.
+// The path to the first address of whose family an own locator is up, or None.
 fn first_path(site: &Site<'_>, addrs: &[Addr]) -> Option<Path>
     ensures path { option_map path_seen result ≡ first_path site.now.locators addrs.now }
     ensures family { IfSome result (λ path. width path.from ≡ width path.to) }
@@ -254,7 +257,7 @@ fn first_path(site: &Site<'_>, addrs: &[Addr]) -> Option<Path>
     }
 }
 
-// From one address to the first of its family.
+// The path from an address to the first one of its family, or None.
 fn path_back(from: Addr, addrs: &[Addr]) -> Option<Path>
     ensures path { option_map path_seen result ≡ path_back from addrs.now }
     ensures family { IfSome result (λ path. width path.from ≡ width path.to) }

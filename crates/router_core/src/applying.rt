@@ -1,4 +1,4 @@
-// An entry, taken as it is.
+// Entries of a journal, applied to a table as they are.
 ghost use Rattle.std.specs.Prelude.{◌≡◌, ◌<◌, ◌≤◌, ◌∷◌, ◌^◌, true, false, length, IsTrue, OnErr, OnOk};
 ghost use Rattle.lisp_settings.specs.declared.settings.Settings.{Settings as SettingsValue};
 ghost use Rattle.lisp_settings.specs.Instances.{requests_in};
@@ -20,8 +20,8 @@ use octets::NoMemory;
 use router_log::Entry;
 
 impl Table {
-    /// Takes an entry that may follow: the table then stands for the journal with it. Where memory is
-    /// refused, the table is as it was.
+    /// Applies an entry that may follow: the table then stands for the journal with it. Where
+    /// memory is refused, the table is as it was.
     #[tactic(auto, unfolding(router_model::specs::Parts::admits))]
     pub fn apply(&mut self, entry: &Entry) -> Result<(), NoMemory>
         requires { admits self.old.parts entry.now ≡ true }
@@ -106,7 +106,7 @@ impl Table {
         }
     }
 
-    // Takes the entry of a mapping that was learned.
+    // Makes room for the entry of a learned mapping, and applies it.
     fn apply_learned(&mut self, m: u64, mapping: &Record) -> Result<(), NoMemory>
         requires may { MayEnter 1 m self.old.parts }
         requires locators { length mapping.now.locators ≤ most_locators }
@@ -123,7 +123,7 @@ impl Table {
         Ok(())
     }
 
-    // Takes the entry of a request that was made.
+    // Makes room for the entry of a request that was made, and applies it.
     fn apply_asked(
         &mut self,
         m: u64,
@@ -142,7 +142,7 @@ impl Table {
         Ok(())
     }
 
-    // Takes the entry of a probe that was sent.
+    // Makes room for the entry of a probe that was sent, and applies it.
     fn apply_probed(&mut self, m: u64, rloc: Addr, nonce: u64) -> Result<(), NoMemory>
         requires may { MayEnter 1 m self.old.parts }
         requires place { (view_in self.old.parts m).probe_count < most_probes }
@@ -153,7 +153,7 @@ impl Table {
         Ok(())
     }
 
-    // Takes the entry of an echo that is asked for.
+    // Makes room for the entry of an echo that is requested, and applies it.
     fn apply_started(&mut self, m: u64, rloc: Addr, nonce: u32) -> Result<(), NoMemory>
         requires may { MayEnter 1 m self.old.parts }
         requires short { nonce < 2 ^ 24 }
@@ -165,7 +165,7 @@ impl Table {
         Ok(())
     }
 
-    // Takes the entry of an echo that a locator wants.
+    // Makes room for the entry of an echo that a locator wants, and applies it.
     fn apply_wanted(&mut self, m: u64, rloc: Addr, nonce: u32) -> Result<(), NoMemory>
         requires may { MayEnter 1 m self.old.parts }
         requires short { nonce < 2 ^ 24 }
@@ -177,7 +177,7 @@ impl Table {
         Ok(())
     }
 
-    // Takes the entry of an SMR that was sent to a locator.
+    // Makes room for the entry of an SMR that was sent to a locator, and applies it.
     fn apply_solicited(&mut self, m: u64, rloc: Addr, eid: Eid, nonce: u64) -> Result<(), NoMemory>
         requires may { MayEnter 1 m self.old.parts }
         requires place { IsTrue ((view_in self.old.parts m).may_solicit rloc eid) }

@@ -1,4 +1,4 @@
-// A packet in a tunnel to the router: out of it, or dropped.
+// Packets in a tunnel to the router: taken out of it and delivered, or dropped.
 ghost use Rattle.router_core.specs.Site.{IsSite};
 ghost use Rattle.std.specs.Prelude.{◌≡◌, IfOk, option_map};
 ghost use Rattle.std.specs.Option.{option_copied};
@@ -26,7 +26,7 @@ use map_cache::Mapping;
 use octets::NoMemory;
 use router_log::{Decision, Reason, Verdict};
 
-/// The decision on a packet in a tunnel.
+/// The decision on a packet in a tunnel to the router.
 pub(crate) fn tunnelled(view: &View<'_>, datagram: &Datagram) -> Result<Decision, NoMemory>
     requires { IsSite view.now.site }
     ensures decision { IfOk result (λ decision. decision
@@ -43,7 +43,8 @@ pub(crate) fn tunnelled(view: &View<'_>, datagram: &Datagram) -> Result<Decision
     }
 }
 
-// The decision on a packet that came out of its tunnel, by the prefix of the site that it is for.
+// The decision on a packet that came out of its tunnel, by the prefix of the site that it is for;
+// without one it is dropped.
 fn for_home(view: &View<'_>, tunnel: &Tunnelled) -> Result<Decision, NoMemory>
     requires lawful { IsSite view.now.site }
     requires range { InRange tunnel.now.header }
@@ -64,7 +65,8 @@ fn for_home(view: &View<'_>, tunnel: &Tunnelled) -> Result<Decision, NoMemory>
     }
 }
 
-// The decision on a packet for the site, by that prefix and the mapping in force for its source.
+// The decision on a packet for the site, by the prefix that it is for (`home`) and the mapping in
+// force for its source. Its versions are judged first.
 fn arrive(
     table: &Table,
     iid: u32,
@@ -89,7 +91,8 @@ fn arrive(
     leave(table, iid, tunnel, home, mapping)
 }
 
-// The decision on a packet for the site whose versions are right.
+// The decision on a packet for the site whose versions don't drop it: it is delivered, unless ECN
+// or hops drop it.
 fn leave(
     table: &Table,
     iid: u32,

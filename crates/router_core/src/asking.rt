@@ -1,4 +1,4 @@
-// Requests for mappings: when one may be made, and how.
+// Map-Requests for mappings: when one may be sent, and how.
 ghost use Rattle.std.specs.Prelude.{◌≡◌, ◌<◌, IfOk};
 ghost use Rattle.lisp_settings.specs.Instances.{requests_in};
 ghost use Rattle.request_queue.specs.Queue.{open_in, waiting};
@@ -17,7 +17,8 @@ use octets::NoMemory;
 use router_log::{Emit, Entry};
 
 impl Table {
-    /// The resolver is reached, no open request covers the EID, and there is room for one more.
+    /// Whether a Map-Request for an EID may be sent: the resolver is reached, no open request
+    /// covers the EID, and its instance has room for one more.
     #[tactic(auto, unfolding(router_model::specs::Parts::view_in))]
     pub(crate) fn may_ask(&self, site: &Site<'_>, m: u64, eid: &Eid) -> bool
         ensures { result ≡ may_ask site.now self.now.parts.limits (view_in self.now.parts m)
@@ -30,14 +31,15 @@ impl Table {
             && self.may_open(m, eid.iid)
     }
 
-    /// There is room for one more request for an EID of an instance.
+    /// Whether there is room for one more open request for an EID of an instance.
     pub(crate) fn may_open(&self, m: u64, iid: u32) -> bool
         ensures { result ≡ may_open self.now.parts.limits (view_in self.now.parts m) iid }
     {
         self.queue.has_place_in(self.moment_at(m), iid)
     }
 
-    /// Makes a request with the next nonce.
+    /// Makes a Map-Request with the next nonce, and applies its entry. Where memory is refused, the
+    /// table is as it was.
     pub(crate) fn make_request(
         &mut self,
         site: &Site<'_>,

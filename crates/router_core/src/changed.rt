@@ -1,4 +1,4 @@
-// What the calls of a table answer.
+// The answers of a table's calls.
 ghost use Rattle.std.specs.Prelude.{◌≡◌, ◌∷◌, [], IfOk};
 
 use crate::Table;
@@ -6,7 +6,8 @@ use octets::{Items, NoMemory};
 use router_log::{Emits, Entries, Verdict};
 use std::alloc::Global;
 
-/// What a control message made: the entries that were applied, and the packets to be sent.
+/// The outcome of a control message: the verdict, the entries that were applied, and the emits to
+/// be sent.
 #[derive(Debug, Drop)]
 pub struct Heard {
     pub verdict: Verdict,
@@ -14,7 +15,7 @@ pub struct Heard {
     pub emits: Emits,
 }
 
-/// What a notice or a second made: the entries that were applied, and the packets to be sent.
+/// The outcome of a notice or a second: the entries that were applied, and the emits to be sent.
 #[derive(Debug, Drop)]
 pub struct Changed {
     pub entries: Entries,
@@ -22,7 +23,7 @@ pub struct Changed {
 }
 
 impl Table {
-    /// Entries without emits.
+    /// A change with these entries and without emits.
     pub(crate) fn quiet(&self, entries: Entries) -> Changed
         ensures { result ≡ record { entries = entries; emits = [] } }
     {
@@ -32,7 +33,7 @@ impl Table {
         }
     }
 
-    /// No entries, and no emits.
+    /// A change without entries and without emits.
     pub(crate) fn nothing(&self) -> Changed
         ensures { result ≡ record { entries = []; emits = [] } }
     {

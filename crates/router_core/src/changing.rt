@@ -1,4 +1,4 @@
-// Own locators that go up and down at a second, as the settings say.
+// Own locators that go up and down at a second, by the changes of the settings.
 ghost use Rattle.std.specs.Prelude.{◌≡◌, ◌<◌, ◌≤◌, ◌+◌, ◌∷◌, [], length, drop, vec_len, vec_capacity};
 ghost use Rattle.lisp_settings.specs.declared.settings.Settings.{Settings as SettingsValue};
 ghost use Rattle.request_queue.specs.Queue.{waiting};
@@ -17,7 +17,7 @@ use lisp_settings::{Change, Settings};
 use router_log::Entry;
 
 impl Table {
-    /// The settings' changes that weren't made yet.
+    /// The changes of the settings that weren't made yet.
     pub(crate) fn changes_left<'s>(&self, settings: &'s Settings) -> &'s [Change]
         ensures left { result.now ≡ drop self.now.parts.steps settings.now.changes }
         ensures few { length result.now ≤ length settings.now.changes }
@@ -72,7 +72,7 @@ impl Table {
         });
     }
 
-    // Takes the entry of a change, if the table admits it.
+    // Applies the entry of a change, if the table admits it.
     fn enter_change(&mut self, m: u64, address: Addr, up: bool)
         requires may { MayEnter 1 m self.old.parts }
         ensures parts { self.new.parts ≡ absorbed self.old.parts (Changed m address up) }
@@ -92,7 +92,7 @@ impl Table {
     }
 }
 
-/// The moment of a change.
+/// The moment of a change, in nanoseconds.
 pub(crate) fn moment_of(change: &Change) -> u64
     ensures { result ≡ seconds change.now.at }
 {

@@ -14,14 +14,14 @@ use lisp_settings::Locator;
 use locator_choice::{Candidate, MOST_CANDIDATES, choose};
 use map_cache::Mapping;
 
-// What stands in a place that no locator has.
+// The candidate in a place of the array for which there is no locator: it isn't usable.
 const NOBODY: Candidate = Candidate {
     usable: false,
     priority: 255,
     weight: 0,
 };
 
-/// The locator of a mapping that a flow with that hash goes to.
+/// The locator of a mapping for a flow with that hash, or None where none is usable.
 pub(crate) fn chosen(view: &View<'_>, mapping: &Mapping, hash: u32) -> Option<Addr>
     requires few { IsFew mapping.now }
     ensures { result ≡ chosen view.now.site (seen view.now)
@@ -29,7 +29,7 @@ pub(crate) fn chosen(view: &View<'_>, mapping: &Mapping, hash: u32) -> Option<Ad
         mapping.now.details.locators hash }
 {
     let locators = mapping.details.locators.as_slice();
-    // One locator, as most mappings have, leaves no choice.
+    // Most mappings have one locator, which leaves no choice.
     if let [only] = locators {
         let candidate = candidate(view, is_up(mapping, 0, only), only);
         return if candidate.usable {
@@ -44,7 +44,7 @@ pub(crate) fn chosen(view: &View<'_>, mapping: &Mapping, hash: u32) -> Option<Ad
     Some(locators[index].addr)
 }
 
-// Writes the candidates that the locators of a mapping from number `index` on are to their places.
+// Writes the candidates of a mapping's locators from number `index` on to their places.
 fn fill(
     view: &View<'_>,
     mapping: &Mapping,
@@ -65,7 +65,7 @@ fn fill(
     fill(view, mapping, index + 1, others, places);
 }
 
-// A locator, as a candidate, where `up` is its status.
+// A locator as a candidate of the choice, where `up` is its status.
 fn candidate(view: &View<'_>, up: bool, locator: &Locator) -> Candidate
     ensures { result
         ≡ candidate_of view.now.site (seen view.now) up locator.now }
@@ -77,7 +77,9 @@ fn candidate(view: &View<'_>, up: bool, locator: &Locator) -> Candidate
     }
 }
 
-// It may be taken, where `up` is its status.
+// Whether a tunnel may go to a locator whose status is `up`: its priority isn't 255, it isn't an
+// own one, an own locator of its family is up, and neither status nor probes nor echoes count
+// against it.
 fn is_usable(view: &View<'_>, up: bool, locator: &Locator) -> bool
     ensures { result
         ≡ is_usable view.now.site (seen view.now) up locator.now }

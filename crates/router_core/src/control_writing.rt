@@ -1,4 +1,4 @@
-// Control messages in the packets that this router makes.
+// The packets of control messages that this router sends.
 ghost use Rattle.std.specs.Prelude.{◌≡◌, ◌≤◌, length, IfOk};
 ghost use Rattle.ip_headers.specs.Addr.{width};
 ghost use Rattle.capture_io.specs.Limits.{most_frame_octets};
@@ -16,13 +16,13 @@ use map_messages::{
 use octets::{NoMemory, Octets};
 use std::alloc::Global;
 
-// Octets that are made room for before a message is written: most have no more.
+// How many octets are reserved before a message is written: most messages have no more.
 const FIRST_ROOM: usize = 256;
 
-// The most octets before a message: an IPv6 header and a UDP header.
+// The most octets of headers before a message: an IPv6 header and a UDP header.
 const MOST_HEADERS: usize = 48;
 
-/// A message in its packet, from one address to another and a port.
+/// The packet of a message between two addresses, from the port of control messages to `port`.
 pub(crate) fn message_packet(
     alloc: Global,
     from: Addr,
@@ -42,7 +42,7 @@ pub(crate) fn message_packet(
     datagram_packet(alloc, from, to, port, payload.as_slice())
 }
 
-/// A Map-Reply in its packet, from one address to another and a port.
+/// The packet of a Map-Reply between two addresses, from the port of control messages to `port`.
 pub(crate) fn reply_packet(
     alloc: Global,
     from: Addr,
@@ -60,7 +60,7 @@ pub(crate) fn reply_packet(
     datagram_packet(alloc, from, to, port, payload.as_slice())
 }
 
-// A datagram in its packet.
+// The packet of a payload between two addresses, from the port of control messages to `port`.
 fn datagram_packet(
     alloc: Global,
     from: Addr,

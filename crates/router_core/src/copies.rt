@@ -9,7 +9,7 @@ use mapping_records::{Locator, Locators, Record};
 use octets::{Items, NoMemory};
 use std::alloc::Global;
 
-/// A copy of a record, which shares nothing with it.
+/// A copy of a record, which shares no memory with it.
 pub fn copied(alloc: Global, mapping: &Record) -> Result<Record, NoMemory>
     ensures { IfOk result (λ copy. copy ≡ mapping.now) }
 {
@@ -55,14 +55,14 @@ fn with_locators(mapping: &Record, locators: Locators) -> Record
     }
 }
 
-/// A record that may be learned, twice: for the table, and for the entry.
+/// Two copies of a record that may be learned: one for the table, one for the entry.
 #[derive(Drop)]
 pub(crate) struct Copies {
     pub kept: Record,
     pub told: Record,
 }
 
-/// Copies of records, each with its first locators, as many as a mapping may have.
+/// Two copies of each record, with its first locators, as many as a mapping may have.
 pub(crate) fn all_copies(alloc: Global, mappings: &[Record]) -> Result<Vec<Copies>, NoMemory>
     ensures { IfOk result (λ copies. copies.items ≡ all_copies mappings.now) }
 {

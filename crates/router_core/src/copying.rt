@@ -1,4 +1,4 @@
-// A table of its own for the same journal.
+// Copies of a table.
 ghost use Rattle.std.specs.Prelude.{◌≡◌, IfOk};
 
 use crate::Table;
@@ -9,8 +9,8 @@ use octets::NoMemory;
 use request_queue::RequestQueue;
 
 impl Table {
-    /// A table of its own that is seen as the same, and stands for the same journals. The two share
-    /// nothing.
+    /// A copy of a table: contracts see it as equal, and it stands for the same journals. The two
+    /// share no memory.
     pub fn copy(&self) -> Result<Table, NoMemory>
         ensures { IfOk result (λ copy. copy ≡ self.now) }
     {
@@ -32,7 +32,8 @@ impl Table {
     }
 }
 
-// Copies, each made where least has to be dropped if the next one fails.
+// The copies of cache, queue and state of locators, made in nested calls so that each failure has
+// few copies to drop.
 fn all_copied(
     cache: &MapCache,
     queue: &RequestQueue,

@@ -1,5 +1,5 @@
-// What a frame is to the router: settled, a packet in a tunnel, a control message, or a packet that
-// leaves the site.
+// The course of a frame: settled, a packet in a tunnel, a control message, or a packet that leaves
+// the site.
 ghost use Rattle.std.specs.Prelude.{◌≡◌, ◌<◌, ◌^◌, Ok, IfOk, option_map};
 ghost use Rattle.octets.specs.Refusals.{refusal_of};
 ghost use Rattle.octets.specs.Rules.{first_failing};
@@ -20,17 +20,17 @@ use lisp_settings::{Settings, is_own};
 use map_messages::LISP_CONTROL_PORT;
 use router_log::{Reason, Verdict};
 
-/// What is settled of a frame before any mapping is asked for.
+/// The outcome of a frame that is settled before any mapping is looked up.
 #[derive(Clone, Copy, Debug, PartialEq, Eq)]
 pub enum Settled {
-    /// It comes from an own locator.
+    /// The frame comes from an own locator.
     Own,
-    /// A rule fails, or its VLAN has no instance.
+    /// The frame is dropped by a rule, or because its VLAN has no instance.
     Drop(Reason),
 }
 
 impl Settled {
-    /// The verdict on the frame.
+    /// The verdict on a settled frame.
     pub fn verdict(&self) -> Verdict
         ensures { result ≡ settled_seen self.now }
     {
@@ -41,21 +41,21 @@ impl Settled {
     }
 }
 
-/// What a frame is to the router, which no mapping and no journal changes.
+/// The course of a frame: what it is to the router, which no mapping and no journal changes.
 #[derive(Drop)]
 pub enum Course<'a> {
-    /// By a rule that fails, by its source, or for want of an instance.
+    /// A frame that is settled: by a rule that fails, by its source, or for want of an instance.
     Settled(Settled),
     /// A packet in a tunnel, to an own locator.
     Data(Datagram<'a>),
     /// A control message to an own locator.
     Control(Datagram<'a>),
-    /// A packet of an instance, to another address.
+    /// A packet of an instance, to another address than those of own locators.
     Leaving { iid: u32, packet: IpPacket<'a> },
 }
 
 impl<'a> Course<'a> {
-    /// It is a control message, which is heard, and not decided.
+    /// Whether a course is that of a control message, which is heard and never decided.
     pub fn is_message(&self) -> bool
         ensures { result ≡ is_message (course_seen self.now) }
     {
@@ -63,7 +63,8 @@ impl<'a> Course<'a> {
     }
 }
 
-/// The VLAN of a frame, 0 without one, and its packet, or the first rule of either that fails.
+/// The VLAN of a frame, 0 without one, and its packet; or the refusal by the first rule of link or
+/// IP that fails.
 pub fn frame_packet<'a>(frame: &'a Frame) -> Result<(u16, IpPacket<'a>), Refused>
     ensures refused { refusal_of result ≡ frame_refusal frame.now }
     ensures vlan { IfOk result (λ read. read.0 ≡ link_vlan frame.now) }
@@ -76,7 +77,7 @@ pub fn frame_packet<'a>(frame: &'a Frame) -> Result<(u16, IpPacket<'a>), Refused
     Ok((vlan, packet))
 }
 
-/// What a frame is to the router.
+/// The course of a frame.
 pub fn course_of<'a>(settings: &Settings, frame: &'a Frame) -> Course<'a>
     requires lawful { IsLawful settings.now }
     ensures course { course_seen result ≡ course_of settings.now frame.now }
@@ -88,7 +89,7 @@ pub fn course_of<'a>(settings: &Settings, frame: &'a Frame) -> Course<'a>
     }
 }
 
-/// The frame is a control message to an own locator, which is heard, and not decided.
+/// Whether a frame is a control message to an own locator, which is heard and never decided.
 pub fn is_control(settings: &Settings, frame: &Frame) -> bool
     requires lawful { IsLawful settings.now }
     ensures { result ≡ control settings.now frame.now }
@@ -96,7 +97,7 @@ pub fn is_control(settings: &Settings, frame: &Frame) -> bool
     course_of(settings, frame).is_message()
 }
 
-// What a packet that came in a VLAN is.
+// The course of a packet that came in a VLAN.
 #[tactic(auto, unfolding(router_model::specs::Course::packet_course))]
 fn packet_course<'a>(settings: &Settings, vlan: u16, packet: IpPacket<'a>) -> Course<'a>
     requires lawful { IsLawful settings.now }
@@ -117,7 +118,7 @@ fn packet_course<'a>(settings: &Settings, vlan: u16, packet: IpPacket<'a>) -> Co
     }
 }
 
-/// What a packet is where it comes to an own locator; its addresses don't count.
+/// The course of a packet at an own locator; the packet's addresses aren't looked at.
 #[tactic(auto, unfolding(router_model::specs::Course::arriving))]
 pub fn arriving<'a>(packet: IpPacket<'a>) -> Course<'a>
     ensures course { course_seen result ≡ arriving (packet_seen packet.entry) }
@@ -132,7 +133,7 @@ pub fn arriving<'a>(packet: IpPacket<'a>) -> Course<'a>
     }
 }
 
-// Why a packet is no datagram.
+// The reason to drop a packet to an own locator that is a fragment or isn't UDP, or None.
 fn no_datagram(packet: &IpPacket) -> Option<Reason>
     ensures { option_map Drop result ≡ first_failing (datagram_cases packet.now.header) }
 {

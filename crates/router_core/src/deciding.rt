@@ -20,9 +20,9 @@ use octets::{Items, NoMemory};
 use router_log::{Decision, Reason, Verdict};
 
 impl Table {
-    /// The decision on a frame that is no control message, at a moment, which may be one before the last
-    /// entry's: that of the journal. It has at most five notices. A control message is for `hear`: here
-    /// its verdict is a drop.
+    /// The decision on a frame that is no control message, at a moment, as the journal decides it.
+    /// A moment earlier than the last entry's counts as the last entry's. The decision has at most
+    /// five notices. A control message is for `hear`: here its verdict is a drop.
     #[tactic(auto, unfolding(router_model::specs::Decide::decide_by))]
     pub fn decide(&self, settings: &Settings, m: u64, frame: &Frame) -> Result<Decision, NoMemory>
         requires { IsLawful settings.now }
@@ -41,7 +41,7 @@ impl Table {
         self.decide_course(settings, m, &course_of(settings, frame))
     }
 
-    /// The decision on a frame that is this.
+    /// The decision on a frame of that course, at a moment; a control message is dropped.
     pub fn decide_course(
         &self,
         settings: &Settings,
@@ -66,7 +66,7 @@ impl Table {
         }
     }
 
-    /// A verdict without notices.
+    /// A decision with that verdict and without notices.
     pub(crate) fn alone(&self, verdict: Verdict) -> Decision
         ensures { result ≡ record { verdict = verdict; notices = [] } }
     {

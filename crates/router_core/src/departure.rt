@@ -1,4 +1,4 @@
-// A packet from the site: into a tunnel, past the tunnels, or dropped.
+// Packets from the site: sent in a tunnel, forwarded natively, or dropped.
 ghost use Rattle.std.specs.Prelude.{◌≡◌, ◌<◌, ◌≤◌, ◌^◌, IfOk, Some};
 ghost use Rattle.octets.specs.Rules.{first_failing};
 ghost use Rattle.ip_headers.specs.Addr.{width};
@@ -36,7 +36,7 @@ use octets::{Items, NoMemory};
 use router_log::{Decision, Notice, Notices, Reason, Verdict};
 use std::alloc::Global;
 
-/// The decision on a packet of an instance.
+/// The decision on a packet of an instance to another address than those of own locators.
 #[tactic(auto, unfolding(router_model::specs::Decide::routed))]
 pub(crate) fn routed(view: &View<'_>, iid: u32, packet: &IpPacket) -> Result<Decision, NoMemory>
     requires lawful { IsSite view.now.site }
@@ -57,7 +57,7 @@ pub(crate) fn routed(view: &View<'_>, iid: u32, packet: &IpPacket) -> Result<Dec
     }
 }
 
-// A drop, after which a mapping for the destination is to be asked for.
+// The decision to drop a packet, with the notice to request a mapping for its destination.
 fn asking(alloc: Global, eid: Eid, packet: &IpPacket, reason: Reason) -> Result<Decision, NoMemory>
     requires dest { host_eid eid.iid (dest_of packet.now.header) ≡ Some eid }
     ensures decision { IfOk result (λ decision. decision
@@ -76,7 +76,8 @@ fn asking(alloc: Global, eid: Eid, packet: &IpPacket, reason: Reason) -> Result<
     })
 }
 
-// The decision by the mapping in force, on a packet from a prefix of the site that has that version.
+// The decision on a packet from a prefix of the site with that version, by the mapping in force for
+// its destination.
 fn mapped(
     view: &View<'_>,
     iid: u32,
@@ -111,7 +112,7 @@ fn mapped(
     }
 }
 
-// The decision by the action of a mapping without locators.
+// The decision on a packet by the action of a mapping without locators.
 fn by_action(
     table: &Table,
     iid: u32,
@@ -141,7 +142,7 @@ fn by_action(
     Ok(table.alone(Verdict::Drop(reason)))
 }
 
-// The packet, past the tunnels.
+// The verdict on a packet that is forwarded natively.
 fn natively(alloc: Global, packet: &IpPacket) -> Result<Verdict, NoMemory>
     ensures verdict { IfOk result (λ verdict. verdict
         ≡ natively packet.now.octets.now (first_failing (forward_rules packet.now.octets.now))) }
@@ -150,13 +151,13 @@ fn natively(alloc: Global, packet: &IpPacket) -> Result<Verdict, NoMemory>
     match forward_native(alloc, packet) {
         Ok(packet) => Ok(Verdict::Native { packet }),
         Err(EncapDrop::TtlExpired) => Ok(Verdict::Drop(Reason::TtlExpired)),
-        // A packet that goes on as it is doesn't grow.
+        // A packet that is forwarded natively doesn't grow, so it is never too big.
         Err(EncapDrop::TooBig) => unreachable!(),
         Err(EncapDrop::Memory) => Err(NoMemory),
     }
 }
 
-// Between which locators a tunnel goes, and from which port a flow goes in it.
+// The two ends of a tunnel, and the source port of a flow in it.
 #[derive(Clone, Copy)]
 struct Tunnel {
     from: Addr,
@@ -164,7 +165,8 @@ struct Tunnel {
     port: u16,
 }
 
-// The packet with its LISP header, in a tunnel to that locator.
+// The decision on a packet with its LISP header, in a tunnel to a locator, from the own locator of
+// that locator's family; dropped without one.
 fn towards(
     view: &View<'_>,
     packet: &IpPacket,
@@ -186,8 +188,8 @@ fn towards(
     }
 }
 
-// The packet with its LISP header, in a tunnel between two locators, and an echo that may be asked of
-// the second.
+// The decision on a packet with its LISP header, in a tunnel between two locators, with the notice
+// that an echo may be requested of the second.
 fn sent(
     view: &View<'_>,
     packet: &IpPacket,
@@ -220,7 +222,7 @@ fn sent(
     }
 }
 
-// An echo that may be asked of the locator that a packet went to.
+// The notice that an echo may be requested of the locator that a packet goes to, or none.
 fn echo_notices(view: &View<'_>, to: Addr) -> Result<Notices, NoMemory>
     ensures notices { IfOk result (λ notices. notices
         ≡ echo_notice view.now.site (seen view.now) to) }

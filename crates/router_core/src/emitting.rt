@@ -24,10 +24,10 @@ use router_log::Emit;
 use router_model::Own;
 use std::alloc::Global;
 
-/// The packet that an emit stands for, with its IP and UDP headers (RFC 9301, section 5). A
-/// Map-Request goes to the resolver, encapsulated; one that probes and an SMR go to their locators;
-/// a Map-Reply goes to whom asked. Without a resolver that is reached a Map-Request has no octets. Own
-/// locators and versions are those that stand.
+/// The packet of an emit, with its IP and UDP headers (RFC 9301, section 5). A Map-Request goes to
+/// the resolver, encapsulated; a probe and an SMR go to their locators; a Map-Reply goes to its
+/// reply address. Without a resolver, or where no own locator of its family is up, the packet of a
+/// Map-Request is empty. The own locators and versions in it are those that stand by `own`.
 pub fn emit_octets(
     alloc: Global,
     settings: &Settings,
@@ -59,7 +59,8 @@ pub fn emit_octets(
     }
 }
 
-// A Map-Request to the resolver; without one, or where it isn't reached, there is no packet.
+// The packet of a Map-Request to the resolver; empty without a resolver, or where no own locator of
+// its family is up.
 #[tactic(auto, unfolding(router_model::specs::Emits::emit_packet))]
 fn request_octets(
     alloc: Global,
@@ -84,7 +85,7 @@ fn request_octets(
     message_packet(alloc, from, resolver, LISP_CONTROL_PORT, &message)
 }
 
-// A Map-Request that probes a locator.
+// The packet of a Map-Request that probes a locator.
 #[tactic(auto, unfolding(router_model::specs::Emits::emit_packet))]
 fn probe_octets(
     alloc: Global,
@@ -103,7 +104,7 @@ fn probe_octets(
     packet_to(alloc, site, to, &message)
 }
 
-// An SMR.
+// The packet of an SMR to a locator.
 #[tactic(auto, unfolding(router_model::specs::Emits::emit_packet))]
 fn solicit_octets(
     alloc: Global,
@@ -122,7 +123,7 @@ fn solicit_octets(
     packet_to(alloc, site, to, &message)
 }
 
-// A Map-Reply.
+// The packet of a Map-Reply.
 #[tactic(auto, unfolding(router_model::specs::Emits::emit_packet))]
 fn reply_octets(
     alloc: Global,
@@ -139,7 +140,7 @@ fn reply_octets(
     reply_packet(alloc, from, to, port, reply)
 }
 
-// A message to an address, from the own one of its family.
+// The packet of a message to an address, from the own locator of its family.
 fn packet_to(
     alloc: Global,
     site: &Site<'_>,

@@ -1,8 +1,9 @@
-// By what the records of a Map-Reply are judged.
+// The grounds on which the records of a Map-Reply are judged.
 use crate::site::Site;
 use mapping_records::{Eid, Record};
 
-/// The site, the moment, the EID that was asked for, and all records of the reply.
+/// The grounds on which a record of a Map-Reply is judged: the site, the moment, the requested EID,
+/// and all records of the reply.
 #[derive(Clone, Copy)]
 pub(crate) struct Grounds<'a> {
     pub site: &'a Site<'a>,

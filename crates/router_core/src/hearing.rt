@@ -1,4 +1,4 @@
-// A control message, heard.
+// Control messages that are heard: the entries and packets that they lead to.
 ghost use Rattle.std.specs.Prelude.{◌≡◌, ◌<◌, ◌+◌, ◌^◌, [], Some, ℕ, length, IfOk};
 ghost use Rattle.lisp_settings.specs.Lawful.{IsLawful};
 ghost use Rattle.lisp_settings.specs.declared.settings.Settings.{Settings as SettingsValue};
@@ -30,7 +30,7 @@ use map_messages::{Ecm, MapReply, MapRequest, Message, MessageFault, read_messag
 use octets::{Items, NoMemory};
 use router_log::{Done, Entry, Reason, Verdict};
 
-/// How a message came: from an address and a port, to one of our addresses.
+/// The route of a message: the address and port it came from, and the own locator it came to.
 #[derive(Clone, Copy)]
 pub(crate) struct Route {
     pub from: Addr,
@@ -38,7 +38,7 @@ pub(crate) struct Route {
     pub port: u16,
 }
 
-// How the message of a datagram came.
+// The route of the message in a datagram.
 fn route_of(datagram: &Datagram) -> Route
     ensures { route_seen result ≡ route_of (datagram_seen datagram.now) }
 {
@@ -51,9 +51,9 @@ fn route_of(datagram: &Datagram) -> Route
 }
 
 impl Table {
-    /// Hears a frame that is a control message, at a moment: it takes the entries that come of it. Any
-    /// other frame is for `decide`: here its verdict is a drop, and it leaves no entry. Where memory is
-    /// refused, the table is as it was.
+    /// Hears a frame that is a control message, at a moment, and applies the entries that come of
+    /// it. Any other frame is for `decide`: here its verdict is a drop, without an entry. Where
+    /// memory is refused, the table is as it was.
     pub fn hear(&mut self, settings: &Settings, m: u64, frame: &Frame) -> Result<Heard, NoMemory>
         requires lawful { IsLawful settings.now }
         requires may { MayStep m self.old.parts }
@@ -83,7 +83,7 @@ impl Table {
         self.hear_course(settings, m, &course_of(settings, frame))
     }
 
-    /// Hears a frame that is this.
+    /// Hears a frame of that course, at a moment. Where memory is refused, the table is as it was.
     pub fn hear_course(
         &mut self,
         settings: &Settings,
@@ -106,7 +106,7 @@ impl Table {
         }
     }
 
-    // Hears the control message of a datagram.
+    // Hears the control message of a datagram, whose UDP checksum must be there and right.
     #[tactic(auto, unfolding(router_model::specs::Hear::datagram_heard))]
     fn hear_datagram(
         &mut self,
@@ -133,7 +133,7 @@ impl Table {
         }
     }
 
-    // Hears the octets of a control message, from a place on.
+    // Hears the octets of a control message, which stand in the frame from the place `base` on.
     #[tactic(auto, unfolding(router_model::specs::Hear::payload_heard))]
     fn hear_payload(
         &mut self,
@@ -159,7 +159,7 @@ impl Table {
         }
     }
 
-    // Hears a message that came so.
+    // Hears a message that came by that route.
     fn hear_message(
         &mut self,
         site: &Site<'_>,
@@ -187,7 +187,8 @@ impl Table {
         }
     }
 
-    // Hears what is encapsulated: only a Map-Request is, with the port inside, and as no probe.
+    // Hears an encapsulated message: only a Map-Request counts, with the inner port, and as no
+    // probe.
     fn hear_carried(
         &mut self,
         site: &Site<'_>,
@@ -262,7 +263,7 @@ impl Table {
         }
     }
 
-    // Hears an answer to a probe, which counts from the locator that was probed.
+    // Hears an answer to a probe, which counts only from the locator that was probed.
     fn hear_probe_reply(&mut self, m: u64, from: Addr, reply: &MapReply) -> Result<Heard, NoMemory>
         requires may { MayStep m self.old.parts }
         ensures parts { IfOk result (λ heard. (settings : SettingsValue)
@@ -287,7 +288,7 @@ impl Table {
         })
     }
 
-    // A drop changes nothing.
+    // A message that is dropped for that reason, without entries and without emits.
     pub(crate) fn dropped(&self, reason: Reason) -> Heard
         ensures { result ≡ record { verdict = Drop reason; entries = []; emits = [] } }
     {
@@ -299,7 +300,7 @@ impl Table {
     }
 }
 
-// Octets are below 256, which bounds what the records of a message say.
+// Octets are below 256, which bounds the numbers in the records of a message.
 fn fit(octets: &[u8])
     ensures { AreOctets octets.now }
 {

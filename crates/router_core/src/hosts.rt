@@ -6,7 +6,7 @@ ghost use Rattle.router_model.specs.Hosts.{host_eid};
 use ip_headers::Addr;
 use mapping_records::{Eid, Prefix};
 
-/// The EID of one address.
+/// The EID of a single address in an instance.
 pub(crate) fn host_eid(iid: u32, addr: Addr) -> Eid
     requires { iid < 2 ^ 24 }
     ensures host { host_eid iid addr ≡ Some result }

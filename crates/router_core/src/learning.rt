@@ -1,4 +1,4 @@
-// What a Map-Reply teaches.
+// The records of a Map-Reply, learned or passed over.
 ghost use Rattle.std.specs.Prelude.{◌≡◌, ◌<◌, ◌≤◌, ◌+◌, ◌&&◌, ◌||◌, nat_lt, max, is_some, [], Some, not, length, map, IfOk, vec_len, vec_capacity};
 ghost use Rattle.std.specs.List.{All, list_any};
 ghost use Rattle.std.specs.List.Sorted.{IsStrictlySortedBy};
@@ -30,7 +30,9 @@ use std::cmp::Ordering;
 use std::collections::VecDeque;
 
 impl Table {
-    /// Takes a Map-Reply to a request that is open at a moment.
+    /// Takes a Map-Reply to a request that is open at a moment: the request is answered, and each
+    /// record is learned or passed over. A reply without a record that covers the requested EID is
+    /// dropped. Where memory is refused, the table is as it was.
     pub(crate) fn learn_reply(
         &mut self,
         site: &Site<'_>,
@@ -78,7 +80,7 @@ impl Table {
         })
     }
 
-    // Learns each of these records that is to be learned, and passes over the others.
+    // Learns each of these records that may be learned, and passes over the others.
     fn learn_each(
         &mut self,
         grounds: &Grounds<'_>,
@@ -109,7 +111,7 @@ impl Table {
         self.learn_each(grounds, others, copies, entries);
     }
 
-    // Learns a record, if it is to be learned.
+    // Learns a record, if it may be learned.
     fn learn_one(
         &mut self,
         grounds: &Grounds<'_>,
@@ -143,7 +145,8 @@ impl Table {
         });
     }
 
-    // The record is to be learned.
+    // Whether a record is learned: it lies within a record that covers the requested EID, its EID
+    // is that of no static mapping, and there is room for it.
     fn is_taken(&self, grounds: &Grounds<'_>, mapping: &Record) -> bool
         requires { IsSite grounds.now.site.now }
         ensures { result ≡ (is_asked_for grounds.now.asked.now grounds.now.mappings.now mapping.now
@@ -156,8 +159,8 @@ impl Table {
             && self.has_room(grounds.m, mapping)
     }
 
-    /// The mapping may be learned: in place of one that isn't fixed, or where there is none it takes
-    /// none away, or is within the limit of its instance.
+    /// Whether a mapping may be learned: in place of one of its EID that isn't fixed; without one
+    /// it must have TTL 0, or its instance room.
     pub(crate) fn has_room(&self, m: u64, mapping: &Record) -> bool
         ensures { result ≡ has_room self.now.parts.limits (view_in self.now.parts m) mapping.now }
     {
@@ -167,7 +170,7 @@ impl Table {
         }
     }
 
-    // There is room for one more mapping of an instance.
+    // Whether there is room for one more learned mapping of an instance.
     fn may_learn(&self, m: u64, iid: u32) -> bool
         ensures { result ≡ nat_lt (learned_in iid (view_in self.now.parts m).mappings)
             (mappings_in self.now.parts.limits iid) }
@@ -176,7 +179,7 @@ impl Table {
     }
 }
 
-// A record covers the EID that was asked for.
+// Whether one of the records covers the requested EID.
 fn is_fit(asked: &Eid, mappings: &[Record]) -> bool
     ensures { result ≡ is_fit asked.now mappings.now }
 {
@@ -186,7 +189,7 @@ fn is_fit(asked: &Eid, mappings: &[Record]) -> bool
     mapping.eid.covers(asked) || is_fit(asked, others)
 }
 
-// The record lies within one that covers the EID that was asked for.
+// Whether a record lies within one of the records that covers the requested EID.
 fn is_asked_for(asked: &Eid, mappings: &[Record], mapping: &Record) -> bool
     ensures { result ≡ is_asked_for asked.now mappings.now mapping.now }
 {
@@ -197,7 +200,8 @@ fn is_asked_for(asked: &Eid, mappings: &[Record], mapping: &Record) -> bool
         || is_asked_for(asked, others, mapping)
 }
 
-// Its EID is that of a static mapping, of which the settings have each EID once and in order.
+// Whether the EID of a record is that of a static mapping. The settings have static mappings in
+// order of EID, each EID once.
 fn is_static(site: &Site<'_>, mapping: &Record) -> bool
     requires { IsSite site.now }
     ensures { result ≡ is_static site.now mapping.now }
@@ -205,7 +209,7 @@ fn is_static(site: &Site<'_>, mapping: &Record) -> bool
     has_eid(site.mappings(), &mapping.eid)
 }
 
-// One of these, in order of EID, has the EID.
+// Whether one of these mappings, in ascending order of EID, has that EID.
 fn has_eid(mappings: &[Record], eid: &Eid) -> bool
     requires { IsStrictlySortedBy eid_order (map (λ mapping. mapping.eid) mappings.now) }
     ensures { result ≡ list_any (λ mapping. same_eid mapping.eid eid.now) mappings.now }

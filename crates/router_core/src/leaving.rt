@@ -1,4 +1,4 @@
-// Whether a packet of an instance leaves the site, which the settings say.
+// Whether a packet of an instance leaves the site, by the settings.
 ghost use Rattle.std.specs.Prelude.{◌≡◌, IfOk, IfErr, Some, None};
 ghost use Rattle.octets.specs.Rules.{first_failing};
 ghost use Rattle.ip_headers.specs.Ip.{source_of};
@@ -10,8 +10,8 @@ use ip_headers::{Addr, IpHeader};
 use lisp_settings::{Database, Settings, home};
 use router_log::{Reason, Verdict};
 
-/// The prefix of the site that a packet of an instance leaves, or the verdict on one that stays out of a
-/// tunnel.
+/// The prefix of the site that a packet of an instance leaves, or the verdict on a packet that
+/// stays out of a tunnel.
 pub fn leaving_from<'s>(
     settings: &'s Settings,
     iid: u32,

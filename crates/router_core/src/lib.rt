@@ -1,5 +1,5 @@
-//! The router: what a frame is to it, what it does with it by its settings and its table, and what
-//! that table makes of a message or a notice.
+//! The router: the course of a frame, the decision on it by settings and table, and the changes of
+//! the table by messages, notices and seconds.
 #![tactic(auto)]
 
 mod admitting;

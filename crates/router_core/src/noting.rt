@@ -1,4 +1,4 @@
-// What is noticed, noted.
+// Notices that are noted: the entries and packets that they lead to.
 ghost use Rattle.std.specs.Prelude.{◌≡◌, ◌==◌, ◌||◌, [], true, Some, ℕ, IfOk};
 ghost use Rattle.lisp_settings.specs.declared.settings.Settings.{Settings as SettingsValue};
 ghost use Rattle.router_log.specs.declared.notice.Notice.TheVariants.{Ask, Bits};
@@ -25,8 +25,9 @@ use octets::NoMemory;
 use router_log::{Entry, Notice};
 
 impl Table {
-    /// Notes what was noticed at a moment: it takes the entries that come of it. Where memory is
-    /// refused, the table is as it was. There are 8 status bits in a notice, or 32, and a nonce has 24.
+    /// Notes a notice at a moment, and applies the entry that comes of it, if any. Where memory is
+    /// refused, the table is as it was. A notice of status bits has 8 or 32 of them, and a notice
+    /// of a wanted echo has a nonce of 24 bits.
     pub fn note(
         &mut self,
         settings: &Settings,
@@ -55,7 +56,7 @@ impl Table {
         self.note_by(&site, m, notice)
     }
 
-    // Notes it, for the site as it stands.
+    // Notes a notice, for the site as it stands.
     #[tactic(auto, unfolding(router_model::specs::Note::noted))]
     fn note_by(&mut self, site: &Site<'_>, m: u64, notice: &Notice) -> Result<Changed, NoMemory>
         requires may { MayStep m self.old.parts }
@@ -82,7 +83,7 @@ impl Table {
         }
     }
 
-    // Notes status bits that tell something new of the locators of a live mapping, from one of them.
+    // Notes status bits from a locator, if they are news of the locators of a live mapping.
     #[tactic(auto, unfolding(router_model::specs::Note::noted))]
     fn note_bits(
         &mut self,
@@ -116,7 +117,8 @@ impl Table {
         Ok(self.quiet(entries))
     }
 
-    // The mapping of the EID is live, names that locator, and one of its locators has another status.
+    // Whether status bits from a locator are news: the mapping of the EID is live and names that
+    // locator, and one of its locators has another status than its bit.
     fn is_news(&self, m: u64, eid: &Eid, rloc: &Addr, bits: u32, width: u8) -> bool
         ensures { result ≡ is_news rloc.now bits width
             (exact (view_in self.now.parts m).mappings eid.now) }
@@ -130,7 +132,7 @@ impl Table {
         }
     }
 
-    // Asks for a mapping that is missing, if it may be asked for.
+    // Requests a missing mapping, if it may be requested.
     #[tactic(auto, unfolding(router_model::specs::Note::noted))]
     fn note_missing(
         &mut self,
@@ -151,8 +153,9 @@ impl Table {
         self.make_request(site, m, *eid, source, false)
     }
 
-    // The EID may be asked for, and has no mapping by which packets go. While a request for it waits,
-    // which is so for each packet behind the first, its mapping isn't looked up a second time.
+    // Whether a Map-Request for an EID is to be sent: it may be, and the mapping is wanting. While
+    // a request for the EID is open, as for each packet behind the first, its mapping isn't looked
+    // up a second time.
     fn is_missing(&self, site: &Site<'_>, m: u64, eid: &Eid) -> bool
         ensures { result ≡ is_missing site.now self.now.parts.limits (view_in self.now.parts m)
             eid.now }
@@ -160,7 +163,8 @@ impl Table {
         self.may_ask(site, m, eid) && self.is_wanting(m, eid)
     }
 
-    // No mapping is in force for the EID, or one that says to ask.
+    // Whether a mapping for an EID is wanting: none is in force, or one without locators whose
+    // action is to send a Map-Request.
     fn is_wanting(&self, m: u64, eid: &Eid) -> bool
         ensures { result ≡ is_wanting (force (view_in self.now.parts m).mappings eid.now.iid
             eid.now.prefix.addr eid.now.prefix.len) }

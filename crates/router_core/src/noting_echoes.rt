@@ -1,4 +1,4 @@
-// What is noticed of echoes, noted (RFC 9300, section 10.1).
+// Notices of echoes that are noted (RFC 9300, section 10.1).
 ghost use Rattle.std.specs.Prelude.{◌≡◌, ◌<◌, ◌&&◌, [], true, IfOk};
 ghost use Rattle.lisp_settings.specs.declared.settings.Settings.{Settings as SettingsValue};
 ghost use Rattle.router_log.specs.declared.notice.Notice.TheVariants.{DataFrom, EchoDue, EchoHeard, EchoWanted};
@@ -17,7 +17,7 @@ use octets::NoMemory;
 use router_log::Entry;
 
 impl Table {
-    /// Notes that a locator asks for an echo of this nonce.
+    /// Notes that a locator wants this nonce echoed, if that may be noted.
     #[tactic(auto, unfolding(router_model::specs::Note::noted))]
     pub(crate) fn note_wanted(
         &mut self,
@@ -49,7 +49,7 @@ impl Table {
         Ok(self.quiet(entries))
     }
 
-    /// That a locator wants an echo of this nonce may be noted.
+    /// Whether it may be noted that a locator wants this nonce echoed.
     #[tactic(auto, unfolding(router_model::specs::Parts::view_in))]
     pub(crate) fn may_want(&self, m: u64, rloc: &Addr, nonce: u32) -> bool
         ensures { result ≡ (view_in self.now.parts m).may_want rloc.now nonce }
@@ -57,7 +57,7 @@ impl Table {
         self.locators.may_want(self.moment_at(m), rloc, nonce)
     }
 
-    /// Notes that a locator echoed this nonce.
+    /// Notes that a locator echoed this nonce, if that echo is requested of it.
     #[tactic(auto, unfolding(router_model::specs::Note::noted))]
     pub(crate) fn note_heard(
         &mut self,
@@ -86,7 +86,7 @@ impl Table {
         Ok(self.quiet(entries))
     }
 
-    // An echo of that nonce is asked for.
+    // Whether the echo of that nonce is requested of a locator.
     #[tactic(auto, unfolding(router_model::specs::Parts::view_in))]
     fn is_echo(&self, m: u64, rloc: &Addr, nonce: u32) -> bool
         ensures { result ≡ is_echo nonce ((view_in self.now.parts m).echo_on rloc.now) }
@@ -97,7 +97,8 @@ impl Table {
         }
     }
 
-    /// Notes that a packet came from a locator that asks for no echo.
+    /// Notes that a packet that wants no echo came from a locator, if an echo is requested of the
+    /// locator and no packet came from it since.
     #[tactic(auto, unfolding(router_model::specs::Note::noted))]
     pub(crate) fn note_data(&mut self, m: u64, rloc: &Addr) -> Result<Changed, NoMemory>
         requires may { MayStep m self.old.parts }
@@ -121,7 +122,7 @@ impl Table {
         Ok(self.quiet(entries))
     }
 
-    /// An echo is asked of the locator, and no packet came since.
+    /// Whether an echo is requested of a locator, and no packet came from it since.
     #[tactic(auto, unfolding(router_model::specs::Parts::view_in))]
     pub(crate) fn is_data_due(&self, m: u64, rloc: &Addr) -> bool
         ensures { result ≡ (view_in self.now.parts m).data_due rloc.now }
@@ -129,7 +130,8 @@ impl Table {
         self.locators.data_due(self.moment_at(m), rloc)
     }
 
-    /// Notes that an echo may be asked of a locator: it is asked of it from now on.
+    /// Notes that an echo may be requested of a locator: from now on it is, with the low 24 bits of
+    /// the next nonce, if it still may be.
     #[tactic(auto, unfolding(router_model::specs::Note::noted))]
     pub(crate) fn note_due(
         &mut self,
@@ -160,7 +162,7 @@ impl Table {
         Ok(self.quiet(entries))
     }
 
-    /// An echo is asked of the locators of packets, and may be asked of this one.
+    /// Whether an echo is to be requested of a locator: the setting `echo` is on, and it may be.
     pub(crate) fn is_echo_due(&self, site: &Site<'_>, m: u64, rloc: &Addr) -> bool
         ensures { result
             ≡ (site.now.echo && (view_in self.now.parts m).may_start rloc.now) }

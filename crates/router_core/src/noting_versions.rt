@@ -1,4 +1,4 @@
-// What is noticed of Map-Versions, noted (RFC 9302, section 7).
+// Notices of Map-Versions that are noted (RFC 9302, section 7).
 ghost use Rattle.std.specs.Prelude.{◌≡◌, ◌<◌, ◌&&◌, is_some, IfOk};
 ghost use Rattle.router_log.specs.declared.notice.Notice.TheVariants.{Refresh, Solicit};
 ghost use Rattle.router_model.specs.Changes.{may_ask, unchanged};
@@ -18,8 +18,8 @@ use octets::NoMemory;
 use router_log::{Emit, Entry};
 
 impl Table {
-    /// Notes that the mapping of an EID is older than the other side's: if it was learned, it is asked
-    /// for again.
+    /// Notes that the mapping of an EID is older than the version that the other side named: a
+    /// learned one is requested anew, if it may be.
     #[tactic(auto, unfolding(router_model::specs::Note::noted))]
     pub(crate) fn note_old(
         &mut self,
@@ -39,7 +39,7 @@ impl Table {
         self.make_request(site, m, *eid, None, false)
     }
 
-    // The EID has a learned mapping of its own, and may be asked for.
+    // Whether a learned mapping of exactly that EID is live, and may be requested.
     fn may_renew(&self, site: &Site<'_>, m: u64, eid: &Eid) -> bool
         ensures { result ≡ (is_learned (exact (view_in self.now.parts m).mappings eid.now)
             && may_ask site.now self.now.parts.limits (view_in self.now.parts m)
@@ -57,8 +57,8 @@ impl Table {
         }
     }
 
-    /// Notes that a locator knows an old version of the mapping of an EID of the site: it is sent
-    /// an SMR with the next nonce.
+    /// Notes that a locator named an old version of the mapping of an EID of the site: an SMR with
+    /// the next nonce is sent to it, if it may be.
     #[tactic(auto, unfolding(router_model::specs::Note::noted))]
     pub(crate) fn note_solicit(
         &mut self,
@@ -99,7 +99,8 @@ impl Table {
         Ok(Changed { entries, emits })
     }
 
-    // An own locator of its family is up, and an SMR for the EID may be sent.
+    // Whether an SMR for an EID may be sent to a locator: an own locator of its family is up, and
+    // earlier SMRs allow it.
     #[tactic(auto, unfolding(router_model::specs::Parts::view_in))]
     fn may_solicit(&self, site: &Site<'_>, m: u64, rloc: &Addr, eid: &Eid) -> bool
         ensures { result ≡ (is_some (ours site.now.locators rloc.now)

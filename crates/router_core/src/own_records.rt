@@ -1,4 +1,4 @@
-// The records of the site: its prefixes, each with the own locators (RFC 9301, section 5.4).
+// The site's records: its database prefixes, each with the own locators (RFC 9301, section 5.4).
 ghost use Rattle.router_model.specs.Standing.{with_ups};
 ghost use Rattle.std.specs.Prelude.{◌≡◌, ◌++◌, Some, None, map, option_to_list, IfOk, OnOk};
 ghost use Rattle.std.specs.List.{list_any};
@@ -13,7 +13,7 @@ use mapping_records::Locators;
 use octets::NoMemory;
 use std::alloc::{AllocFailed, Global};
 
-/// The record of a database.
+/// The record of a database prefix; `probed` is the own locator that a probe came to.
 pub(crate) fn own_record(
     alloc: Global,
     site: &Site<'_>,
@@ -33,7 +33,7 @@ pub(crate) fn own_record(
     })
 }
 
-// The own locators in a record.
+// The own locators of the site, as locators of a record.
 fn own_locators(
     alloc: Global,
     probed: Option<Addr>,
@@ -47,7 +47,8 @@ fn own_locators(
     Ok(made)
 }
 
-// Adds own locators, the first one up by the lowest bit.
+// Adds own locators to those of a record. The lowest bit of `ups` marks whether the first one is
+// up, and so on.
 fn add_locators(
     probed: Option<Addr>,
     locators: &[OwnLocator],
@@ -64,7 +65,7 @@ fn add_locators(
     add_locators(probed, others, ups / 2, made)
 }
 
-// An own locator in a record; p marks the one that a probe came to.
+// An own locator as a locator of a record; p marks the one that a probe came to.
 fn own_locator(probed: Option<Addr>, own: &OwnLocator, up: bool) -> Locator
     ensures { result ≡ own_locator probed (record own.now { up = up }) }
 {

@@ -1,4 +1,4 @@
-// The Map-Requests that this router makes.
+// The Map-Requests that this router sends.
 ghost use Rattle.router_model.specs.Standing.{with_ups};
 ghost use Rattle.std.specs.Prelude.{◌≡◌, ◌++◌, map, true, false, Some, None, IfOk, OnOk};
 ghost use Rattle.map_messages.specs.declared.message.Message.TheVariants.{Control, Request};
@@ -12,7 +12,7 @@ use map_messages::{Addrs, Ecm, Eid, Eids, LISP_CONTROL_PORT, MapRequest, Message
 use octets::NoMemory;
 use std::alloc::{AllocFailed, Global};
 
-/// A Map-Request for an EID, in the packet that would have gone to it.
+/// A Map-Request for an EID, encapsulated in a packet to the EID's address.
 pub(crate) fn request_message(
     alloc: Global,
     site: &Site<'_>,
@@ -30,7 +30,7 @@ pub(crate) fn request_message(
     Ok(Message::Control(ecm_for(site, eid, request)))
 }
 
-/// A Map-Request that probes the locator that it goes to.
+/// A Map-Request with P, for the locator that it probes.
 pub(crate) fn probe_message(
     alloc: Global,
     site: &Site<'_>,
@@ -45,7 +45,7 @@ pub(crate) fn probe_message(
     Ok(Message::Request(request))
 }
 
-/// An SMR: a Map-Request with S, from an EID of the site.
+/// An SMR: a Map-Request with S, whose Source EID is of the site.
 pub(crate) fn solicit_message(
     alloc: Global,
     site: &Site<'_>,
@@ -62,7 +62,8 @@ pub(crate) fn solicit_message(
     Ok(Message::Request(request))
 }
 
-// A Map-Request for one EID without flags, to which replies may go to each own locator that is up.
+// A Map-Request for one EID, without flags, whose reply addresses are those of the own locators
+// that are up.
 fn request_for(
     alloc: Global,
     site: &Site<'_>,
@@ -99,7 +100,8 @@ fn own_addrs(alloc: Global, site: &Site<'_>) -> Result<Vec<Addr>, AllocFailed<Ad
     Ok(addrs)
 }
 
-// Adds the addresses of those that are up, the first one by the lowest bit.
+// Adds the addresses of own locators that are up. The lowest bit of `ups` marks whether the first
+// one is up, and so on.
 fn add_up(locators: &[OwnLocator], ups: u32, addrs: &mut Vec<Addr>) -> Result<(), AllocFailed<Addr>>
     ensures { OnOk result (addrs.new.items ≡ addrs.old.items
         ++ map (λ own. own.addr) (up_locators (with_ups ups locators.now))) }
@@ -114,7 +116,7 @@ fn add_up(locators: &[OwnLocator], ups: u32, addrs: &mut Vec<Addr>) -> Result<()
     add_up(others, ups / 2, addrs)
 }
 
-// The Source EID of a request: an address in the instance of the EID.
+// The Source EID of a Map-Request: an address in the instance of the EID, where there is one.
 fn source_eid(eid: Eid, source: Option<Addr>) -> Option<(u32, Addr)>
     ensures { result ≡ source_eid eid source }
 {
@@ -124,7 +126,7 @@ fn source_eid(eid: Eid, source: Option<Addr>) -> Option<(u32, Addr)>
     }
 }
 
-// A Map-Request in the packet that would have gone to the EID.
+// A Map-Request encapsulated in a packet to the address of its EID.
 fn ecm_for(site: &Site<'_>, eid: Eid, request: MapRequest) -> Ecm
     ensures { result ≡ ecm_for site.now eid request }
 {
@@ -137,7 +139,8 @@ fn ecm_for(site: &Site<'_>, eid: Eid, request: MapRequest) -> Ecm
     }
 }
 
-// From where the inner packet of a request comes: an own address, one of the site, or none.
+// The source of the inner packet of a Map-Request: the own locator of the EID's family, else an
+// address of the site, else address 0.
 fn inner_source(site: &Site<'_>, eid: Eid) -> Addr
     ensures { result ≡ inner_source site.now eid }
 {
@@ -148,8 +151,8 @@ fn inner_source(site: &Site<'_>, eid: Eid) -> Addr
     site_address(site, eid).unwrap_or(no_address(addr))
 }
 
-// The address of the first of the site's prefixes, of which versions don't matter, in the instance and
-// the family of an EID.
+// The address of the first prefix of the site in the instance and family of an EID, or None.
+// Versions don't matter here.
 fn site_address(site: &Site<'_>, eid: Eid) -> Option<Addr>
     ensures { result ≡ database_address site.now.databases eid }
 {
@@ -157,7 +160,7 @@ fn site_address(site: &Site<'_>, eid: Eid) -> Option<Addr>
     database_address(databases, eid)
 }
 
-// The same of any prefixes.
+// The address of the first of these prefixes in the instance and family of an EID, or None.
 fn database_address(databases: &[Database], eid: Eid) -> Option<Addr>
     ensures { result ≡ database_address databases.now eid }
 {

@@ -1,4 +1,4 @@
-// Locators of others that are told of changes by SMRs (RFC 9301, section 6.1).
+// Locators of others that get SMRs for changes of own locators (RFC 9301, section 6.1).
 ghost use Rattle.std.specs.Prelude.{◌≡◌, ◌<◌, ◌≤◌, ◌||◌, ◌∷◌, [], length, slice_get, All, IsTrue, vec_len, vec_capacity};
 ghost use Rattle.std.specs.List.{position_or_len};
 ghost use Rattle.std.specs.Ordering.{is_lt};
@@ -17,7 +17,7 @@ use lisp_settings::Locator;
 use map_cache::lasts;
 
 impl Table {
-    /// The locators that are told of changes: the first ones in order that live mappings name.
+    /// Finds the locators that get SMRs for changes: the first by address that live mappings name.
     pub(crate) fn find_told(&self, site: &Site<'_>, m: u64, told: &mut Vec<Addr>)
         requires now { self.now.parts.now ≤ m }
         requires none { told.old.items ≡ [] }
@@ -34,7 +34,7 @@ impl Table {
     }
 }
 
-// Offers each of these locators that is told.
+// Offers each of these locators that may get SMRs a place among the first.
 fn offer_named(site: &Site<'_>, locators: &[Locator], told: &mut Vec<Addr>)
     requires few { vec_len told.old ≤ most_told }
     requires room { most_told < vec_capacity told.old }
@@ -49,7 +49,7 @@ fn offer_named(site: &Site<'_>, locators: &[Locator], told: &mut Vec<Addr>)
     offer_named(site, others, told);
 }
 
-// Offers a locator, if it may be taken and told.
+// Offers a locator a place among the first, if its priority isn't 255 and it may get SMRs.
 fn offer_locator(site: &Site<'_>, locator: &Locator, told: &mut Vec<Addr>)
     requires few { vec_len told.old ≤ most_told }
     requires room { most_told < vec_capacity told.old }
@@ -65,7 +65,7 @@ fn offer_locator(site: &Site<'_>, locator: &Locator, told: &mut Vec<Addr>)
     }
 }
 
-// Puts an address in its place among the first in order, of which there are at most so many.
+// Puts an address in its place among the first `MOST_TOLD` in order, unless it is there already.
 fn offer_address(address: Addr, told: &mut Vec<Addr>)
     requires few { vec_len told.old ≤ most_told }
     requires room { most_told < vec_capacity told.old }
@@ -82,7 +82,7 @@ fn offer_address(address: Addr, told: &mut Vec<Addr>)
     }
 }
 
-// The place of an address: that of the first that it goes before, or is.
+// The place of an address in order: that of the first one that isn't before it, or the end.
 fn place(address: Addr, told: &[Addr]) -> usize
     ensures place { result ≡ position_or_len (λ next. same_address address next
         || is_lt (addr_order address next)) told.now }
@@ -96,7 +96,7 @@ fn place(address: Addr, told: &[Addr]) -> usize
     told.len()
 }
 
-// An address has its place before another, or is that one.
+// Whether an address has its place before another, or is equal to it.
 fn is_placed(address: &Addr, next: &Addr) -> bool
     ensures { result ≡ (same_address address.now next.now
         || is_lt (addr_order address.now next.now)) }
@@ -104,7 +104,7 @@ fn is_placed(address: &Addr, next: &Addr) -> bool
     same_address(address, next) || is_below(address, next)
 }
 
-// The address stands at that place.
+// Whether an address is the one at that place.
 fn is_there(address: Addr, index: usize, told: &[Addr]) -> bool
     ensures { result ≡ is_at address (slice_get told.now index) }
 {

@@ -18,7 +18,7 @@ use mapping_records::Eid;
 use router_log::{Emit, Entry};
 
 impl Table {
-    /// Probes the locators whose turn it is, where the settings say so.
+    /// Probes the locators whose turn it is, if the setting `probe` is on.
     pub(crate) fn probe_next(
         &mut self,
         site: &Site<'_>,
@@ -47,7 +47,7 @@ impl Table {
         self.probe_each(site, m, first, entries, emits);
     }
 
-    // The locators that are to be probed.
+    // Finds the locators that are to be probed at a moment.
     fn find_targets(&self, site: &Site<'_>, m: u64, first: &mut Vec<Target>)
         requires now { self.now.parts.now ≤ m }
         requires none { first.old.items ≡ [] }
@@ -64,7 +64,7 @@ impl Table {
         }
     }
 
-    // Offers each locator of a mapping that may be probed.
+    // Offers each locator of a mapping that may be probed a place among the first.
     fn offer_each(
         &self,
         site: &Site<'_>,
@@ -89,7 +89,7 @@ impl Table {
         self.offer_each(site, m, eid, others, first);
     }
 
-    // Offers a locator, if it may be taken and probed.
+    // Offers a locator a place among the first, if its priority isn't 255 and it may be probed.
     fn offer_one(
         &self,
         site: &Site<'_>,
@@ -120,7 +120,7 @@ impl Table {
         }
     }
 
-    // Probes each of these locators.
+    // Probes each of these locators, as long as there is room for one more probe.
     fn probe_each(
         &mut self,
         site: &Site<'_>,
@@ -148,7 +148,7 @@ impl Table {
         self.probe_each(site, m, others, entries, emits);
     }
 
-    // Probes a locator, where there is room for one probe more.
+    // Probes a locator, if there is room for one more probe.
     fn probe_one(
         &mut self,
         site: &Site<'_>,
@@ -189,8 +189,8 @@ impl Table {
     }
 }
 
-// The locator may be probed: it isn't an own one, there is an own one of its family, and it has
-// rested.
+// Whether a locator may be probed: it isn't an own one, an own locator of its family is up, and it
+// has rested.
 fn is_probed(site: &Site<'_>, m: u64, target: &Target) -> bool
     ensures { result ≡ is_probed site.now m target.now }
 {

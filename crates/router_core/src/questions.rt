@@ -1,4 +1,4 @@
-// What decisions and notices ask of a table.
+// The questions that decisions and notices put to a table.
 ghost use Rattle.std.specs.Prelude.{◌≡◌, IfSome, max, option_map};
 ghost use Rattle.std.specs.Option.{option_copied};
 ghost use Rattle.map_cache.specs.Lists.{IsFew};
@@ -15,14 +15,14 @@ use node_store::Reads;
 use router_log::EchoOut;
 
 impl Table {
-    /// The moment at which a question counts that is asked at another.
+    /// The moment as of which a question at m is answered: m, or that of the last entry, if later.
     pub(crate) fn moment_at(&self, m: u64) -> u64
         ensures { result ≡ max m self.now.parts.now }
     {
         m.max(self.cache.now())
     }
 
-    /// Neither probes nor echoes speak against a locator.
+    /// Whether neither probes nor echoes count against a locator.
     #[tactic(auto, unfolding(router_model::specs::Parts::view_in))]
     pub(crate) fn is_up(&self, m: u64, rloc: &Addr) -> bool
         ensures { result ≡ (view_in self.now.parts m).up rloc.now }
@@ -30,7 +30,7 @@ impl Table {
         self.locators.up(self.moment_at(m), rloc)
     }
 
-    /// What the header of a packet to a locator does about echoes.
+    /// How the header of a packet to a locator deals with echoes.
     #[tactic(auto, unfolding(router_model::specs::Parts::view_in))]
     pub(crate) fn echo_out(&self, m: u64, rloc: &Addr) -> EchoOut
         ensures out { result ≡ (view_in self.now.parts m).echo_out rloc.now }
@@ -39,7 +39,7 @@ impl Table {
         self.locators.echo_out(self.moment_at(m), rloc)
     }
 
-    /// An echo may be asked of a locator.
+    /// Whether an echo may be requested of a locator.
     #[tactic(auto, unfolding(router_model::specs::Parts::view_in))]
     pub(crate) fn may_start(&self, m: u64, rloc: &Addr) -> bool
         ensures { result ≡ (view_in self.now.parts m).may_start rloc.now }
@@ -47,7 +47,7 @@ impl Table {
         self.locators.may_start(self.moment_at(m), rloc)
     }
 
-    /// The mapping in force for an EID.
+    /// The mapping in force for an EID, or None.
     pub(crate) fn in_force(&self, m: u64, eid: &Eid) -> Option<&Mapping>
         ensures found { option_map held_of (option_copied result)
             ≡ force (view_in self.now.parts m).mappings eid.now.iid eid.now.prefix.addr
@@ -59,7 +59,7 @@ impl Table {
             .in_force(self.moment_at(m), eid, &mut Reads::new())
     }
 
-    /// The live mapping of just that EID.
+    /// The live mapping of exactly that EID, or None.
     pub(crate) fn exact(&self, m: u64, eid: &Eid) -> Option<&Mapping>
         ensures { option_map held_of (option_copied result)
             ≡ exact (view_in self.now.parts m).mappings eid.now }

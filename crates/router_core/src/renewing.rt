@@ -1,4 +1,4 @@
-// What an SMR, a Map-Request with S, makes the router ask for again (RFC 9301, section 6.1).
+// Mappings that are requested anew because of an SMR, a Map-Request with S (RFC 9301, section 6.1).
 ghost use Rattle.std.specs.Prelude.{◌≡◌, ◌<◌, ◌≤◌, ◌+◌, ◌^◌, length, map, option_to_list, All, IfOk, IfSome};
 ghost use Rattle.map_messages.specs.Range.{InRangeRequest};
 ghost use Rattle.router_model.specs.Changes.{each, unchanged};
@@ -21,7 +21,8 @@ use octets::{Items, NoMemory};
 use router_log::{Done, Emit, Entry, Verdict};
 
 impl Table {
-    /// Takes an SMR: what its Source EID and its EIDs go by is asked for again.
+    /// Takes an SMR: the mappings in force for its Source EID and its EIDs are requested anew,
+    /// where they may be. Where memory is refused, the table is as it was.
     pub(crate) fn renew(
         &mut self,
         site: &Site<'_>,
@@ -51,7 +52,7 @@ impl Table {
         })
     }
 
-    // Asks again for the mapping of a Source EID, if there is one.
+    // Requests anew the mapping in force for a Source EID, if there is one.
     fn renew_source(
         &mut self,
         site: &Site<'_>,
@@ -80,7 +81,7 @@ impl Table {
         self.renew_one(site, m, &host_eid(iid, addr), entries, emits);
     }
 
-    // Asks again for the mapping of each of these EIDs.
+    // Requests anew the mapping in force for each of these EIDs, where it may be.
     fn renew_each(
         &mut self,
         site: &Site<'_>,
@@ -108,7 +109,7 @@ impl Table {
         self.renew_each(site, m, others, entries, emits);
     }
 
-    // Asks again for the mapping of an EID, if it was learned and may be asked for.
+    // Requests anew the mapping in force for an EID, if it was learned and may be requested.
     fn renew_one(
         &mut self,
         site: &Site<'_>,
@@ -150,7 +151,7 @@ impl Table {
         });
     }
 
-    // The EID of the mapping in force, if that was learned and may be asked for again.
+    // The EID of the mapping in force for an EID, if it was learned and may be requested.
     fn renewable(&self, site: &Site<'_>, m: u64, eid: &Eid) -> Option<Eid>
         ensures { result ≡ renewable site.now self.now.parts.limits (view_in self.now.parts m)
             (force (view_in self.now.parts m).mappings eid.now.iid eid.now.prefix.addr

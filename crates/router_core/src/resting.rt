@@ -1,4 +1,4 @@
-// When the next locator can be probed.
+// The moment until which no locator is to be probed.
 ghost use Rattle.std.specs.Prelude.{◌≡◌, ◌≤◌, ◌==◌, ◌||◌, true};
 ghost use Rattle.std.specs.List.{list_all};
 ghost use Rattle.router_core.specs.Resting.{all_rest, rest_behind, rests};
@@ -8,7 +8,7 @@ use lisp_settings::{Locator, OwnLocator, is_own};
 use locator_state::{LocatorState, PROBE_REST};
 use map_cache::MapCache;
 
-// Until when a locator isn't to be probed.
+// The moment until which a locator isn't to be probed.
 fn rest_of(own: &[OwnLocator], m: u64, state: &LocatorState, locator: &Locator) -> u64
     ensures { (until : _) → until ≤ result
         → rests own.now until state.now.observed.probes locator.now ≡ true }
@@ -22,7 +22,7 @@ fn rest_of(own: &[OwnLocator], m: u64, state: &LocatorState, locator: &Locator) 
     }
 }
 
-// Until when none of these is to be probed.
+// The moment until which none of these locators is to be probed.
 fn rest_of_all(own: &[OwnLocator], m: u64, state: &LocatorState, locators: &[Locator]) -> u64
     ensures { (until : _) → until ≤ result
         → all_rest own.now until state.now.observed.probes locators.now ≡ true }
@@ -34,7 +34,7 @@ fn rest_of_all(own: &[OwnLocator], m: u64, state: &LocatorState, locators: &[Loc
     until
 }
 
-/// Until when none of those that mappings name is to be probed, as is known at a moment.
+/// The moment until which no locator that mappings name is to be probed, as is known at m.
 pub(crate) fn rest_until(own: &[OwnLocator], m: u64, state: &LocatorState, cache: &MapCache) -> u64
     ensures { list_all (λ mapping. all_rest own.now result state.now.observed.probes
         mapping.details.locators) cache.entry.now.mappings ≡ true }
@@ -46,14 +46,16 @@ pub(crate) fn rest_until(own: &[OwnLocator], m: u64, state: &LocatorState, cache
     until
 }
 
-/// The same behind an entry of a moment. Once that moment has come nothing is known.
+/// The moment until which no locator is to be probed, from `rest` and an entry of moment m: `rest`,
+/// or 0, for unknown, once m has reached it.
 pub(crate) fn rest_behind(rest: u64, m: u64) -> u64
     ensures { result ≡ rest_behind rest m }
 {
     if m < rest { rest } else { 0 }
 }
 
-/// The same once a mapping is learned, too, which names these locators.
+/// The moment until which no locator is to be probed, from `rest` and a learned mapping that names
+/// these locators; 0, for unknown, stays.
 pub(crate) fn rest_with(
     rest: u64,
     own: &[OwnLocator],
@@ -65,7 +67,7 @@ pub(crate) fn rest_with(
     ensures rest { ((result == 0)
         || all_rest own.now result state.now.observed.probes locators.now) ≡ true }
 {
-    // Where nothing is known, nothing is asked.
+    // An unknown moment stays unknown, without a look at the locators.
     if rest == 0 {
         return 0;
     }

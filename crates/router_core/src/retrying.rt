@@ -20,7 +20,7 @@ use request_queue::Request;
 use router_log::{Emit, Entry};
 
 impl Table {
-    /// The requests that are due, in asking order.
+    /// The requests that are due to be sent again at a moment, in asking order.
     pub(crate) fn due_requests(&self, m: u64) -> Result<Vec<Request>, NoMemory>
         ensures items { IfOk result (λ due. due.items ≡ all_due m self.now.parts.requests) }
         ensures few { IfOk result (λ due. vec_len due ≤ most_open) }
@@ -95,7 +95,7 @@ impl Table {
         self.retry_each(m, others, entries, emits);
     }
 
-    // Sends a request again.
+    // Sends a request again, with its nonce.
     fn retry_one(
         &mut self,
         m: u64,

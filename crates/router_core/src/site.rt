@@ -1,4 +1,4 @@
-// The own site, as it stands: its locators, its prefixes, and what its settings say.
+// The own site as it stands: its locators, its prefixes, and its settings.
 ghost use Rattle.std.specs.Prelude.{◌≡◌, ◌<◌, ◌≤◌, ◌-◌, ◌^◌, length, None, Some, IfErr, IfOk, IfSome, All, is_some, map};
 ghost use Rattle.std.specs.List.Sorted.{IsStrictlySortedBy};
 ghost use Rattle.std.specs.Ordering.{nat_cmp};
@@ -43,21 +43,22 @@ impl<'s> Model for Site<'s> {
 }
 
 impl<'s> Site<'s> {
-    /// The site of these settings, with the own locators that are up, and so many changes behind it.
+    /// The site of these settings, where `own` has which own locators are up and how many changes
+    /// were made.
     pub(crate) fn of(settings: &'s Settings, own: Own) -> Site<'s>
         ensures { result ≡ standing_by settings.now own }
     {
         Site { settings, own }
     }
 
-    /// An own locator, up or not, has this address.
+    /// Whether an own locator, up or down, has that address.
     pub(crate) fn is_own(&self, address: Addr) -> bool
         ensures { result ≡ is_own self.now.locators address }
     {
         is_own(self.settings.locators.as_slice(), address)
     }
 
-    /// The first own locator that is up, of the family of an address.
+    /// The first own locator that is up and of the family of an address, or None.
     pub(crate) fn ours(&self, to: Addr) -> Option<Addr>
         ensures first { result ≡ ours self.now.locators to }
         ensures family { IfSome result (λ own. width own ≡ width to) }
@@ -65,22 +66,22 @@ impl<'s> Site<'s> {
         first_up(self.settings.locators.as_slice(), self.own.ups, to)
     }
 
-    /// An own locator is up, of the family of an address.
+    /// Whether an own locator of the family of an address is up.
     pub(crate) fn has_ours(&self, to: &Addr) -> bool
         ensures { result ≡ is_some (ours self.now.locators to.now) }
     {
         any_up(self.settings.locators.as_slice(), self.own.ups, to)
     }
 
-    /// A locator that may be told of changes, and probed: it isn't an own one, and there is ours of its
-    /// family.
+    /// Whether a locator may get SMRs for changes: it isn't an own one, and an own locator of its
+    /// family is up.
     pub(crate) fn is_told(&self, address: Addr) -> bool
         ensures { result ≡ is_told self.now address }
     {
         !self.is_own(address) && self.has_ours(&address)
     }
 
-    /// The status bits of the own locators, the first one's lowest.
+    /// The status bits of the own locators; the lowest bit is that of the first one.
     pub(crate) fn own_bits(&self) -> u32
         requires { IsSite self.now }
         ensures { result ≡ own_bits self.now.locators }
@@ -89,8 +90,8 @@ impl<'s> Site<'s> {
         few_bits(locators, ups)
     }
 
-    /// The own locators, in order of address, as the settings have them, and which of them are up, the
-    /// first one by the lowest bit.
+    /// The own locators as the settings have them, in order of address, and the bits of those that
+    /// are up; the lowest bit is that of the first one.
     pub(crate) fn locators(&self) -> (&'s [OwnLocator], u32)
         ensures stand { with_ups result.1 result.0.now ≡ self.now.locators }
         ensures few { IsSite self.now → length result.0.now ≤ most_locators }
@@ -98,8 +99,8 @@ impl<'s> Site<'s> {
         (self.settings.locators.as_slice(), self.own.ups)
     }
 
-    /// The site's prefixes, in order of EID, as the settings have them, and by how many steps their
-    /// versions are behind.
+    /// The prefixes of the site as the settings have them, in order of EID, and by how many steps
+    /// their versions went on.
     pub(crate) fn databases(&self) -> (&'s [Database], u32)
         ensures stand { map (stood result.1) result.0.now ≡ self.now.databases }
         ensures lawful { IsSite self.now → All IsLawfulDatabase result.0.now }
@@ -107,7 +108,8 @@ impl<'s> Site<'s> {
         (self.settings.databases.as_slice(), self.own.steps)
     }
 
-    /// The longest prefix of the site in an instance that covers an address.
+    /// The longest prefix of the site in an instance that covers an address, with its version as it
+    /// stands, or None.
     pub(crate) fn home(&self, iid: u32, address: &Addr) -> Option<Database>
         requires { IsSite self.now }
         ensures { result ≡ home_of self.now.databases iid address.now }
@@ -118,8 +120,8 @@ impl<'s> Site<'s> {
         }
     }
 
-    /// The version of the prefix of the site that a packet leaves, or the verdict on one that stays out of
-    /// a tunnel.
+    /// The version of the site's prefix that a packet leaves, or the verdict on a packet that stays
+    /// out of a tunnel.
     pub(crate) fn leaving_version(&self, iid: u32, header: &IpHeader) -> Result<u16, Verdict>
         requires { IsSite self.now }
         ensures leaves { IfOk result (λ version.
@@ -137,7 +139,7 @@ impl<'s> Site<'s> {
         }
     }
 
-    /// The static mappings, in order of EID.
+    /// The static mappings of the settings, in order of EID.
     pub(crate) fn mappings(&self) -> &'s [Record]
         ensures { result.now ≡ self.now.mappings }
     {
@@ -151,7 +153,7 @@ impl<'s> Site<'s> {
         self.settings.resolver
     }
 
-    /// There is a Map-Resolver, and ours of its family.
+    /// Whether the resolver is reached: there is one, and an own locator of its family is up.
     pub(crate) fn reaches_resolver(&self) -> bool
         ensures { result ≡ reaches_resolver self.now }
     {
@@ -168,21 +170,21 @@ impl<'s> Site<'s> {
         self.settings.ttl
     }
 
-    /// Locators are probed.
+    /// Whether the setting `probe` is on: locators are probed.
     pub(crate) fn probes(&self) -> bool
         ensures { result ≡ self.now.probe }
     {
         self.settings.probe
     }
 
-    /// Echoes are asked of locators.
+    /// Whether the setting `echo` is on: echoes are requested of locators.
     pub(crate) fn asks_echoes(&self) -> bool
         ensures { result ≡ self.now.echo }
     {
         self.settings.echo
     }
 
-    /// Nonce `i` of those that are used one after another.
+    /// Nonce `i`, counted from 0, in the order in which nonces are used.
     pub(crate) fn nonce_at(&self, i: u64) -> u64
         requires { i - length self.now.nonces < 2 ^ 63 }
         ensures { result ≡ nonce_of self.now.seed self.now.nonces i }
@@ -191,7 +193,7 @@ impl<'s> Site<'s> {
     }
 }
 
-/// The first own locator that is up, of the family of an address.
+/// The first of these own locators that is up and of the family of an address, or None.
 pub(crate) fn ours(locators: &[OwnLocator], to: Addr) -> Option<Addr>
     ensures first { result ≡ ours locators.now to }
     ensures family { IfSome result (λ own. width own ≡ width to) }
@@ -205,8 +207,8 @@ pub(crate) fn ours(locators: &[OwnLocator], to: Addr) -> Option<Addr>
     ours(others, to)
 }
 
-// The first of own locators that is up, of the family of an address, where the lowest bit says that the
-// first one is up, and so on.
+// The first of these own locators that is up and of the family of an address, or None. The lowest
+// bit of `ups` marks whether the first of all is up, and so on.
 fn first_up(locators: &[OwnLocator], ups: u32, to: Addr) -> Option<Addr>
     ensures first { result ≡ ours (with_ups ups locators.now) to }
     ensures family { IfSome result (λ own. width own ≡ width to) }
@@ -220,8 +222,8 @@ fn first_up(locators: &[OwnLocator], ups: u32, to: Addr) -> Option<Addr>
     first_up(others, ups / 2, to)
 }
 
-// One of own locators is up, of the family of an address, where the lowest bit says that the first one is
-// up, and so on.
+// Whether one of these own locators is up and of the family of an address. The lowest bit of `ups`
+// marks whether the first of all is up, and so on.
 fn any_up(locators: &[OwnLocator], ups: u32, to: &Addr) -> bool
     ensures { result ≡ is_some (ours (with_ups ups locators.now) to.now) }
 {
@@ -234,14 +236,15 @@ fn any_up(locators: &[OwnLocator], ups: u32, to: &Addr) -> bool
     any_up(others, ups / 2, to)
 }
 
-// The first of own locators is up.
+// Whether the first own locator is up: the lowest bit of `ups`.
 pub(crate) fn is_first_up(ups: u32) -> bool
     ensures { result ≡ bit 0 ups }
 {
     ups % 2 == 1
 }
 
-// The status bits of own locators, the first one's lowest.
+// The status bits of own locators, of which `ups` marks those that are up; the lowest bit is that
+// of the first one.
 fn few_bits(locators: &[OwnLocator], ups: u32) -> u32
     requires { length locators.now ≤ most_locators }
     ensures { result ≡ own_bits (with_ups ups locators.now) }
@@ -249,7 +252,8 @@ fn few_bits(locators: &[OwnLocator], ups: u32) -> u32
     up_bits(locators, ups) as u32
 }
 
-// The same as a number with more bits, of which it has at most one for each locator.
+// The status bits of own locators, of which `ups` marks those that are up, in 64 bits: at most one
+// bit for each locator.
 fn up_bits(locators: &[OwnLocator], ups: u32) -> u64
     requires { length locators.now ≤ most_locators }
     ensures bits { result ≡ own_bits (with_ups ups locators.now) }
@@ -261,7 +265,7 @@ fn up_bits(locators: &[OwnLocator], ups: u32) -> u64
     u64::from(is_first_up(ups)) + 2 * up_bits(others, ups / 2)
 }
 
-/// The status bits of own locators, at most one for each bit, the first one's lowest.
+/// The status bits of own locators, one for each; the lowest bit is that of the first one.
 pub(crate) fn own_bits(locators: &[OwnLocator]) -> u64
     requires { length locators.now ≤ most_locators }
     ensures bits { result ≡ own_bits locators.now }
@@ -273,7 +277,7 @@ pub(crate) fn own_bits(locators: &[OwnLocator]) -> u64
     u64::from(own.up) + 2 * own_bits(others)
 }
 
-/// The instance that a VLAN is attached to, among attachments in order of their VLANs.
+/// The instance that a VLAN is attached to, or None. The attachments are in order of their VLANs.
 pub(crate) fn instance_of(attachments: &[Attachment], vlan: u16) -> Option<u32>
     requires { IsStrictlySortedBy nat_cmp (map (λ attachment. attachment.vlan) attachments.now) }
     ensures { result ≡ instance_of attachments.now vlan }

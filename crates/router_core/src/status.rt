@@ -10,7 +10,8 @@ use ip_headers::{Addr, same_address};
 use lisp_settings::Locator;
 use map_cache::Mapping;
 
-/// A locator of a mapping is up by the status bit that is known, or as its record says.
+/// Whether locator `index` of a mapping is up: by its status bit where one is known, else as its
+/// record has it.
 pub(crate) fn is_up(mapping: &Mapping, index: usize, locator: &Locator) -> bool
     ensures { result ≡ known_up mapping.now index locator.now }
 {
@@ -21,7 +22,7 @@ pub(crate) fn is_up(mapping: &Mapping, index: usize, locator: &Locator) -> bool
     }
 }
 
-/// One of the locators has this address.
+/// Whether one of the locators has this address.
 pub(crate) fn is_named(locators: &[Locator], address: &Addr) -> bool
     ensures { result ≡ list_any (λ locator. same_address locator.addr address.now) locators.now }
 {
@@ -33,8 +34,8 @@ pub(crate) fn is_named(locators: &[Locator], address: &Addr) -> bool
     false
 }
 
-/// Of the locators of a mapping from number `index` on, one has another status than its bit among the
-/// lowest `width`.
+/// Whether one of a mapping's locators from number `index` on has another status than its bit among
+/// the lowest `width` bits.
 pub(crate) fn differs(
     mapping: &Mapping,
     bits: u32,

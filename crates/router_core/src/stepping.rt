@@ -7,8 +7,8 @@ use crate::limits::MOST_VERSION;
 use lisp_settings::Database;
 use router_model::Own;
 
-/// The Map-Version of a prefix of the site after the changes of its own locators: so many steps on, round among 1
-/// to 4,095. A version of 0 is none, and stays.
+/// The Map-Version of a prefix of the site after the changes of own locators: one step on for each,
+/// round among 1 to 4,095. Version 0 is none, and stays 0.
 pub fn stood_version(database: &Database, own: &Own) -> u16
     requires { database.now.version ≤ most_version }
     ensures { result ≡ standing.stood_version own.now.steps database.now.version }
@@ -16,7 +16,7 @@ pub fn stood_version(database: &Database, own: &Own) -> u16
     stepped(database.version, own.steps)
 }
 
-/// A prefix of the site, with its version so many steps on.
+/// A prefix of the site, with its version `steps` steps on.
 pub(crate) fn stood(database: &Database, steps: u32) -> Database
     requires { database.now.version ≤ most_version }
     ensures { result ≡ standing.stood steps database.now }
@@ -27,7 +27,7 @@ pub(crate) fn stood(database: &Database, steps: u32) -> Database
     }
 }
 
-// A version so many steps on, round among 1 to 4,095.
+// A version `steps` steps on, round among 1 to 4,095. Version 0 stays 0.
 fn stepped(version: u16, steps: u32) -> u16
     requires { version ≤ most_version }
     ensures { result ≡ standing.stood_version steps version }

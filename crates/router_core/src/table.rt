@@ -1,4 +1,4 @@
-// A table: what a router remembers of its journal.
+// A table: all that a router keeps of its journal.
 ghost use Rattle.std.specs.Prelude.{◌≡◌, ◌<◌, ◌≤◌, ◌+◌, true, All, [], length, map, IfOk, OnOk};
 ghost use Rattle.lisp_settings.specs.Instances.{all_mappings, limits_in};
 ghost use Rattle.lisp_settings.specs.Lawful.{IsLawful, IsLawfulMapping};
@@ -21,23 +21,24 @@ use router_model::Own;
 use std::alloc::Global;
 use std::marker::Model;
 
-/// What a router remembers of its journal: of the mappings, requests, locators and nonces what still
-/// counts, and so no journal.
+/// The table of a router: all that it keeps of its journal, and not the entries themselves. It has
+/// the own locators as they stand, the mappings, requests and state of locators that still count,
+/// and the numbers of entries and of nonces used.
 #[derive(Drop)]
 pub struct Table {
     pub(crate) alloc: Global,
-    // Those of the settings that it is for, as they stand, and how often that changed.
+    // The own locators of the table's settings as they stand, and the number of changes made.
     pub(crate) own: Vec<OwnLocator>,
     pub(crate) steps: u32,
-    // Of instances.
+    // The limits of instances.
     pub(crate) limits: Limits,
-    // The entries of the journal, and those of them that used a nonce.
+    // The number of entries of the journal, and the number of those that used a nonce.
     pub(crate) count: u64,
     pub(crate) drawn: u64,
     pub(crate) cache: MapCache,
     pub(crate) queue: RequestQueue,
     pub(crate) locators: LocatorState,
-    // Until this moment no locator is to be probed, as far as is known; 0 where nothing is.
+    // The moment until which no locator is to be probed, as far as is known; 0 where it is unknown.
     pub(crate) rest: u64,
 }
 
@@ -93,7 +94,7 @@ impl Table {
         Table::begun(alloc, settings)
     }
 
-    // That table, which has learned the static mappings.
+    // The table of a router that begins, which has learned the static mappings.
     fn begun(alloc: Global, settings: &Settings) -> Result<Table, NoMemory>
         requires { IsLawful settings.now }
         ensures { IfOk result (λ table. table.parts
@@ -106,13 +107,14 @@ impl Table {
         Ok(table)
     }
 
-    // For a journal without entries.
+    // The table for a journal without entries.
     fn empty(alloc: Global, own: Vec<OwnLocator>, limits: Limits) -> Result<Table, NoMemory>
         requires { length own.items ≤ most_locators }
         ensures { IfOk result (λ table. (settings : SettingsValue) → own.items ≡ settings.locators
             → limits ≡ limits_in settings → table.parts ≡ parts_in settings []) }
     {
-        // Limits say that there are no more in all than may live.
+        // The call of `as_slice` brings the fact that the limits together are at most as many
+        // mappings as may live.
         let _ = limits.as_slice();
         let cache = MapCache::new(alloc, &limits)?;
         let queue = RequestQueue::new(alloc, &limits)?;
@@ -130,18 +132,18 @@ impl Table {
         })
     }
 
-    // Makes room for so many static mappings, where there is none yet.
+    // Makes room for `n` static mappings, in a table without mappings.
     fn reserve_statics(&mut self, n: u32) -> Result<(), NoMemory>
         requires none { self.old.parts.mappings ≡ [] }
         requires n { n ≤ most_mappings }
         ensures parts { self.new.parts ≡ self.old.parts }
         ensures room { OnOk result (n ≤ self.new.mapping_room) }
     {
-        // Locators take no room of their own.
+        // Locators of mappings take no room of their own.
         self.cache.reserve(n, 0)
     }
 
-    // Learns the static mappings, where there was no entry yet.
+    // Learns the static mappings of the settings, in a table without entries.
     fn begin(&mut self, settings: &Settings) -> Result<(), NoMemory>
         requires lawful { IsLawful settings.now }
         requires begins { self.old.parts ≡ parts_in settings.now [] }
@@ -152,7 +154,8 @@ impl Table {
         self.learn_statics(mappings)
     }
 
-    // Learns static mappings, for which there is room beside the limits, where there was no entry yet.
+    // Learns static mappings in a table without entries that has room for them; with all limits
+    // they are at most as many mappings as may live.
     fn learn_statics(&mut self, mappings: &[Record]) -> Result<(), NoMemory>
         requires now { self.old.parts.now ≡ 0 }
         requires count { self.old.parts.count ≡ 0 }
@@ -172,8 +175,8 @@ impl Table {
         Ok(())
     }
 
-    /// Drops a table that is of no use any more, which says how long its journal was. Where a table
-    /// ends otherwise, all that it has is dropped anew in the function at hand.
+    /// Drops a table that isn't needed any more, and returns the length of its journal. In a
+    /// function where a table ends otherwise, the drops of all its parts are checked anew.
     pub fn closed(self) -> u64
         ensures { result ≡ self.parts.count }
     {
@@ -187,7 +190,7 @@ impl Table {
         self.count
     }
 
-    /// Which own locators are up, and how many changes were made.
+    /// Which own locators are up, and how many changes of them were made.
     pub fn own(&self) -> Own
         ensures { result ≡ own_of self.now.parts }
     {
@@ -204,21 +207,21 @@ impl Table {
         Site::of(settings, self.own())
     }
 
-    /// Law: no instance has learned more than its limit, and the fixed mappings and all limits are no
-    /// more than may live.
+    /// Law: no instance has learned more mappings than its limit, and the fixed mappings and all
+    /// limits together are no more than may live.
     pub(crate) fn keeps_its_limits(&self)
         ensures { KeepLimits self.now.parts.limits self.now.parts.mappings }
     {
-        // The table says so of its limits.
+        // The call of `as_slice` brings the table's invariant of its limits.
         let _ = self.limits.as_slice();
     }
 
-    /// Law: however long the capture is, all lists of a table have at most
-    /// `most_kept` items in all.
+    /// Law: however long the capture is, all lists of a table together have at most `most_kept`
+    /// items.
     pub fn keeps_to_its_size(&self)
         ensures { self.now.kept ≤ most_kept }
     {
-        // The lengths say how much is kept.
+        // The calls of `len` bring the bounds of all that is kept.
         let _ = (self.cache.len(), self.queue.len(), self.locators.len());
     }
 }

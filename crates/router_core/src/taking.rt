@@ -1,4 +1,4 @@
-// Entries of each kind, taken into a table that has room for them.
+// Entries of each kind, applied to a table that has room for them.
 ghost use Rattle.mapping_records.specs.Eids.{same_address};
 ghost use Rattle.router_model.specs.Standing.{changing};
 ghost use Rattle.std.specs.Prelude.{◌≡◌, ◌<◌, ◌≤◌, ◌+◌, ◌^◌, ◌≢◌, IsTrue, length, if◌then◌else◌};
@@ -18,7 +18,7 @@ use lisp_settings::OwnLocator;
 use mapping_records::{Eid, Record};
 
 impl Table {
-    /// Takes the entry of a mapping that was learned, for which there is room.
+    /// Applies the entry of a learned mapping, for which there is room; a static one is `fixed`.
     pub(crate) fn learn(&mut self, m: u64, mapping: Record, fixed: bool)
         requires may { MayEnter 1 m self.old.parts }
         requires locators { length mapping.locators ≤ most_locators }
@@ -42,7 +42,7 @@ impl Table {
             &self.locators,
             mapping.locators.as_slice(),
         );
-        // The length says that there are at most as many as may live.
+        // The call of `len` brings the fact that there are at most as many mappings as may live.
         let _ = self.cache.len();
         if self.cache.learn(m, mapping, fixed).is_err() {
             unreachable!();
@@ -50,7 +50,7 @@ impl Table {
         self.count += 1;
     }
 
-    /// Takes the entry of a request that was made, for which there is room.
+    /// Applies the entry of a request that was made, for which there is room.
     pub(crate) fn ask(&mut self, m: u64, eid: Eid, source: Option<Addr>, invoked: bool, nonce: u64)
         requires may { MayEnter 1 m self.old.parts }
         requires place { open_in eid.iid (waiting m self.old.parts.requests)
@@ -62,7 +62,7 @@ impl Table {
     {
         self.rest = rest_behind(self.rest, m);
         self.cache.purge(m);
-        // The length says that there are at most as many as may wait.
+        // The call of `len` brings the fact that there are at most as many requests as may be open.
         let _ = self.queue.len();
         if self.queue.ask(m, eid, source, invoked, nonce).is_err() {
             unreachable!();
@@ -72,7 +72,7 @@ impl Table {
         self.drawn += 1;
     }
 
-    /// Takes the entry of a request that was answered.
+    /// Applies the entry of a request that was answered.
     pub(crate) fn answer(&mut self, m: u64, nonce: u64)
         requires may { MayEnter 1 m self.old.parts }
         ensures parts { self.new.parts ≡ with_entry (Answered m nonce) self.old.parts }
@@ -87,7 +87,7 @@ impl Table {
         self.count += 1;
     }
 
-    /// Takes the entry of a request that was sent again.
+    /// Applies the entry of a request that was sent again.
     pub(crate) fn retry(&mut self, m: u64, nonce: u64)
         requires may { MayEnter 1 m self.old.parts }
         requires again { IsTrue (may_send_again nonce (waiting m self.old.parts.requests)) }
@@ -102,7 +102,7 @@ impl Table {
         self.count += 1;
     }
 
-    /// Takes the entry of a probe that was sent, for which there is room.
+    /// Applies the entry of a probe that was sent, for which there is room.
     pub(crate) fn probe(&mut self, m: u64, rloc: Addr, nonce: u64)
         requires may { MayEnter 1 m self.old.parts }
         requires room { 0 < self.old.probe_room }
@@ -120,7 +120,7 @@ impl Table {
         self.drawn += 1;
     }
 
-    /// Takes the entry of a probe that was answered.
+    /// Applies the entry of a probe that was answered.
     pub(crate) fn answer_probe(&mut self, m: u64, nonce: u64)
         requires may { MayEnter 1 m self.old.parts }
         ensures parts { self.new.parts ≡ with_entry (ProbeAnswered m nonce) self.old.parts }
@@ -132,7 +132,7 @@ impl Table {
         self.count += 1;
     }
 
-    /// Takes the entry of an echo that is asked for, for which there is room.
+    /// Applies the entry of an echo that is requested, for which there is room.
     pub(crate) fn start_echo(&mut self, m: u64, rloc: Addr, nonce: u32)
         requires may { MayEnter 1 m self.old.parts }
         requires room { 0 < self.old.start_room }
@@ -150,7 +150,7 @@ impl Table {
         self.drawn += 1;
     }
 
-    /// Takes the entry of an echo that came.
+    /// Applies the entry of an echo that came from a locator.
     pub(crate) fn hear_echo(&mut self, m: u64, rloc: &Addr)
         requires may { MayEnter 1 m self.old.parts }
         ensures parts { self.new.parts ≡ with_entry (EchoHeard m rloc.now) self.old.parts }
@@ -162,7 +162,7 @@ impl Table {
         self.count += 1;
     }
 
-    /// Takes the entry of a packet that came from a locator.
+    /// Applies the entry of a packet that came from a locator.
     pub(crate) fn take_data(&mut self, m: u64, rloc: &Addr)
         requires may { MayEnter 1 m self.old.parts }
         ensures parts { self.new.parts ≡ with_entry (DataFrom m rloc.now) self.old.parts }
@@ -174,7 +174,7 @@ impl Table {
         self.count += 1;
     }
 
-    /// Takes the entry of an echo that a locator wants, for which there is room.
+    /// Applies the entry of an echo that a locator wants, for which there is room.
     pub(crate) fn want_echo(&mut self, m: u64, rloc: Addr, nonce: u32)
         requires may { MayEnter 1 m self.old.parts }
         requires room { 0 < self.old.wish_room }
@@ -191,7 +191,7 @@ impl Table {
         self.count += 1;
     }
 
-    /// Takes the entry of an SMR that was sent to a locator, for which there is room.
+    /// Applies the entry of an SMR that was sent to a locator, for which there is room.
     pub(crate) fn solicit(&mut self, m: u64, rloc: Addr, eid: Eid, nonce: u64)
         requires may { MayEnter 1 m self.old.parts }
         requires room { 0 < self.old.solicit_room }
@@ -210,7 +210,7 @@ impl Table {
         self.drawn += 1;
     }
 
-    /// Takes the entry of status bits that were told.
+    /// Applies the entry of status bits of the locators of an EID's mapping.
     pub(crate) fn tell(&mut self, m: u64, eid: &Eid, bits: u32, width: u8)
         requires may { MayEnter 1 m self.old.parts }
         requires width { width ≤ 32 }
@@ -224,7 +224,7 @@ impl Table {
         self.count += 1;
     }
 
-    /// Takes the entry of an own locator that goes up or down.
+    /// Applies the entry of an own locator that goes up or down.
     pub(crate) fn change(&mut self, m: u64, address: Addr, up: bool)
         requires may { MayEnter 1 m self.old.parts }
         requires few { self.old.parts.steps < most_changes }
@@ -243,7 +243,7 @@ impl Table {
     }
 }
 
-// Each own locator of that address goes up or down.
+// Marks each own locator with that address as up or down.
 fn set_up(locators: &mut [OwnLocator], address: Addr, up: bool)
     ensures { locators.new ≡ changing address up locators.old }
 {

@@ -1,4 +1,4 @@
-// Locators of others that are told of the site's prefixes by SMRs, behind changes (RFC 9301, section 6.1).
+// SMRs for the site's prefixes to other sites' locators, behind changes (RFC 9301, section 6.1).
 ghost use Rattle.std.specs.Prelude.{◌≡◌, ◌<◌, ◌≤◌, ◌+◌, ◌*◌, length, map, All, IsTrue};
 ghost use Rattle.request_queue.specs.Queue.{waiting};
 ghost use Rattle.router_model.specs.Changes.{each};
@@ -17,7 +17,7 @@ use mapping_records::Eid;
 use router_log::{Emit, Entry};
 
 impl Table {
-    /// Tells each of these locators of each prefix of the site, where it may be.
+    /// Sends to each of these locators an SMR for each prefix of the site, where it may be sent.
     pub(crate) fn tell_each(
         &mut self,
         site: &Site<'_>,
@@ -50,7 +50,7 @@ impl Table {
         self.tell_each(site, m, others, entries, emits);
     }
 
-    // Tells a locator of each of these prefixes, where it may be.
+    // Sends to a locator an SMR for each of these prefixes, where it may be sent.
     fn tell_locator(
         &mut self,
         site: &Site<'_>,
@@ -83,7 +83,7 @@ impl Table {
         self.tell_locator(site, m, address, others, entries, emits);
     }
 
-    // Tells a locator of a prefix, where it may be.
+    // Sends to a locator an SMR for a prefix, if earlier SMRs allow it.
     fn tell_of(
         &mut self,
         site: &Site<'_>,

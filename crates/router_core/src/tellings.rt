@@ -1,4 +1,4 @@
-// What a delivered packet tells of its sender: status bits, echoes, versions (RFC 9300, section 10; RFC 9302).
+// Notices of a delivered packet: status bits, echoes, versions (RFC 9300, section 10; RFC 9302).
 ghost use Rattle.std.specs.Prelude.{◌≡◌, ◌++◌, IfOk, OnOk, option_and_then, option_map, option_to_list};
 ghost use Rattle.std.specs.Option.{option_copied};
 ghost use Rattle.lisp_header.specs.Header.{InRange};
@@ -15,8 +15,8 @@ use octets::{Items, NoMemory};
 use router_log::{Notice, Notices};
 use std::alloc::Global;
 
-/// What a delivered packet from a locator tells, by the prefix of the site that it is for and the
-/// mapping in force for its source.
+/// The notices of a delivered packet from a locator, by the prefix of the site that the packet is
+/// for (`home`) and the mapping in force for its source.
 pub(crate) fn notices(
     alloc: Global,
     rloc: Addr,
@@ -37,7 +37,7 @@ pub(crate) fn notices(
     Ok(notices)
 }
 
-// What its status bits tell of that mapping.
+// Adds the notice of a packet's status bits, if it has them and its source has a mapping in force.
 fn push_bits(
     rloc: Addr,
     header: &LispHeader,
@@ -68,15 +68,15 @@ fn bits_notice(rloc: Addr, header: &LispHeader, mapping: Option<&Mapping>) -> Op
     })
 }
 
-// How many status bits a header has: beside an instance 8.
+// The number of status bits in a header: beside an instance 8, else 32.
 fn bits_width(header: &LispHeader) -> u8
     ensures { result ≡ bits_width header.now }
 {
     if header.instance.is_some() { 8 } else { 32 }
 }
 
-// What its nonce tells: it is to be echoed, or it is an echo. Only a packet that asks for one doesn't
-// count as data.
+// Adds the notices of a packet's nonce: the locator wants it echoed, or it is an echo. All packets
+// count as data but those that want an echo.
 fn push_nonce(
     rloc: Addr,
     asks: bool,
@@ -97,7 +97,7 @@ fn push_nonce(
     }
 }
 
-// A notice that is given where a test holds.
+// Adds a notice, where a test holds.
 fn push_given(test: bool, notice: Notice, notices: &mut Notices) -> Result<(), NoMemory>
     ensures { OnOk result (notices.new ≡ notices.old ++ given test notice) }
 {
@@ -107,7 +107,7 @@ fn push_given(test: bool, notice: Notice, notices: &mut Notices) -> Result<(), N
     Ok(())
 }
 
-// The sender knows an old version of the site's mapping.
+// Adds the notice to send an SMR, where the packet names an old version of the site's mapping.
 fn push_solicit(
     rloc: Addr,
     header: &LispHeader,
@@ -128,7 +128,7 @@ fn push_solicit(
     )
 }
 
-// The sender has a newer version of its own mapping than was learned.
+// Adds the notice to request a learned mapping anew, where the packet names a newer version of it.
 fn push_refresh(
     header: &LispHeader,
     mapping: Option<&Mapping>,

@@ -1,4 +1,4 @@
-// A second that begins.
+// Seconds: what happens at each one that begins.
 ghost use Rattle.std.specs.Prelude.{◌≡◌, ◌<◌, ◌≤◌, ◌+◌, ◌*◌, [], true, false, length, vec_capacity, All, IsTrue, IfOk, OnOk};
 ghost use Rattle.lisp_settings.specs.Lawful.{IsLawful};
 ghost use Rattle.lisp_settings.specs.declared.settings.Settings.{Settings as SettingsValue};
@@ -31,11 +31,11 @@ use request_queue::Request;
 use router_log::{Emit, Entry};
 
 impl Table {
-    /// Lets a second begin: own locators go up and down that the settings say, and then locators that
-    /// mappings name are told; the requests that are due are sent again, and locators are probed, where
-    /// the settings say so (RFC 9301, sections 6.1 and 7.1). It takes the entries that come of it. Where
-    /// memory is refused, the table is as it was. A second in which nothing is to be done takes none. The
-    /// settings have the own locators that the table is for.
+    /// Plays a second: own locators go up and down by the changes of the settings, and then SMRs go
+    /// to locators that mappings name; requests that are due are sent again, and locators are
+    /// probed, if the setting `probe` is on (RFC 9301, sections 6.1 and 7.1). The entries that come
+    /// of it are applied. Where memory is refused, the table is as it was. A second that is known
+    /// to be idle takes no memory. The settings have the table's own locators.
     pub fn tick(&mut self, settings: &Settings, second: u32) -> Result<Changed, NoMemory>
         requires lawful { IsLawful settings.now }
         requires own { (standing_in settings.now self.old.parts).locators ≡ self.old.parts.own }
@@ -53,7 +53,7 @@ impl Table {
         self.tick_at(settings, u64::from(second) * 1_000_000_000)
     }
 
-    // Lets a second begin that has that moment.
+    // Plays the second that has that moment.
     fn tick_at(&mut self, settings: &Settings, m: u64) -> Result<Changed, NoMemory>
         requires lawful { IsLawful settings.now }
         requires own { (standing_in settings.now self.old.parts).locators ≡ self.old.parts.own }
@@ -72,7 +72,8 @@ impl Table {
         self.send_at(&site, m)
     }
 
-    // Sends what is due at a moment at which no own locator changes.
+    // Sends requests that are due and probes, at a moment at which no own locator changes. A moment
+    // that is known to be idle takes no memory.
     fn send_at(&mut self, site: &Site<'_>, m: u64) -> Result<Changed, NoMemory>
         requires own { site.now.locators ≡ self.old.parts.own }
         requires may { MayStep m self.old.parts }
@@ -89,7 +90,8 @@ impl Table {
         Ok(changed)
     }
 
-    // Nothing is to be done at a moment, as far as is known without a look at all that is kept.
+    // Whether no request is due and no locator is to be probed at a moment, as far as is known
+    // without a look at all that is kept.
     fn is_idle(&self, site: &Site<'_>, m: u64) -> bool
         requires now { self.now.parts.now ≤ m }
         requires own { site.now.locators ≡ self.now.parts.own }
@@ -99,7 +101,7 @@ impl Table {
         self.queue.next_due(m, None).is_none() && (!site.probes() || self.is_at_rest(m))
     }
 
-    // No locator is to be probed at a moment.
+    // Whether it is known that no locator is to be probed at a moment.
     fn is_at_rest(&self, m: u64) -> bool
         requires { self.now.parts.now ≤ m }
         ensures { IsTrue result → (settings : SettingsValue)
@@ -109,7 +111,8 @@ impl Table {
         m < self.rest
     }
 
-    // Where nothing was done at a moment, finds out until when nothing will have to be.
+    // Finds, behind a moment without entries, the moments until which no request is due and no
+    // locator is to be probed.
     fn look_ahead(&mut self, site: &Site<'_>, m: u64, changed: &Changed)
         ensures parts { self.new.parts ≡ self.old.parts }
     {
@@ -122,7 +125,7 @@ impl Table {
         }
     }
 
-    // Sends the requests that are due, and probes.
+    // Sends the requests that are due again, and probes locators.
     #[tactic(auto, unfolding(router_model::specs::Tick::after_changes))]
     fn send_due(&mut self, site: &Site<'_>, m: u64) -> Result<Changed, NoMemory>
         requires may { MayStep m self.old.parts }
@@ -148,8 +151,8 @@ impl Table {
         })
     }
 
-    // Makes the changes that are due, tells of them, sends the requests that are due, and probes. All room
-    // is made before the first change.
+    // Makes the changes that are due, sends SMRs for them, sends the requests that are due again,
+    // and probes locators. All room is made before the first change.
     fn change_and_send(
         &mut self,
         settings: &Settings,
@@ -189,7 +192,7 @@ impl Table {
         })
     }
 
-    // Room for what is found at a second.
+    // Empty lists with room for the locators that are found at a second.
     fn found(&self) -> Result<Found, NoMemory>
         ensures { IfOk result (λ found. IsEmptyFor found) }
     {
@@ -200,7 +203,7 @@ impl Table {
         Ok(Found { told, targets })
     }
 
-    // Makes room for what is sent at a second.
+    // Makes room for the SMRs and probes of a second.
     fn reserve_second(&mut self) -> Result<(), NoMemory>
         ensures parts { self.new.parts ≡ self.old.parts }
         ensures solicits { OnOk result (most_told * most_databases ≤ self.new.solicit_room) }
@@ -210,8 +213,9 @@ impl Table {
         self.reserve_solicits((MOST_TOLD * MOST_DATABASES) as u32)
     }
 
-    // Makes the changes that are due, tells of them, sends the requests that are due, and probes, where
-    // there is room for all of it, and nothing was entered yet.
+    // Makes the changes that are due, sends SMRs for them, sends the requests that are due again,
+    // and probes locators. There is room for all of it, and the lists of entries and emits are
+    // empty.
     fn change_and_tell(
         &mut self,
         settings: &Settings,
@@ -245,7 +249,8 @@ impl Table {
         self.tell_and_send(&site, m, due, found, entries, emits);
     }
 
-    // Tells of changes, sends the requests that are due, and probes, where there is room for all of it.
+    // Sends SMRs for changes of own locators, sends the requests that are due again, and probes
+    // locators, where there is room for all of it.
     fn tell_and_send(
         &mut self,
         site: &Site<'_>,
@@ -276,7 +281,7 @@ impl Table {
         self.probe_next(site, m, &mut found.targets, entries, emits);
     }
 
-    // Tells the locators that are to be told.
+    // Finds the locators that get SMRs for changes, and sends these.
     fn tell_found(
         &mut self,
         site: &Site<'_>,
@@ -307,14 +312,14 @@ impl Table {
     }
 }
 
-// What is found at a second: the locators that are told, and those that are probed.
+// The locators that are found at a second: those that get SMRs, and those that are probed.
 #[derive(Drop)]
 struct Found {
     told: Vec<Addr>,
     targets: Vec<Target>,
 }
 
-// One of these changes is due at a moment.
+// Whether one of these changes is due at a moment.
 fn is_due(m: u64, changes: &[Change]) -> bool
     ensures { result ≡ is_some_due m changes.now }
 {

@@ -15,8 +15,8 @@ use ip_headers::Addr;
 use lisp_header::LispHeader;
 use router_log::EchoOut;
 
-/// The header of a packet of an instance to a locator, with the versions of its source and its
-/// destination.
+/// The LISP header of a packet of an instance to a locator; `versions` are those of its source and
+/// of its destination.
 pub(crate) fn header_to(view: &View<'_>, iid: u32, to: Addr, versions: (u16, u16)) -> LispHeader
     requires lawful { IsSite view.now.site }
     requires instance { iid < 2 ^ 24 }
@@ -29,7 +29,8 @@ pub(crate) fn header_to(view: &View<'_>, iid: u32, to: Addr, versions: (u16, u16
     lisp_header(view.site, iid, view.echo_out(&to), versions)
 }
 
-// The header that does that about echoes: an echo, or else versions, and the own status bits.
+// The LISP header of a packet of an instance, by how it deals with echoes (`out`): the nonce of an
+// echo or else the versions, and the own status bits.
 fn lisp_header(site: &Site<'_>, iid: u32, out: EchoOut, versions: (u16, u16)) -> LispHeader
     requires lawful { IsSite site.now }
     requires instance { iid < 2 ^ 24 }
@@ -67,7 +68,7 @@ fn asks_echo(out: EchoOut) -> bool
     }
 }
 
-// The versions of a header without nonce, where either is there.
+// The two versions in a LISP header: only without a nonce, and where either is a version.
 fn versions_of(out: EchoOut, source: u16, dest: u16) -> Option<(u16, u16)>
     ensures { result ≡ versions_of out source dest }
 {
@@ -82,7 +83,7 @@ fn versions_of(out: EchoOut, source: u16, dest: u16) -> Option<(u16, u16)>
     }
 }
 
-// The status bits of the own locators, beside an instance the lowest 8.
+// The status bits of the own locators in a LISP header: beside an instance the lowest 8.
 fn own_status(site: &Site<'_>, iid: u32) -> u32
     requires { IsSite site.now }
     ensures bits { result ≡ if iid == 0 then own_bits site.now.locators
@@ -93,7 +94,7 @@ fn own_status(site: &Site<'_>, iid: u32) -> u32
     if iid == 0 { bits } else { bits % 256 }
 }
 
-// The instance, where it is not 0.
+// The instance in a LISP header, or None where it is 0.
 fn told_instance(iid: u32) -> Option<u32>
     ensures { result ≡ if iid == 0 then None else Some iid }
 {

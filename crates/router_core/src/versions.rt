@@ -11,21 +11,21 @@ use lisp_settings::Database;
 use map_cache::Mapping;
 use router_log::{Reason, Verdict};
 
-/// 0 is no version.
+/// Whether a number is a Map-Version: 0 is none.
 pub(crate) fn is_version(version: u16) -> bool
     ensures { result ≡ is_version version }
 {
     version != 0
 }
 
-/// Both versions are there, and the first is newer.
+/// Whether both numbers are versions, and the first is newer.
 pub(crate) fn is_newer(a: u16, b: u16) -> bool
     ensures { result ≡ is_newer a b }
 {
     is_version(a) && is_version(b) && newer(a, b)
 }
 
-/// The version that a header names of its sender's mapping, 0 without one.
+/// The version that a header names of its sender's mapping, 0 where it has no versions.
 pub(crate) fn source_version(header: &LispHeader) -> u16
     ensures { result ≡ source_version header.now }
 {
@@ -33,7 +33,7 @@ pub(crate) fn source_version(header: &LispHeader) -> u16
     source
 }
 
-/// The version that a header names of the receiver's mapping, 0 without one.
+/// The version that a header names of the receiver's mapping, 0 where it has no versions.
 pub(crate) fn dest_version(header: &LispHeader) -> u16
     ensures { result ≡ dest_version header.now }
 {
@@ -41,7 +41,7 @@ pub(crate) fn dest_version(header: &LispHeader) -> u16
     dest
 }
 
-// The versions that a header names, 0 without them.
+// The source and destination versions that a header names, 0 where it has none.
 fn named_versions(header: &LispHeader) -> (u16, u16)
     ensures { result ≡ unwrap_or header.now.versions (0, 0) }
 {
@@ -58,8 +58,8 @@ fn cached_version(mapping: Option<&Mapping>) -> u16
     }
 }
 
-/// The verdict on a packet for the site that its versions drop: the other side takes the site's
-/// mapping for a newer one than it is, or its own one for an older one than was learned.
+/// The verdict on a packet for the site that its versions drop, or None: it names a newer version
+/// of the site's mapping than there is, or an older one of its source's mapping than is in force.
 pub(crate) fn wrong_version(
     header: &LispHeader,
     home: &Database,

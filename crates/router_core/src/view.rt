@@ -1,4 +1,4 @@
-// A table, as it is asked at a moment.
+// The view of a table at a moment, for decisions.
 ghost use Rattle.router_core.specs.Site.{IsSite};
 ghost use Rattle.std.specs.Prelude.{◌≡◌, ◌&&◌, IfSome, option_map};
 ghost use Rattle.std.specs.Option.{option_copied};
@@ -19,7 +19,8 @@ use router_log::EchoOut;
 use std::alloc::Global;
 use std::marker::Model;
 
-/// A table as it is asked at a moment, which may be one before the last entry's, for the site as it stands.
+/// The view of a table at a moment, with the site as it stands. A moment earlier than the last
+/// entry's counts as the last entry's.
 #[derive(Drop)]
 pub(crate) struct View<'t> {
     pub(crate) table: &'t Table,
@@ -40,27 +41,27 @@ impl<'t> Model for View<'t> {
 }
 
 impl<'t> View<'t> {
-    /// The table as it is asked then.
+    /// The view of a table at moment m, with the site as it stands.
     pub(crate) fn of(table: &'t Table, site: &'t Site<'t>, m: u64) -> View<'t>
         ensures { result ≡ record { site = site.now; parts = table.now.parts; m = m } }
     {
         View { table, site, m }
     }
 
-    /// What lists are made with.
+    /// The allocator that lists are made with.
     pub(crate) fn alloc(&self) -> Global {
         let table = self.table;
         table.alloc
     }
 
-    /// Neither probes nor echoes speak against a locator.
+    /// Whether neither probes nor echoes count against a locator.
     pub(crate) fn is_up(&self, rloc: &Addr) -> bool
         ensures { result ≡ (seen self.now).up rloc.now }
     {
         self.table.is_up(self.m, rloc)
     }
 
-    /// What the header of a packet to a locator does about echoes.
+    /// How the header of a packet to a locator deals with echoes.
     pub(crate) fn echo_out(&self, rloc: &Addr) -> EchoOut
         ensures out { result ≡ (seen self.now).echo_out rloc.now }
         ensures short { IsShortOut result }
@@ -68,14 +69,15 @@ impl<'t> View<'t> {
         self.table.echo_out(self.m, rloc)
     }
 
-    /// An echo is asked of the locators of packets, and may be asked of this one.
+    /// Whether an echo is to be requested of a locator: the setting `echo` is on, and it may be.
     pub(crate) fn is_echo_due(&self, rloc: &Addr) -> bool
         ensures { result ≡ (self.now.site.echo && (seen self.now).may_start rloc.now) }
     {
         self.table.is_echo_due(self.site, self.m, rloc)
     }
 
-    /// The longest prefix of the site in an instance that covers an address.
+    /// The longest prefix of the site in an instance that covers an address, with its version as it
+    /// stands, or None.
     pub(crate) fn home(&self, iid: u32, address: &Addr) -> Option<Database>
         requires { IsSite self.now.site }
         ensures { result ≡ home_of self.now.site.databases iid address.now }
@@ -83,7 +85,7 @@ impl<'t> View<'t> {
         self.site.home(iid, address)
     }
 
-    /// The mapping in force for an EID.
+    /// The mapping in force for an EID, or None.
     pub(crate) fn in_force(&self, eid: &Eid) -> Option<&'t Mapping>
         ensures found { option_map held_of (option_copied result)
             ≡ force (seen self.now).mappings eid.now.iid eid.now.prefix.addr eid.now.prefix.len }

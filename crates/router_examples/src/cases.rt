@@ -1,4 +1,4 @@
-// Packets that no tunnel takes, and the router's own.
+// Packets that go into no tunnel, and packets that the router itself sent.
 #![tactic(auto, unfolding(crate::proofs::OnLiterals::router_on_literals))]
 
 ghost use Rattle.std.specs.Prelude.{◌≡◌, [], ◌∷◌, codes, map};
@@ -7,7 +7,8 @@ ghost use Rattle.router_examples.specs.Messages.{asked};
 ghost use Rattle.router_examples.specs.Replays.{at_the_link, frames, packet_at, report, said, sent, verdict_on};
 ghost use Rattle.router_examples.specs.Sites.{asking_site, site_acting};
 
-/// Where a mapping has no locators, its action says what becomes of a packet.
+/// The action of a mapping without locators decides on a packet: action 1 forwards it natively,
+/// every other one drops it.
 pub fn an_action_settles_a_packet()
     ensures actions { map (λ action. verdict_on packet (site_acting action))
         (0 ∷ 1 ∷ 2 ∷ 3 ∷ 4 ∷ 5 ∷ 6 ∷ 7 ∷ [])
@@ -24,7 +25,8 @@ pub fn an_action_settles_a_packet()
         ≡ packet_at (tenths 0) forwarded ∷ [] }
 {}
 
-/// A capture at the link of the router has what it sent and delivered itself.
+/// In a capture at the router's link, packets that the router itself sent are passed over: one from
+/// its own locator is `own`, one that it delivered is `local`.
 pub fn own_packets_are_passed_over()
     ensures lines { said asking_site at_the_link ≡ report (
         codes "1 1700000000.100000000 n=0 drop 1 refused link 12 ethertype"

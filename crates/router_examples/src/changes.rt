@@ -1,4 +1,5 @@
-// Own locators that go up and down: from where packets go, who is told, which versions follow.
+// Own locators that go up and down: the sources of packets, the locators that get SMRs, and the
+// versions that follow.
 #![tactic(auto, unfolding(crate::proofs::OnLiterals::router_on_literals))]
 
 ghost use Rattle.std.specs.Prelude.{◌≡◌, [], ◌∷◌, codes, false, map, None, true};
@@ -13,8 +14,8 @@ ghost use Rattle.router_examples.specs.Messages as message;
 ghost use Rattle.router_examples.specs.Replays.{asked_once, kept, packet_at, reachable_after, report, said, second, sent, told_at, twice, versions_after};
 ghost use Rattle.router_examples.specs.Sites.{asking_site_going_down, change, far, far_off, home_of_0, host, near, near_too, site_going_down, site_of_96_locators, site_with_changes, site_with_few_to_tell};
 
-/// An own locator goes down: packets go from the next one then, under the next version; the other side
-/// is told, by status bits and by an SMR, and by the records of Map-Replies.
+/// When an own locator goes down, packets go from the next one and under the next version. The
+/// change shows in status bits, in an SMR to the other side, and in the records of Map-Replies.
 pub fn an_own_locator_goes_down()
     ensures lines { said site_going_down twice ≡ report (
         codes "1 1700000000.000000000 n=1 encapsulated 192.0.2.1 198.51.100.7 64519"
@@ -33,8 +34,9 @@ pub fn an_own_locator_goes_down()
     ensures reachable { reachable_after site_going_down (kept site_going_down twice) ≡ false ∷ true ∷ [] }
 {}
 
-/// Changes come with a second that begins, so a capture of one packet sees none, not even those before
-/// it. The next second has them all, in order, and no later one has them again.
+/// Changes are made when a second begins: a capture of one packet makes none, not even one that is
+/// due at the packet's moment. The next second makes all that are due, in order, and no later
+/// second makes them again.
 pub fn changes_come_as_a_second_begins()
     ensures one { kept (site_with_changes (change 0 near false ∷ [])) (raw 1 (seconds 0) packet ∷ [])
         ≡ statics site_going_down }
@@ -46,8 +48,8 @@ pub fn changes_come_as_a_second_begins()
     ensures none { (second site_going_down (Changed (seconds 1) near false ∷ []) 2).entries ≡ [] }
 {}
 
-/// With each change a version goes one on, also where the locator was as it is set; after 4,095 comes
-/// 1, and 0 stays none.
+/// Each change of an own locator steps the site's versions on by one, even a change to the present
+/// state; 1 follows 4,095, and 0 stays 0.
 pub fn a_change_steps_versions_on()
     ensures round { map (λ steps. stood_version steps 4094) (0 ∷ 1 ∷ 2 ∷ 3 ∷ [])
         ≡ 4094 ∷ 4095 ∷ 1 ∷ 2 ∷ [] }
@@ -58,8 +60,9 @@ pub fn a_change_steps_versions_on()
     ensures still { versions_after site_going_down (Changed (seconds 1) near_too true ∷ []) ≡ 6 ∷ [] }
 {}
 
-/// Of the locators that mappings name the first 64 are told. No own one is, none of priority 255, none
-/// of a family without an own locator that is up, and none twice.
+/// Of the locators that mappings name the first 64 by address get SMRs for a change: no own
+/// locator, none of priority 255, none of a family without an own locator that is up, and none
+/// twice.
 pub fn the_first_64_locators_are_told()
     ensures first { told_at site_of_96_locators (statics site_of_96_locators) 1 ≡ map far_off (range_with_len 1 64) }
     ensures few { told_at site_with_few_to_tell (statics site_with_few_to_tell) 1 ≡ far_off 8 ∷ [] }
@@ -68,7 +71,7 @@ pub fn the_first_64_locators_are_told()
         (Solicited (seconds 0) (far_off 8) home_of_0 1 ∷ statics site_with_few_to_tell) 1 ≡ [] }
 {}
 
-/// Where no own locator of the resolver's family is up, nothing is asked for, and no request goes out
+/// While no own locator of the resolver's family is up, no Map-Request is made, and none is sent
 /// again.
 pub fn nothing_is_asked_without_an_own_locator()
     ensures asked { (note asking_site_going_down [] (seconds 0) (notice.Ask host None)).entries

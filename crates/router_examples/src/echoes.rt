@@ -1,4 +1,4 @@
-// Echoed nonces: how long an echo is asked for and wanted, and what comes of one that stays away.
+// Echoed nonces: how long an echo is requested or wanted, and the effect of a missing one.
 #![tactic(auto, unfolding(crate::proofs::OnLiterals::router_on_literals))]
 
 ghost use Rattle.std.specs.Prelude.{◌≡◌, [], ◌∷◌, ◌++◌, codes, false, map, None, Some, true};
@@ -13,8 +13,9 @@ ghost use Rattle.router_examples.specs.Frames.{around, delivered, inward, inward
 ghost use Rattle.router_examples.specs.Replays.{around_both, around_echo, around_wish, after_asking, data_came, echo_asked, echo_asked_and_wanted, echo_came, echo_wanted, kept, packet_at, report, said, sent, starts_of, told_by, told_by_packet, wishes_of};
 ghost use Rattle.router_examples.specs.Sites.{echoing_site, echoing_site_of_versions, far, far_off, site_of_versions, static_site};
 
-/// An echo is asked of a locator once a packet goes to it. Where data comes from it and no echo, it
-/// can't be used from ten seconds on until a minute is over, and then is asked for another.
+/// An echo is requested of a locator once a packet goes to it. If data and no echo comes from the
+/// locator, it isn't usable from 10 s to 60 s after the request; then another echo is requested of
+/// it.
 pub fn a_locator_owes_its_echo()
     ensures lines { said echoing_site (around_echo (codes "0000000000000000")) ≡ report (
         codes "1 1700000000.000000000 n=1 encapsulated 192.0.2.1 198.51.100.7 64519"
@@ -36,8 +37,8 @@ pub fn a_locator_owes_its_echo()
         ∷ statics echoing_site }
 {}
 
-/// An echo within ten seconds keeps its locator in use, and ends the asking: the data with it adds
-/// nothing.
+/// An echo within ten seconds keeps its locator usable and ends its request, so that the data in
+/// the same packet adds no entry. A later echo adds none.
 pub fn an_echo_keeps_a_locator_in_use()
     ensures lines { said echoing_site (around_echo (codes "800000aa00000000")) ≡ report (
         codes "1 1700000000.000000000 n=1 encapsulated 192.0.2.1 198.51.100.7 64519"
@@ -52,8 +53,9 @@ pub fn an_echo_keeps_a_locator_in_use()
         ≡ echo_asked ++ statics echoing_site }
 {}
 
-/// Another nonce is data and no echo, and so is E without N. A nonce that is to be echoed is
-/// neither. What comes from another locator says nothing of this one.
+/// A packet with another nonce counts as data and not as the echo, and so does one with E and
+/// without N. A packet whose nonce is to be echoed is neither. A packet from another locator adds
+/// no entry.
 pub fn not_each_nonce_is_the_echo()
     ensures another_nonce { after_asking (seconds 2) (inward (codes "800000ab00000000"))
         ≡ DataFrom (seconds 2) far ∷ echo_asked ++ statics echoing_site }
@@ -65,7 +67,8 @@ pub fn not_each_nonce_is_the_echo()
         ≡ echo_asked ++ statics echoing_site }
 {}
 
-/// What a header says of echoes: E asks for one, and counts beside N alone.
+/// The notices of a tunnel packet by its echo bits: N with E is a wanted echo, N alone an echo and
+/// data, all else data. E counts only with N.
 pub fn a_header_tells_of_echoes()
     ensures plain { told_by static_site (codes "0000000000000000") ≡ notice.DataFrom far ∷ [] }
     ensures nonce { told_by static_site (codes "8000002a00000000")
@@ -76,7 +79,8 @@ pub fn a_header_tells_of_echoes()
         ≡ notice.EchoWanted far 0x2a ∷ [] }
 {}
 
-/// An echo is asked for during ten seconds and until it is heard. One packet without it counts.
+/// An echo is requested of a locator for ten seconds, or until it comes. In that time one packet
+/// without the echo is noted, which doesn't end the request.
 pub fn an_echo_is_asked_for_ten_seconds()
     ensures asked { map (λ m. (view echo_asked m).echo_on far) (around 10) ≡ Some 0xaa ∷ None ∷ [] }
     ensures due { map (λ m. (view echo_asked m).data_due far) (around 10) ≡ true ∷ false ∷ [] }
@@ -86,8 +90,8 @@ pub fn an_echo_is_asked_for_ten_seconds()
     ensures another { (view echo_asked (seconds 1)).echo_on (far_off 8) ≡ None }
 {}
 
-/// A locator that sends data and no echo is down from ten seconds to a minute after an echo was
-/// asked of it. One that sends nothing isn't, nor one whose echo came.
+/// A locator that sends data and no echo is down from 10 s to 60 s after the echo was requested. A
+/// silent locator stays up, and so does one whose echo came.
 pub fn a_locator_without_its_echo_is_down()
     ensures data { map (λ m. (view data_came m).up far) (around 10 ++ around 60)
         ≡ true ∷ false ∷ false ∷ true ∷ [] }
@@ -98,8 +102,8 @@ pub fn a_locator_without_its_echo_is_down()
     ensures another { (view data_came (seconds 10)).up (far_off 8) ≡ true }
 {}
 
-/// An echo is asked for where the settings say so: of one locator once a minute, and not while it
-/// wants one itself.
+/// An echo is requested where the setting `echo` is on: of a locator once a minute, and not while
+/// the locator wants an echo itself.
 pub fn an_echo_is_asked_for_once_a_minute()
     ensures due { told_by_packet echoing_site (statics echoing_site) ≡ notice.EchoDue far ∷ [] }
     ensures unset { told_by_packet static_site (statics static_site) ≡ [] }
@@ -108,8 +112,8 @@ pub fn an_echo_is_asked_for_once_a_minute()
     ensures another { (view echo_asked_and_wanted (seconds 1)).may_start (far_off 8) ≡ true }
 {}
 
-/// An echo that is wanted is given in each packet for two seconds, also where the settings ask for
-/// none.
+/// A wanted echo is in each packet to its locator for two seconds, even where the setting `echo` is
+/// off.
 pub fn a_wanted_echo_is_given()
     ensures lines { said static_site around_wish ≡ report (
         codes "1 1700000000.000000000 n=1 delivered 0"
@@ -127,7 +131,8 @@ pub fn a_wanted_echo_is_given()
         ≡ EchoWanted (seconds 0) far 0x2a ∷ statics static_site }
 {}
 
-/// A wish stands for two seconds from when it first came. Another nonce takes its place.
+/// An echo is wanted for two seconds from when its nonce first came; the same nonce doesn't extend
+/// them. Another nonce takes its place.
 pub fn an_echo_is_wanted_for_two_seconds()
     ensures out { map (λ m. (view echo_wanted m).echo_out far) (around 2) ≡ Answer 0x2a ∷ Plain ∷ [] }
     ensures again { map (λ m. (view echo_wanted m).may_want far 0x2a) (around 2) ≡ false ∷ true ∷ [] }
@@ -137,7 +142,8 @@ pub fn an_echo_is_wanted_for_two_seconds()
     ensures another { (view echo_wanted (seconds 1)).echo_out (far_off 8) ≡ Plain }
 {}
 
-/// An echo is given before one is asked for, and beside either stand no versions.
+/// A wanted echo goes before a requested one in packets to a locator, and beside either a header
+/// names no versions.
 pub fn answering_goes_before_asking()
     ensures out { map (λ m. (view echo_asked_and_wanted m).echo_out far) (around 3 ++ around 10)
         ≡ Answer 0x2a ∷ Ask 0xaa ∷ Ask 0xaa ∷ Plain ∷ [] }
@@ -151,7 +157,8 @@ pub fn answering_goes_before_asking()
         ∷ [] }
 {}
 
-/// An echo has a nonce of 24 bits: the lowest of the one that is drawn.
+/// The nonce of an echo has 24 bits; that of a requested echo is the lowest 24 of the nonce that is
+/// drawn.
 pub fn an_echo_has_24_bits()
     ensures short { map is_short (0xffffff ∷ 0x1000000 ∷ []) ≡ true ∷ false ∷ [] }
     ensures asked { map (λ nonce. fits (site_of_versions 0 0) [] (EchoStarted (seconds 0) far nonce))
@@ -160,7 +167,8 @@ pub fn an_echo_has_24_bits()
         (0xffffff ∷ 0x1000000 ∷ []) ≡ true ∷ false ∷ [] }
 {}
 
-/// While 4,096 echoes are asked for, no other one is; while as many are wanted, none is noted.
+/// While 4,096 echoes are requested, no other one is; while 4,096 echoes are wanted, no other one
+/// is noted.
 pub fn echoes_have_room_for_4096()
     ensures asked { map (λ n. may_start (seconds 1) (starts_of n) [] (far_off 8))
         (4095 ∷ 4096 ∷ []) ≡ true ∷ false ∷ [] }

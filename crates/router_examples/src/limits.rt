@@ -1,5 +1,5 @@
-// The numbers of the router, each as a worked clause: a proof ties code to a definition, and a definition that is another
-// number is refused here.
+// The numbers of the router, each as a worked clause: a proof ties code to a definition, and a
+// definition with another number is refused here.
 ghost use Rattle.std.specs.Prelude.{◌≡◌};
 ghost use Rattle.capture_io.specs.Limits.{longest_span, most_frame_octets, most_records};
 ghost use Rattle.encap.specs.Limits.{most_tunnel_octets};
@@ -10,15 +10,15 @@ ghost use Rattle.map_messages.specs.Limits.{control_hops, most_message_octets};
 ghost use Rattle.request_queue.specs.Limits.{first_retry_seconds, last_retry_seconds, most_retries, request_seconds};
 ghost use Rattle.router_model.specs.Limits.{control_port, data_port, most_message_records, most_notices, most_round_octets, most_told};
 
-/// A capture has a billion records at most, each of 262,144 octets at most, and none more than 1,000,000 seconds past all
-/// before it.
+/// A capture has at most a billion records, each of at most 262,144 octets, and none more than
+/// 1,000,000 seconds later than all before it.
 pub fn captures_have_these_limits()
     ensures records { most_records ≡ 1000000000 }
     ensures octets { most_frame_octets ≡ 262144 }
     ensures span { longest_span ≡ 1000000000000000 }
 {}
 
-/// Settings list so many items of each kind at most.
+/// The most octets of a settings text, and the most items of each kind that settings list.
 pub fn settings_have_these_limits()
     ensures text { most_text_octets ≡ 16777216 }
     ensures nonces { most_nonces ≡ 4096 }
@@ -30,8 +30,9 @@ pub fn settings_have_these_limits()
     ensures locators { most_locators ≡ 32 }
 {}
 
-/// So many requests, probes, echoes and solicitations count at once at most, and so many locators are probed and told in one
-/// second.
+/// The most requests, probes, echoes and SMRs that count at once, how often a request is sent
+/// again, how many locators are probed and get SMRs in one second, and the most notices and
+/// candidates of a decision.
 pub fn tables_have_these_limits()
     ensures requests { most_requests ≡ 1024 }
     ensures open { most_open ≡ 16384 }
@@ -46,8 +47,8 @@ pub fn tables_have_these_limits()
     ensures candidates { most_candidates ≡ 32 }
 {}
 
-/// Requests, probes, echoes and solicitations count for so many seconds, and a mapping without a TTL of its own for so many
-/// minutes.
+/// The seconds for which requests, probes, echoes and SMRs count, and the minutes of a mapping
+/// without a TTL of its own.
 pub fn times_are_these()
     ensures request { request_seconds ≡ 7 }
     ensures first_retry { first_retry_seconds ≡ 1 }
@@ -62,8 +63,8 @@ pub fn times_are_these()
     ensures mapping { default_minutes ≡ 1440 }
 {}
 
-/// Packets in tunnels and control messages have these ports (RFC 9300, section 5.3; RFC 9301, section 5), these sizes and
-/// these hops.
+/// The ports of tunnel packets and control messages (RFC 9300, section 5.3; RFC 9301, section 5),
+/// their sizes and hops, and the most octets of a round.
 pub fn packets_have_these_numbers()
     ensures data { data_port ≡ 4341 }
     ensures control { control_port ≡ 4342 }

@@ -1,4 +1,4 @@
-// Which locator of a mapping is taken: status bits, priorities, weights.
+// The choice among the locators of a mapping: status bits, priorities, weights.
 #![tactic(auto, unfolding(crate::proofs::OnLiterals::router_on_literals))]
 
 ghost use Rattle.std.specs.Prelude.{◌≡◌, [], ◌∷◌, codes, false, map, None, Some, true};
@@ -10,8 +10,8 @@ ghost use Rattle.router_examples.specs.Frames.{packet, tenths, told};
 ghost use Rattle.router_examples.specs.Replays.{choices, frames, kept, report, said, verdict_on};
 ghost use Rattle.router_examples.specs.Sites.{nine_locators, site_with, uneven, wide};
 
-/// Eight status bits are told of nine locators, and entered once: the eighth goes down, and the
-/// ninth stays up.
+/// Eight status bits for a mapping of nine locators are entered once: the eighth locator goes down,
+/// and the ninth stays up.
 pub fn eight_bits_are_told_of_nine_locators()
     ensures lines { said nine_locators (frames (packet ∷ told ∷ told ∷ packet ∷ [])) ≡ report (
         codes "1 1700000000.000000000 n=1 encapsulated 192.0.2.1 198.51.100.4 64519"
@@ -26,13 +26,15 @@ pub fn eight_bits_are_told_of_nine_locators()
         ≡ (true ∷ true ∷ true ∷ true ∷ true ∷ true ∷ true ∷ false ∷ true ∷ []) ∷ [] }
 {}
 
-/// The least priority of the locators that are up counts, and then the weights.
+/// Of the locators that are up those of least priority count, and then their weights: a locator of
+/// priority 0 that is down is passed over, and so is one of weight 0.
 pub fn priorities_come_before_weights()
     ensures { verdict_on packet (site_with uneven)
         ≡ codes "encapsulated 192.0.2.1 198.51.100.8 64519" }
 {}
 
-/// Hashes fall to locators by the shares that weights give; equal weights count 1 each.
+/// Flow hashes fall to locators by the shares of their weights; equal weights, even of 0, have
+/// equal shares.
 pub fn hashes_fall_to_shares()
     ensures weights { choices (30 ∷ 20 ∷ 20 ∷ 10 ∷ [])
         (0 ∷ 29 ∷ 30 ∷ 49 ∷ 50 ∷ 69 ∷ 70 ∷ 79 ∷ 80 ∷ [])

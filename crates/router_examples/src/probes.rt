@@ -1,4 +1,5 @@
-// Probes of locators: which of them are probed as a second begins, and what probes say of them.
+// Probes of locators: which locators are probed at a second, and when a probe counts against its
+// locator.
 #![tactic(auto, unfolding(crate::proofs::OnLiterals::router_on_literals))]
 
 ghost use Rattle.std.specs.Prelude.{◌≡◌, [], ◌∷◌, codes, false, map, true};
@@ -12,8 +13,8 @@ ghost use Rattle.router_examples.specs.Messages as message;
 ghost use Rattle.router_examples.specs.Replays.{answer_at, answered_once, around_answer, around_probes, kept, learned_for_a_minute, packet_at, probed_again, probed_at, probed_before, probed_once, probed_twice, probes_of, report, said, second, sent, shared_locators, up_at};
 ghost use Rattle.router_examples.specs.Sites.{far, far_in_ipv6, far_off, locator, narrow_of_0, near, near_in_ipv6, own, probing_site, seventeen_locators, site_of_both, static_site, wide_of_0};
 
-/// A locator is probed in the next second. Three seconds after a probe without an answer it can't be
-/// used; after a minute it is probed again, and once that is answered it can be used.
+/// A locator is probed at the next second. From three seconds after an unanswered probe on it isn't
+/// usable; after a minute it is probed again, and is usable once that probe is answered.
 pub fn a_locator_is_probed_until_it_answers()
     ensures lines { said probing_site around_probes ≡ report (
         codes "1 1700000000.500000000 n=1 encapsulated 192.0.2.1 198.51.100.7 64519"
@@ -37,7 +38,7 @@ pub fn a_locator_is_probed_until_it_answers()
         ∷ statics probing_site }
 {}
 
-/// An answer from another address than was probed is no answer.
+/// An answer from another address than the probed one is dropped, and doesn't settle the probe.
 pub fn a_foreign_answer_is_none()
     ensures lines { said probing_site (around_answer message.foreign_answer) ≡ report (
         codes "1 1700000000.500000000 n=1 encapsulated 192.0.2.1 198.51.100.7 64519"
@@ -48,7 +49,7 @@ pub fn a_foreign_answer_is_none()
         ≡ Probed (seconds 1) far 0x0102030405060708 ∷ statics probing_site }
 {}
 
-/// An answer in time keeps the locator in use.
+/// An answer in time keeps the probed locator usable.
 pub fn an_answer_keeps_a_locator_in_use()
     ensures lines { said probing_site (around_answer message.first_answer) ≡ report (
         codes "1 1700000000.500000000 n=1 encapsulated 192.0.2.1 198.51.100.7 64519"
@@ -60,7 +61,7 @@ pub fn an_answer_keeps_a_locator_in_use()
         ∷ Probed (seconds 1) far 0x0102030405060708 ∷ statics probing_site }
 {}
 
-/// A probe is answered within three seconds, and once.
+/// A probe is answered within three seconds, and once; any other answer is dropped.
 pub fn a_probe_is_answered_within_three_seconds()
     ensures within { answer_at probed_once (just_before (seconds 3)) ≡ codes "control probe-reply" }
     ensures late { answer_at probed_once (seconds 3) ≡ codes "drop 21 unsolicited" }
@@ -72,7 +73,8 @@ pub fn a_probe_is_answered_within_three_seconds()
         ∷ []) }
 {}
 
-/// A probe speaks against its locator from three seconds on, until it is answered or 600 are over.
+/// A probe counts against its locator from three seconds on, until it or a later one is answered,
+/// or until it is 600 seconds old.
 pub fn a_probe_speaks_against_its_locator()
     ensures unanswered { map (up_at probed_once)
         (seconds 0 ∷ just_before (seconds 3) ∷ seconds 3 ∷ just_before (seconds 600) ∷ seconds 600 ∷ [])
@@ -88,8 +90,8 @@ pub fn a_probe_speaks_against_its_locator()
     ensures another { up_at (Probed (seconds 0) (far_off 8) 0x0102030405060708 ∷ []) (seconds 3) ≡ true }
 {}
 
-/// Locators without a probe come first, in order of address, IPv4 first; the others follow in order
-/// of their last probe, which counts for 600 seconds.
+/// Locators without a probe are probed first, in order of address, IPv4 first; the others follow in
+/// order of their last probe, which counts for 600 seconds.
 pub fn locators_are_probed_in_turn()
     ensures by_address { probed_at site_of_both (probed_before site_of_both []) 0
         ≡ far_off 7 ∷ far_off 8 ∷ far_off 9 ∷ far_in_ipv6 ∷ [] }
@@ -101,15 +103,16 @@ pub fn locators_are_probed_in_turn()
         ≡ far_off 8 ∷ far_off 9 ∷ far_in_ipv6 ∷ far ∷ [] }
 {}
 
-/// A locator is probed again after a minute.
+/// A locator is probed again once its last probe is a minute old.
 pub fn a_locator_rests_for_a_minute()
     ensures young { probed_at probing_site (probed_before probing_site ((0, far) ∷ [])) 59 ≡ [] }
     ensures rested { probed_at probing_site (probed_before probing_site ((0, far) ∷ [])) 60 ≡ far ∷ [] }
     ensures last { probed_at probing_site (probed_before probing_site ((60, far) ∷ (0, far) ∷ [])) 119 ≡ [] }
 {}
 
-/// A locator of priority 255, an own one, and one of a family of which no own one is up isn't
-/// probed, nor one whose mapping ended. One that is down by its record is.
+/// A locator of priority 255, an own one, one of a family without an own locator that is up, and
+/// one whose mapping ended aren't probed; with the setting `probe` off none is. One that is down by
+/// its record is probed.
 pub fn some_locators_are_not_probed()
     ensures priority { probes_of (own near ∷ [])
         (record (locator far) { priority = 255 } ∷ locator (far_off 8) ∷ []) ≡ far_off 8 ∷ [] }
@@ -132,7 +135,7 @@ pub fn a_probe_is_for_the_least_eid()
         ∷ emit.Probe (far_off 8) wide_of_0 0x1112131415161718 ∷ [] }
 {}
 
-/// Sixteen locators are probed in one second, and the seventeenth in the next.
+/// Sixteen locators are probed at one second, and the seventeenth at the next.
 pub fn sixteen_locators_are_probed_a_second()
     ensures sixteen { probed_at seventeen_locators (statics seventeen_locators) 0
         ≡ map far_off (range_with_len 1 16) }

@@ -1,4 +1,4 @@
-// Mappings that are missing, requests for them, and replies.
+// Missing mappings, the Map-Requests for them, and Map-Replies.
 #![tactic(auto, unfolding(crate::proofs::OnLiterals::router_on_literals))]
 
 ghost use Rattle.std.specs.Prelude.{◌≡◌, [], ◌∷◌, ◌++◌, codes, false, map, replicate, None, Some};
@@ -11,7 +11,7 @@ ghost use Rattle.router_examples.specs.Messages as message;
 ghost use Rattle.router_examples.specs.Replays.{answered_by, at_the_end_of, busy_exchange, exchange, frames, kept, packet_at, reply_at, report, said, sent};
 ghost use Rattle.router_examples.specs.Sites.{asking_site, far, host, locator, mapping, wide};
 
-/// A mapping that is missing is asked for, learned, and used.
+/// A missing mapping is requested, learned, and used.
 pub fn a_missing_mapping_is_asked_for()
     ensures lines { said asking_site (frames exchange) ≡ report (
         codes "1 1700000000.000000000 n=0 drop 13 miss"
@@ -27,7 +27,7 @@ pub fn a_missing_mapping_is_asked_for()
         ∷ [] }
 {}
 
-/// One request goes out for all packets that come while it waits.
+/// One Map-Request is sent for all packets that come while it is open.
 pub fn a_mapping_is_asked_for_once()
     ensures lines { said asking_site (frames busy_exchange) ≡ report (
         codes "1 1700000000.000000000 n=0 drop 13 miss"
@@ -46,7 +46,7 @@ pub fn a_mapping_is_asked_for_once()
         ∷ [] }
 {}
 
-/// A reply counts once, and one with another nonce not at all.
+/// A Map-Reply counts once, and one with another nonce doesn't count.
 pub fn a_reply_counts_once()
     ensures lines { said asking_site (frames (
         exchange ++ message.reply ∷ message.reply_to_none ∷ []))
@@ -59,13 +59,13 @@ pub fn a_reply_counts_once()
         ≡ kept asking_site (frames exchange) }
 {}
 
-/// A reply is waited for until seven seconds are over.
+/// A Map-Reply counts while its request is less than seven seconds old.
 pub fn a_reply_comes_within_seven_seconds()
     ensures within { reply_at 1700000006999999999 ≡ codes "control reply learned=1 passed=0" }
     ensures late { reply_at (seconds 7) ≡ codes "drop 21 unsolicited" }
 {}
 
-/// A reply has a record that covers what was asked for.
+/// A Map-Reply without a record that covers the requested EID is dropped.
 pub fn a_reply_covers_what_was_asked()
     ensures lines { said asking_site (frames (packet ∷ message.reply_of_another ∷ [])) ≡ report (
         codes "1 1700000000.000000000 n=0 drop 13 miss"
@@ -75,7 +75,7 @@ pub fn a_reply_covers_what_was_asked()
         ≡ Asked (tenths 0) host (Some (V4 0x0a010005)) false 0x0102030405060708 ∷ [] }
 {}
 
-/// A record beside what was asked for is passed over.
+/// A record beside the one that covers the requested EID is passed over.
 pub fn a_record_beside_is_passed_over()
     ensures lines { said asking_site (frames (packet ∷ message.reply_with_another ∷ [])) ≡ report (
         codes "1 1700000000.000000000 n=0 drop 13 miss"
@@ -88,7 +88,7 @@ pub fn a_record_beside_is_passed_over()
         ∷ [] }
 {}
 
-/// A mapping lasts until its TTL is over, to the nanosecond.
+/// A mapping lives until its TTL is over, to the nanosecond.
 pub fn a_mapping_lasts_to_the_nanosecond()
     ensures { said asking_site (at_the_end_of message.reply_for_a_minute) ≡ report (
         codes "1 1700000000.000000000 n=0 drop 13 miss"
@@ -98,7 +98,7 @@ pub fn a_mapping_lasts_to_the_nanosecond()
         ∷ []) }
 {}
 
-/// When the longest mapping ends, the next one that covers the destination counts.
+/// When the longest mapping that covers a destination ends, the next longest is in force.
 pub fn a_shorter_prefix_follows_a_longer_one()
     ensures { said asking_site (at_the_end_of message.reply_of_two) ≡ report (
         codes "1 1700000000.000000000 n=0 drop 13 miss"
@@ -108,13 +108,13 @@ pub fn a_shorter_prefix_follows_a_longer_one()
         ∷ []) }
 {}
 
-/// A control message has a checksum.
+/// A control message without a UDP checksum is dropped.
 pub fn a_message_has_a_checksum()
     ensures { said asking_site (frames (message.reply_unsummed ∷ [])) ≡ report (
         codes "1 1700000000.000000000 n=0 drop 1 refused udp 26 udp-checksum" ∷ []) }
 {}
 
-/// A message that breaks a rule is refused at the first place where it does.
+/// A control message that breaks a rule is refused at the first place where it breaks one.
 pub fn a_message_is_refused_at_its_first_fault()
     ensures { said asking_site (frames (message.reply_cut ∷ message.reply_of_mask_33
         ∷ message.reply_of_length_11 ∷ message.reply_cut_in_locator ∷ [])) ≡ report (
@@ -125,8 +125,9 @@ pub fn a_message_is_refused_at_its_first_fault()
         ∷ []) }
 {}
 
-/// A reply is of the instance of the request that it answers. A reply to no request, one that a rule refuses, an answer to a
-/// probe, what is encapsulated, an SMR and a packet are of none.
+/// The instance of a Map-Reply is that of the request that it answers. A Map-Reply to no request,
+/// one that a rule refuses, an answer to a probe, an encapsulated message, an SMR and a data packet
+/// have none.
 pub fn a_reply_is_of_the_instance_of_its_request()
     ensures one { map answered_by (message.reply ∷ message.reply_of_another ∷ [])
         ≡ Some 100 ∷ Some 100 ∷ [] }
@@ -135,7 +136,8 @@ pub fn a_reply_is_of_the_instance_of_its_request()
         ∷ packet ∷ []) ≡ replicate 7 None }
 {}
 
-/// A notice is of the instance of its EID, and one that tells of a locator of none.
+/// The instance of a notice is that of its EID; a notice of an echo, of data or of an SMR, which is
+/// about a locator, has none.
 pub fn a_notice_is_of_the_instance_of_its_eid()
     ensures one { map notice_instance (notice.Ask host None ∷ notice.Refresh wide
         ∷ notice.Bits wide far 1 8 ∷ []) ≡ replicate 3 (Some 100) }

@@ -10,8 +10,8 @@ ghost use Rattle.router_examples.specs.Messages as message;
 ghost use Rattle.router_examples.specs.Replays.{after_the_first, all_early, all_late, busy_exchange, by_ones, ends_of, frames, kept, kept_in_rounds, mixed, packet_at, report, said, said_in_rounds, sent, sent_in_rounds};
 ghost use Rattle.router_examples.specs.Sites.{asking_site, far, host, locator, mapping, wide};
 
-/// In rounds of four, the packets beside a reply are decided without it where their number is that
-/// of the round's begin. One request goes out, at the end of the first round.
+/// In rounds of four, packets around a Map-Reply may be decided without it, by the journal at the
+/// begin of their round. One Map-Request is sent, at the end of the first round.
 pub fn a_round_may_be_decided_by_its_begin()
     ensures lines { said_in_rounds asking_site (frames busy_exchange) 4 all_early ≡ report (
         codes "1 1700000000.000000000 n=0 drop 13 miss"
@@ -32,7 +32,8 @@ pub fn a_round_may_be_decided_by_its_begin()
         ∷ [] }
 {}
 
-/// Or by its end, whose mapping was learned from the reply: also the packet that came before it.
+/// In rounds of four, packets around a Map-Reply may be decided by the journal at the end of their
+/// round, with the mapping learned from the reply: even the packet that came before it.
 pub fn a_round_may_be_decided_by_its_end()
     ensures lines { said_in_rounds asking_site (frames busy_exchange) 4 all_late ≡ report (
         codes "1 1700000000.000000000 n=0 drop 13 miss"
@@ -64,7 +65,8 @@ pub fn a_round_may_be_decided_by_its_end()
         ∷ []) }
 {}
 
-/// The entries of a reply come into force together: no round ends between them.
+/// The entries of a Map-Reply come into force together: a data packet is decided without them or
+/// with all of them.
 pub fn no_round_ends_within_a_reply()
     ensures first { ends_of asking_site [] (tenths 0) (take 4 (frames busy_exchange)) ≡ 0 ∷ [] }
     ensures second { ends_of asking_site after_the_first (tenths 3)
@@ -73,7 +75,7 @@ pub fn no_round_ends_within_a_reply()
     ensures end { Lawful asking_site (frames busy_exchange) 4 all_late }
 {}
 
-/// Rounds of one packet are decided each by all that came before.
+/// Rounds of one packet are decided as without rounds: each packet by all entries before it.
 pub fn rounds_of_one_packet_are_plain()
     ensures lines { said_in_rounds asking_site (frames busy_exchange) 1 by_ones
         ≡ said asking_site (frames busy_exchange) }

@@ -1,4 +1,4 @@
-// What the router does as seconds begin: it sends requests again.
+// Seconds that begin: Map-Requests are sent again.
 #![tactic(auto, unfolding(crate::proofs::OnLiterals::router_on_literals))]
 
 ghost use Rattle.std.specs.Prelude.{◌≡◌, [], ◌∷◌, ◌++◌, codes, false, map, Some, true};
@@ -11,8 +11,8 @@ ghost use Rattle.router_examples.specs.Messages.{asked, reply};
 ghost use Rattle.router_examples.specs.Replays.{asked_once, asked_twice, due_at, kept, packet_at, replied_at, report, retried_at, said, second, sent, two_asked, waiting};
 ghost use Rattle.router_examples.specs.Sites.{asking_and_probing_site, asking_site, far, host, locator, mapping, wide};
 
-/// A request goes out three times in all, after one second again and after three. Its reply is
-/// waited for until seven are over.
+/// A Map-Request is sent three times in all, again after one second and after three. Its Map-Reply
+/// counts until seven seconds are over.
 pub fn a_request_goes_out_three_times()
     ensures packets { sent asking_site (replied_at (just_before (seconds 7)))
         ≡ packet_at (seconds 0) asked ∷ packet_at (seconds 1) asked ∷ packet_at (seconds 3) asked ∷ [] }
@@ -31,14 +31,15 @@ pub fn a_request_goes_out_three_times()
     ensures kept { kept asking_site (replied_at (seconds 7)) ≡ waiting }
 {}
 
-/// Of a request that went out within a second the age counts, and not how many seconds began.
+/// A Map-Request that was made within a second is sent again by its age, and not by the number of
+/// seconds that began.
 pub fn a_request_goes_out_again_by_its_age()
     ensures { sent asking_site (raw 1 (tenths 5) packet ∷ raw 2 (seconds 8) reply ∷ [])
         ≡ packet_at (tenths 5) asked ∷ packet_at (seconds 2) asked ∷ packet_at (seconds 4) asked ∷ [] }
 {}
 
-/// A request is due once it is a second old, again at three seconds, and no third time; at seven
-/// seconds it waits no longer.
+/// A Map-Request is due once it is one second old, again once it is three, and no third time; at
+/// seven seconds it is no longer open.
 pub fn a_request_is_due_twice()
     ensures first { map (due_at asked_once) (seconds 0 ∷ just_before (seconds 1) ∷ seconds 1 ∷ seconds 2 ∷ [])
         ≡ (false ∷ []) ∷ (false ∷ []) ∷ (true ∷ []) ∷ (true ∷ []) ∷ [] }
@@ -50,7 +51,8 @@ pub fn a_request_is_due_twice()
         ≡ (true ∷ []) ∷ [] ∷ [] }
 {}
 
-/// As a second begins, a request that is due is entered and goes out as it did first.
+/// At a second a Map-Request that is due is entered as sent again, and goes out as it did the first
+/// time.
 pub fn a_second_sends_a_request_again()
     ensures none { (second asking_site asked_once 0).entries ≡ [] }
     ensures entries { (second asking_site asked_once 1).entries ≡ Retried (seconds 1) 0x0102030405060708 ∷ [] }
@@ -61,14 +63,15 @@ pub fn a_second_sends_a_request_again()
         ≡ [] ∷ [] ∷ [] ∷ [] }
 {}
 
-/// Requests go out again in the order in which they were asked, each with its own count.
+/// Map-Requests are sent again in the order in which they were made, each with its own count.
 pub fn requests_go_out_again_in_order()
     ensures both { retried_at asking_site two_asked 2 ≡ 5 ∷ 2 ∷ [] }
     ensures one { retried_at asking_site (Retried (seconds 2) 5 ∷ two_asked) 2 ≡ 2 ∷ [] }
     ensures apart { retried_at asking_site (Retried (seconds 2) 2 ∷ Retried (seconds 2) 5 ∷ two_asked) 3 ≡ 5 ∷ [] }
 {}
 
-/// As a second begins, requests come before probes, and probes take the next nonces.
+/// At a second Map-Requests are sent again before locators are probed, and probes take the next
+/// nonces.
 pub fn requests_come_before_probes()
     ensures { (second asking_and_probing_site (asked_once ++ statics asking_and_probing_site) 1).entries
         ≡ Retried (seconds 1) 0x0102030405060708 ∷ Probed (seconds 1) far 0x1112131415161718 ∷ [] }

@@ -18,13 +18,15 @@ pub fn a_packet_goes_into_its_tunnel()
         ≡ packet_at (tenths 0) frame.encapsulated ∷ [] }
 {}
 
-/// It is the same of a frame of 60 octets, of which 18 are padding.
+/// The padding of a frame stays out of the tunnel: a frame of 60 octets, of which 18 are padding,
+/// gives the tunnel packet of its packet alone.
 pub fn padding_stays_out_of_the_tunnel()
     ensures { sent static_site (frame.wired 0 (frame.padded packet) ∷ [])
         ≡ packet_at (tenths 0) frame.encapsulated ∷ [] }
 {}
 
-/// A packet that goes into a tunnel is one hop further, and the outer TTL is then the inner one.
+/// A packet that goes into a tunnel has its TTL reduced by one, and the outer TTL is the reduced
+/// inner one; a packet of TTL 1 is dropped.
 pub fn a_hop_is_taken_into_a_tunnel()
     ensures lines { said static_site (frames (frame.one_hop ∷ frame.two_hops ∷ [])) ≡ report (
         codes "1 1700000000.000000000 n=1 drop 9 ttl-expired"
@@ -33,8 +35,8 @@ pub fn a_hop_is_taken_into_a_tunnel()
         ≡ packet_at (tenths 1) frame.encapsulated_last ∷ [] }
 {}
 
-/// A packet leaves its tunnel with the outer DSCP, both marks of congestion joined, and the lesser
-/// TTL less one.
+/// A packet leaves its tunnel with the outer DSCP, the ECN of both headers combined, and the lesser
+/// of both TTLs less one.
 pub fn a_packet_leaves_its_tunnel()
     ensures line { said static_site (frames (frame.marked ∷ [])) ≡ report (
         codes "1 1700000000.000000000 n=1 delivered 0" ∷ []) }
@@ -42,14 +44,15 @@ pub fn a_packet_leaves_its_tunnel()
         ≡ packet_at (tenths 0) frame.delivered ∷ [] }
 {}
 
-/// A header with the bits of both is read as one with a nonce, and names no versions.
+/// A LISP header with the bits of a nonce and of versions is read as one with a nonce, and names no
+/// versions.
 pub fn a_nonce_comes_before_versions()
     ensures { sent (site_of_versions 5 0) (frames (frame.inward (codes "9000002a00000000") ∷ []))
         ≡ packet_at (tenths 0) frame.delivered ∷ [] }
 {}
 
-/// What is encrypted, what is for another site, what can't carry its mark, and what has no hop left
-/// stays in its tunnel.
+/// Tunnel packets that are dropped: an encrypted one, one for another site, one that can't carry
+/// its congestion mark, and one without a hop left.
 pub fn a_packet_may_stay_in_its_tunnel()
     ensures encrypted { verdict_on frame.encrypted static_site ≡ codes "drop 4 encrypted" }
     ensures another { verdict_on frame.for_another static_site ≡ codes "drop 5 not-ours" }
@@ -57,7 +60,8 @@ pub fn a_packet_may_stay_in_its_tunnel()
     ensures end { verdict_on frame.at_its_end static_site ≡ codes "drop 9 ttl-expired" }
 {}
 
-/// A packet in a tunnel has at most 1,500 octets.
+/// A tunnel packet has at most 1,500 octets: a packet of 1,464 octets fits over IPv4, one of 1,444
+/// over IPv6, and larger ones are dropped.
 pub fn a_tunnel_has_1500_octets()
     ensures ipv4 { verdict_on frame.octets_1464 static_site
         ≡ codes "encapsulated 192.0.2.1 198.51.100.7 58051" }

@@ -1,4 +1,4 @@
-// Map-Versions: which ones a header tells, and what comes of an old one.
+// Map-Versions: which ones a LISP header names, and the effect of an old one.
 #![tactic(auto, unfolding(crate::proofs::OnLiterals::router_on_literals))]
 
 ghost use Rattle.std.specs.Prelude.{◌≡◌, [], ◌∷◌, codes, drop, false, map, None, replicate, Some, true};
@@ -15,8 +15,8 @@ ghost use Rattle.router_examples.specs.Messages as message;
 ghost use Rattle.router_examples.specs.Replays.{frames, from_version, from_versions, kept, packet_at, report, said, sent, solicited_once, solicits_of, to_version, to_version_4, to_versions, told_by, verdict_on};
 ghost use Rattle.router_examples.specs.Sites.{asking_site, far, far_in_ipv6, far_off, home_of_0, host, locator, mapping, part_of_0, site_of_two_versions, site_of_versions, site_that_may_ask, wide};
 
-/// A header tells the version of the site's prefix as its source's, and that of the mapping as its
-/// destination's, where there is either.
+/// A LISP header names the version of the site's longest prefix as source version and that of the
+/// mapping as destination version, where either isn't 0.
 pub fn a_header_tells_both_versions()
     ensures both { sent (site_of_versions 5 7) (frames (packet ∷ []))
         ≡ packet_at (tenths 0) (outward (codes "5000500700000001")) ∷ [] }
@@ -30,8 +30,8 @@ pub fn a_header_tells_both_versions()
         ≡ packet_at (tenths 0) (outward (codes "5000900700000001")) ∷ [] }
 {}
 
-/// A packet to a newer version than the site has is dropped. Versions go round, and of two at the
-/// farthest the greater one is newer.
+/// A packet with a newer destination version than that of the site's prefix is dropped. Versions go
+/// round, and of two that are 2,048 apart the greater one is newer.
 pub fn a_newer_destination_is_dropped()
     ensures { map to_version
         ((1, 4095) ∷ (4095, 1) ∷ (2049, 1) ∷ (1, 2049) ∷ (7, 7) ∷ (6, 5) ∷ (5, 6) ∷ [])
@@ -45,7 +45,7 @@ pub fn a_newer_destination_is_dropped()
         ∷ [] }
 {}
 
-/// A packet from an older version than that of the mapping for its source is dropped.
+/// A packet with an older source version than that of the mapping for its source is dropped.
 pub fn an_older_source_is_dropped()
     ensures { map from_version
         ((1, 4095) ∷ (4095, 1) ∷ (2049, 1) ∷ (1, 2049) ∷ (7, 7) ∷ (6, 5) ∷ (5, 6) ∷ [])
@@ -59,7 +59,7 @@ pub fn an_older_source_is_dropped()
         ∷ [] }
 {}
 
-/// Version 0 is none, of whichever side.
+/// Version 0 is none, of either side, and drops no packet.
 pub fn a_version_of_0_drops_nothing()
     ensures dest { map to_version ((0, 5) ∷ (1, 0) ∷ (2048, 0) ∷ (2049, 0) ∷ [])
         ≡ replicate 4 (codes "delivered 0") }
@@ -69,8 +69,8 @@ pub fn a_version_of_0_drops_nothing()
         ≡ codes "delivered 0" }
 {}
 
-/// Whether a packet is for the site is judged before its versions; the version of its destination
-/// before that of its source; and both before its mark of congestion and its hops.
+/// Whether a packet is for the site is judged before its versions, its destination version before
+/// its source version, and both before its congestion mark and its hops.
 pub fn versions_are_judged_in_order()
     ensures another { verdict_on (frame.for_another_with (codes "1000600600000000")) (site_of_versions 5 7)
         ≡ codes "drop 5 not-ours" }
@@ -88,8 +88,8 @@ pub fn versions_are_judged_in_order()
         ∷ [] }
 {}
 
-/// A peer that knows an old version of the site's prefix is solicited, and what it sent delivered. In
-/// a family of which the site has no locator nobody is.
+/// A peer that names an old version of the site's prefix gets an SMR, and its packet is delivered.
+/// In a family in which the site has no locator no SMR is sent.
 pub fn a_peer_with_an_old_version_is_solicited()
     ensures lines { said (site_of_versions 5 0) to_versions ≡ report (
         codes "1 1700000000.000000000 n=1 drop 6 dest-version-newer"
@@ -109,8 +109,8 @@ pub fn a_peer_with_an_old_version_is_solicited()
         ≡ [] }
 {}
 
-/// A peer is solicited for a prefix once in ten seconds. Another peer is at once, and so is this one
-/// for another prefix, unless 4,096 are within their ten seconds.
+/// A peer gets one SMR for a prefix in ten seconds. Another peer, or the same one for another
+/// prefix, gets one at once, unless 4,096 SMRs count.
 pub fn a_peer_is_solicited_once_in_ten_seconds()
     ensures same { map (λ m. (view solicited_once m).may_solicit far home_of_0) (around 10)
         ≡ false ∷ true ∷ [] }
@@ -125,8 +125,8 @@ pub fn a_peer_is_solicited_once_in_ten_seconds()
         (4095 ∷ 4096 ∷ []) ≡ true ∷ false ∷ [] }
 {}
 
-/// A mapping that is older than its site says is asked for again, and a packet from an older one
-/// dropped.
+/// A learned mapping that is older than a packet's source version is requested again; a packet with
+/// an older source version than the mapping's is dropped.
 pub fn an_older_mapping_is_asked_for_again()
     ensures lines { said asking_site (frames from_versions) ≡ report (
         codes "1 1700000000.000000000 n=0 drop 13 miss"
@@ -147,7 +147,7 @@ pub fn an_older_mapping_is_asked_for_again()
         ∷ [] }
 {}
 
-/// A static mapping isn't asked for again.
+/// A static mapping isn't requested again, whatever source version a packet names.
 pub fn a_static_mapping_stays_as_it_is()
     ensures told { told_by site_that_may_ask (codes "1000800000000000") ≡ notice.DataFrom far ∷ [] }
     ensures lines { said site_that_may_ask (frames (with_versions 8 0 ∷ with_versions 6 0 ∷ [])) ≡ report (
@@ -156,7 +156,8 @@ pub fn a_static_mapping_stays_as_it_is()
         ∷ []) }
 {}
 
-/// What a header says of versions comes after what it says of echoes.
+/// The notices of a tunnel packet by its versions come after those by its echo bits: an old
+/// destination version gives an SMR, the same one or 0 gives none.
 pub fn a_header_tells_of_versions()
     ensures old { told_by (site_of_versions 5 7) (codes "1000700400000000")
         ≡ notice.DataFrom far ∷ notice.Solicit far home_of_0 ∷ [] }

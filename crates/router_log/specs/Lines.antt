@@ -10,7 +10,7 @@ use Rattle.router_log.specs.declared.verdict.Reason.TheVariants as reason
 use Rattle.router_log.specs.declared.verdict.Verdict.{Verdict}
 use Rattle.router_log.specs.declared.verdict.Verdict.TheVariants as verdict
 
--- a reason's number and word
+-- the text of a reason to drop a frame: its number and its word
 abbrev pub reason_text : Reason → List ℕ
 reason_text (reason.Refused refused) = codes "1 refused " ++ refused_text refused
 reason_text reason.NotTunnel = codes "2 not-tunnel"
@@ -38,7 +38,7 @@ reason_text reason.Foreign = codes "23 foreign"
 reason_text reason.NoReplyPath = codes "24 no-reply-path"
 reason_text reason.Unexpected = codes "25 unexpected"
 
--- what a control message did
+-- the text of the effect of a control message
 abbrev pub done_text : Done → List ℕ
 done_text (did.Answered records) = named (codes "request answered=") records
 done_text (did.Solicited asked) = named (codes "solicit asked=") asked
@@ -46,7 +46,7 @@ done_text (did.Learned taken passed) =
     named (codes "reply learned=") taken ++ named (codes " passed=") passed
 done_text did.ProbeReply = codes "probe-reply"
 
--- what becomes of a frame
+-- the text of a verdict
 abbrev pub verdict_text : Verdict → List ℕ
 verdict_text verdict.Own = codes "own"
 verdict_text verdict.Local = codes "local"
@@ -58,16 +58,16 @@ verdict_text (verdict.Native packet) = codes "native"
 verdict_text (verdict.Control done) = codes "control " ++ done_text done
 verdict_text (verdict.Drop why) = codes "drop " ++ reason_text why
 
--- seconds and nanoseconds
+-- the text of a moment in nanoseconds: a space, the seconds, a point, and nine digits
 abbrev pub moment_text : ℕ → List ℕ
 moment_text moment =
     32 ∷ (decimal (moment / 1000000000) ++ (46 ∷ fixed_decimal 9 (moment % 1000000000)))
 
--- the length of the journal
+-- the text of the length of the journal
 abbrev pub length_text : ℕ → List ℕ
 length_text n = named (codes " n=") n ++ 32 ∷ []
 
--- number, moment, the length of the journal by which the frame was decided, and the verdict
+-- the line of a frame: its number, its moment, the length of the journal by which it was decided, and its verdict
 abbrev pub frame_line : ℕ → ℕ → ℕ → Verdict → List ℕ
 frame_line number moment n v =
     decimal number ++ (moment_text moment ++ (length_text n ++ (verdict_text v ++ 10 ∷ [])))

@@ -1,10 +1,10 @@
--- Moments, in nanoseconds, and how old what happened at one of them is.
+-- Moments and ages, in nanoseconds.
 use Rattle.std.specs.Prelude.{ℕ, ◌*◌, ◌-◌, nat_lt, Bool}
 
--- so many seconds, in nanoseconds
+-- n seconds, in nanoseconds
 abbrev pub seconds : ℕ → ℕ
 seconds n = n * 1000000000
 
--- what was at a moment is less than so many seconds old
+-- whether an event at a moment is, at the moment `now`, less than n seconds old
 abbrev pub younger : ℕ → ℕ → ℕ → Bool
 younger now n moment = nat_lt (now - moment) (seconds n)

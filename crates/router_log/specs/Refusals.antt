@@ -15,7 +15,7 @@ layer_word layer.Udp = codes "udp"
 layer_word layer.Lisp = codes "lisp"
 layer_word layer.Message = codes "message"
 
--- the word of what a rule asks
+-- the word of the reason why a rule fails
 abbrev pub why_word : Why → List ℕ
 why_word why.Short = codes "short"
 why_word why.EtherType = codes "ethertype"
@@ -35,6 +35,6 @@ why_word why.Authenticated = codes "authenticated"
 why_word why.InnerProtocol = codes "inner-protocol"
 why_word why.InnerPort = codes "inner-port"
 
--- layer, place and reason of a refusal
+-- the text of a refusal: its layer, place and reason
 abbrev pub refused_text : Refused → List ℕ
 refused_text r = layer_word r.layer ++ (32 ∷ (decimal r.place ++ (32 ∷ why_word r.why)))

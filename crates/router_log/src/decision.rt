@@ -1,7 +1,7 @@
-// What is decided of a data packet.
+// Decisions on data packets.
 use crate::{Notices, Verdict};
 
-/// A verdict, and what is noticed with it, in order.
+/// The decision on a data packet: its verdict, and the notices that come with it, in order.
 #[derive(Debug, Drop)]
 pub struct Decision {
     pub verdict: Verdict,

@@ -7,7 +7,8 @@ ghost use Rattle.router_log.specs.Numbers.{octet_entry};
 static PAIRS: [u8; 200] =
     *b"00010203040506070809101112131415161718192021222324252627282930313233343536373839404142434445464748495051525354555657585960616263646566676869707172737475767778798081828384858687888990919293949596979899";
 
-// The numbers of an octet, four octets each: how many digits it has, then three with these at the end.
+// The digits of 0 to 255, four octets each: how many digits there are, then three octets that end
+// with them.
 static OCTETS: [u8; 1024] = *b"\
     1..01..11..21..31..41..51..61..71..81..92.102.112.122.132.142.15\
     2.162.172.182.192.202.212.222.232.242.252.262.272.282.292.302.31\
@@ -47,7 +48,7 @@ pub fn write_digits(number: u64, text: &mut [u8], end: usize) -> usize
     write_first(left, text, from)
 }
 
-// The one or two digits of a number below 100.
+// Writes the one or two digits of a number below 100.
 #[tactic(auto, using(crate::proofs::DigitLemmas::decimal_two, std::proofs::lemmas::Fmt::decimal_digit, std::proofs::lemmas::Grind::common_steps))]
 fn write_first(number: u64, text: &mut [u8], end: usize) -> usize
     requires { (number < 100) × (length (decimal number) ≤ end) × (end ≤ length text.old) }
@@ -72,7 +73,8 @@ pub(crate) fn write_pair(pair: u64, text: &mut [u8], at: usize)
     text[at] = PAIRS[place];
 }
 
-/// Writes the number of an octet, as `write_digits` does, by one look into a table.
+/// Writes the decimal digits of an octet before the place `end`, by one look into a table. Returns
+/// the place of the first digit.
 pub(crate) fn write_octet_digits(octet: u8, text: &mut [u8], end: usize) -> usize
     requires { (4 ≤ end) × (end ≤ length text.old) }
     ensures place { result + length (decimal octet) ≡ end }
@@ -83,7 +85,7 @@ pub(crate) fn write_octet_digits(octet: u8, text: &mut [u8], end: usize) -> usiz
     end - digit_count(octet)
 }
 
-// The octets of an entry: all are read before one is written, which makes one move of them.
+// All four octets of an entry are read before one is written, so that one move copies them.
 fn write_entry(octet: u8, text: &mut [u8], at: usize)
     requires { at + 4 ≤ length text.old }
     ensures { drop at text.new ≡ octet_entry octet ++ drop (at + 4) text.old }
@@ -127,7 +129,8 @@ pub fn write_octet(octet: u8, text: &mut [u8], end: usize) -> usize
     end - 1
 }
 
-/// Writes an octet and a number, as `write_digits` does. Returns the place of the octet.
+/// Writes an octet and, behind it, the decimal digits of a number before the place `end`. Returns
+/// the place of the octet.
 pub fn write_behind(octet: u8, number: u64, text: &mut [u8], end: usize) -> usize
     requires { (length (decimal number) < end) × (end ≤ length text.old) }
     ensures place { result + 1 + length (decimal number) ≡ end }

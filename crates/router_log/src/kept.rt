@@ -1,41 +1,42 @@
-// What tables keep of probes, echoes and solicitations.
+// Probes, echoes and solicitations, as tables keep them.
 use ip_headers::Addr;
 use mapping_records::Eid;
 
-/// What came after a probe.
+/// The state of a probe, by the entries after it.
 #[derive(Clone, Copy, Debug, PartialEq, Eq)]
 pub enum ProbeState {
-    /// No answer, and no other probe with its nonce.
+    /// No answer came, and no other probe with the same nonce was sent.
     Open,
-    /// Its answer.
+    /// The answer to the probe came.
     Answered,
-    /// Another probe with its nonce, before any answer: an answer isn't its own any more.
+    /// Another probe with the same nonce was sent before any answer, so that an answer counts for
+    /// the later one.
     Lost,
 }
 
-/// A probe of a locator.
+/// A probe that was sent to a locator.
 #[derive(Clone, Copy, Debug, PartialEq, Eq)]
 pub struct Probe {
-    /// In nanoseconds, as in all that follows.
+    /// The moment at which the probe was sent, in nanoseconds.
     pub moment: u64,
     pub rloc: Addr,
     pub nonce: u64,
     pub state: ProbeState,
 }
 
-/// An echo that was asked of a locator.
+/// An echo that was requested of a locator, from its moment in nanoseconds on.
 #[derive(Clone, Copy, Debug, PartialEq, Eq)]
 pub struct EchoStart {
     pub moment: u64,
     pub rloc: Addr,
     pub nonce: u32,
-    /// The echo came.
+    /// Whether the echo came.
     pub heard: bool,
-    /// A packet came without it.
+    /// Whether a packet without the echo came from the locator.
     pub came: bool,
 }
 
-/// An echo that a locator wants.
+/// An echo that a locator wants, from its moment in nanoseconds on.
 #[derive(Clone, Copy, Debug, PartialEq, Eq)]
 pub struct EchoWish {
     pub moment: u64,
@@ -43,21 +44,21 @@ pub struct EchoWish {
     pub nonce: u32,
 }
 
-/// A solicitation of a locator.
+/// A solicitation: an SMR that was sent to a locator at its moment in nanoseconds.
 #[derive(Clone, Copy, Debug, PartialEq, Eq)]
 pub struct Solicitation {
     pub moment: u64,
     pub rloc: Addr,
-    /// Of the site.
+    /// The prefix of the site that the SMR was for.
     pub eid: Eid,
 }
 
-/// What the header of a packet to a locator does about echoes.
+/// How the header of a packet to a locator deals with echoes.
 #[derive(Clone, Copy, Debug, PartialEq, Eq)]
 pub enum EchoOut {
     Plain,
-    /// Echoes this nonce.
+    /// The header echoes this nonce.
     Answer(u32),
-    /// Asks for an echo of this nonce.
+    /// The header requests an echo of this nonce.
     Ask(u32),
 }

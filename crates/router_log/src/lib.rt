@@ -1,5 +1,5 @@
-//! What a router writes down: the entries of its journal, what it notices and emits, what becomes
-//! of a frame, and the line that a report has of it.
+//! What a router records, as values and text: entries of its journal, notices and emits, verdicts
+//! on frames, and the line of a frame in a report.
 #![tactic(auto)]
 
 mod decision;

@@ -13,7 +13,7 @@ use octets::{NoMemory, Octets};
 use std::alloc::Global;
 
 /// The line of a frame: its number, its moment in nanoseconds, the length of the journal by which
-/// it was decided, and the verdict.
+/// it was decided, and its verdict.
 pub fn frame_line(
     alloc: Global,
     frame: u32,
@@ -45,10 +45,11 @@ pub fn push_frame_line(
     out.append(&text[from..])
 }
 
-// The most octets before a verdict: three numbers, nine digits, and what stands between them.
+// The most octets of a line before the verdict: three numbers, nine digits, and what stands between
+// them.
 const MOST_FRONT: usize = 75;
 
-// Writes what comes before the verdict.
+// Writes the part of a line before the verdict: number, moment, and length of the journal.
 #[tactic(auto, using(crate::proofs::DigitLemmas::length_any), unfolding(crate::specs::Numbers::named))]
 fn write_front(frame: u32, moment: u64, n: u64, text: &mut [u8], end: usize) -> usize
     requires { (MOST_FRONT ≤ end) × (end ≤ length text.old) }
@@ -65,8 +66,8 @@ fn write_front(frame: u32, moment: u64, n: u64, text: &mut [u8], end: usize) -> 
     write_digits(u64::from(frame), text, end)
 }
 
-// The most octets of a verdict, those of a packet's way into a tunnel: a word, two addresses, a port of
-// five digits, and what stands between them.
+// The most octets of a verdict, those of `encapsulated`: a word, two addresses, a port of five
+// digits, and the spaces between them.
 const MOST_VERDICT: usize = 13 + 2 * MOST_ADDRESS + 7;
 
 fn write_verdict(verdict: &Verdict, text: &mut [u8], end: usize) -> usize
@@ -107,7 +108,7 @@ fn write_encapsulated(from: Addr, to: Addr, port: u16, text: &mut [u8], end: usi
     write_octets(b"encapsulated ", text, end)
 }
 
-// The most octets of what a control message did: two names, and two numbers.
+// The most octets of the effect of a control message: two names and two numbers.
 const MOST_DONE: usize = 14 + 8 + 2 * MOST_DIGITS;
 
 fn write_done(done: Done, text: &mut [u8], end: usize) -> usize
@@ -128,7 +129,7 @@ fn write_done(done: Done, text: &mut [u8], end: usize) -> usize
     }
 }
 
-// The most octets of a reason: those of a refusal, its number and its word.
+// The most octets of a reason, those of `refused`: its number, its word, and the refusal.
 const MOST_REASON: usize = 10 + MOST_REFUSED;
 
 fn write_reason(reason: Reason, text: &mut [u8], end: usize) -> usize

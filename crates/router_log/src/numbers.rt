@@ -9,7 +9,7 @@ use crate::digits::{
 use ip_headers::Addr;
 use octets::{NoMemory, Octets};
 
-/// Appends a number in decimal digits. Where memory is refused, nothing is said of `out`.
+/// Appends a number in decimal digits. Where memory is refused, the contract leaves `out` open.
 #[tactic(auto, using(crate::proofs::DigitLemmas::length_any))]
 pub fn push_number(number: u64, out: &mut Octets) -> Result<(), NoMemory>
     ensures { OnOk result (out.new ≡ out.old ++ decimal number) }
@@ -149,7 +149,7 @@ pub fn write_address(address: Addr, text: &mut [u8], end: usize) -> usize
     }
 }
 
-// Four numbers of at most three digits, and three dots.
+// Writes four numbers of at most three digits, with three dots between them.
 fn write_dotted(number: u32, text: &mut [u8], end: usize) -> usize
     requires { (16 ≤ end) × (end ≤ length text.old) }
     ensures place { (result ≤ end) × (end ≤ result + 15) }
@@ -170,7 +170,7 @@ fn write_dot_octet(octet: u8, text: &mut [u8], end: usize) -> usize
     write_octet(b'.', text, from)
 }
 
-// Apart, so that an IPv4 address doesn't pay for the registers of this.
+// Not inlined, so that an IPv4 address doesn't pay for the registers that an IPv6 address needs.
 #[inline(never)]
 fn write_groups(number: u128, text: &mut [u8], end: usize) -> usize
     requires { (39 ≤ end) × (end ≤ length text.old) }
@@ -210,10 +210,10 @@ fn group_text(group: u16) -> [u8; 4]
     ]
 }
 
-// The hexadecimal digits: a place in them takes half the steps of a test for letters.
+// The hexadecimal digits: to look one up takes half the steps of a test for letters.
 static GLYPHS: [u8; 16] = *b"0123456789abcdef";
 
-// The lowest hexadecimal digit, in lower case.
+// The lowest hexadecimal digit of a number, in lower case.
 #[tactic(auto, using(crate::proofs::DigitLemmas::glyph_at))]
 fn hex_digit(number: u64) -> u8
     ensures { result ≡ hex_glyph (number % 16) }

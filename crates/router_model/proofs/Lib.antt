@@ -6,6 +6,7 @@ pub mod ApartOtherLemmas
 pub mod ApartSecondLemmas
 pub mod ApartTableLemmas
 pub mod BitLemmas
+pub mod CandidateLemmas
 pub mod CutLemmas
 pub mod DropLemmas
 pub mod DueLemmas

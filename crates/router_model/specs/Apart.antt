@@ -1,5 +1,5 @@
--- Journals that differ in nonces alone: each request bears its number in place of its nonce. To an instance two routers are one
--- where its parts of their journals are one so, whatever they know of other instances.
+-- Journals that differ in nonces alone: each request has its number in place of its nonce. Two journals are equal for
+-- an instance if their parts of that instance are so equal, whatever entries of other instances they have.
 use Rattle.std.specs.Prelude.{◌≡◌, ℕ, suc, ◌==◌, Bool, true, false, [], ◌∷◌, count_by, map, if◌then◌else◌}
 use Rattle.request_queue.specs.declared.request.Request.{Request}
 use Rattle.router_log.specs.declared.emit.Emit.{Emit}
@@ -13,7 +13,7 @@ use Rattle.router_model.specs.Journal.{Journal, extended}
 
 -- ### requests by their numbers
 
--- an entry is a request
+-- whether an entry is a request (Asked)
 abbrev pub is_asked : Entry → Bool
 is_asked (Asked moment eid source invoked nonce) = true
 is_asked _ = false
@@ -29,16 +29,16 @@ number_of nonce (Asked moment eid source invoked asked ∷ before) =
     if asked == nonce then suc (asked_count before) else number_of nonce before
 number_of nonce (_ ∷ before) = number_of nonce before
 
--- an entry behind others: a request has its number in place of its nonce; an entry that sends a request again or answers it has
--- the number of that request. Nonces of probes and echoes stay.
+-- an entry with numbers in place of nonces, by the entries before it: a request has its own number, an entry that sends
+-- a request again or answers it has the number of that request; nonces of probes and echoes stay
 abbrev pub numbered_entry : Entry → Journal → Entry
 numbered_entry (Asked moment eid source invoked nonce) before = Asked moment eid source invoked (suc (asked_count before))
 numbered_entry (Retried moment nonce) before = Retried moment (number_of nonce before)
 numbered_entry (Answered moment nonce) before = Answered moment (number_of nonce before)
 numbered_entry entry before = entry
 
--- the journal with numbers in place of nonces, without the SMRs that were sent: these are of no instance, and no decision,
--- request or mapping depends on them
+-- a journal with numbers in place of nonces, without the SMRs that were sent: these are of no instance, and no
+-- decision, request or mapping depends on them
 abbrev pub numbered : Journal → Journal
 numbered [] = []
 numbered (Solicited moment rloc eid nonce ∷ before) = numbered before
@@ -48,7 +48,7 @@ numbered (entry ∷ before) = numbered_entry entry before ∷ numbered before
 abbrev pub by_number : Journal → Request → Request
 by_number journal request = record request { nonce = number_of request.nonce journal }
 
--- two journals are one to an instance, but for nonces
+-- two journals are equal for an instance, but for nonces: by request numbers their parts of that instance are the same
 abbrev pub AreOneIn : ℕ → Journal → Journal → Type 0
 AreOneIn i mine theirs = numbered (of_instance mine i) ≡ numbered (of_instance theirs i)
 
@@ -68,17 +68,18 @@ emit_apart (emit.Request eid source invoked nonce) = emit.Request eid source inv
 emit_apart (emit.Solicit to eid nonce) = emit.Solicit to eid 0
 emit_apart emit = emit
 
--- two steps made the same entries and the same packets, but for nonces
+-- two changes, `one` and `other`, made the same entries and the same packets, but for nonces of requests and SMRs
 pub record AreApart {S T : Type 0} (one : Change S) (other : Change T) : Type 0 where
   pub entries : map entry_apart one.entries ≡ map entry_apart other.entries
   pub emits : map emit_apart one.emits ≡ map emit_apart other.emits
 
--- two steps are apart, and to the instance the journals with their entries are one again
+-- two changes differ in nonces alone, and the journals with their entries are equal for instance i
 pub record StayOne {S T : Type 0} (i : ℕ) (mine theirs : Journal) (one : Change S) (other : Change T) : Type 0 where
   pub apart : AreApart one other
   pub same : AreOneIn i (extended mine one.entries) (extended theirs other.entries)
 
--- two messages have the same verdict, and their steps are apart and leave the journals one
+-- two messages were heard as one: equal verdicts, changes that differ in nonces alone, and journals equal for instance
+-- i
 pub record HeardAsOne {S T : Type 0} (i : ℕ) (mine theirs : Journal) (one : Heard S) (other : Heard T) : Type 0 where
   pub verdict : one.verdict ≡ other.verdict
   pub change : StayOne i mine theirs one.change other.change

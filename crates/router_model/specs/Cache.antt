@@ -1,4 +1,4 @@
--- The map-cache: the live mappings as a table keeps them.
+-- The map-cache: the live mappings of a journal as a table keeps them.
 use Rattle.std.specs.Prelude.{ℕ, ◌-◌, ◌^◌, ◌==◌, ◌||◌, not, Bool, List, [], ◌∷◌, map, Option, Some, None, if◌then◌else◌}
 use Rattle.mapping_records.specs.declared.eid.Eid.{Eid}
 use Rattle.mapping_records.specs.declared.record.Locator.{Locator}
@@ -12,7 +12,8 @@ use Rattle.router_model.specs.Kept.{Kind}
 use Rattle.router_model.specs.Mappings.{Held, Learning, bit, live_learnings, status_of}
 use Rattle.map_cache.specs.Cache.{end_of, fresh, lowest_from, with_bits}
 
--- a number whose lowest bits each entry Bits replaces that came since the mapping of an EID was learned; `new` has them
+-- a number made since the mapping of an EID was learned: each entry Bits replaces its lowest bits, as many as the
+-- entry's width, by those of `new`
 abbrev pub bits_since : (ℕ → ℕ → ℕ) → Eid → Journal → ℕ
 bits_since new eid [] = 0
 bits_since new eid (Learned moment mapping fixed ∷ before) = if same_eid mapping.eid eid then 0 else bits_since new eid before
@@ -20,15 +21,15 @@ bits_since new eid (Bits moment of bits width ∷ before) =
     if same_eid of eid then lowest_from width (bits_since new eid before) (new bits width) else bits_since new eid before
 bits_since new eid (_ ∷ before) = bits_since new eid before
 
--- bit i is set where a status bit of locator i was told
+-- the number whose bit i is set where a status bit of locator i came since the mapping of an EID was learned
 abbrev pub known_since : Eid → Journal → ℕ
 known_since eid journal = bits_since (λ bits width. 2 ^ width - 1) eid journal
 
--- bit i is the last status bit of locator i, if one was told
+-- the number whose bit i is the last status bit of locator i since the mapping of an EID was learned, 0 without one
 abbrev pub told_since : Eid → Journal → ℕ
 told_since eid journal = bits_since (λ bits width. bits) eid journal
 
--- a mapping that was learned, with status bits
+-- a learned mapping as a table keeps it, with its known status bits and their values
 abbrev pub made_of : ℕ → ℕ → Learning → Mapping
 made_of known bits learning = record {
   eid = learning.mapping.eid;
@@ -39,20 +40,20 @@ made_of known bits learning = record {
   bits = bits;
 }
 
--- a mapping of the journal
+-- a learned mapping as a table keeps it, with its status bits in a journal
 abbrev pub kept : Journal → Learning → Mapping
 kept journal learning =
     made_of (known_since learning.mapping.eid journal) (told_since learning.mapping.eid journal) learning
 
--- the live mappings of the journal, in ascending order of EID
+-- the live mappings of a journal as a table keeps them, in ascending order of EID
 abbrev pub kept_mappings : ℕ → Journal → List Mapping
 kept_mappings now journal = map (kept journal) (live_learnings now journal)
 
--- locator i is up by the bit that is known, or as its record says
+-- whether locator i of a mapping is up: by its status bit where one is known, else as its record has it
 abbrev pub known_up : Mapping → ℕ → Locator → Bool
 known_up mapping i locator = if bit i mapping.known then bit i mapping.bits else locator.reachable
 
--- a mapping as decisions see it
+-- a kept mapping as decisions see it
 abbrev pub held_of : Mapping → Held
 held_of mapping = record {
   eid = mapping.eid;
@@ -63,18 +64,18 @@ held_of mapping = record {
 
 -- ### what a table keeps
 
--- the mapping that an entry begins; with a TTL of 0 it is none, unless it is fixed
+-- the mapping that an entry begins, or None: with a TTL of 0 there is none, unless it is static
 abbrev pub begun_mapping : Entry → Option Mapping
 begun_mapping (Learned moment mapping fixed) =
     if fixed || not (mapping.ttl == 0) then Some (fresh moment mapping fixed) else None
 begun_mapping _ = None
 
--- what becomes of a mapping when an entry comes: its EID is learned anew, or bits are told
+-- a mapping behind an entry: gone where its EID is learned anew, with the entry's status bits where it has some
 abbrev pub mapping_step : Entry → Mapping → Option Mapping
 mapping_step (Learned moment mapping fixed) old = if same_eid old.eid mapping.eid then None else Some old
 mapping_step (Bits moment eid bits width) old = Some (if same_eid old.eid eid then with_bits bits width old else old)
 mapping_step _ old = Some old
 
--- mappings, in ascending order of EID
+-- mappings as a kind of kept item, in ascending order of EID
 abbrev pub mapping_kind : Kind Entry Mapping
 mapping_kind = record { begins = begun_mapping; step = mapping_step; put = put_in_order (λ mapping. mapping.eid) eid_order }

@@ -1,4 +1,4 @@
--- Entries and packets that come one after another, each judged by what stands before it.
+-- Entries and packets that are made one after another, each judged by the state before it.
 use Rattle.std.specs.Prelude.{ℕ, ◌==◌, ◌||◌, ◌&&◌, nat_lt, not, Bool, List, [], ◌∷◌, ◌++◌, count_by, fold, length, Option, Some, None}
 use Rattle.ip_headers.specs.declared.addr.Addr.{Addr}
 use Rattle.mapping_records.specs.declared.eid.Eid.{Eid}
@@ -18,8 +18,9 @@ use Rattle.router_model.specs.Site.{reaches_resolver}
 use Rattle.router_model.specs.Standing.{standing}
 use Rattle.router_model.specs.View.{View, view}
 
--- what keeps entries: it is seen at a moment, takes one entry more, counts them, and those of changes of own locators, after
--- which settings stand; it knows the limits of instances, or takes them from the settings
+-- a ledger, which keeps entries: its view at a moment (`see`), one entry more (`add`), the number of entries (`count`)
+-- and of changes of own locators (`steps`), the settings after these changes (`stands`), and the limits of instances,
+-- kept in it or taken from the settings
 pub record Ledger (S : Type 0) : Type 0 where
   pub see : S → ℕ → View
   pub add : S → Entry → S
@@ -28,7 +29,7 @@ pub record Ledger (S : Type 0) : Type 0 where
   pub stands : Settings → S → Settings
   pub limits : Settings → S → List LimitItem
 
--- the journal itself
+-- a journal as a ledger
 abbrev pub journal : Ledger Journal
 journal = record {
   see = view;
@@ -39,69 +40,71 @@ journal = record {
   limits = λ settings before. limits_in settings;
 }
 
--- what stands now, and the entries and packets that came so far, in order
+-- a change of a ledger: its state by now, and the entries and packets made so far, in order
 pub record Change (S : Type 0) : Type 0 where
   pub after : S
   pub entries : List Entry
   pub emits : List Emit
 
--- nothing came yet
+-- a change without entries and packets yet
 abbrev pub unchanged : {S : Type 0} → S → Change S
 unchanged before = record { after = before; entries = []; emits = [] }
 
--- a step for each item, in order
+-- a change after a step for each item, in order
 abbrev pub each : {S A : Type 0} → (A → Change S → Change S) → List A → Change S → Change S
 each step items change = fold (λ so_far item. step item so_far) change items
 
--- one packet more
+-- a packet is added to a change
 abbrev pub emitted : {S : Type 0} → Emit → Change S → Change S
 emitted packet change = record change { emits = change.emits ++ packet ∷ [] }
 
--- by these limits there is room for one more request for an EID of the instance
+-- whether the limit of an instance leaves room for one more open request
 abbrev pub may_open : List LimitItem → View → ℕ → Bool
 may_open limits v iid = nat_lt (open_in iid v.requests) (requests_in limits iid)
 
--- an EID may be asked for: there is a resolver, and ours of its family, no open request covers it, and there is room
+-- whether a Map-Request for an EID may be sent: there is a resolver, an own locator of its family is up, no open
+-- request covers the EID, and the instance has room for one more
 abbrev pub may_ask : Settings → List LimitItem → View → Eid → Bool
 may_ask settings limits v eid =
     reaches_resolver settings && (not (covered v.requests eid) && may_open limits v eid.iid)
 
--- how many of these mappings, which aren't fixed, are of an instance
+-- the number of mappings of an instance that aren't static
 abbrev pub learned_in : ℕ → List Held → ℕ
 learned_in iid mappings = count_by (λ held. (held.eid.iid == iid) && not held.fixed) mappings
 
--- a mapping may be learned in place of one, which isn't fixed; where there is none it takes none away, or there is room
+-- whether a record may be learned in place of the present mapping of its EID, which must not be static; without one the
+-- record must have TTL 0, or its instance room
 abbrev pub may_replace : List LimitItem → View → Record → Option Held → Bool
 may_replace limits v mapping (Some held) = not held.fixed
 may_replace limits v mapping None =
     (mapping.ttl == 0) || nat_lt (learned_in mapping.eid.iid v.mappings) (mappings_in limits mapping.eid.iid)
 
--- a mapping may be learned
+-- whether a record may be learned, by the present mapping of its EID and the limit of its instance
 abbrev pub has_room : List LimitItem → View → Record → Bool
 has_room limits v mapping = may_replace limits v mapping (exact v.mappings mapping.eid)
 
 module _ {S : Type 0} (ledger : Ledger S) (settings : Settings) (m : ℕ) where
-  -- the limits by now
+  -- the limits of instances at a point of a change
   abbrev pub limits_of : Change S → List LimitItem
   limits_of change = ledger.limits settings change.after
 
-  -- what is seen by now
+  -- the view at m, at a point of a change
   abbrev pub seen : Change S → View
   seen change = ledger.see change.after m
 
-  -- one entry more
+  -- an entry is added to a change
   abbrev pub entered : Entry → Change S → Change S
   entered entry change = record change { after = ledger.add change.after entry; entries = change.entries ++ entry ∷ [] }
 
-  -- the nonce that is used next
+  -- the nonce that is used next in a change
   abbrev pub next_nonce : Change S → ℕ
   next_nonce change = nonce_of settings.seed settings.nonces (seen change).drawn
 
-  -- a Map-Request goes out, with that nonce
+  -- a Map-Request is sent and entered, with that nonce
   abbrev pub asked_with : ℕ → Eid → Option Addr → Bool → Change S → Change S
   asked_with nonce eid source invoked change =
       emitted (emit.Request eid source invoked nonce) (entered (entry.Asked m eid source invoked nonce) change)
 
-  -- the same with the next nonce
+  -- a Map-Request is sent and entered, with the next nonce
   abbrev pub asked : Eid → Option Addr → Bool → Change S → Change S
   asked eid source invoked change = asked_with (next_nonce change) eid source invoked change

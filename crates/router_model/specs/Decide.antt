@@ -1,4 +1,5 @@
--- What the router does with a frame (RFC 9300, sections 5.3 and 10; RFC 9302, section 7; this router's order of cases), and what it notices.
+-- The decision on a frame, with its notices (RFC 9300, sections 5.3 and 10; RFC 9302, section 7; this router's order of
+-- cases).
 use Rattle.std.specs.Prelude.{ℕ, ◌/◌, ◌%◌, ◌^◌, ◌==◌, ◌||◌, ◌&&◌, not, Bool, true, false, List, [], ◌∷◌, ◌++◌, drop, length, Option, Some, None, is_none, is_some, option_and_then, option_map, option_to_list, unwrap_or, if◌then◌else◌}
 use Rattle.octets.specs.Rules.{first_failing}
 use Rattle.ip_headers.specs.Addr.{width}
@@ -47,15 +48,15 @@ use Rattle.router_model.specs.Site.{ours, own_bits}
 use Rattle.router_model.specs.Standing.{standing}
 use Rattle.router_model.specs.View.{View, view}
 
--- a verdict without notices
+-- a decision with a verdict and no notices
 abbrev pub alone : Verdict → Decision
 alone verdict = record { verdict = verdict; notices = [] }
 
--- a drop without notices
+-- a decision to drop, without notices
 abbrev pub drops : Reason → Decision
 drops why = alone (Drop why)
 
--- what is settled by a case, or else what follows
+-- the decision by a verdict that settles it, or else the decision given
 abbrev pub unless_decided : Option Verdict → Decision → Decision
 unless_decided None decision = decision
 unless_decided (Some decided) decision = alone decided
@@ -64,22 +65,22 @@ unless_decided (Some decided) decision = alone decided
 abbrev pub force_for : View → ℕ → Addr → Option Held
 force_for v iid addr = force v.mappings iid addr (width addr)
 
--- a notice that is given where a test holds
+-- the list of one notice where a test holds, else empty
 abbrev pub given : Bool → Notice → List Notice
 given true notice = notice ∷ []
 given false notice = []
 
 -- ### Map-Versions
 
--- 0 is no version (RFC 9302, section 6.1)
+-- whether a number is a Map-Version: 0 is none (RFC 9302, section 6.1)
 abbrev pub is_version : ℕ → Bool
 is_version version = not (version == 0)
 
--- both versions are there, and the first is newer
+-- whether both numbers are versions, and the first is newer
 abbrev pub is_newer : ℕ → ℕ → Bool
 is_newer a b = is_version a && (is_version b && newer a b)
 
--- the versions that a LISP header names, 0 without them
+-- the source version in a LISP header, 0 where it has no versions; `dest_version` likewise
 abbrev pub source_version : LispHeader → ℕ
 source_version lisp = (unwrap_or lisp.versions (0, 0)).0
 
@@ -98,7 +99,7 @@ home_version (Some home) = home.version
 
 -- ### a packet in a tunnel to the router
 
--- the reason of a packet that isn't delivered
+-- the reason to drop a packet that can't be delivered
 abbrev pub delivery_reason : Undelivered → Reason
 delivery_reason decap.CongestionMark = CongestionMark
 delivery_reason decap.TtlExpired = TtlExpired
@@ -107,40 +108,40 @@ delivery_reason decap.TtlExpired = TtlExpired
 abbrev pub iid_of : LispHeader → ℕ
 iid_of lisp = unwrap_or lisp.instance 0
 
--- how many status bits a LISP header has: beside an instance the lowest 8 (RFC 9300, section 5.1)
+-- the number of status bits in a LISP header: beside an instance the lowest 8, else 32 (RFC 9300, section 5.1)
 abbrev pub bits_width : LispHeader → ℕ
 bits_width lisp = if is_some lisp.instance then 8 else 32
 
--- what status bits from a locator tell of the mapping in force for the inner source
+-- the notice of status bits from a locator, for the mapping in force for the inner source; None without a mapping
 abbrev pub bits_notice : Addr → LispHeader → ℕ → Option Held → Option Notice
 bits_notice rloc lisp bits held =
     option_map (λ (held : Held). notice.Bits held.eid rloc bits (bits_width lisp)) held
 
--- a nonce asks for its echo where E is set, and else is an echo; only a packet that asks for one doesn't count as
--- data (RFC 9300, section 10.1)
+-- the notices of a nonce from a locator, or of none: with E set the locator wants the nonce echoed, else the nonce is
+-- an echo; all packets count as data but those that want an echo (RFC 9300, section 10.1)
 abbrev pub nonce_notices : Addr → Bool → Option ℕ → List Notice
 nonce_notices rloc asks None = notice.DataFrom rloc ∷ []
 nonce_notices rloc true (Some nonce) = notice.EchoWanted rloc nonce ∷ []
 nonce_notices rloc false (Some nonce) = notice.EchoHeard rloc nonce ∷ notice.DataFrom rloc ∷ []
 
--- the other side knows an old version of the site's mapping (RFC 9302, section 7.1)
+-- the notice of an SMR to a locator whose packet names an old version of the site's mapping (RFC 9302, section 7.1)
 abbrev pub solicit_notice : Addr → LispHeader → Database → List Notice
 solicit_notice rloc lisp home =
     given (is_version (dest_version lisp) && newer home.version (dest_version lisp)) (notice.Solicit rloc home.eid)
 
--- the other side has a newer version of its own mapping than was learned (RFC 9302, section 7.2)
+-- the notice to request a learned mapping anew, where a packet names a newer version of it (RFC 9302, section 7.2)
 abbrev pub refresh_notice : LispHeader → Option Held → List Notice
 refresh_notice lisp None = []
 refresh_notice lisp (Some held) =
     given (not held.fixed && is_newer (source_version lisp) held.mapping.version) (notice.Refresh held.eid)
 
--- what a delivered packet from a locator tells, in order
+-- the notices of a delivered packet from a locator, in order
 abbrev pub delivery_notices : Addr → LispHeader → Database → Option Held → List Notice
 delivery_notices rloc lisp home held =
     option_to_list (option_and_then (λ bits. bits_notice rloc lisp bits held) lisp.status)
     ++ (nonce_notices rloc lisp.echo lisp.nonce ++ (solicit_notice rloc lisp home ++ refresh_notice lisp held))
 
--- a packet for the site, which leaves its tunnel unless a rule drops it
+-- the decision on a packet for the site, which leaves its tunnel unless a rule drops it
 abbrev pub leaves : IpHeader → LispHeader → List ℕ → Database → Option Held → Option Undelivered → Decision
 leaves outer lisp inner home held (Some why) = drops (delivery_reason why)
 leaves outer lisp inner home held None = record {
@@ -156,32 +157,32 @@ version_cases lisp home held =
     ∷ (not (is_newer (cached_version held) (source_version lisp)), Drop SourceVersionOlder)
     ∷ []
 
--- a packet in a tunnel by the database prefix of its destination, and the mapping in force for its source
+-- the decision on a tunnel packet, by the database prefix of its destination and the mapping in force for its source
 abbrev pub for_home : IpHeader → LispHeader → List ℕ → Option Held → Option Database → Decision
 for_home outer lisp inner held None = drops NotOurs
 for_home outer lisp inner held (Some home) =
     unless_decided (first_failing (version_cases lisp home held))
     (leaves outer lisp inner home held (first_failing (deliver_rules inner outer)))
 
--- the packet behind a LISP header
+-- the decision on the packet behind a LISP header
 abbrev pub unwrapped : Settings → View → IpHeader → LispHeader → List ℕ → Decision
 unwrapped settings v outer lisp octets =
     for_home outer lisp (packet_in octets)
     (force_for v (iid_of lisp) (source_of (header_at octets)))
     (home_of settings.databases (iid_of lisp) (dest_of (header_at octets)))
 
--- the reason of a tunnel packet that isn't opened
+-- the reason to drop a tunnel packet that isn't opened
 abbrev pub open_reason : OpenDrop → Reason
 open_reason (open_drop.Refused refused) = reason.Refused refused
 open_reason open_drop.Encrypted = Encrypted
 
--- a tunnel packet by its payload, where the rules of opening hold
+-- the decision on a tunnel packet by its payload, or by the rule of opening that it breaks
 abbrev pub opened : Settings → View → IpHeader → List ℕ → Option OpenDrop → Decision
 opened settings v outer payload (Some why) = drops (open_reason why)
 opened settings v outer payload None =
     unwrapped settings v outer (lisp_header_at payload) (drop 8 payload)
 
--- a packet in a tunnel
+-- the decision on a packet in a tunnel to the router
 abbrev pub tunnelled : Settings → View → Datagram → Decision
 tunnelled settings v d =
     opened settings v d.packet.header (payload_in d.packet.octets d.udp)
@@ -189,13 +190,13 @@ tunnelled settings v d =
 
 -- ### a packet from the site
 
--- 224.0.0.0/4, 255.255.255.255 and ff00::/8
+-- whether an address is a group or the broadcast address: 224.0.0.0/4, 255.255.255.255 and ff00::/8
 abbrev pub is_multicast : Addr → Bool
 is_multicast (V4 n) = n / 2 ^ 28 == 14 || n == 0xffffffff
 is_multicast (V6 n) = n / 2 ^ 120 == 255
 
--- the cases in which a packet of an instance stays out of a tunnel, in order: each the test that it
--- isn't so, and the verdict where it is
+-- the cases in which a packet of an instance that leaves the site stays out of a tunnel, in order: each the test that
+-- it isn't so, and the verdict where it is
 abbrev pub site_cases : Settings → ℕ → IpHeader → List (Bool × Verdict)
 site_cases settings iid header =
     (not (is_multicast (dest_of header)), Drop Multicast)
@@ -203,7 +204,7 @@ site_cases settings iid header =
     ∷ (is_some (home_of settings.databases iid (source_of header)), Drop NotSite)
     ∷ []
 
--- a drop, after which a mapping for the destination is to be asked for
+-- the decision to drop a packet, with the notice to request a mapping for its destination
 abbrev pub asking : ℕ → IpHeader → Reason → Decision
 asking iid header why = record {
   verdict = Drop why;
@@ -211,23 +212,24 @@ asking iid header why = record {
       (option_map (λ eid. notice.Ask eid (Some (source_of header))) (host_eid iid (dest_of header)));
 }
 
--- the nonce of a header, by what it does about echoes
+-- the nonce of a LISP header, by how the header deals with echoes
 abbrev pub echo_nonce : EchoOut → Option ℕ
 echo_nonce echo.Plain = None
 echo_nonce (echo.Answer nonce) = Some nonce
 echo_nonce (echo.Ask nonce) = Some nonce
 
--- the header asks for an echo
+-- whether a LISP header requests an echo
 abbrev pub asks_echo : EchoOut → Bool
 asks_echo (echo.Ask nonce) = true
 asks_echo _ = false
 
--- the versions of its source and destination, where a header without nonce has either
+-- the source and destination versions in a LISP header: only without a nonce, and where either is a version
 abbrev pub versions_of : EchoOut → ℕ → ℕ → Option (ℕ × ℕ)
 versions_of echo.Plain source dest = if is_version source || is_version dest then Some (source, dest) else None
 versions_of _ source dest = None
 
--- the LISP header of a tunnel packet: an echo or else versions, and the own status bits, beside an instance the lowest 8
+-- the LISP header of a tunnel packet: the nonce of an echo or else the versions, the own status bits, beside an
+-- instance the lowest 8, and the instance unless it is 0
 abbrev pub lisp_header : Settings → ℕ → EchoOut → ℕ → ℕ → LispHeader
 lisp_header settings iid out source dest = record {
   nonce = echo_nonce out;
@@ -242,16 +244,16 @@ lisp_header settings iid out source dest = record {
 abbrev pub hash_of : FramePacket → ℕ
 hash_of packet = flow_hash (five_tuple_of packet.header packet.octets)
 
--- the reason of a packet that isn't sent
+-- the reason to drop a packet that can't be sent
 abbrev pub unsent_reason : Unsent → Reason
 unsent_reason encap.TtlExpired = TtlExpired
 unsent_reason encap.TooBig = TooBig
 
--- an echo may be asked of the locator that a packet went to
+-- the notice that an echo may be requested of the locator that a packet goes to
 abbrev pub echo_notice : Settings → View → Addr → List Notice
 echo_notice settings v to = given (settings.echo && v.may_start to) (notice.EchoDue to)
 
--- the packet with its LISP header, in a tunnel between two locators, unless it can't be sent
+-- the decision on a packet with its LISP header, which goes in a tunnel between two locators unless a rule drops it
 abbrev pub sent : Settings → View → LispHeader → FramePacket → Addr → Addr → Option Unsent → Decision
 sent settings v lisp packet from to (Some why) = drops (unsent_reason why)
 sent settings v lisp packet from to None = record {
@@ -259,24 +261,25 @@ sent settings v lisp packet from to None = record {
   notices = echo_notice settings v to;
 }
 
--- the packet, from ours of the family of a locator
+-- the decision on a packet to a locator, sent from the own locator of its family, or dropped without one
 abbrev pub from_ours : Settings → View → LispHeader → FramePacket → Addr → Option Addr → Decision
 from_ours settings v lisp packet to None = drops NoLocator
 from_ours settings v lisp packet to (Some from) =
     sent settings v lisp packet from to (first_failing (encap_rules packet.octets from))
 
--- the packet, to the locator that is chosen; `source` is the version of the site's mapping, `dest` that of the other's
+-- the decision on a packet by its chosen locator, or dropped without one; `source` is the version of the site's prefix,
+-- `dest` that of the mapping
 abbrev pub towards : Settings → View → ℕ → FramePacket → ℕ → ℕ → Option Addr → Decision
 towards settings v iid packet source dest None = drops NoLocator
 towards settings v iid packet source dest (Some to) =
     from_ours settings v (lisp_header settings iid (v.echo_out to) source dest) packet to (ours settings.locators to)
 
--- the packet goes on as it is, with one hop less
+-- the verdict on a packet that is forwarded natively, with one hop less, unless a rule drops it
 abbrev pub natively : List ℕ → Option Unsent → Verdict
 natively packet (Some why) = Drop (unsent_reason why)
 natively packet None = Native (forwarded packet)
 
--- the packet, by the action of a mapping without locators (RFC 9301, section 5.4)
+-- the decision on a packet by the action of a mapping without locators (RFC 9301, section 5.4)
 abbrev pub by_action : ℕ → FramePacket → Action → Decision
 by_action iid packet action.NoAction = drops NoAction
 by_action iid packet action.NativelyForward = alone (natively packet.octets (first_failing (forward_rules packet.octets)))
@@ -285,7 +288,7 @@ by_action iid packet action.DropNoReason = drops DropNoReason
 by_action iid packet action.DropPolicy = drops DropPolicy
 by_action iid packet action.DropAuth = drops DropAuth
 
--- a packet of an instance by the mapping in force for its destination
+-- the decision on a packet that leaves the site, by the mapping in force for its destination
 abbrev pub mapped : Settings → View → ℕ → FramePacket → Option Held → Decision
 mapped settings v iid packet None = asking iid packet.header Miss
 mapped settings v iid packet (Some held) =
@@ -293,7 +296,7 @@ mapped settings v iid packet (Some held) =
     else towards settings v iid packet (home_version (home_of settings.databases iid (source_of packet.header))) held.mapping.version
     (chosen settings v held.up held.mapping.locators (hash_of packet))
 
--- a packet of an instance
+-- the decision on a packet of an instance that leaves the site
 unfoldable pub routed : Settings → View → ℕ → FramePacket → Decision
 routed settings v iid packet =
     unless_decided (first_failing (site_cases settings iid packet.header))
@@ -301,17 +304,17 @@ routed settings v iid packet =
 
 -- ### any frame
 
--- the decision on a frame of that course; a control message is heard, and has none
+-- the decision on a frame of a course; a control message is heard and never decided, so it counts as dropped here
 abbrev pub decide_course : Settings → View → Course → Decision
 decide_course settings v (Settled verdict) = alone verdict
 decide_course settings v (Data datagram) = tunnelled settings v datagram
 decide_course settings v (Control datagram) = drops NotTunnel
 decide_course settings v (Leaving iid packet) = routed settings v iid packet
 
--- the decision on a frame, by a view
+-- the decision on a frame, by settings and a view
 unfoldable pub decide_by : Settings → View → Frame → Decision
 decide_by settings v frame = decide_course settings v (course_of settings frame)
 
--- the decision on a frame at m, by the journal, over the settings that stand
+-- the decision on a frame at m by a journal, with the settings that stand by it
 abbrev pub decide : Settings → Journal → ℕ → Frame → Decision
 decide settings journal m frame = decide_by (standing settings journal) (view journal m) frame

@@ -1,4 +1,4 @@
--- Isolation of instances (RFC 8060, section 4.1): what a journal is to one of them, and of which a frame is.
+-- Isolation of instances (RFC 8060, section 4.1): the part of a journal of an instance, and the instance of a frame.
 use Rattle.std.specs.Prelude.{◌≡◌, ℕ, ◌==◌, max, Bool, true, [], ◌∷◌, Option, Some, None, if◌then◌else◌}
 use Rattle.ip_headers.specs.Ip.{dest_of, payload_place}
 use Rattle.ip_headers.specs.Udp.{payload_in, udp_at}
@@ -26,9 +26,8 @@ asked_in nonce [] = None
 asked_in nonce (Asked moment eid source invoked asked ∷ before) = if asked == nonce then Some eid.iid else asked_in nonce before
 asked_in nonce (_ ∷ before) = asked_in nonce before
 
--- the instance that an entry is of, behind those before it. What is sent again or answered is the last request with its
--- nonce. What tells of a locator, an own one or not, is of no
--- instance.
+-- the instance of an entry, by the entries before it: a request that is sent again or answered is the last one with its
+-- nonce; entries of a locator, an own one or not, are of no instance
 abbrev pub told_of : Entry → Journal → Option ℕ
 told_of (Learned moment mapping fixed) before = Some mapping.eid.iid
 told_of (Asked moment eid source invoked nonce) before = Some eid.iid
@@ -37,12 +36,12 @@ told_of (Answered moment nonce) before = asked_in nonce before
 told_of (Bits moment eid bits width) before = Some eid.iid
 told_of _ before = None
 
--- it is of no other instance
+-- whether an entry's instance, if it has one, is this instance
 abbrev pub counts_in : ℕ → Option ℕ → Bool
 counts_in i None = true
 counts_in i (Some iid) = iid == i
 
--- the journal without what is of other instances
+-- the journal of an instance: a journal without the entries of other instances
 abbrev pub of_instance : Journal → ℕ → Journal
 of_instance [] i = []
 of_instance (entry ∷ before) i =
@@ -55,8 +54,8 @@ abbrev pub tunnel_instance : FramePacket → ℕ
 tunnel_instance packet =
     iid_of (lisp_header_at (payload_in packet.octets (udp_at (payload_place packet.header) packet.octets)))
 
--- the instance of a packet that came in a VLAN: to an own locator that of its LISP header, else that of the VLAN, if
--- it is attached
+-- the instance of a packet that came in a VLAN: to an own locator the instance in its LISP header, else the instance
+-- that the VLAN is attached to, if any
 abbrev pub packet_instance : Settings → ℕ → FramePacket → Option ℕ
 packet_instance settings vlan packet =
     if is_own settings.locators (dest_of packet.header) then Some (tunnel_instance packet)
@@ -68,33 +67,34 @@ frame_instance settings frame = packet_instance settings (link_vlan frame) (fram
 
 -- ### what is promised
 
--- two views answer alike what a decision asks for a frame of an instance
+-- two views agree in instance i: in all on which decisions on its frames depend
 pub record AgreesIn (i : ℕ) (v w : View) : Type 0 where
   pub in_force : (addr : Addr) (len : ℕ) → force v.mappings i addr len ≡ force w.mappings i addr len
   pub up : (rloc : Addr) → v.up rloc ≡ w.up rloc
   pub echo_out : (rloc : Addr) → v.echo_out rloc ≡ w.echo_out rloc
   pub may_start : (rloc : Addr) → v.may_start rloc ≡ w.may_start rloc
 
--- then they decide alike on such a frame
+-- two views that agree in an instance decide alike on its frames
 abbrev pub AgreesDecides : Type 0
 AgreesDecides = (settings : Settings) (i : ℕ) (v w : View) (frame : Frame) → AgreesIn i v w → frame_instance settings frame ≡ Some i → decide_by settings v frame ≡ decide_by settings w frame
 
--- a frame of no instance asks nothing
+-- a decision on a frame of no instance doesn't depend on the view
 abbrev pub NoneAsks : Type 0
 NoneAsks = (settings : Settings) (v w : View) (frame : Frame) → frame_instance settings frame ≡ None → decide_by settings v frame ≡ decide_by settings w frame
 
--- what is of other instances counts in no decision on a frame of an instance: as of each moment
+-- entries of other instances count in no decision on a frame of an instance, by the views at exactly each moment
 abbrev pub MomentIsolated : Type 0
 MomentIsolated = (settings : Settings) (journal : Journal) (i now : ℕ) (frame : Frame) → frame_instance settings frame ≡ Some i → decide_by (standing settings journal) (seen_at journal now) frame ≡ decide_by (standing settings (of_instance journal i)) (seen_at (of_instance journal i) now) frame
 
--- wherever both journals are asked as of one moment
+-- the journal of an instance decides on its frames as the whole journal, where questions to both count as of one moment
 abbrev pub DecisionIsolated : Type 0
 DecisionIsolated = (settings : Settings) (journal : Journal) (i m n : ℕ) (frame : Frame) → frame_instance settings frame ≡ Some i → at journal m ≡ at (of_instance journal i) n → decide settings journal m frame ≡ decide settings (of_instance journal i) n frame
 
--- and so at that moment, where moments don't fall
+-- the journal of an instance decides on its frames as the whole journal, asked at the moment as of which the whole one
+-- answers, where moments don't fall
 abbrev pub RisingIsolated : Type 0
 RisingIsolated = (settings : Settings) (journal : Journal) (i m : ℕ) (frame : Frame) → IsRising journal → frame_instance settings frame ≡ Some i → decide settings journal m frame ≡ decide settings (of_instance journal i) (at journal m) frame
 
--- a table that stands for a journal decides as the parts of the journal of an instance
+-- a table that stands for a journal decides on frames of an instance as the parts of that instance's journal
 abbrev pub TableIsolated : Type 0
 TableIsolated = (settings : Settings) (parts : Parts) (journal : Journal) (i m : ℕ) (frame : Frame) → Stands settings parts journal → frame_instance settings frame ≡ Some i → let mine = parts_in settings (of_instance journal i) in decide_by (standing_in settings parts) (view_in parts m) frame ≡ decide_by (standing_in settings mine) (view_in mine (max m parts.now)) frame

@@ -4,7 +4,7 @@ use Rattle.lisp_settings.specs.declared.settings.Settings.{Settings}
 use Rattle.router_log.specs.declared.entry.Entry.{Entry}
 use Rattle.router_log.specs.declared.entry.Entry.TheVariants.{Learned, Asked, Retried, Answered, Probed, ProbeAnswered, Bits, EchoStarted, EchoHeard, DataFrom, EchoWanted, Solicited, Changed}
 
--- the entries, the newest first
+-- a journal: its entries, the newest first
 abbrev pub Journal : Type 0
 Journal = List Entry
 
@@ -24,21 +24,21 @@ moment_of (EchoWanted moment rloc nonce) = moment
 moment_of (Solicited moment rloc eid nonce) = moment
 moment_of (Changed moment address up) = moment
 
--- the moment of the last entry, 0 before the first
+-- the moment of a journal's last entry, 0 before the first
 abbrev pub last_moment : Journal → ℕ
 last_moment [] = 0
 last_moment (entry ∷ before) = moment_of entry
 
--- moments don't fall
+-- the moments of a journal don't fall
 abbrev pub IsRising : Journal → Type 0
 IsRising [] = Unit {0}
 IsRising (entry ∷ before) = (last_moment before ≤ moment_of entry) × IsRising before
 
--- the moment at which a question counts that is asked at m: that of the last entry, if it is later
+-- the moment as of which a question at m is answered: m, or that of the last entry, if it is later
 abbrev pub at : Journal → ℕ → ℕ
 at journal m = max m (last_moment journal)
 
--- the entry used a nonce
+-- whether an entry used a nonce
 abbrev pub uses_nonce : Entry → Bool
 uses_nonce (Asked moment eid source invoked nonce) = true
 uses_nonce (Probed moment rloc nonce) = true
@@ -46,28 +46,28 @@ uses_nonce (EchoStarted moment rloc nonce) = true
 uses_nonce (Solicited moment rloc eid nonce) = true
 uses_nonce _ = false
 
--- how many nonces were used
+-- the number of nonces that were used in a journal
 abbrev pub drawn : Journal → ℕ
 drawn journal = count_by uses_nonce journal
 
--- an own locator went up or down
+-- whether an entry is a change of an own locator
 abbrev pub is_changed : Entry → Bool
 is_changed (Changed moment address up) = true
 is_changed _ = false
 
--- how often one did
+-- the number of changes of own locators in a journal
 abbrev pub changed : Journal → ℕ
 changed journal = count_by is_changed journal
 
--- the first n entries
+-- the first n entries of a journal
 abbrev pub first : ℕ → Journal → Journal
 first n journal = drop (length journal - n) journal
 
--- the journal with further entries, the oldest of them at the head of the list
+-- a journal with further entries, the oldest of them at the head of the list
 abbrev pub extended : Journal → List Entry → Journal
 extended journal [] = journal
 extended journal (entry ∷ entries) = extended (entry ∷ journal) entries
 
--- the static mappings, in order of EID, at moment 0
+-- the journal that begins: the static mappings, in order of EID, at moment 0
 abbrev pub statics : Settings → Journal
 statics settings = extended [] (map (λ mapping. Learned 0 mapping true) settings.mappings)

@@ -1,4 +1,4 @@
--- The limits of a router, what follows from them, and the ports of LISP.
+-- The limits of a router, numbers that follow from them, and the ports of LISP.
 use Rattle.std.specs.Prelude.{ℕ, ◌+◌, ◌*◌}
 pub use Rattle.lisp_settings.specs.Limits.{most_changes, most_databases, most_open}
 pub use Rattle.map_cache.specs.Limits.{most_locators, most_mappings}
@@ -25,16 +25,16 @@ most_message_records = 255
 abbrev pub most_heard : ℕ
 most_heard = 1 + most_message_records
 
--- locators that are told of changes in one second, at most (this router's choice)
+-- locators that get SMRs for changes of own locators in one second, at most (this router's choice)
 abbrev pub most_told : ℕ
 most_told = 64
 
--- entries that come of a second, at most: each change is made, each of these locators is told of each database prefix, each
--- request is sent again, and each target is probed
+-- entries that come of a second, at most: one for each change, for each database prefix of each locator that gets SMRs,
+-- for each request that is sent again, and for each locator that is probed
 abbrev pub most_ticked : ℕ
 most_ticked = most_changes + (most_told * most_databases + (most_open + most_targets))
 
--- what a decision notices, at most
+-- notices of a decision, at most
 abbrev pub most_notices : ℕ
 most_notices = 5
 
@@ -42,10 +42,10 @@ most_notices = 5
 abbrev pub most_entries : ℕ
 most_entries = 32768
 
--- octets of a round's frames past which it is closed, by the frame that brings it there
+-- octets of a round's frames (16 MiB) past which the round is closed, by the frame that brings it there
 abbrev pub most_round_octets : ℕ
 most_round_octets = 16777216
 
--- packets that are sent for an event, at most, which is no sharp bound; so they are counted in 64 bits
+-- packets that are sent for an event, at most, which is no sharp bound; packets are therefore counted in 64 bits
 abbrev pub most_event_packets : ℕ
 most_event_packets = 32768

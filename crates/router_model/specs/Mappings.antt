@@ -11,7 +11,7 @@ use Rattle.router_model.specs.Journal.{Journal}
 use Rattle.map_cache.specs.Cache.{lifetime}
 use Rattle.locator_state.specs.Lists.{only_if}
 
--- what was learned, and when; `fixed` for a static mapping
+-- a mapping that was learned, and its moment; `fixed` for a static mapping
 pub record Learning : Type 0 where
   pub moment : ℕ
   pub mapping : Record
@@ -25,7 +25,7 @@ last_learned eid (Learned moment mapping fixed ∷ before) =
     else last_learned eid before
 last_learned eid (_ ∷ before) = last_learned eid before
 
--- a static mapping is always live, another one until its TTL is over
+-- whether a learned mapping is live: a static one always, another one until its TTL is over
 abbrev pub is_live : ℕ → Learning → Bool
 is_live now learning =
     learning.fixed || (not (learning.mapping.ttl == 0) && nat_lt (now - learning.moment) (lifetime learning.mapping.ttl))
@@ -41,15 +41,15 @@ eids (Learned moment mapping fixed ∷ before) =
     put_in_order (λ eid. eid) eid_order mapping.eid (filter (λ other. not (same_eid other mapping.eid)) (eids before))
 eids (_ ∷ before) = eids before
 
--- what was learned and is live, in ascending order of EID
+-- the mappings that were learned and are live, in ascending order of EID
 abbrev pub live_learnings : ℕ → Journal → List Learning
 live_learnings now journal = filter_map (λ eid. live now eid journal) (eids journal)
 
--- the bit of that number is set
+-- whether bit i of a number is set
 abbrev pub bit : ℕ → ℕ → Bool
 bit i bits = bits / 2 ^ i % 2 == 1
 
--- what was last told of locator i since the mapping of that EID was learned, by more than i bits
+-- the last status bit of locator i since the mapping of an EID was learned, among entries of more than i bits
 abbrev pub bit_told : Eid → ℕ → Journal → Option Bool
 bit_told eid i [] = None
 bit_told eid i (Learned moment mapping fixed ∷ before) = if same_eid mapping.eid eid then None else bit_told eid i before
@@ -57,11 +57,11 @@ bit_told eid i (Bits moment of bits width ∷ before) =
     if same_eid of eid && nat_lt i width then Some (bit i bits) else bit_told eid i before
 bit_told eid i (_ ∷ before) = bit_told eid i before
 
--- locator i is up by its status bit, or as its record says
+-- whether locator i of a mapping is up: by its status bit where one came, else as its record has it
 abbrev pub bits_up : Journal → Eid → ℕ → Locator → Bool
 bits_up journal eid i locator = unwrap_or (bit_told eid i journal) locator.reachable
 
--- the same of the locators from number i on
+-- the status of each of the locators from number i on
 abbrev pub status_of : (ℕ → Locator → Bool) → ℕ → List Locator → List Bool
 status_of up i [] = []
 status_of up i (locator ∷ locators) = up i locator ∷ status_of up (suc i) locators
@@ -73,7 +73,7 @@ pub record Held : Type 0 where
   pub fixed : Bool
   pub up : List Bool
 
--- a mapping of the journal with the status of its locators
+-- a learned mapping as decisions see it, with the status of its locators in a journal
 abbrev pub held : Journal → Learning → Held
 held journal learning = record {
   eid = learning.mapping.eid;
@@ -82,14 +82,14 @@ held journal learning = record {
   up = status_of (bits_up journal learning.mapping.eid) 0 learning.mapping.locators;
 }
 
--- the live mappings, in ascending order of EID
+-- the live mappings of a journal as decisions see them, in ascending order of EID
 abbrev pub live_mappings : ℕ → Journal → List Held
 live_mappings now journal = map (held journal) (live_learnings now journal)
 
--- of live mappings that of exactly this EID
+-- the one of live mappings with exactly this EID
 abbrev pub exact : List Held → Eid → Option Held
 exact mappings eid = exactly (λ held. held.eid) mappings eid
 
--- of live mappings the one in force for a prefix of an instance: the longest that covers it
+-- the mapping in force for a prefix of an instance: the longest of live mappings that covers it
 abbrev pub force : List Held → ℕ → Addr → ℕ → Option Held
 force mappings iid addr len = longest (λ held. held.eid) mappings iid addr len

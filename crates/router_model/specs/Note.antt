@@ -1,4 +1,4 @@
--- What a notice makes of the journal.
+-- The effect of a notice on the journal.
 use Rattle.std.specs.Prelude.{ℕ, suc, ◌%◌, ◌^◌, ◌==◌, ◌||◌, ◌&&◌, nat_lt, not, Bool, true, false, List, [], ◌∷◌, length, Option, Some, None, is_some, if◌then◌else◌}
 use Rattle.std.specs.List.{list_any}
 use Rattle.ip_headers.specs.declared.addr.Addr.{Addr}
@@ -17,45 +17,46 @@ use Rattle.router_model.specs.Site.{ours}
 use Rattle.router_model.specs.Standing.{standing}
 use Rattle.router_model.specs.View.{View}
 
--- no mapping tells where packets go: none is in force, or one that says to ask
+-- whether a mapping is wanting: none is in force, or one without locators whose action is to send a Map-Request
 abbrev pub is_wanting : Option Held → Bool
 is_wanting None = true
 is_wanting (Some held) = (length held.mapping.locators == 0) && (held.mapping.action == 2)
 
--- an EID is to be asked for
+-- whether a Map-Request for an EID is to be sent: it may be, and its mapping is wanting
 abbrev pub is_missing : Settings → List LimitItem → View → Eid → Bool
 is_missing settings limits v eid =
     may_ask settings limits v eid && is_wanting (force v.mappings eid.iid eid.prefix.addr eid.prefix.len)
 
--- a live mapping was learned
+-- whether there is a live mapping, and it was learned
 abbrev pub is_learned : Option Held → Bool
 is_learned None = false
 is_learned (Some held) = not held.fixed
 
--- of the locators from number i on, one below the width has another status than its bit
+-- whether a locator from number i on, below the width, has another status than its bit
 abbrev pub differs : ℕ → ℕ → ℕ → List Bool → Bool
 differs bits width i [] = false
 differs bits width i (up ∷ ups) =
     nat_lt i width && (if up then not (bit i bits) else bit i bits) || differs bits width (suc i) ups
 
--- a live mapping names the locator, and the bits tell something new of its locators
+-- whether status bits from a locator are news: a live mapping names that locator, and one of its locators has another
+-- status than its bit
 abbrev pub is_news : Addr → ℕ → ℕ → Option Held → Bool
 is_news rloc bits width None = false
 is_news rloc bits width (Some held) =
     list_any (λ locator. same_address locator.addr rloc) held.mapping.locators && differs bits width 0 held.up
 
--- that nonce is asked for
+-- whether a nonce is that of the requested echo, if there is one
 abbrev pub is_echo : ℕ → Option ℕ → Bool
 is_echo nonce None = false
 is_echo nonce (Some asked) = asked == nonce
 
 module _ {S : Type 0} (ledger : Ledger S) (settings : Settings) (m : ℕ) where
-  -- an SMR goes out, with that nonce (RFC 9302, section 7.1)
+  -- an SMR is sent and entered, with that nonce (RFC 9302, section 7.1)
   abbrev pub solicited : ℕ → Addr → Eid → Change S → Change S
   solicited nonce rloc eid change =
       emitted (emit.Solicit rloc eid nonce) (entered ledger settings m (entry.Solicited m rloc eid nonce) change)
 
-  -- one notice
+  -- a notice is noted
   unfoldable pub noted : Notice → Change S → Change S
   noted (notice.Ask eid source) change =
       if is_missing settings (limits_of ledger settings m change) (seen ledger settings m change) eid
@@ -82,6 +83,6 @@ module _ {S : Type 0} (ledger : Ledger S) (settings : Settings) (m : ℕ) where
       if settings.echo && (seen ledger settings m change).may_start rloc
       then entered ledger settings m (entry.EchoStarted m rloc (next_nonce ledger settings m change % 2 ^ 24)) change else change
 
--- a notice at m, noted in the journal, over the settings that stand
+-- a notice noted at m in a journal, with the settings that stand by it
 abbrev pub note : Settings → Journal → ℕ → Notice → Change Journal
 note settings before m notice = noted journal (standing settings before) m notice (unchanged before)

@@ -1,4 +1,5 @@
--- What the journal says of locators: probes (RFC 9301, section 7.1), echoed nonces (RFC 9300, section 10.1), SMRs that were sent (RFC 9301, section 6.1).
+-- Locators in the journal: probes (RFC 9301, section 7.1), echoed nonces (RFC 9300, section 10.1), SMRs that were sent
+-- (RFC 9301, section 6.1).
 use Rattle.std.specs.Prelude.{ℕ, ◌==◌, Bool, false, List, [], ◌∷◌, ◌++◌, Option, Some, None, if◌then◌else◌}
 use Rattle.std.specs.List.{list_any}
 use Rattle.ip_headers.specs.declared.addr.Addr.{Addr}
@@ -18,14 +19,15 @@ use Rattle.router_log.specs.declared.kept.Solicitation.{Solicitation}
 use Rattle.router_model.specs.Journal.{Journal}
 use Rattle.router_model.specs.Kept.{Kind, absorb, last_put}
 
--- what comes first of these entries, the oldest of which stands first: an answer with the nonce, or another probe with it
+-- the state of a probe with a nonce by the entries after it, the oldest first: the first answer with the nonce, or the
+-- first further probe with it, settles the state
 abbrev pub state_after : ℕ → List Entry → ProbeState
 state_after nonce [] = Open
 state_after nonce (ProbeAnswered moment answered ∷ later) = if answered == nonce then Answered else state_after nonce later
 state_after nonce (Probed moment rloc probed ∷ later) = if probed == nonce then Lost else state_after nonce later
 state_after nonce (_ ∷ later) = state_after nonce later
 
--- the probes; `later` are the entries after these, the oldest of which stands first
+-- the probes in a journal, the oldest first; `later` are the entries after the journal, the oldest first
 abbrev pub probes : List Entry → Journal → List Probe
 probes later [] = []
 probes later (Probed moment rloc nonce ∷ before) =
@@ -33,17 +35,17 @@ probes later (Probed moment rloc nonce ∷ before) =
     ++ record { moment = moment; rloc = rloc; nonce = nonce; state = state_after nonce later } ∷ []
 probes later (entry ∷ before) = probes (entry ∷ later) before
 
--- the echo asked of the locator is heard
+-- whether an entry marks the echo requested of a locator as heard
 abbrev pub is_heard : Addr → Entry → Bool
 is_heard rloc (EchoHeard moment from) = same_address rloc from
 is_heard rloc _ = false
 
--- a packet came from the locator
+-- whether an entry marks that a packet came from a locator
 abbrev pub has_come : Addr → Entry → Bool
 has_come rloc (DataFrom moment from) = same_address rloc from
 has_come rloc _ = false
 
--- the echoes asked for; `later` are the entries after these
+-- the echoes requested in a journal, the oldest first; `later` are the entries after the journal
 abbrev pub starts : List Entry → Journal → List EchoStart
 starts later [] = []
 starts later (EchoStarted moment rloc nonce ∷ before) =
@@ -51,19 +53,19 @@ starts later (EchoStarted moment rloc nonce ∷ before) =
     ++ record { moment = moment; rloc = rloc; nonce = nonce; heard = list_any (is_heard rloc) later; came = list_any (has_come rloc) later } ∷ []
 starts later (entry ∷ before) = starts (entry ∷ later) before
 
--- the echoes wanted
+-- the echoes that locators wanted in a journal, the oldest first
 abbrev pub wishes : Journal → List EchoWish
 wishes [] = []
 wishes (EchoWanted moment rloc nonce ∷ before) = wishes before ++ record { moment = moment; rloc = rloc; nonce = nonce } ∷ []
 wishes (_ ∷ before) = wishes before
 
--- the SMRs that were sent
+-- the SMRs that were sent in a journal, the oldest first
 abbrev pub solicits : Journal → List Solicitation
 solicits [] = []
 solicits (Solicited moment rloc eid nonce ∷ before) = solicits before ++ record { moment = moment; rloc = rloc; eid = eid } ∷ []
 solicits (_ ∷ before) = solicits before
 
--- all of them in a journal
+-- all probes, requested echoes, wanted echoes and SMRs in a journal
 abbrev pub observed : Journal → Observed
 observed journal = record {
   probes = probes [] journal;
@@ -79,7 +81,7 @@ abbrev pub begun_probe : Entry → Option Probe
 begun_probe (Probed moment rloc nonce) = Some (record { moment = moment; rloc = rloc; nonce = nonce; state = Open })
 begun_probe _ = None
 
--- what becomes of a probe when an entry comes
+-- a probe behind an entry: an open one is lost or answered where the entry has its nonce
 abbrev pub probe_step : Entry → Probe → Option Probe
 probe_step (Probed moment rloc nonce) probe = Some (if probe.nonce == nonce then settle Lost probe else probe)
 probe_step (ProbeAnswered moment nonce) probe = Some (if probe.nonce == nonce then settle Answered probe else probe)
@@ -88,13 +90,13 @@ probe_step _ probe = Some probe
 abbrev pub probe_kind : Kind Entry Probe
 probe_kind = record { begins = begun_probe; step = probe_step; put = last_put }
 
--- the echo that an entry asks for
+-- the requested echo that an entry begins
 abbrev pub begun_start : Entry → Option EchoStart
 begun_start (EchoStarted moment rloc nonce) =
     Some (record { moment = moment; rloc = rloc; nonce = nonce; heard = false; came = false })
 begun_start _ = None
 
--- what becomes of it when an entry comes
+-- a requested echo behind an entry
 abbrev pub start_step : Entry → EchoStart → Option EchoStart
 start_step (EchoHeard moment from) start = Some (hear_from from start)
 start_step (DataFrom moment from) start = Some (come_from from start)
@@ -103,25 +105,25 @@ start_step _ start = Some start
 abbrev pub start_kind : Kind Entry EchoStart
 start_kind = record { begins = begun_start; step = start_step; put = last_put }
 
--- the echo that an entry wants
+-- the wanted echo that an entry begins
 abbrev pub begun_wish : Entry → Option EchoWish
 begun_wish (EchoWanted moment rloc nonce) = Some (record { moment = moment; rloc = rloc; nonce = nonce })
 begun_wish _ = None
 
--- no entry changes it
+-- wanted echoes as a kind of kept item, which no entry changes
 abbrev pub wish_kind : Kind Entry EchoWish
 wish_kind = record { begins = begun_wish; step = λ entry wish. Some wish; put = last_put }
 
--- the SMR of an entry
+-- the solicitation that an entry begins
 abbrev pub begun_solicit : Entry → Option Solicitation
 begun_solicit (Solicited moment rloc eid nonce) = Some (record { moment = moment; rloc = rloc; eid = eid })
 begun_solicit _ = None
 
--- no entry changes it
+-- solicitations as a kind of kept item, which no entry changes
 abbrev pub solicit_kind : Kind Entry Solicitation
 solicit_kind = record { begins = begun_solicit; step = λ entry solicit. Some solicit; put = last_put }
 
--- those of the four lists that still count at the moment of an entry, with its effect
+-- the four lists of items behind an entry: those that still count at its moment, with its effect
 abbrev pub observing : ℕ → Entry → Observed → Observed
 observing now entry o = record {
   probes = absorb probe_kind (probe_counts now) entry o.probes;

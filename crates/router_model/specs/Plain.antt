@@ -20,19 +20,19 @@ use Rattle.router_model.specs.Journal.{Journal, statics}
 use Rattle.router_model.specs.Note.{noted}
 use Rattle.router_model.specs.Tick.{ticked}
 
--- a router between two events: its settings, and what it remembers
+-- a router between two events: its settings, and its memory, a journal or the parts of one
 pub record Router (S : Type 0) : Type 0 where
   pub settings : Settings
   pub memory : S
 
--- the packet that a verdict sends
+-- the packet that a verdict sends, if it sends one
 abbrev pub packet_of : Verdict → Option (List ℕ)
 packet_of (Encapsulated from to port packet) = Some packet
 packet_of (Delivered iid packet) = Some packet
 packet_of (Native packet) = Some packet
 packet_of _ = None
 
--- the packet of a verdict, at a moment
+-- the packet of a verdict, if it sends one, at a moment
 abbrev pub packets_of : ℕ → Option (List ℕ) → List Packet
 packets_of moment None = []
 packets_of moment (Some packet) = record { moment = moment; octets = packet } ∷ []
@@ -43,7 +43,7 @@ emit_packets settings moment emits =
     map (λ emit. record { moment = moment; octets = emit_packet settings emit }) emits
 
 module _ {S : Type 0} (ledger : Ledger S) where
-  -- the line of a frame, with the number of entries by which it was decided, and what follows from it
+  -- the outcome of a frame: its line with the number of entries that decided it, its packets, and the memory after it
   abbrev pub after_frame : Router S → Frame → Verdict → List Packet → S → Outcome (Router S)
   after_frame router frame verdict packets memory = record {
     lines = frame_line frame.number frame.moment (ledger.count router.memory) verdict;
@@ -51,13 +51,13 @@ module _ {S : Type 0} (ledger : Ledger S) where
     after = record router { memory = memory };
   }
 
-  -- a control message, which was heard
+  -- the outcome of a control message, which was heard
   abbrev pub after_message : Router S → Frame → Heard S → Outcome (Router S)
   after_message router frame heard =
       after_frame router frame heard.verdict
       (emit_packets (ledger.stands router.settings heard.change.after) frame.moment heard.change.emits) heard.change.after
 
-  -- a data packet, which was decided, and what its notices changed
+  -- the outcome of a data packet, which was decided, with the change by its notices
   abbrev pub after_data : Router S → Frame → Verdict → Change S → Outcome (Router S)
   after_data router frame verdict change =
       after_frame router frame verdict
@@ -65,14 +65,14 @@ module _ {S : Type 0} (ledger : Ledger S) where
       ++ emit_packets (ledger.stands router.settings change.after) frame.moment change.emits)
       change.after
 
-  -- a data packet by its decision, whose notices are noted in order
+  -- the outcome of a data packet by its decision, whose notices are noted in order
   abbrev pub after_decision : Router S → Frame → Decision → Outcome (Router S)
   after_decision router frame decision =
       after_data router frame decision.verdict
       (each (noted ledger (ledger.stands router.settings router.memory) frame.moment) decision.notices
       (unchanged router.memory))
 
-  -- a second has no line; its packets have its moment
+  -- the outcome of a second: no line, and packets at its moment
   abbrev pub after_tick : Router S → ℕ → Change S → Outcome (Router S)
   after_tick router moment change = record {
     lines = [];
@@ -80,7 +80,7 @@ module _ {S : Type 0} (ledger : Ledger S) where
     after = record router { memory = change.after };
   }
 
-  -- what a router does at an event
+  -- the outcome of an event at a router
   abbrev pub after_event : Router S → Event → Outcome (Router S)
   after_event router (Tick second) =
       after_tick router (seconds second) (ticked ledger router.settings (seconds second) (unchanged router.memory))
@@ -91,11 +91,11 @@ module _ {S : Type 0} (ledger : Ledger S) where
       else after_decision router frame
       (decide_by (ledger.stands router.settings router.memory) (ledger.see router.memory frame.moment) frame)
 
--- a router as it begins, with its static mappings
+-- a router that begins, with its static mappings
 abbrev pub started : Settings → Router Journal
 started settings = record { settings = settings; memory = statics settings }
 
--- what the plain router does at an event: it decides a frame by all of its journal, over the settings that stand
+-- the outcome of an event at the plain router, which decides a frame by all of its journal and the settings that stand
 abbrev pub plain : Router Journal → Event → Outcome (Router Journal)
 plain router event = after_event ledgers.journal router event
 

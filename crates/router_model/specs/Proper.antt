@@ -19,20 +19,20 @@ use Rattle.router_model.specs.Site.{is_own}
 use Rattle.router_model.specs.Standing.{has_change}
 use Rattle.router_model.specs.View.{View, view}
 
--- action and version of a record have their bits, and its locators are no more than a mapping may have
+-- whether action and version of a record fit their bits, and it has no more locators than a mapping may have
 abbrev pub is_in_range : Record → Bool
 is_in_range mapping = nat_le mapping.action 7 && (nat_le mapping.version most_version && nat_le (length mapping.locators) most_locators)
 
--- an open request may be sent again once more
+-- whether a request, if one is open, may be sent again once more
 abbrev pub may_retry : Option Request → Bool
 may_retry None = false
 may_retry (Some request) = nat_lt request.sent_again most_retries
 
--- the nonce of an echo has 24 bits (RFC 9300, section 5.1)
+-- whether a nonce has the 24 bits of an echo (RFC 9300, section 5.1)
 abbrev pub is_short : ℕ → Bool
 is_short nonce = nat_lt nonce (2 ^ 24)
 
--- by these limits the entry may follow what is seen at its moment
+-- whether an entry may follow a journal with that view at the entry's moment, by the limits of instances
 abbrev pub suits : List LimitItem → View → Entry → Bool
 suits limits v (Learned moment mapping fixed) = not fixed && (is_in_range mapping && has_room limits v mapping)
 suits limits v (Asked moment eid source invoked nonce) = may_open limits v eid.iid
@@ -48,12 +48,13 @@ suits limits v (EchoWanted moment rloc nonce) = v.may_want rloc nonce && is_shor
 suits limits v (Solicited moment rloc eid nonce) = v.may_solicit rloc eid
 suits limits v (Changed moment address up) = true
 
--- the entry may follow so many entries, of which the last has that moment, seen so at its own; its nonce apart
+-- whether an entry, whatever its nonce, may follow a journal of so many entries, with that moment of the last one, and
+-- that view at the entry's moment
 abbrev pub is_admitted : List LimitItem → ℕ → ℕ → View → Entry → Bool
 is_admitted limits count last v entry =
     (nat_lt count (2 ^ 62) && nat_le last (moment_of entry)) && suits limits v entry
 
--- an entry that uses a nonce has this one, of which an echo has the low 24 bits
+-- whether an entry has this nonce, if it uses one; an echo has the low 24 bits
 abbrev pub has_nonce : ℕ → Entry → Bool
 has_nonce next (Asked moment eid source invoked nonce) = nonce == next
 has_nonce next (Probed moment rloc nonce) = nonce == next
@@ -61,26 +62,26 @@ has_nonce next (EchoStarted moment rloc nonce) = nonce == next % 2 ^ 24
 has_nonce next (Solicited moment rloc eid nonce) = nonce == next
 has_nonce next _ = true
 
--- the entry may follow the journal; one of a change is the settings' next one
+-- whether an entry fits a journal: it may follow, has the next nonce, and a change is the settings' next one
 unfoldable pub fits : Settings → Journal → Entry → Bool
 fits settings journal entry =
     is_admitted (limits_in settings) (length journal) (last_moment journal) (view journal (moment_of entry)) entry
     && (has_nonce (nonce_of settings.seed settings.nonces (drawn journal)) entry
     && has_change (slice_get settings.changes (changed journal)) entry)
 
--- each of the entries, the newest of which stands first, fits what stands before it
+-- each of the entries, the newest of which stands first, fits the journal with the entries before it
 abbrev pub EachFits : Settings → Journal → List Entry → Type 0
 EachFits settings before [] = Unit {0}
 EachFits settings before (entry ∷ entries) =
     IsTrue (fits settings (entries ++ before) entry) × EachFits settings before entries
 
--- their seconds don't fall
+-- the seconds of changes don't fall
 abbrev pub AreInTurn : List Change → Type 0
 AreInTurn [] = Unit {0}
 AreInTurn (change ∷ changes) = AllByRecursion (λ (next : Change). change.at ≤ next.at) changes × AreInTurn changes
 
--- what journals ask of settings, and lawful ones have: few changes, in turn, of own locators, few databases, and limits
--- that a router can have beside the static mappings
+-- the demands of journals on settings, which lawful ones fulfil: few changes, in turn, of own locators, few databases,
+-- and limits that a router can have beside the static mappings
 pub record MayChange (settings : Settings) : Type 0 where
   pub few_changes : length settings.changes ≤ most_changes
   pub turns : AreInTurn settings.changes
@@ -89,7 +90,7 @@ pub record MayChange (settings : Settings) : Type 0 where
   pub limits : AreLimits (limits_in settings)
   pub room : length settings.mappings + all_mappings (limits_in settings) ≤ most_mappings
 
--- the static mappings, and further entries of which each fits
+-- a journal that a router of the settings can have: the static mappings, and further entries of which each fits
 pub record IsProper (settings : Settings) (journal : Journal) : Type 0 where
   pub may : MayChange settings
   pub entries : List Entry

@@ -23,7 +23,7 @@ use Rattle.router_model.specs.Tick.{tick}
 
 -- ### lines
 
--- what is said of a frame: its number and moment, by how many entries it was decided, and the verdict
+-- the line of a frame: its number and moment, the number of entries by which it was decided, and the verdict
 pub record Line : Type 0 where
   pub number : ℕ
   pub moment : ℕ
@@ -42,41 +42,41 @@ lines_text lines = flat_map line_text lines
 
 -- ### the journal in a round
 
--- the moment of the last of some frames
+-- the moment of the last of some frames, 0 without one
 abbrev pub closing_moment : List Frame → ℕ
 closing_moment [] = 0
 closing_moment (frame ∷ []) = frame.moment
 closing_moment (frame ∷ next ∷ frames) = closing_moment (next ∷ frames)
 
--- an item more where a test holds
+-- a list with an item more at its front, where a test holds
 abbrev pub with_if : {A : Type 0} → Bool → A → List A → List A
 with_if test item items = if test then item ∷ items else items
 
 module _ (settings : Settings) where
-  -- an event extends the journal: a second, or a control message
+  -- whether an event extends the journal: a second or a control message
   abbrev pub extends : Event → Bool
   extends (Tick s) = true
   extends (Arrival frame) = control settings frame
 
-  -- the journal after an event; a data packet leaves it, since its notices come later
+  -- the journal after an event; a data packet leaves it as it is, because its notices come later
   abbrev pub advanced : Journal → Event → Journal
   advanced journal (Tick s) = (tick settings journal s).after
   advanced journal (Arrival frame) =
       if control settings frame then (hear settings journal frame.moment frame).change.after else journal
 
-  -- after events in order
+  -- the journal after events in order
   abbrev pub all_advanced : Journal → List Event → Journal
   all_advanced journal [] = journal
   all_advanced journal (event ∷ events) = all_advanced (advanced journal event) events
 
-  -- its lengths after each event that extends it
+  -- the lengths of the journal after each event that extends it
   abbrev pub lengths : Journal → List Event → List ℕ
   lengths journal [] = []
   lengths journal (event ∷ events) =
       with_if (extends event) (length (advanced journal event)) (lengths (advanced journal event) events)
 
-  -- the ends of a round: its length after the seconds before the first frame, and after each further event that
-  -- extends it
+  -- the ends of a round: the lengths of its journal after the seconds before the first frame, and after each further
+  -- event that extends it
   abbrev pub ends : Journal → List Event → List ℕ
   ends journal [] = length journal ∷ []
   ends journal (Tick s ∷ events) = ends (advanced journal (Tick s)) events
@@ -84,7 +84,7 @@ module _ (settings : Settings) where
 
 -- ### what a round says and sends
 
--- lines and packets in order, and the notices of the data packets
+-- the lines and packets of events in order, and the notices of their data packets
 pub record Told : Type 0 where
   pub lines : List Line
   pub packets : List Packet
@@ -93,7 +93,7 @@ pub record Told : Type 0 where
 abbrev pub nothing : Told
 nothing = record { lines = []; packets = []; notices = [] }
 
--- one, and then another
+-- the lines, packets and notices of two lists of events, one after the other
 abbrev pub and_then : Told → Told → Told
 and_then one next = record {
   lines = one.lines ++ next.lines;
@@ -102,12 +102,12 @@ and_then one next = record {
 }
 
 module _ (settings : Settings) where
-  -- of a second: packets at its moment
+  -- the packets of a second, at its moment
   abbrev pub of_second : ℕ → Change Journal → Told
   of_second s change =
       record { lines = []; packets = emit_packets (standing settings change.after) (seconds s) change.emits; notices = [] }
 
-  -- of a control message, which was heard with the journal before it
+  -- the line and packets of a control message, which was heard with the journal before it
   abbrev pub of_message : Journal → Frame → Heard Journal → Told
   of_message journal frame heard = record {
     lines = line_of frame (length journal) heard.verdict ∷ [];
@@ -115,7 +115,7 @@ module _ (settings : Settings) where
     notices = [];
   }
 
-  -- of a data packet, which was decided by n entries
+  -- the line, packet and notices of a data packet, which was decided by n entries
   abbrev pub of_data : Frame → ℕ → Decision → Told
   of_data frame n decision = record {
     lines = line_of frame n decision.verdict ∷ [];
@@ -123,18 +123,19 @@ module _ (settings : Settings) where
     notices = decision.notices;
   }
 
-  -- a data packet is decided at its own moment by the first n entries of the round's journal
+  -- the decision on a data packet at its own moment by the first n entries of the round's journal
   abbrev pub decided : Journal → ℕ → Frame → Decision
   decided last n frame = decide settings (first n last) frame.moment frame
 
-  -- of an event, by the round's journal, the journal before the event, and the number of a data packet
+  -- the lines, packets and notices of an event, by the round's journal (`last`), the journal before the event, and the
+  -- number of a data packet
   abbrev pub of_event : Journal → Journal → ℕ → Event → Told
   of_event last journal n (Tick s) = of_second s (tick settings journal s)
   of_event last journal n (Arrival frame) =
       if control settings frame then of_message journal frame (hear settings journal frame.moment frame)
       else of_data frame n (decided last n frame)
 
-  -- of events in order, with a number for each data packet among them
+  -- the lines, packets and notices of events in order, with a number for each data packet among them
   abbrev pub of_events : Journal → Journal → List ℕ → List Event → Told
   of_events last journal ns [] = nothing
   of_events last journal ns (event ∷ events) =
@@ -150,7 +151,7 @@ pub record Round : Type 0 where
   pub after : Journal
 
 module _ (settings : Settings) where
-  -- the notices of a round are noted together at a moment, after all else
+  -- a round whose notices are noted together at a moment, after all else
   abbrev pub with_notices : ℕ → Journal → Told → Round
   with_notices moment last told =
       let change = each (noted ledgers.journal (standing settings last) moment) told.notices (unchanged last) in
@@ -160,7 +161,7 @@ module _ (settings : Settings) where
         after = change.after;
       }
 
-  -- a round of events, whose last frame has that moment
+  -- a round of events, whose last frame has that moment, with a number for each data packet
   abbrev pub round_of_events : ℕ → Journal → List Event → List ℕ → Round
   round_of_events moment journal events ns =
       with_notices moment (all_advanced settings journal events)
@@ -182,7 +183,7 @@ module _ (settings : Settings) where
 
 -- ### whole captures
 
--- what a round says and sends, and the router after it
+-- the outcome of a round: its lines and packets, and the router after it
 abbrev pub after_round : Router Journal → Round → Outcome (Router Journal)
 after_round router result = record {
   lines = lines_text result.lines;
@@ -190,7 +191,7 @@ after_round router result = record {
   after = record router { memory = result.after };
 }
 
--- rounds in order, with the numbers of each
+-- the outcome of rounds in order, with the numbers of each
 abbrev pub rounds_from : Router Journal → Option ℕ → List (List Frame) → List (List ℕ) → Outcome (Router Journal)
 rounds_from router previous [] ns = idle router
 rounds_from router previous (frames ∷ others) ns =
@@ -206,10 +207,10 @@ AllLawful router previous (frames ∷ others) ns =
     × AllLawful (after_round router (round router.settings previous frames router.memory (get_or ns 0 []))).after
     (Some (closing_moment frames)) others (drop 1 ns))
 
--- the rounds of a capture
+-- the outcome of a capture's frames in rounds of a size, with the numbers of each
 abbrev pub rounds : Settings → List Frame → ℕ → List (List ℕ) → Outcome (Router Journal)
 rounds settings frames size ns = rounds_from (started settings) None (cut size frames) ns
 
--- numbers that they may have
+-- numbers that the rounds of a capture may have
 abbrev pub Lawful : Settings → List Frame → ℕ → List (List ℕ) → Type 0
 Lawful settings frames size ns = AllLawful (started settings) None (cut size frames) ns

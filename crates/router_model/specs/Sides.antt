@@ -20,7 +20,7 @@ use Rattle.router_model.specs.Tick.{ticked}
 
 -- ### the writer's side
 
--- what comes of an event before any data packet is decided
+-- the item that an event leaves before any data packet is decided
 pub data Item : Type 0 where
   -- the packets of a second
   Second : List Packet → Item
@@ -29,17 +29,17 @@ pub data Item : Type 0 where
   -- a data packet, which is still to be decided
   Data : Frame → Item
 
--- the items of events, the entries of each second and control message as one batch, and what stands after them
+-- written events: their items, the entries of each second and control message as one batch, and the state after them
 pub record Writing (S : Type 0) : Type 0 where
   pub items : List Item
   pub batches : List (List Entry)
   pub after : S
 
--- nothing was written
+-- no event is written
 abbrev pub unwritten : {S : Type 0} → S → Writing S
 unwritten state = record { items = []; batches = []; after = state }
 
--- one, and then another
+-- one list of written events, and then another
 abbrev pub then_written : {S : Type 0} → Writing S → Writing S → Writing S
 then_written one next = record {
   items = one.items ++ next.items;
@@ -51,17 +51,17 @@ then_written one next = record {
 abbrev pub left_for_later : {S : Type 0} → S → Frame → Writing S
 left_for_later state frame = record { items = Data frame ∷ []; batches = []; after = state }
 
--- all batches, joined
+-- the entries of all batches, joined
 abbrev pub joined : List (List Entry) → List Entry
 joined batches = flat_map (λ batch. batch) batches
 
 module _ {S : Type 0} (ledger : Ledger S) where
-  -- entries more, the oldest of them at the head of the list
+  -- a ledger's state with further entries, the oldest of them at the head of the list
   abbrev pub with_entries : S → List Entry → S
   with_entries state entries = fold ledger.add state entries
 
 module _ {S : Type 0} (ledger : Ledger S) (settings : Settings) where
-  -- a second
+  -- a second is written: its packets, and its entries as one batch
   abbrev pub second_written : ℕ → Change S → Writing S
   second_written s change = record {
     items = Second (emit_packets (ledger.stands settings change.after) (seconds s) change.emits) ∷ [];
@@ -69,7 +69,7 @@ module _ {S : Type 0} (ledger : Ledger S) (settings : Settings) where
     after = change.after;
   }
 
-  -- a control message
+  -- a control message is written: its line and packets, and its entries as one batch
   abbrev pub message_written : ℕ → Frame → Heard S → Writing S
   message_written n frame heard = record {
     items =
@@ -79,7 +79,7 @@ module _ {S : Type 0} (ledger : Ledger S) (settings : Settings) where
     after = heard.change.after;
   }
 
-  -- an event
+  -- an event is written
   abbrev pub event_written : S → Event → Writing S
   event_written state (Tick s) = second_written s (ticked ledger settings (seconds s) (unchanged state))
   event_written state (Arrival frame) =
@@ -88,7 +88,7 @@ module _ {S : Type 0} (ledger : Ledger S) (settings : Settings) where
       (hear_by ledger (ledger.stands settings state) frame.moment frame (unchanged state))
       else left_for_later state frame
 
-  -- events in order
+  -- events are written in order
   abbrev pub writing : S → List Event → Writing S
   writing state [] = unwritten state
   writing state (event ∷ events) =
@@ -96,21 +96,21 @@ module _ {S : Type 0} (ledger : Ledger S) (settings : Settings) where
 
 -- ### the data packets
 
--- what became of a data packet: by how many entries it was decided, and the decision
+-- the ruling on a data packet: the number of entries by which it was decided, and the decision
 pub record Ruling : Type 0 where
   pub n : ℕ
   pub decision : Decision
 
--- a data packet by the first n entries
+-- the ruling on a data packet by the first n entries of a journal
 abbrev pub ruling : Settings → Journal → ℕ → Frame → Ruling
 ruling settings last n frame = record { n = n; decision = decided settings last n frame }
 
--- the same by the parts that a table keeps
+-- the ruling on a data packet by the parts that a table keeps
 abbrev pub ruling_by : Settings → Parts → Frame → Ruling
 ruling_by settings parts frame =
     record { n = parts.count; decision = decide_by (standing_in settings parts) (view_in parts frame.moment) frame }
 
--- data packets in order, each by its number
+-- the rulings on data packets in order, each by its number of entries
 abbrev pub rulings : Settings → Journal → List ℕ → List Frame → List Ruling
 rulings settings last ns [] = []
 rulings settings last ns (frame ∷ frames) =
@@ -123,7 +123,7 @@ data_in (Second packets ∷ items) = data_in items
 data_in (Message line packets ∷ items) = data_in items
 data_in (Data frame ∷ items) = frame ∷ data_in items
 
--- the lines of items in order, with what became of the data packets
+-- the lines of items in order, with the rulings on their data packets
 abbrev pub lines_by : List Item → List Ruling → List Line
 lines_by [] ruled = []
 lines_by (Second packets ∷ items) ruled = lines_by items ruled
@@ -131,7 +131,7 @@ lines_by (Message line packets ∷ items) ruled = line ∷ lines_by items ruled
 lines_by (Data frame ∷ items) [] = lines_by items []
 lines_by (Data frame ∷ items) (one ∷ ruled) = line_of frame one.n one.decision.verdict ∷ lines_by items ruled
 
--- the packets of items in order
+-- the packets of items in order, with the rulings on their data packets
 abbrev pub packets_by : List Item → List Ruling → List Packet
 packets_by [] ruled = []
 packets_by (Second packets ∷ items) ruled = packets ++ packets_by items ruled
@@ -142,18 +142,18 @@ packets_by (Data frame ∷ items) (one ∷ ruled) =
 
 -- ### the notices
 
--- those of data packets, in frame order
+-- the notices of data packets, in frame order
 abbrev pub notices_of : List Ruling → List Notice
 notices_of ruled = flat_map (λ one. one.decision.notices) ruled
 
--- all that is told of items
+-- the lines, packets and notices of items, with the rulings on their data packets
 abbrev pub told_by : List Item → List Ruling → Told
 told_by items ruled =
     record { lines = lines_by items ruled; packets = packets_by items ruled; notices = notices_of ruled }
 
 -- ### all together
 
--- the lines and packets of a round, its batches, and what stands after it
+-- a worked round: its lines and packets, its batches, and the state after it
 pub record Worked (S : Type 0) : Type 0 where
   pub lines : List Line
   pub packets : List Packet
@@ -161,12 +161,12 @@ pub record Worked (S : Type 0) : Type 0 where
   pub after : S
 
 module _ {S : Type 0} (ledger : Ledger S) (settings : Settings) where
-  -- the notices are noted together at a moment, as one batch
+  -- the notices of a round are noted together at a moment, as one batch
   abbrev pub noting : ℕ → S → List Ruling → Change S
   noting moment state ruled =
       each (noted ledger (ledger.stands settings state) moment) (notices_of ruled) (unchanged state)
 
-  -- a round by what was written, what became of the data packets, and what their notices changed
+  -- a round put together of written events, the rulings on its data packets, and the change by their notices
   abbrev pub put_together : ℕ → Writing S → List Ruling → Change S → Worked S
   put_together moment written ruled change = record {
     lines = lines_by written.items ruled;
@@ -176,7 +176,7 @@ module _ {S : Type 0} (ledger : Ledger S) (settings : Settings) where
     after = change.after;
   }
 
-  -- a round of events, whose last frame has that moment, by what became of the data packets
+  -- a worked round of events, whose last frame has that moment, by the rulings on its data packets
   abbrev pub worked : ℕ → S → List Event → List Ruling → Worked S
   worked moment state events ruled =
       put_together moment (writing ledger settings state events) ruled

@@ -1,4 +1,4 @@
--- What the settings say of addresses: own locators, attachments, the site's prefixes.
+-- The settings by addresses: own locators, attachments, the site's prefixes.
 use Rattle.std.specs.Prelude.{ℕ, ◌+◌, ◌*◌, ◌==◌, ◌&&◌, Bool, List, [], ◌∷◌, filter, is_some, option_and_then, Option, Some, None, if◌then◌else◌}
 use Rattle.ip_headers.specs.Addr.{width}
 use Rattle.ip_headers.specs.declared.addr.Addr.{Addr}
@@ -10,13 +10,13 @@ use Rattle.lisp_settings.specs.declared.settings.Database.{Database}
 use Rattle.lisp_settings.specs.declared.settings.OwnLocator.{OwnLocator}
 use Rattle.lisp_settings.specs.declared.settings.Settings.{Settings}
 
--- ours, for the family of an address: the first own locator that is up, in order of address
+-- the own locator for the family of an address: the first one of that family that is up, in order of address
 abbrev pub ours : List OwnLocator → Addr → Option Addr
 ours [] to = None
 ours (own ∷ others) to =
     if own.up && (width own.addr == width to) then Some own.addr else ours others to
 
--- there is a resolver, and ours of its family
+-- whether the resolver is reached: there is one, and an own locator of its family is up
 abbrev pub reaches_resolver : Settings → Bool
 reaches_resolver settings = is_some (option_and_then (ours settings.locators) settings.resolver)
 

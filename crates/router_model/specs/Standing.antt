@@ -18,12 +18,12 @@ use Rattle.router_model.specs.declared.own.Own.{Own}
 
 -- ### versions
 
--- a version so many steps on
+-- a Map-Version so many steps on
 abbrev pub stepped : ℕ → ℕ → ℕ
 stepped zero version = version
 stepped (suc steps) version = successor (stepped steps version)
 
--- the same of a database prefix's version, of which 0 stays none
+-- the version of a database prefix so many steps on; 0 is no version and stays 0
 abbrev pub stood_version : ℕ → ℕ → ℕ
 stood_version steps version = if version == 0 then 0 else stepped steps version
 
@@ -33,12 +33,12 @@ stood steps database = record database { version = stood_version steps database.
 
 -- ### own locators
 
--- each own locator of that address goes up or down
+-- own locators, of which each with that address goes up or down
 abbrev pub changing : Addr → Bool → List OwnLocator → List OwnLocator
 changing address up locators =
     map (λ (own : OwnLocator). record own { up = if same_address own.addr address then up else own.up }) locators
 
--- what an entry makes of the own locators
+-- own locators behind an entry
 abbrev pub changed_by : Entry → List OwnLocator → List OwnLocator
 changed_by (Changed moment address up) locators = changing address up locators
 changed_by _ locators = locators
@@ -48,24 +48,24 @@ abbrev pub own_after : Settings → Journal → List OwnLocator
 own_after settings [] = settings.locators
 own_after settings (entry ∷ before) = changed_by entry (own_after settings before)
 
--- own locators, whichever of them are up
+-- own locators, whichever of them are up: all are marked as down
 abbrev pub without_ups : List OwnLocator → List OwnLocator
 without_ups locators = map (λ (own : OwnLocator). record own { up = false }) locators
 
 -- ### the settings
 
--- with these own locators, and each version so many steps on
+-- the settings with these own locators, and with each version so many steps on
 abbrev pub standing_with : Settings → List OwnLocator → ℕ → Settings
 standing_with settings locators steps =
     record settings { locators = locators; databases = map (stood steps) settings.databases }
 
--- after the changes of a journal: by these settings all is decided, heard, noted and sent
+-- the settings that stand after the changes of a journal: by these all is decided, heard, noted and sent
 abbrev pub standing : Settings → Journal → Settings
 standing settings journal = standing_with settings (own_after settings journal) (changed journal)
 
 -- ### in two numbers
 
--- those of own locators as they stand, after so many changes
+-- the two numbers of own locators as they stand, after so many changes
 abbrev pub own_in : List OwnLocator → ℕ → Own
 own_in locators steps = record { ups = own_bits locators; steps = steps }
 
@@ -80,26 +80,27 @@ standing_by settings own = standing_with settings (with_ups own.ups settings.loc
 
 -- ### changes that may come
 
--- two truth values are one
+-- whether two truth values are equal
 abbrev pub same_up : Bool → Bool → Bool
 same_up true up = up
 same_up false up = not up
 
--- it is that change of an own locator
+-- whether a change of the settings, if there is one, is that change of an own locator
 abbrev pub is_change : Addr → Bool → Option Change → Bool
 is_change address up None = false
 is_change address up (Some change) = same_address change.address address && same_up change.up up
 
--- an entry of a change is of this one
+-- whether an entry of a change of an own locator is of this change; each other entry passes
 abbrev pub has_change : Option Change → Entry → Bool
 has_change next (Changed moment address up) = is_change address up next
 has_change next _ = true
 
--- an entry of a change has the address of an own locator, and fewer changes were made than there may be
+-- whether an entry may follow as a change: it has the address of an own locator, and fewer changes were made than there
+-- may be; each other entry may
 abbrev pub may_change : List OwnLocator → ℕ → Entry → Bool
 may_change locators steps (Changed moment address up) = is_own locators address && nat_lt steps most_changes
 may_change locators steps _ = true
 
--- those of changes whose second isn't later
+-- the changes of own locators whose second isn't later than m
 abbrev pub due_changes : ℕ → List Change → List Change
 due_changes m changes = filter (λ change. nat_le (seconds change.at) m) changes

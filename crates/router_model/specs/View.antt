@@ -1,4 +1,4 @@
--- What a decision asks of the journal at a moment.
+-- The view of a journal at a moment: the answers to all questions of a decision.
 use Rattle.std.specs.Prelude.{◌≡◌, ℕ, Bool, List, Option}
 use Rattle.ip_headers.specs.declared.addr.Addr.{Addr}
 use Rattle.mapping_records.specs.declared.eid.Eid.{Eid}
@@ -13,9 +13,9 @@ use Rattle.locator_state.specs.Solicits.{may_solicit}
 use Rattle.router_model.specs.Observed.{observed}
 use Rattle.router_model.specs.Requests.{open_requests}
 
--- all that decisions and entries are judged by
+-- a view: all by which decisions and entries are judged
 pub record View : Type 0 where
-  -- the moment of asking
+  -- the moment as of which questions are answered
   pub now : ℕ
   -- the live mappings, in order of EID
   pub mappings : List Held
@@ -27,19 +27,19 @@ pub record View : Type 0 where
   pub last_probe : Addr → Option ℕ
   -- the number of probes that count
   pub probe_count : ℕ
-  -- neither probes nor echoes speak against a locator
+  -- whether neither probes nor echoes count against a locator
   pub up : Addr → Bool
-  -- the nonce of the echo that is asked of a locator
+  -- the nonce of the echo that is requested of a locator
   pub echo_on : Addr → Option ℕ
-  -- that echo is asked for, and no packet came since
+  -- whether an echo is requested of a locator, and no packet came from it since
   pub data_due : Addr → Bool
-  -- what a header to a locator does about echoes
+  -- how a header to a locator deals with echoes
   pub echo_out : Addr → EchoOut
-  -- an echo may be asked of a locator
+  -- whether an echo may be requested of a locator
   pub may_start : Addr → Bool
-  -- the wish of a locator for an echo may be noted
+  -- whether the wish of a locator for an echo of a nonce may be noted
   pub may_want : Addr → ℕ → Bool
-  -- a locator may be solicited for an EID
+  -- whether a locator may be solicited for an EID
   pub may_solicit : Addr → Eid → Bool
   -- the number of nonces used
   pub drawn : ℕ
@@ -63,12 +63,12 @@ view_of now mappings requests o drawn = record {
   drawn = drawn;
 }
 
--- the journal, seen at exactly that moment
+-- the view of a journal at exactly that moment
 abbrev pub seen_at : Journal → ℕ → View
 seen_at journal now =
     view_of now (live_mappings now journal) (open_requests now journal) (observed journal) (drawn journal)
 
--- the journal, seen at m
+-- the view of a journal at m, or at its last entry if that is later
 unfoldable pub view : Journal → ℕ → View
 view journal m = seen_at journal (at journal m)
 

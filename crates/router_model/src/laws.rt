@@ -1,4 +1,4 @@
-// Laws of the definitions. Each function only states its law.
+// Laws of the router's definitions. Each function has an empty body and states one law.
 ghost use Rattle.std.specs.Prelude.{◌≡◌, ◌<◌, ◌^◌, ℕ, List, false, true, length, None, Some};
 ghost use Rattle.ip_headers.specs.declared.addr.Addr.{Addr};
 ghost use Rattle.capture_io.specs.Frame.{Frame};
@@ -23,19 +23,20 @@ ghost use Rattle.router_model.specs.Tenants.{HearsIsolated, LearningIsolated, No
 ghost use Rattle.router_model.specs.Received.{message_in};
 ghost use Rattle.router_model.specs.View.{Agrees, View, view};
 
-/// The journal of a router that begins has one entry for each static mapping.
+/// Law: the journal of a router that begins has one entry for each static mapping.
 pub fn the_journal_has_the_static_mappings()
     ensures { (settings : Settings) → length (statics settings) ≡ length settings.mappings }
 {}
 
-/// Views that answer each question alike are equal, and decide alike.
+/// Law: two views that answer each question alike are equal, and decide each frame alike.
 pub fn views_that_agree_decide_alike()
     ensures equal { (v w : View) → Agrees v w → v ≡ w }
     ensures decide { (settings : Settings) (v w : View) (frame : Frame) → Agrees v w
         → decide_by settings v frame ≡ decide_by settings w frame }
 {}
 
-/// A Map-Reply to no open request is dropped, and changes nothing.
+/// Law: a Map-Reply without P and with the nonce of no open request is dropped as `Unsolicited`,
+/// without an entry or a packet.
 pub fn closed_requests_hear_nothing()
     ensures { (settings : Settings) (before : Journal) (m : ℕ) (from : Addr) (reply : MapReply)
         → reply.probe ≡ false → with_nonce (view before m).requests reply.nonce ≡ None
@@ -43,8 +44,8 @@ pub fn closed_requests_hear_nothing()
         ≡ drops Unsolicited (unchanged before) }
 {}
 
-/// An answer to no open probe is dropped, and changes nothing. So is one from another address than
-/// that of the locator that was probed.
+/// Law: an answer with the nonce of no open probe is dropped as `Unsolicited`, and one from another
+/// address than the probed locator as `Foreign`, both without an entry or a packet.
 pub fn closed_probes_hear_nothing()
     ensures closed { (settings : Settings) (before : Journal) (m : ℕ) (from : Addr)
         (reply : MapReply) → reply.probe ≡ true → (view before m).probe_open reply.nonce ≡ None
@@ -57,38 +58,41 @@ pub fn closed_probes_hear_nothing()
         ≡ drops Foreign (unchanged before) }
 {}
 
-/// A message that is dropped, for whatever reason, changes nothing.
+/// Law: a control message that is dropped, for whatever reason, makes no entry and no packet.
 pub fn dropped_messages_change_nothing()
     ensures { (settings : Settings) (before : Journal) (m : ℕ) (frame : Frame) (why : Reason)
         → (hear settings before m frame).verdict ≡ Drop why
         → hear settings before m frame ≡ drops why (unchanged before) }
 {}
 
-/// Octets at whose front a message is read have it as their message.
+/// Law: `message_in` gives the message that stands at the front of octets by `IsMessageAt`.
 pub fn messages_are_read()
     ensures { (octets : List ℕ) (message : Message) → IsMessageAt octets message
         → message_in octets ≡ Some message }
 {}
 
-/// The parts of a journal answer each question at each moment as the scans of the journal do.
-/// So do the status bits that are kept.
+/// Law: the parts of a journal whose moments don't fall have the journal's view at each moment, and
+/// the status bits kept of a mapping are those of the journal.
 pub fn parts_answer()
     ensures answer { PartsAnswer }
     ensures bits { BitsKept }
 {}
 
-/// An entry that fits is admitted by the parts, and makes of them the parts of the journal with it.
+/// Law: an entry that fits a journal is admitted by its parts, and turns them into the parts of the
+/// journal with that entry; likewise for entries one by one from the static mappings on.
 pub fn entries_are_absorbed()
     ensures one { EntryAbsorbed }
     ensures all { AllAbsorbed }
 {}
 
-/// Moments don't fall in a journal that a router can have.
+/// Law: moments don't fall in a journal that a router can have.
 pub fn proper_journals_rise()
     ensures { ProperRises }
 {}
 
-/// What stands for a journal is seen as the journal, and goes on to stand for it.
+/// Law: a table that stands for a journal has the journal's view, admits the entries that may
+/// follow it, and stands for the journal with each further entry that fits. The parts of the static
+/// mappings stand for the journal that begins.
 pub fn what_stands_goes_on()
     ensures statics { StaticsStand }
     ensures sees { StandingSees }
@@ -96,8 +100,8 @@ pub fn what_stands_goes_on()
     ensures absorbs { StandingAbsorbs }
 {}
 
-/// What a table decides, notes, hears and does each second is what the journal says, for each journal for which it
-/// stands; and then it stands for that journal with the entries.
+/// Law: a table that stands for a journal decides, notes, hears and plays each second as the
+/// journal does, and then stands for the journal with the further entries.
 pub fn tables_go_as_journals()
     ensures decides { TableDecides }
     ensures notes { TableNotes }
@@ -105,85 +109,92 @@ pub fn tables_go_as_journals()
     ensures ticks { TableTicks }
 {}
 
-/// A decision on a frame of octets gives at most five notices, and sound ones alone.
+/// Law: a decision on a frame of octets gives at most five notices, all of them sound (`is_sound`).
 pub fn decisions_give_sound_notices()
     ensures { NoticesSound }
 {}
 
-/// From the static mappings on, a table replays events in order as the plain router does; the
-/// events of a capture are in order if its frames are.
+/// Law: from the static mappings on, a table replays events in order with the lines and packets of
+/// the plain router; the events of a capture are in order if its frames are.
 pub fn tables_replay_plainly()
     ensures replays { TableReplays }
     ensures order { EventsInOrder }
 {}
 
-/// Of frames that came of a capture, whatever its format and its octets are, a table with lawful settings
-/// gives the lines and packets of the plain router.
+/// Law: for frames read from a capture, whatever its format and octets, a table with lawful
+/// settings gives the lines and packets of the plain router.
 pub fn captures_replay_plainly()
     ensures order { CameInOrder }
     ensures room { CameFits }
     ensures replays { CaptureReplays }
 {}
 
-/// The changes in a journal that a router can have are the first ones of its settings, in order,
-/// each once; lawful settings have what such journals ask of them.
+/// Law: the changes of own locators in a journal that a router can have are the first ones of its
+/// settings, in order, each once; lawful settings meet such journals' demands (`MayChange`).
 pub fn changes_come_once()
     ensures once { ChangesComeOnce }
     ensures lawful { LawfulMayChange }
 {}
 
-/// Seconds alone change own locators: what a message or a notice makes of a journal changes none.
+/// Law: seconds alone change own locators; hearing a message or noting a notice leaves the settings
+/// that stand as they are.
 pub fn seconds_alone_change_own_locators()
     ensures hears { HearsStill }
     ensures notes { NotesStill }
 {}
 
-/// A version goes round among 1 to 4,095, and 0 stays. Two numbers tell which settings stand, and
-/// what a frame is doesn't depend on them.
+/// Law: a Map-Version goes round among 1 to 4,095, and 0 stays; the two numbers of `Own` determine
+/// the settings that stand; the course of a frame doesn't depend on the changes of own locators.
 pub fn own_and_steps()
     ensures versions { VersionsStep }
     ensures own { OwnTells }
     ensures course { CourseStands }
 {}
 
-/// Of the live mappings of a journal that of an EID is the one last learned for it, if that is live.
+/// Law: the live mapping of exactly an EID, among those of a journal, is the one last learned for
+/// that EID, if it is live.
 pub fn the_live_mapping_was_learned_last()
     ensures { LiveIsExact }
 {}
 
-/// A decision on a frame of an instance asks a view only for mappings of that instance, and for what is known of
-/// locators, and its notices are of EIDs of that instance alone. One on a frame of no instance asks nothing.
+/// Law: a decision on a frame of an instance depends on a view only by the mappings in force in
+/// that instance and by the state of locators, and gives no notice of an EID of another instance. A
+/// decision on a frame of no instance doesn't depend on the view.
 pub fn decisions_ask_of_one_instance()
     ensures one { AgreesDecides }
     ensures none { NoneAsks }
     ensures notices { NoticesOfOne }
 {}
 
-/// What a journal tells of other instances counts in no decision on a frame of an instance.
+/// Law: a journal's entries of other instances count in no decision on a frame of an instance.
 pub fn decisions_are_isolated()
     ensures moment { MomentIsolated }
     ensures decision { DecisionIsolated }
     ensures rising { RisingIsolated }
 {}
 
-/// Nonces count in no decision, and requests with numbers in place of nonces are the same requests. So two journals may
-/// be one to an instance though other tenants drew nonces in between; a journal and its part are one so.
+/// Law: nonces count in no decision, and with request numbers in place of nonces the open requests
+/// are the same, where no two young ones share a nonce. Two journals can therefore be equal for an
+/// instance though other tenants drew nonces in between; a journal and its part of an instance are
+/// equal for it.
 pub fn nonces_are_numbered()
     ensures decides { NumberedDecides }
     ensures requests { NumberedRequests }
     ensures part { PartIsOne }
 {}
 
-/// So it is for tables that stand for journals. Two tables whose journals are one to an instance, but for nonces, decide
+/// Law: a table that stands for a journal decides on frames of an instance as the parts of that
+/// instance's journal. Two tables whose journals are equal for an instance, nonces apart, decide
 /// alike on its frames.
 pub fn tables_are_isolated()
     ensures one { TableIsolated }
     ensures two { TablesAlike }
 {}
 
-/// With limits of its own, an instance asks and learns by its own journal, where no two young requests share a nonce:
-/// its open requests are those of that journal, and so are those of them that a second sends again. A notice for its EID
-/// and a frame that answers its request are noted and heard as by that journal.
+/// Law: with limits of its own, an instance requests and learns by its own journal, where no two
+/// young requests share a nonce: its open requests are those of that journal, and so are those of
+/// them that a second sends again. A notice for its EID and a frame that answers its request are
+/// noted and heard as by that journal.
 pub fn limits_are_isolated()
     ensures requests { RequestsIsolated }
     ensures learning { LearningIsolated }
@@ -192,17 +203,18 @@ pub fn limits_are_isolated()
     ensures hears { HearsIsolated }
 {}
 
-/// What a second sends again of a tenant's requests, and what an SMR of its prefixes leads to, is the same by journals that
-/// are one to its instance, nonces apart.
+/// Law: the requests of a tenant that a second sends again, and those that an SMR of its prefixes
+/// leads to, are the same by two journals that are equal for its instance, nonces apart.
 pub fn requests_go_apart()
     ensures retries { RetriesApart }
     ensures solicited { SolicitedApart }
 {}
 
-/// A tenant asks and learns as if the others weren't there, nonces apart. Two tables that stand for journals that are
-/// one to its instance, by which no two young requests share a nonce, ask alike for its EIDs, and learn the same of
-/// replies to its request; then their journals are one to it again. So it is of an SMR of its prefixes, of a second
-/// without probes, and of whatever is noted of its frames without echoes.
+/// Law: a tenant requests and learns as if the other tenants weren't there, nonces apart. Two
+/// tables that stand for journals that are equal for its instance, by which no two young requests
+/// share a nonce, request alike for its EIDs, and learn the same from replies to its requests;
+/// their journals are then equal for it again. Likewise for an SMR of its prefixes, for a second
+/// without probes, and for notices of its frames where no echoes are requested.
 pub fn tables_ask_and_learn_apart()
     ensures ask { TablesAsk }
     ensures learn { TablesLearn }
@@ -211,7 +223,7 @@ pub fn tables_ask_and_learn_apart()
     ensures notes { NotesStay }
 {}
 
-/// What is asked, learned and solicited for other tenants leaves a table's journal as it was to a tenant.
+/// Law: requests, learning and SMRs for other tenants leave a journal as it was for a tenant.
 pub fn others_leave_a_tenant_alone()
     ensures note { OthersNote }
     ensures learn { OthersLearn }
@@ -219,7 +231,7 @@ pub fn others_leave_a_tenant_alone()
     ensures smr { SolicitsStay }
 {}
 
-/// The instance of each EID of the definitions has 24 bits: its type has that as a field.
+/// Law: the instance of each EID of the definitions has 24 bits: its type has that as a field.
 pub fn instances_are_short()
     ensures { (eid : Eid) → eid.iid < 2 ^ 24 }
 {}

@@ -1,6 +1,6 @@
-//! The router as definitions: what a frame is to it, its journal, each question that is asked of
-//! it, and what a frame, a message or a notice makes of it; and the laws between the journal and
-//! the short lists that a table keeps of it.
+//! The router as definitions: the course of a frame, the journal, the questions that a decision
+//! puts to it, and the effects of frames, messages, notices and seconds; and the laws between the
+//! journal and the short lists that a table keeps of it.
 #![tactic(auto)]
 
 mod laws;

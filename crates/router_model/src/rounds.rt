@@ -1,56 +1,59 @@
-// Laws of rounds. Each function only states its law.
+// Laws of rounds. Each function has an empty body and states one law.
 ghost use Rattle.router_model.specs.Changes.{journal as of_journal};
 ghost use Rattle.router_model.specs.Parts.{table};
 ghost use Rattle.router_model.specs.Sharing.{BatchesAreEnds, BatchesRule, BatchesStand, CutKeeps, CutSingly, CutWithin, DataAreLeft, EndsAreBatches, EndsWithin, FilledAreBatches, FilledBehind, FirstIsProper, FirstOfMore, FirstRules, JournalAdds, LastRoundCloses, LawfulFollow, LinesShow, NumbersExist, RoundCloses, RoundStays, RoundStaysOpen, RoundsFollow, SidesMeet, SinglesAreForced, SinglesArePlain, TableRounds, TableWrites, TablesShare, WorkedAdds, WritingAdds, WritingAdvances, AllBatches, WritingFollows, EntriesFollow, ToldFollows, OpeningWithin, RoundInOrder, EventsFollow, LastCloses};
 
-/// Cutting loses no frame and moves none. A round has at most so many frames as its size, and at
-/// most 16 MiB beside the octets of one frame.
+/// Law: cutting frames into rounds loses no frame and moves none. A round has at most as many
+/// frames as its size, and at most 16 MiB beside the octets of one frame.
 pub fn rounds_keep_the_frames()
     ensures all { CutKeeps }
     ensures within { CutWithin }
     ensures singly { CutSingly }
 {}
 
-/// A round that frames are added to is closed by the one that makes it full, or by the last frame.
+/// Law: an open round is closed by the frame that makes it full, or by the last frame.
 pub fn rounds_close_when_full()
     ensures closes { RoundCloses }
     ensures stays { RoundStaysOpen }
     ensures last { LastRoundCloses }
 {}
 
-/// With rounds of one frame there is no choice of numbers, and the router with forwarders is the
-/// plain one.
+/// Law: with rounds of one frame there is no choice of numbers, and the router with forwarders
+/// gives the lines, packets and journal of the plain router.
 pub fn rounds_of_one_frame_are_plain()
     ensures plain { SinglesArePlain }
     ensures forced { SinglesAreForced }
 {}
 
-/// Rounds go on where those before them ended, and so do their numbers.
+/// Law: rounds, and the numbers of their data packets, begin where the rounds before them ended.
 pub fn rounds_follow_each_other()
     ensures rounds { RoundsFollow }
     ensures lawful { LawfulFollow }
 {}
 
-/// A journal stays one that a router can have, in order and with room.
+/// Law: the events of frames in order are in order, and a round leaves a journal that a router can
+/// have, whose length and last moment are bounded by the round.
 pub fn rounds_leave_proper_journals()
     ensures order { RoundInOrder }
     ensures stays { RoundStays }
 {}
 
-/// There are numbers for all rounds, whatever came before.
+/// Law: lawful numbers exist for all rounds, whatever came before.
 pub fn rounds_have_numbers()
     ensures { NumbersExist }
 {}
 
-/// What is written before data packets are decided, their decisions by numbers, and their notices,
-/// put together, are the round. What is left for later are its data packets.
+/// Law: the items written before data packets are decided, the decisions by numbers, and the noted
+/// notices, put together, are the round. The data packets left for later are those of the round's
+/// frames.
 pub fn sides_make_the_round()
     ensures meet { SidesMeet }
     ensures advances { WritingAdvances }
     ensures left { DataAreLeft }
 {}
 
-/// What is written leaves what stood before with its batches, and so does a whole round.
+/// Law: writing events leaves the state before them with the entries of its batches added, and so
+/// does a whole round.
 pub fn batches_are_added()
     ensures journal { JournalAdds }
     ensures by_journal { WritingAdds of_journal }
@@ -59,7 +62,8 @@ pub fn batches_are_added()
     ensures round_by_table { WorkedAdds table }
 {}
 
-/// Events are written one after another, and entries are added so; so is what is told of items.
+/// Law: events are written one after another and entries are added one after another; the lines,
+/// packets and notices of items follow in the same order.
 pub fn rounds_are_worked_step_by_step()
     ensures journal { WritingFollows of_journal }
     ensures table { WritingFollows table }
@@ -70,8 +74,8 @@ pub fn rounds_are_worked_step_by_step()
     ensures last { LastCloses }
 {}
 
-/// Each end of a round is the length of its journal after some of the batches, and so many entries
-/// are the journal after these.
+/// Law: each end of a round is the length of its journal after some of the batches, and that many
+/// first entries are the journal after these batches.
 pub fn ends_lie_between_batches()
     ensures first { FirstOfMore }
     ensures ends { EndsAreBatches }
@@ -83,21 +87,22 @@ pub fn ends_lie_between_batches()
     ensures behind { FilledBehind }
 {}
 
-/// A round has a line for each frame, and the lines show the numbers of its data packets.
+/// Law: a round has a line for each frame, and the lines show the numbers of its data packets.
 pub fn lines_show_the_numbers()
     ensures { LinesShow }
 {}
 
-/// A table that stands for the first entries of a journal decides by these, at whatever moment.
+/// Law: a table that stands for the first n entries of a journal decides by these at any moment.
 pub fn first_entries_decide()
     ensures proper { FirstIsProper }
     ensures rules { FirstRules }
 {}
 
-/// A table writes as the journal. One that absorbed some of a round's batches stands for the journal
-/// after these, and decides by so many entries of the round's journal. So a round by a table, and by
-/// tables beside it that absorbed at least the seconds before the first frame, is a round by numbers
-/// that it may have, and then the table stands for the journal of that round.
+/// Law: a table writes events as the journal does. A table that absorbed some of a round's batches
+/// stands for the journal after these, and decides by that many entries of the round's journal. A
+/// round by a table, and by tables beside it that absorbed at least the seconds before the first
+/// frame, is therefore a round by lawful numbers, and the table then stands for the journal after
+/// that round.
 pub fn tables_share_a_round()
     ensures writes { TableWrites }
     ensures stands { BatchesStand }

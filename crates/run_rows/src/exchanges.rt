@@ -1,17 +1,18 @@
-// Exchanges with a resolver: the frames that come, what is reported, and the packets that are sent.
+// Exchanges with a resolver: the frames of a capture, the lines that report them, and the packets
+// that are sent.
 use crate::packets::{CONTROL, PACKET, REPLY, SENT, WRITTEN, changed, push_record};
 use octets::{NoMemory, Octets};
 use std::alloc::Global;
 
-/// A frame that comes: its second behind 1,700,000,000, its fraction as the capture counts it, its
-/// octets, and the line of the report.
+/// A frame of a capture: its second after 1,700,000,000, its fraction in the unit of the capture,
+/// its octets, and its line in the report.
 pub type Arrival<'a> = (u32, u32, &'a [u8], &'a str);
 
-/// A packet that is sent: its second behind 1,700,000,000, its nanosecond, its octets, and what
-/// changes in them.
+/// A packet that is sent: its second after 1,700,000,000, its nanosecond, its octets, and the
+/// changes of these, each by place and value.
 pub type Departure<'a> = (u32, u32, &'a [u8], &'a [(usize, u8)]);
 
-/// A site in instance 100 that asks a resolver, with one nonce in its list.
+/// The settings of a site in instance 100 with a resolver, and with one nonce in the list.
 pub const TENANT: &str = r#"
 resolver = "203.0.113.9"
 nonces = ["0102030405060708"]
@@ -25,13 +26,13 @@ iid = 100
 prefix = "10.1.0.0/16"
 "#;
 
-/// The packet that misses.
+/// The packet at 0 s, which has no mapping yet.
 pub const MISS: Arrival<'static> = (0, 0, &PACKET, "1 1700000000.000000000 n=0 drop 13 miss");
 
-/// The request for it.
+/// The Map-Request for the packet that has no mapping.
 pub const ASKED: Departure<'static> = (0, 0, &CONTROL, &[]);
 
-/// The reply at 0.1 s, in a capture in microseconds.
+/// The Map-Reply at 0.1 s, in a capture in microseconds.
 pub const LEARNED: Arrival<'static> = (
     0,
     100_000,
@@ -39,7 +40,7 @@ pub const LEARNED: Arrival<'static> = (
     "2 1700000000.100000000 n=1 control reply learned=1 passed=0",
 );
 
-/// The packet once more at 0.2 s, likewise.
+/// The packet again at 0.2 s, in a capture in microseconds.
 pub const USED: Arrival<'static> = (
     0,
     200_000,
@@ -47,15 +48,15 @@ pub const USED: Arrival<'static> = (
     "3 1700000000.200000000 n=3 encapsulated 192.0.2.1 198.51.100.7 64519",
 );
 
-/// That packet in a tunnel of instance 100.
+/// The packet of 0.2 s in its tunnel, of instance 100.
 pub const CARRIED: Departure<'static> = (0, 200_000_000, &SENT, &[(28, 0x48), (34, 0x64)]);
 
-// A record at so many seconds behind 1,700,000,000.
+// Appends a record at a second after 1,700,000,000.
 fn push_at(second: u32, fraction: u32, octets: &[u8], out: &mut Octets) -> Result<(), NoMemory> {
     push_record(second.wrapping_add(1_700_000_000), fraction, octets, out)
 }
 
-/// The capture of those frames.
+/// The capture of these frames, behind a header.
 pub fn capture_of(
     alloc: Global,
     header: &[u8],
@@ -68,7 +69,7 @@ pub fn capture_of(
     Ok(capture)
 }
 
-/// The output of those packets.
+/// The output with these packets.
 pub fn output_of(alloc: Global, packets: &[Departure<'_>]) -> Result<Octets, NoMemory> {
     let mut output = Octets::copied(alloc, &WRITTEN)?;
     for (second, nanosecond, octets, edits) in packets {
@@ -78,7 +79,7 @@ pub fn output_of(alloc: Global, packets: &[Departure<'_>]) -> Result<Octets, NoM
     Ok(output)
 }
 
-/// The lines of those frames, and the last one.
+/// The report on these frames: their lines, and the last line.
 pub fn report_of(alloc: Global, frames: &[Arrival<'_>], end: &str) -> Result<String, NoMemory> {
     let mut report = String::new(alloc);
     for (_, _, _, line) in frames {

@@ -1,4 +1,4 @@
-//! Runs over a desk in memory for tests: captures, packets and reports from tables.
+//! Runs over a desk in memory, for tests: captures, packets and reports from tables.
 #![tactic(auto)]
 
 pub mod exchanges;

@@ -1,4 +1,4 @@
-// Runs over a desk in memory, and what they end with.
+// Runs over a desk in memory, and their results.
 use desk::{Calls, Desk, Files, MemoryDesk, NamedFile};
 use octets::{NoMemory, Octets};
 use replay::{OpenGate, Status, Word, run};
@@ -8,7 +8,7 @@ use std::str::Utf8Error;
 use std::sync::Wait;
 use std::thread::Threads;
 
-/// The words of a replay.
+/// The words of a replay of the files `settings` and `in`, with the output `out`.
 pub const REPLAY: [&str; 7] = [
     "replay",
     "--settings",
@@ -26,7 +26,7 @@ fn named(alloc: Global, name: &str, octets: Octets) -> Result<NamedFile, NoMemor
     })
 }
 
-/// Files by name, and what they hold.
+/// Files with these names and octets.
 pub fn files_of(alloc: Global, rows: &[(&str, &[u8])]) -> Result<Files, NoMemory> {
     let mut files = Files::new(alloc);
     for (name, octets) in rows {
@@ -35,7 +35,7 @@ pub fn files_of(alloc: Global, rows: &[(&str, &[u8])]) -> Result<Files, NoMemory
     Ok(files)
 }
 
-/// A desk with a settings file and a capture, whose calls of these numbers fail.
+/// A desk with the files `settings` and `in`, whose calls with the numbers in `fails` fail.
 pub fn desk_with(
     alloc: Global,
     settings: &str,
@@ -49,7 +49,7 @@ pub fn desk_with(
     Ok(MemoryDesk::new(alloc, files, fails))
 }
 
-/// Runs the words over the desk.
+/// Runs the words over the desk, and returns the status.
 pub fn run_words<R: Threads + Wait + Sync, D: Desk>(
     rt: &R,
     alloc: Global,
@@ -63,7 +63,7 @@ pub fn run_words<R: Threads + Wait + Sync, D: Desk>(
     Ok(run(rt, alloc, &owned, desk, &OpenGate))
 }
 
-/// What a replay of the capture ends with, and its desk.
+/// The status of a replay of the capture, and its desk.
 pub fn replayed<R: Threads + Wait + Sync>(
     rt: &R,
     alloc: Global,
@@ -80,7 +80,7 @@ pub fn text(report: &[u8]) -> Result<&str, Utf8Error> {
     str::from_utf8(report)
 }
 
-/// The report.
+/// The report on a desk, as text.
 pub fn said(desk: &MemoryDesk) -> Result<&str, Utf8Error> {
     text(desk.said())
 }

@@ -1,4 +1,5 @@
-// What is left where a call of the desk fails, or memory is refused.
+// The report and output of runs in which a call of the desk fails, and the status where memory is
+// refused.
 use desk::{Calls, MemoryDesk};
 use octets::{NoMemory, Octets};
 use replay::Status;
@@ -29,7 +30,7 @@ const SHARED: [&str; 11] = [
     "2",
 ];
 
-/// What a run says and writes.
+/// The whole report and the whole output of a run.
 #[derive(Drop)]
 struct Whole {
     report: String,
@@ -48,7 +49,7 @@ fn whole_of(
     })
 }
 
-// What the words end with where that call fails, and their desk.
+// The status of a run of the words in which that call fails, and its desk.
 fn failing_at<R: Threads + Wait + Sync>(
     rt: &R,
     alloc: Global,
@@ -63,7 +64,8 @@ fn failing_at<R: Threads + Wait + Sync>(
     Ok((status, desk))
 }
 
-// A beginning of that report was said, and no file was made, or one with a beginning of that output.
+// Whether the report is a beginning of the whole one, and the output, if it was made, a beginning
+// of the whole one.
 fn is_within(desk: &MemoryDesk, whole: &Whole) -> bool {
     whole.report.as_str().as_bytes().starts_with(desk.said())
         && whole
@@ -77,8 +79,8 @@ fn is_whole(desk: &MemoryDesk, whole: &Whole) -> bool {
         && desk.file("out") == Some(whole.output.as_slice())
 }
 
-// With that call failed a beginning of one of these was said and written, or all of it where the run didn't
-// come to that call.
+// Runs the words with that call failing, and returns the status. Report and output are a beginning
+// of those of one of these ways, or all of them where the run doesn't come to that call.
 fn ends_within<R: Abort + Threads + Wait + Sync>(
     rt: &R,
     alloc: Global,
@@ -97,7 +99,8 @@ fn ends_within<R: Abort + Threads + Wait + Sync>(
     Ok(status)
 }
 
-// The first call, of those that may fail, that a run of the words doesn't come to.
+// The first of the calls 1 to 99 that a run of the words doesn't come to, or 0 where it comes to
+// all.
 fn first_done<R: Abort + Threads + Wait + Sync>(
     rt: &R,
     alloc: Global,
@@ -130,7 +133,8 @@ fn where_a_call_fails_what_was_said_and_sent_is_a_beginning(rt: HostRuntime) -> 
     Ok(())
 }
 
-// Two misses are a round. In the next one a packet comes behind the reply, and is decided before or after it.
+// The first round has two misses. In the next one a packet comes behind the Map-Reply, and is
+// decided before or after it.
 const SECOND_MISS: Arrival<'static> = (
     0,
     100_000,
@@ -166,14 +170,14 @@ const LAST: Arrival<'static> = (
     "5 1700000000.400000000 n=3 encapsulated 192.0.2.1 198.51.100.7 64519",
 );
 
-/// The request goes out with the last frame of its round.
+/// The Map-Request, which goes out with the last frame of its round.
 const ASKED_LATE: Departure<'static> = (0, 100_000_000, &CONTROL, &[]);
 
 const CARRIED_AFTER: Departure<'static> = (0, 300_000_000, &SENT, &[(28, 0x48), (34, 0x64)]);
 
 const CARRIED_LAST: Departure<'static> = (0, 400_000_000, &SENT, &[(28, 0x48), (34, 0x64)]);
 
-// Both ways in which that may go.
+// Report and output in both ways: the packet behind the Map-Reply is decided before or after it.
 fn both_ways(alloc: Global) -> Result<[Whole; 2], NoMemory> {
     let before = whole_of(
         alloc,
@@ -205,7 +209,7 @@ fn with_workers_too_what_was_said_and_sent_is_a_beginning(rt: HostRuntime) -> Re
     Ok(())
 }
 
-// A run whose memory is refused can't be made here.
+// A run whose memory is refused can't be made here, so only the number of its status is tested.
 #[test]
 fn refused_memory_is_status_five(rt: HostRuntime) -> Result<(), Fail> {
     assert_eq!(rt; Status::Memory as u8, 5);

@@ -1,5 +1,5 @@
-// Runs with forwarder threads, of which no row can say all: that they run side by side, and what they may
-// answer.
+// Runs with forwarder threads, for what no row can state: that the threads run side by side, and
+// which reports are possible.
 use desk::{Calls, MemoryDesk};
 use octets::NoMemory;
 use replay::{Gate, Status, Word, run};
@@ -30,7 +30,7 @@ prefix = "10.2.0.0/16"
 address = "198.51.100.7"
 "#;
 
-/// Two packets to it.
+/// Two packets for the mapping of `SITE`.
 const TWO: [Arrival<'static>; 2] = [(0, 0, &PACKET, ""), (0, 1, &PACKET, "")];
 
 /// The turns for which a worker waits for the other: some seconds, since a machine with other work to do
@@ -54,7 +54,7 @@ impl Meeting {
         }
     }
 
-    /// Both workers came, and neither waited in vain.
+    /// Asserts that both workers came, and that neither waited in vain.
     pub(crate) fn was_kept(&self, rt: &impl Abort) {
         assert_eq!(rt; self.first.load(Ordering::SeqCst), 1);
         assert_eq!(rt; self.second.load(Ordering::SeqCst), 1);
@@ -87,7 +87,7 @@ fn words_of(alloc: Global, words: &[&str]) -> Result<Vec<Word>, NoMemory> {
     Ok(owned)
 }
 
-// A run over a settings file and frames by two workers, which go through the gate.
+// A replay of settings and frames by two workers, through the gate: its status and its desk.
 fn ran_through<R: Threads + Wait + Sync, G: Gate>(
     rt: &R,
     alloc: Global,
@@ -142,7 +142,8 @@ prefix = "10.2.0.0/16"
 address = "198.51.100.7"
 "#;
 
-/// Five packets to it, of which the last comes days later: each minute in between is a batch.
+/// Five packets for the mapping of `PROBING`, the last of which comes days later: each minute in
+/// between is a batch.
 const FIVE: [Arrival<'static>; 5] = [
     (0, 0, &PACKET, ""),
     (0, 0, &PACKET, ""),
@@ -195,7 +196,7 @@ impl Gate for Overtaking {
     }
 }
 
-// The number of entries in the line of a frame, the first one at 0.
+// The number of entries in the line at that place of the report, the first one at 0.
 fn count_in(report: &str, place: usize) -> u64 {
     let line = report.lines().nth(place).unwrap_or("");
     let word = line.splitn(4, ' ').nth(2).unwrap_or("");
@@ -205,8 +206,9 @@ fn count_in(report: &str, place: usize) -> u64 {
     }
 }
 
-// The second packet is decided behind its gate, so after the third, and by no fewer entries. One that is
-// decided before its gate is called is decided at the start of the round, long before the third.
+// The second packet is decided behind its gate, so after the third, and by no fewer entries. If it
+// were decided before its gate is called, that would be at the start of the round, long before the
+// third.
 #[test]
 fn a_packet_that_its_gate_holds_is_decided_after_those_that_pass(
     rt: HostRuntime,
@@ -222,7 +224,7 @@ fn a_packet_that_its_gate_holds_is_decided_after_those_that_pass(
     Ok(())
 }
 
-/// Five packets that have no mapping, the reply, and two packets more.
+/// Five packets without a mapping, the Map-Reply, and two packets more.
 const EIGHT: [Arrival<'static>; 8] = [
     (0, 0, &PACKET, "n=0 drop 13 miss"),
     (0, 100_000, &PACKET, "n=0 drop 13 miss"),
@@ -234,15 +236,17 @@ const EIGHT: [Arrival<'static>; 8] = [
     (0, 700_000, &PACKET, ""),
 ];
 
-/// The request for them, which goes with the last frame of their round, before all other packets.
+/// The Map-Request for the first packets of `EIGHT`, which goes out with the last frame of their
+/// round, before all other packets.
 const REQUESTED: [Departure<'static>; 1] = [(0, 300_000_000, &CONTROL, &[])];
 
-/// What may be said of a packet beside the reply: that it was decided before it, or after all of it.
+/// The end of the line of a packet beside the Map-Reply that is decided before it; `AFTER` is that
+/// of one decided after all of it.
 const BEFORE: &str = "n=1 drop 13 miss";
 
 const AFTER: &str = "n=3 encapsulated 192.0.2.1 198.51.100.7 64519";
 
-// A replay of these by two workers, in rounds of four frames.
+// A replay of `EIGHT` by two workers, in rounds of four frames: its status and its desk.
 fn eight_replayed<R: Threads + Wait + Sync>(
     rt: &R,
     alloc: Global,
@@ -266,8 +270,8 @@ fn eight_replayed<R: Threads + Wait + Sync>(
     Ok((status, desk))
 }
 
-// The words of the lines of a report behind number and moment are these, or where none are given what may be
-// said beside the reply. Answers how many packets went into the tunnel.
+// Asserts that each line of the report has its wanted words behind number and moment, or `BEFORE`
+// or `AFTER` where none are given. Returns how many packets went into the tunnel.
 fn carried(rt: &impl Abort, report: &str) -> u32 {
     let mut lines = report.lines();
     let mut carried = 0_u32;

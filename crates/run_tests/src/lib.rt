@@ -1,5 +1,5 @@
-//! Tests of whole runs that rows of data can't say: calls that fail, hashes, files that stay, tables at
-//! their limits.
+//! Tests of whole runs that rows of data can't state: calls that fail, hashes, files that stay,
+//! tables at their limits.
 #![tactic(auto)]
 
 #[cfg(test)]

@@ -11,7 +11,7 @@ use std::sync::Wait;
 use std::test::Fail;
 use std::thread::Threads;
 
-// A miss and its reply where no mapping more may be live.
+// A miss and its Map-Reply where no further mapping may live.
 const FULL: [Arrival<'static>; 2] = [
     (0, 0, &PACKET, "1 1700000000.000000000 n=65536 drop 13 miss"),
     (
@@ -22,7 +22,7 @@ const FULL: [Arrival<'static>; 2] = [
     ),
 ];
 
-// The site with 65,536 mappings of addresses.
+// The settings of a site with 65,536 mappings, each of one address.
 fn full_site(alloc: Global) -> Result<String, NoMemory> {
     let mut settings = String::from_str(alloc, TENANT)?;
     for number in 0..=u16::MAX {
@@ -34,7 +34,7 @@ fn full_site(alloc: Global) -> Result<String, NoMemory> {
     Ok(settings)
 }
 
-// What a replay at the full site ends with.
+// The status of a replay at the full site, and its desk.
 fn replayed_in_full<R: Threads + Wait + Sync>(
     rt: &R,
     alloc: Global,

@@ -1,4 +1,4 @@
-// As many requests as may be open at once.
+// As many requests of an instance as may be open at once.
 use desk::MemoryDesk;
 use octets::{NoMemory, Octets};
 use replay::Status;
@@ -9,7 +9,7 @@ use std::alloc::Global;
 use std::process::Abort;
 use std::test::Fail;
 
-// The packet to the address so many behind 10.2.0.0.
+// The packet to the address that is `number` after 10.2.0.0.
 fn packet_to(alloc: Global, number: u16) -> Result<Vec<u8>, NoMemory> {
     let [high, low] = number.to_be_bytes();
     let [first, second] = 0x66ca_u16.wrapping_sub(number).to_be_bytes();
@@ -31,7 +31,8 @@ fn capture_of_misses(alloc: Global) -> Result<Octets, NoMemory> {
     Ok(capture)
 }
 
-// What is said of them. At 1 s the first request is sent again, and by 7 s each of 1,024 was twice.
+// The report on these packets. At 1 s the first request is sent again, and by 7 s each of the 1,024
+// requests was sent again twice.
 fn report_of_misses(alloc: Global) -> Result<String, NoMemory> {
     let mut report = String::new(alloc);
     for number in 0..1025_u32 {
@@ -48,7 +49,7 @@ fn report_of_misses(alloc: Global) -> Result<String, NoMemory> {
     Ok(report)
 }
 
-// The record of a request in an output.
+// The record of a Map-Request in an output, with some octets changed.
 fn record_of(
     alloc: Global,
     second: u32,
@@ -61,7 +62,8 @@ fn record_of(
     Ok(record)
 }
 
-// What changes in a request for each of four addresses.
+// The octets of a Map-Request that change for 10.2.0.0; those below are for 10.2.0.1, 10.2.3.255
+// and 10.2.4.0.
 const FIRST_ASKED: [(usize, u8); 5] = [(27, 0x8b), (43, 0x96), (51, 0), (59, 0x5a), (115, 0)];
 
 const SECOND_ASKED: [(usize, u8); 14] = [
@@ -139,7 +141,8 @@ fn assert_report(rt: &impl Abort, alloc: Global, desk: &MemoryDesk) -> Result<()
     Ok(())
 }
 
-// The first request of all, and those for the addresses named above, stand where they do.
+// Asserts the size of the output, and that Map-Requests for these four addresses stand at their
+// places in it.
 fn assert_requests(rt: &impl Abort, alloc: Global, output: &[u8]) -> Result<(), NoMemory> {
     assert_eq!(rt; output.len(), 405_660);
     let rows: [(usize, u32, u32, &[(usize, u8)]); 6] = [

@@ -1,5 +1,5 @@
-// Rounds by themselves: their lines hold the looks by which packets were decided, and forwarders see what
-// rounds publish.
+// Rounds by themselves: their lines have the looks by which packets were decided, and forwarders
+// read the tables that rounds publish.
 ghost use Rattle.std.specs.Prelude.{◌≡◌, ◌≤◌, ◌<◌, ◌^◌, [], length, IfOk, IfSome};
 ghost use Rattle.lisp_settings.specs.Lawful.{IsLawful};
 ghost use Rattle.router_model.specs.Journal.{statics};
@@ -25,7 +25,7 @@ use std::thread::Threads;
 
 const MOMENT: u64 = 1_700_000_000_000_000_000;
 
-// A packet, as a frame of that number at a moment.
+// A frame of a packet, with that number, at a moment.
 fn frame(alloc: Global, number: u32, moment: u64, packet: &[u8]) -> Result<Frame, NoMemory>
     requires number { 1 ≤ number }
     requires size { length packet.now < 2 ^ 32 }
@@ -40,7 +40,7 @@ fn frame(alloc: Global, number: u32, moment: u64, packet: &[u8]) -> Result<Frame
     })
 }
 
-// How many lines hold a look.
+// The number of lines that have a look.
 fn looks_in(lines: &[Line]) -> u32 {
     let mut looks = 0_u32;
     for line in lines {
@@ -51,7 +51,7 @@ fn looks_in(lines: &[Line]) -> u32 {
     looks
 }
 
-// How many lines of a first round of two frames hold a look, with two workers.
+// The number of lines that have a look in a first round of two frames, with two workers.
 fn looks_of_round<R: Threads + Wait + Sync, G: Gate>(
     rt: &R,
     alloc: Global,
@@ -107,10 +107,10 @@ fn each_line_of_a_round_holds_a_look(rt: HostRuntime) -> Result<(), Fail> {
     Ok(())
 }
 
-// When the reply comes.
+// The moment of the Map-Reply.
 const REPLIED: u64 = MOMENT + 100_000_000;
 
-// A forwarder of what is published. None where its place was refused.
+// A forwarder of the published table, or None where its place was refused.
 fn forwarder_of(published: &mut Published) -> Option<Forwarder>
     ensures kept { published.new ≡ published.old }
     ensures settings { IfSome result (λ forwarder. forwarder.settings ≡ published.old.settings) }
@@ -118,8 +118,8 @@ fn forwarder_of(published: &mut Published) -> Option<Forwarder>
     published.forwarder(&mut Tally::new())
 }
 
-// By how many entries a forwarder decides a packet, and whether it goes into a tunnel. None where it decides
-// nothing.
+// The number of entries by which a forwarder decides a packet, and whether the packet goes into a
+// tunnel. None where the forwarder doesn't decide it.
 fn carried(forwarder: &mut Forwarder, settings: &Settings, packet: &Frame) -> Option<(u64, bool)>
     requires lawful { IsLawful settings.now }
     requires settings { forwarder.old.settings ≡ settings.now }
@@ -133,9 +133,9 @@ fn carried(forwarder: &mut Forwarder, settings: &Settings, packet: &Frame) -> Op
     Some((look.count(), carries))
 }
 
-// A packet that misses, then the reply to its request, each a round by itself. What forwarders decide of the
-// packet: one that is made between the rounds, before the second and after it; then one that is made
-// behind both, twice.
+// Plays a packet without a mapping, then the Map-Reply to its request, each in a round by itself.
+// Returns the decisions of forwarders on the packet: of one made between the rounds, before the
+// second and after it; then of one made behind both, twice.
 fn looks_beside_a_reply<R: Threads + Wait + Sync>(
     rt: &R,
     alloc: Global,
@@ -179,7 +179,7 @@ fn looks_beside_a_reply<R: Threads + Wait + Sync>(
     ])
 }
 
-// The same over a table that has just begun.
+// The decisions of `looks_beside_a_reply` on a table that has just begun.
 fn looks_of_rounds<R: Threads + Wait + Sync>(
     rt: &R,
     alloc: Global,
@@ -198,7 +198,7 @@ fn looks_of_rounds<R: Threads + Wait + Sync>(
     looks
 }
 
-// The same over a table of its own, which `closed` drops.
+// The decisions of `looks_of_rounds` on a new table, which `closed` drops.
 fn looks_of_table<R: Threads + Wait + Sync>(
     rt: &R,
     alloc: Global,

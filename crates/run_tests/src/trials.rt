@@ -50,13 +50,13 @@ prefix = "20.0.2.0/24"
 locator = [{address = "203.0.113.3", priority = 1, weight = 1}]
 "#;
 
-/// UDP 1000 to 2000 from 192.168.0.1 to 20.0.0.1, TTL 64.
+/// A packet with UDP 1000 to 2000 from 192.168.0.1 to 20.0.0.1, TTL 64.
 const FIRST: [u8; 28] = [
     0x45, 0x00, 0x00, 0x1c, 0x00, 0x00, 0x00, 0x00, 0x40, 0x11, 0xa6, 0x27, 0xc0, 0xa8, 0x00, 0x01,
     0x14, 0x00, 0x00, 0x01, 0x03, 0xe8, 0x07, 0xd0, 0x00, 0x08, 0x00, 0x00,
 ];
 
-// FNV-1a of 32 bits.
+// The hash of octets by FNV-1a of 32 bits.
 fn hash_of(octets: &[u8]) -> u32 {
     let mut hash = 0x811c_9dc5u32;
     for octet in octets {
@@ -81,7 +81,7 @@ fn assert_line_alone(rt: &impl Abort, desk: &MemoryDesk) {
     assert_eq!(rt; desk.file("out"), None);
 }
 
-// A desk with settings and a capture, on which they were replayed, and the status of that.
+// The status of a replay of settings and a capture, and its desk.
 fn replayed<R: Threads + Wait + Sync>(
     rt: &R,
     alloc: Global,
@@ -94,8 +94,8 @@ fn replayed<R: Threads + Wait + Sync>(
     Ok((status, desk))
 }
 
-// The packets of a trial of three mappings. Frame j of three goes to mapping 7 j modulo 3, so each to
-// its own; the last goes elsewhere.
+// The packets of a trial of three mappings. Frame j of three goes to mapping 7 j modulo 3, so that
+// each has a mapping of its own; the last frame has none.
 fn three_packets(alloc: Global) -> Result<Octets, NoMemory> {
     let rows: [(u32, &[(usize, u8)]); 4] = [
         (0, &[]),
@@ -111,7 +111,7 @@ fn three_packets(alloc: Global) -> Result<Octets, NoMemory> {
     Ok(capture)
 }
 
-// The end of the report, and the hash of the output.
+// Asserts the end of the report, and the hash of the output.
 fn assert_ended(rt: &impl Abort, desk: &SteadyDesk, end: &[u8], hash: u32) {
     assert!(rt; desk.said().ends_with(end));
     assert_eq!(rt; hash_of(desk.file("out").unwrap_or(&[])), hash);
@@ -132,7 +132,7 @@ fn the_hash_of_a_trial_is_that_of_the_output_of_its_replay(rt: HostRuntime) -> R
     Ok(())
 }
 
-// The settings of a trial of as many mappings as it can have.
+// The settings of a trial with the most mappings.
 fn most_settings(alloc: Global) -> Result<String, NoMemory> {
     let mut text = String::from_str(alloc, SITE)?;
     for i in 0..MOST_MAPPINGS {

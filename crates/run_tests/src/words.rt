@@ -11,8 +11,8 @@ use std::sync::Wait;
 use std::test::Fail;
 use std::thread::Threads;
 
-// What a run of the words between the spaces of a text ends with, and its desk, on which were
-// settings and a capture, `s` and `i`.
+// The status of a run of the words between the spaces of a text, and its desk, which has settings,
+// `s`, and a capture, `i`.
 fn ran<R: Threads + Wait + Sync>(
     rt: &R,
     alloc: Global,

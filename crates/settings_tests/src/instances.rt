@@ -1,4 +1,4 @@
-// The limits of instances: what may be stated, and what each instance may have.
+// The limits of instances: those that may be stated, and those that each instance has.
 use crate::texts::{LOCATOR, assert_fault, read};
 use lisp_settings::{LimitItem, limits_of, read_settings};
 use std::alloc::Global;
@@ -53,12 +53,12 @@ fn a_limit_is_of_an_attached_instance(rt: HostRuntime) -> Result<(), Fail> {
     Ok(())
 }
 
-// A static mapping, and two limits that leave no other one.
+// A static mapping, and two limits that leave room for no other one.
 const FULL: &str = "mapping = [{iid = 9, prefix = '10.2.0.0/16'}]\n\
     limit = [{iid = 200, mappings = 65535, requests = 1024}, \
     {iid = 100, mappings = 0, requests = 0}]\n";
 
-// The same and one mapping more.
+// A static mapping, and two limits with one mapping more than there may be.
 const OVERFULL: &str = "mapping = [{iid = 9, prefix = '10.2.0.0/16'}]\n\
     limit = [{iid = 200, mappings = 65535, requests = 1024}, \
     {iid = 100, mappings = 1, requests = 0}]\n";
@@ -71,12 +71,12 @@ fn limits_and_static_mappings_are_so_many_in_all(rt: HostRuntime) -> Result<(), 
     assert_eq!(rt; settings.limits.len(), 2);
     let overfull = format!(in alloc; "{TENANTS}{OVERFULL}")?;
     assert_fault(&rt, alloc, overfull.as_bytes(), "too-many", "limit")?;
-    // Whether the resolver can be reached is judged before.
+    // Whether the resolver is reached is judged before limits.
     let unreached = format!(in alloc; "resolver = '2001:db8::9'\n{TENANTS}{OVERFULL}")?;
     assert_fault(&rt, alloc, unreached.as_bytes(), "bad-value", "resolver")
 }
 
-// An own locator, and so many instances, of each of which the same requests are stated, if any.
+// An own locator and attached instances, each with a limit of that many requests, if any.
 fn tenants(alloc: Global, count: u16, requests: Option<u16>) -> Result<String, Fail> {
     let mut text = String::from_str(alloc, LOCATOR)?;
     for i in 0..count {
@@ -102,7 +102,7 @@ fn requests_are_so_many_in_all(rt: HostRuntime) -> Result<(), Fail> {
     assert_fault(&rt, alloc, overfull.as_bytes(), "too-many", "limit")
 }
 
-// What each instance of a text may have, in order of instance.
+// Asserts the limits of the instances of a text, in order of instance.
 fn assert_limits(
     rt: &impl Abort,
     alloc: Global,

@@ -1,5 +1,5 @@
-//! Tests of the settings: what no run shows of their values, their longest lists and texts, and
-//! settings that are written.
+//! Tests of the settings: values that no run shows, the longest lists and texts, and settings that
+//! are written.
 #![tactic(auto)]
 
 #[cfg(test)]

@@ -2,7 +2,7 @@
 use lisp_settings::{Record, Settings};
 use std::process::Abort;
 
-/// Every field of the settings is the same.
+/// Asserts that every field of the settings is the same.
 pub fn assert_same(rt: &impl Abort, again: &Settings, first: &Settings) {
     assert_eq!(rt; again.seed, first.seed);
     assert_eq!(rt; again.nonces.as_slice(), first.nonces.as_slice());

@@ -30,7 +30,7 @@ pub fn read(alloc: Global, text: &str) -> Result<Settings, Fail> {
     Ok(settings)
 }
 
-// The word of a fault, as a report says it.
+// The word of a fault, as in a report.
 fn word_of(fault: &SettingsFault) -> &'static str {
     match fault {
         SettingsFault::NotToml => "not-toml",
@@ -56,7 +56,7 @@ fn place_of(fault: &SettingsFault) -> &[u8] {
     }
 }
 
-/// The first fault of a text is of this word, and at this place.
+/// Asserts that the first fault of a text has this word and this place.
 pub fn assert_fault(
     rt: &impl Abort,
     alloc: Global,

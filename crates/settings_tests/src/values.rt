@@ -1,4 +1,4 @@
-// Values of settings that no run shows, and what is asked of settings.
+// Values of settings that no run shows, and look-ups in settings.
 use crate::texts::{LOCATOR, SITE, read};
 use lisp_settings::{Addr, Locator, OwnLocator, Record, home, nonce_at};
 use std::process::Abort;
@@ -30,7 +30,7 @@ fn what_is_left_out_has_its_default(rt: HostRuntime) -> Result<(), Fail> {
     Ok(())
 }
 
-// A mapping of which nothing but its EID and the address of its locator was said.
+// Asserts the defaults of a mapping that has only its EID and the address of its locator.
 fn assert_default(rt: &impl Abort, mapping: &Record) {
     let prefix = mapping.eid.prefix;
     assert_eq!(rt; (prefix.addr, prefix.len), (Addr::V4(0x0a02_0000), 16));

@@ -11,10 +11,10 @@ use std::alloc::Global;
 use std::process::Abort;
 use std::test::Fail;
 
-/// A settings file has so many octets at most.
+/// The most octets of a settings file.
 const MOST: usize = 16_777_216;
 
-// The settings, written in so many octets at most, and read back.
+// The settings, written in at most `most` octets, and read back.
 fn read_back(
     rt: &impl Abort,
     alloc: Global,
@@ -29,7 +29,7 @@ fn read_back(
     Ok(again)
 }
 
-// The settings in a text, written and read back: they are the same.
+// The settings of a text, written and read back, which are asserted to be the same.
 fn written_back(rt: &impl Abort, alloc: Global, text: &str, most: usize) -> Result<Settings, Fail> {
     let first = read_settings(alloc, text.as_bytes())?;
     let again = read_back(rt, alloc, &first, most)?;
@@ -73,12 +73,12 @@ locator = []
             MOST,
             "resolver = '2001:db8::9'\nlocator = [{address = '::1'}, {address = '192.0.2.1'}]",
         ),
-        // All are down, or of priority 255.
+        // All own locators down, or of priority 255.
         (
             MOST,
             "locator = [{address = '::1', up = false}, {address = '192.0.2.1', priority = 255}]",
         ),
-        // Out of order.
+        // Lists out of order.
         (
             MOST,
             r#"
@@ -200,7 +200,7 @@ locator = [{address = "198.51.100.7", priority = 2, weight = 3, up = false}]
     Ok(())
 }
 
-// The changes stand in order of second, then address.
+// Asserts that the changes stand in order of second, then address.
 fn assert_changes(rt: &impl Abort, changes: &[Change]) {
     let v4 = Change {
         at: 7,
@@ -220,7 +220,7 @@ fn assert_changes(rt: &impl Abort, changes: &[Change]) {
     assert_eq!(rt; changes, [v4, v6, last].as_slice());
 }
 
-// The limits stand in order of instance.
+// Asserts that the limits stand in order of instance.
 fn assert_limits(rt: &impl Abort, limits: &[LimitItem]) {
     let first = LimitItem {
         iid: 1,
@@ -235,7 +235,7 @@ fn assert_limits(rt: &impl Abort, limits: &[LimitItem]) {
     assert_eq!(rt; limits, [first, last].as_slice());
 }
 
-// The values of the keys of the top, of the own locators and of the attachments.
+// Asserts the values of the keys of the top, of the own locators and of the attachments.
 fn assert_values(rt: &impl Abort, settings: &Settings) {
     assert_eq!(rt;
         settings.seed,
@@ -281,7 +281,7 @@ fn assert_values(rt: &impl Abort, settings: &Settings) {
     );
 }
 
-// The values of the mapping's keys.
+// Asserts the values of the mapping's keys.
 fn assert_mapping(rt: &impl Abort, mapping: &Record) {
     assert_eq!(rt;
         (mapping.eid.iid, mapping.version, mapping.action),

@@ -19,15 +19,15 @@ use Rattle.router_model.specs.Sharing.{moment_after}
 use Rattle.forwarders.specs.Batches.{journal_of}
 use Rattle.forwarders.specs.Publication.{Publication}
 
--- the size of a round, the router after the rounds before, the moment of the frame before this round, and the
--- frames that came since
+-- a router in rounds: the size of a round, the router after the rounds before, the moment of the frame before this
+-- round, and the frames that came since
 pub record Gathering : Type 0 where
   pub size : ℕ
   pub router : Router Journal
   pub previous : Option ℕ
   pub frames : List Frame
 
--- by the published batches
+-- a router in rounds, whose journal is that of the published batches
 abbrev pub gathering_of : Settings → List (List Entry) → ℕ → Option ℕ → List Frame → Gathering
 gathering_of settings batches size previous frames = record {
   size = size;
@@ -36,11 +36,11 @@ gathering_of settings batches size previous frames = record {
   frames = frames;
 }
 
--- as it begins
+-- a router in rounds as it begins, with its static mappings and without a frame
 abbrev pub none_gathered : ℕ → Settings → Gathering
 none_gathered size settings = record { size = size; router = started settings; previous = None; frames = [] }
 
--- a round of frames, by the numbers of its data packets
+-- the outcome of a round of frames, by the numbers of its data packets
 abbrev pub round_worked : Gathering → List Frame → List ℕ → Outcome Gathering
 round_worked g frames ns =
     let outcome = after_round g.router (round g.router.settings g.previous frames g.router.memory ns) in
@@ -50,23 +50,24 @@ round_worked g frames ns =
       after = record { size = g.size; router = outcome.after; previous = Some (closing_moment frames); frames = [] };
     }
 
--- by numbers that it may have
+-- an outcome is that of a round of frames, by some numbers that its data packets may have
 pub record WorksRound (g : Gathering) (frames : List Frame) (outcome : Outcome Gathering) : Type 0 where
   pub ns : List ℕ
   pub lawful : AreLawful g.router.settings g.previous frames g.router.memory ns
   pub is : outcome ≡ round_worked g frames ns
 
--- the frames make a round
+-- whether the gathered frames make a round
 abbrev pub is_due : Gathering → Bool
 is_due g = is_full g.size (with_frames empty g.frames)
 
--- frames that are left at the end are a round, if there are some
+-- the round of the frames that are left at the end: an outcome is that of their round, or without a frame leaves all as
+-- it is
 abbrev pub ClosesRound : List Frame → Gathering → Outcome Gathering → Type 0
 ClosesRound [] g outcome = outcome ≡ idle g
 ClosesRound (frame ∷ frames) g outcome = WorksRound g (frame ∷ frames) outcome
 
--- what may be done at a step: a frame is kept, a round that is due is worked before the next event, and the seconds
--- between frames are worked with their round
+-- the outcome of a step in rounds: a frame is kept, a round that is due is worked before the next event, and the
+-- seconds between frames are worked with their round
 abbrev pub InRounds : Gathering → Step → Outcome Gathering → Type 0
 InRounds g (Happens (Tick second)) outcome = outcome ≡ idle g
 InRounds g (Happens (Arrival frame)) outcome =
@@ -74,7 +75,7 @@ InRounds g (Happens (Arrival frame)) outcome =
 InRounds g Pause outcome = (is_due g ≡ true) × WorksRound g g.frames outcome
 InRounds g End outcome = ClosesRound g.frames g outcome
 
--- an outcome is that of rounds, by numbers that they may have
+-- an outcome is that of the rounds of a capture's frames, by some numbers that their data packets may have
 pub record AreRounds (settings : Settings) (frames : List Frame) (size : ℕ) (outcome : Outcome Gathering) : Type 0 where
   pub ns : List (List ℕ)
   pub lawful : Lawful settings frames size ns
@@ -82,14 +83,14 @@ pub record AreRounds (settings : Settings) (frames : List Frame) (size : ℕ) (o
   pub packets : outcome.packets ≡ (rounds settings frames size ns).packets
   pub router : outcome.after.router ≡ (rounds settings frames size ns).after
 
--- frames that are gathered are worked in the rounds into which they are cut
+-- law: the outcome of the steps of a capture's frames is that of the rounds into which the frames are cut
 abbrev pub RoundsAreGathered : Type 0
 RoundsAreGathered = (settings : Settings) (frames : List Frame) (size : ℕ) (steps : List Step) (outcome : Outcome Gathering)
     → 1 ≤ size → AreStepsOf frames steps → Played InRounds (none_gathered size settings) (steps ++ End ∷ []) outcome → AreRounds settings frames size outcome
 
 -- ### what is known between steps
 
--- frames since the rounds before, and their octets
+-- the gathered frames have that many octets, are no more than a round may have, and come in order of moments
 pub record AreGathered (g : Gathering) (octets : ℕ) : Type 0 where
   pub filling : with_frames empty g.frames ≡ record { frames = length g.frames; octets = octets }
   pub few : length g.frames ≤ g.size
@@ -97,11 +98,12 @@ pub record AreGathered (g : Gathering) (octets : ℕ) : Type 0 where
   pub order : FramesInOrder (unwrap_or g.previous 0) g.frames
   pub early : All (λ frame. frame.moment < 2 ^ 32 * 1000000000) g.frames
 
--- frames and seconds by which the router has worked, where so many frames came in all
+-- how many frames and seconds a router in rounds has worked, where so many frames came in all
 abbrev pub worked_events : ℕ → Gathering → ℕ
 worked_events frames g = (frames - length g.frames) + second_of (unwrap_or g.previous 0)
 
--- the table stands for what is published, which is all that is planned, and there is room in the journal
+-- a router in rounds may share a round: the table stands for the published batches, which are all that is planned, at a
+-- moment no later than that of the last worked frame
 pub record MayShare (settings : Settings) (parts : Parts) (p : Publication) (g : Gathering) : Type 0 where
   pub lawful : IsLawful settings
   pub settings_are : p.settings ≡ settings
@@ -110,7 +112,8 @@ pub record MayShare (settings : Settings) (parts : Parts) (p : Publication) (g :
   pub stands : Stands settings parts (journal_of p.batches)
   pub now : parts.now ≤ unwrap_or g.previous 0
 
--- what a play asks of a router with forwarders
+-- a router in rounds may go on with a play: its table stands for the published batches, and its frames, entries and
+-- written packets are within limits
 pub record MayGather (settings : Settings) (parts : Parts) (p : Publication) (g : Gathering) (octets : ℕ)
     (progress : Progress) (written : ℕ) : Type 0 where
   pub shares : MayShare settings parts p g

@@ -1,4 +1,4 @@
--- What a play of a capture in rounds leaves.
+-- The end of a play of a capture in rounds.
 use Rattle.std.specs.Prelude.{◌≡◌, ℕ, List, length, take, Option, None, Some}
 use Rattle.desk.specs.World.{World, Shown, shown}
 use Rattle.capture_io.specs.Frame.{Frame}
@@ -13,8 +13,8 @@ use Rattle.router_model.specs.Plain.{Router, started}
 use Rattle.router_model.specs.Rounds.{Lawful, rounds, rounds_from}
 use Rattle.sharing.specs.declared.playing.RoundsEnding.{RoundsEnding}
 
--- a capture of that run was played in rounds of a size: there are numbers that its data packets may have, for which
--- all that the rounds say and send was said, and written into the file
+-- a run of frames was played in rounds of that size: for some numbers that the data packets may have, all lines of the
+-- rounds were reported, and all their packets written into the file
 pub record HasShared (size : ℕ) (settings : Settings) (file : Option ℕ) (old : Shown) (run : InputRun) (ended : RoundsEnding) (now : Option World) : Type 0 where
   pub ns : List (List ℕ)
   pub lawful : Lawful settings run.frames size ns
@@ -22,13 +22,13 @@ pub record HasShared (size : ℕ) (settings : Settings) (file : Option ℕ) (old
   pub entries : ended.entries ≡ length (rounds settings run.frames size ns).after.memory
   pub shown : shown now ≡ Some (with_outcome file (rounds settings run.frames size ns) old)
 
--- what so many of the rounds of a capture say and send, from the first on
+-- the outcome of so many first rounds of a capture
 abbrev pub first_rounds : Settings → List Frame → ℕ → List (List ℕ) → ℕ → Outcome (Router Journal)
 first_rounds settings frames size ns count = rounds_from (started settings) None (take count (cut size frames)) ns
 
--- a play in rounds that was cut short: there are numbers that the data packets may have, and a beginning of what the
--- rounds then say was said, and one of what they send was written. All lines of so many rounds were said, and no
--- packet but theirs was written
+-- a play in rounds that was cut short: for some numbers that the data packets may have, a beginning of the rounds'
+-- lines was reported and one of their packets written. For some count, all lines of so many first rounds were reported,
+-- and no packet but theirs was written
 pub record HasSharedPart (size : ℕ) (settings : Settings) (file : Option ℕ) (old : Shown) (run : InputRun) (now : Option World) : Type 0 where
   pub ns : List (List ℕ)
   pub lawful : Lawful settings run.frames size ns

@@ -1,4 +1,4 @@
-// A router that gathers the frames of a round, which is worked once it is full.
+// A router that gathers the frames of a round, to work the round once it is full.
 ghost use Rattle.std.specs.Prelude.{◌≡◌, ◌≤◌, length, IfOk};
 ghost use Rattle.command_words.specs.Limits.{most_round_frames, most_workers};
 ghost use Rattle.lisp_settings.specs.Lawful.{IsLawful};
@@ -20,18 +20,18 @@ use std::alloc::Global;
 use std::sync::Wait;
 use std::thread::Threads;
 
-/// A router that is replayed in rounds: its table, the same as it is published to forwarders, and the
-/// frames that came since the last round.
+/// A router that is replayed in rounds: its table, the table as it is published to forwarders, and
+/// the frames that came since the last round.
 pub(crate) struct Gathering<'a> {
     pub settings: &'a Settings,
     pub table: Table,
     pub published: Published,
-    /// The frames of a round, at most 4,096.
+    /// The frames that make a round, at most 4,096.
     pub size: usize,
-    /// The moment of the frame before the round.
+    /// The moment of the frame before the round, in nanoseconds; None before the first frame.
     pub previous: Option<u64>,
     pub frames: Vec<Frame>,
-    /// Those of the frames.
+    /// The number of octets of the gathered frames.
     pub octets: usize,
 }
 
@@ -48,7 +48,7 @@ impl<'a> Machine for Gathering<'a> {
         (gathering_of g.settings.now g.published.batches g.size g.previous g.frames.items)
         g.octets progress written };
 
-    // The seconds of a round are worked with it.
+    // A second changes nothing yet, because the seconds of a round are worked with the round.
     fn tick(
         &mut self,
         _alloc: Global,
@@ -72,13 +72,13 @@ impl<'a> Machine for Gathering<'a> {
         Ok(is_full(self.size, self.frames.len(), self.octets))
     }
 
-    // A round keeps its frames.
+    // No frame's list is handed back, because a round keeps its frames.
     fn spare(&mut self) -> Option<Octets> {
         None
     }
 }
 
-/// A router that begins with its static mappings, published to forwarders. It may wait.
+/// A router that begins with its static mappings, published to forwarders. The call may wait.
 pub(crate) fn begun<'a, R: Threads + Wait + Sync, G: Gate>(
     crew: &Crew<'_, R, G>,
     alloc: Global,
@@ -112,7 +112,8 @@ pub(crate) fn begun<'a, R: Threads + Wait + Sync, G: Gate>(
 }
 
 impl<'a> Gathering<'a> {
-    /// Ends the publication, which may wait. Answers the length of the journal.
+    /// Ends the publication and the table, and returns the length of the journal. The call may
+    /// wait.
     pub fn closed<R: Wait>(self, rt: &R) -> u64
         ensures { result ≡ count_of self.entry.published.batches }
     {
@@ -132,14 +133,14 @@ impl<'a> Gathering<'a> {
     }
 }
 
-// So many frames and octets make a round of that size.
+// Whether so many frames and octets make a round of that size.
 fn is_full(size: usize, frames: usize, octets: usize) -> bool
     ensures { result ≡ is_full size (record { frames = frames; octets = octets }) }
 {
     frames >= size || octets > MOST_ROUND_OCTETS
 }
 
-// Octets are below 256, which a round asks of its frames.
+// Shows that octets are below 256, which a round demands of its frames.
 fn fit(octets: &[u8])
     ensures { AreOctets octets.now }
 {

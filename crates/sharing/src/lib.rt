@@ -1,5 +1,5 @@
-//! A router with forwarders: the frames of a capture are gathered in rounds, and each round is shared
-//! by the router's own table and by threads that read it as it is published.
+//! A router with forwarders: the frames of a capture are gathered in rounds, and each round is
+//! shared by the router's own table and by threads that read the table as it is published.
 #![tactic(auto)]
 
 mod crew;

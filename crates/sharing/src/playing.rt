@@ -23,18 +23,18 @@ use std::alloc::Global;
 use std::sync::Wait;
 use std::thread::Threads;
 
-/// How a capture ended that was played in rounds, and the length of the journal.
+/// How a capture that was played in rounds ended, and the length of the journal.
 #[derive(Clone, Copy)]
 pub struct RoundsEnding {
     pub ending: Ending,
     pub entries: u64,
 }
 
-/// Plays the frames of a capture of which none was read, in rounds, by the settings. Its lines are said, and
-/// its packets written into the file.
+/// Plays the frames of a capture, of which none was read, in rounds by the settings. Reports their
+/// lines, and writes their packets into the file.
 ///
-/// It starts threads, and waits for them. A round's lines and packets go out once it is worked. A fault of
-/// the capture ends the round that is open.
+/// The call starts threads, and waits for them. The lines and packets of a round go out once the
+/// round is worked. A fault of the capture ends the round that is open.
 pub fn play_rounds<R: Threads + Wait + Sync, D: Desk, G: Gate, I: FrameReader>(
     crew: &Crew<'_, R, G>,
     alloc: Global,
@@ -53,7 +53,8 @@ pub fn play_rounds<R: Threads + Wait + Sync, D: Desk, G: Gate, I: FrameReader>(
         HasShared crew.now.round settings.now (Some file.number) (shown_of w)
         (left_in I.id I.run reader w) ended (D.told desk.new))) }
 
-    // After a fault a beginning of what the rounds say and send by such numbers was said and written.
+    // After a fault of the desk, or for want of memory, a beginning of the rounds' lines and
+    // packets is reported and written, for some numbers that the data packets may have.
     ensures front { OnErr result (IfSome (D.told desk.old) (λ w.
         HasSharedPart crew.now.round settings.now (Some file.number) (shown_of w)
         (left_in I.id I.run reader w) (D.told desk.new))) }
@@ -69,7 +70,7 @@ pub fn play_rounds<R: Threads + Wait + Sync, D: Desk, G: Gate, I: FrameReader>(
     Ok(RoundsEnding { ending, entries })
 }
 
-// Plays the capture: each round is worked once it is full, and what is left at the end.
+// Plays the capture: works each round once it is full, and at the end the frames that are left.
 fn play_on<R: Threads + Wait + Sync, D: Desk, G: Gate, I: FrameReader>(
     crew: &Crew<'_, R, G>,
     alloc: Global,

@@ -1,4 +1,4 @@
-// A round that is worked: its lines and packets are gathered to go out.
+// The work of a round, whose lines and packets are gathered to go out.
 ghost use Rattle.std.specs.Prelude.{◌≡◌, ◌<◌, ◌≤◌, ◌+◌, ◌++◌, ◌^◌, [], length, map, All, OnOk};
 ghost use Rattle.command_words.specs.Limits.{most_workers};
 ghost use Rattle.capture_events.specs.Events.{records_of};
@@ -19,8 +19,8 @@ use std::alloc::Global;
 use std::sync::Wait;
 use std::thread::Threads;
 
-/// Works the round of the frames, of which there is one, and gathers its lines and packets. It starts
-/// threads, and waits for them.
+/// Works the round of the gathered frames, of which there is at least one, and gathers its lines
+/// and packets. The call starts threads, and waits for them.
 pub(crate) fn work_round<R: Threads + Wait + Sync, G: Gate>(
     crew: &Crew<'_, R, G>,
     alloc: Global,

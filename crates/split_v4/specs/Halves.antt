@@ -60,7 +60,7 @@ front_with packet words total flags sum =
     ++ slice_index packet 12 ∷ slice_index packet 13 ∷ slice_index packet 14 ∷ slice_index packet 15
     ∷ slice_index packet 16 ∷ slice_index packet 17 ∷ slice_index packet 18 ∷ slice_index packet 19 ∷ [])))
 
--- a header with its checksum, for which 0 stands in it
+-- a header with its checksum, computed with 0 in its place
 unfoldable pub summed : List ℕ → List ℕ
 summed header = take 10 header ++ (big_octets 2 (checksum header) ++ drop 12 header)
 
@@ -111,13 +111,13 @@ cut_above most packet = if may_split_above most packet then Some (cut_in packet)
 
 -- ### a frame
 
--- the packet of a course that goes into a tunnel, or natively past it, by what the settings say
+-- the packet of a course that goes into a tunnel, or natively past it, by the settings
 abbrev pub leaving_of : Settings → Course → Option FramePacket
 leaving_of settings (Leaving iid packet) =
     if is_none (first_failing (site_cases settings iid packet.header)) then Some packet else None
 leaving_of settings _ = None
 
--- the packet of a frame that goes into a tunnel, or natively past it, by what the settings say
+-- the packet of a frame that goes into a tunnel, or natively past it, by the settings
 abbrev pub leaving_packet : Settings → Frame → Option FramePacket
 leaving_packet settings frame = leaving_of settings (course_of settings frame)
 

@@ -23,7 +23,7 @@ abbrev pub split_size : Settings → ℕ
 split_size settings =
     most_tunnel_octets - (if has_v6 settings.locators then outer_len (V6 0) else outer_len (V4 0))
 
--- that size, where an own locator is an IPv6 address: no shorter packet is split
+-- the size above which a packet is split, where an own locator is an IPv6 address: no shorter packet is split
 abbrev pub least_split_size : ℕ
 least_split_size = most_tunnel_octets - outer_len (V6 0)
 

@@ -6,7 +6,7 @@ use Rattle.std.specs.List.{flat_map}
 abbrev pub ends_options : List ℕ → Bool
 ends_options octets = length octets == 0 || slice_index octets 0 == 0
 
--- the octets of the option at the front: one for type 1, else as many as its second octet says
+-- the octets of the option at the front: one for type 1, else as many as its second octet gives
 abbrev pub size_in : List ℕ → ℕ
 size_in octets = if slice_index octets 0 == 1 then 1 else slice_index octets 1
 
@@ -19,7 +19,7 @@ begins_well octets =
 abbrev pub first_option : List ℕ → List ℕ
 first_option octets = take (size_in octets) octets
 
--- the octets behind it
+-- the octets behind the option at the front
 abbrev pub behind_option : List ℕ → List ℕ
 behind_option octets = drop (size_in octets) octets
 
@@ -44,7 +44,7 @@ are_options octets = is_some (options_in octets)
 abbrev pub is_copied : List ℕ → Bool
 is_copied option = nat_le 128 (slice_index option 0)
 
--- the copied ones of options, joined
+-- the copied options among these, joined
 abbrev pub copied_of : List (List ℕ) → List ℕ
 copied_of options = flat_map (λ option. if is_copied option then option else []) options
 
@@ -56,6 +56,6 @@ copied_in octets = copied_of (unwrap_or (options_in octets) [])
 abbrev pub padding : ℕ → ℕ
 padding size = (4 - size % 4) % 4
 
--- with the zeros that lead to the next place of four octets
+-- octets with the zeros that lead to the next place of four octets
 abbrev pub padded : List ℕ → List ℕ
 padded octets = octets ++ replicate (padding (length octets)) 0

@@ -18,7 +18,7 @@ pub const V6_OUTER: u16 = 56;
 /// The most that a fragment offset is, in units of eight octets.
 pub const MOST_OFFSET: u16 = 8191;
 
-/// The limits are the defined ones, which are these.
+/// Law: the constants are the defined numbers, and these are their values.
 pub fn limits_are()
     ensures v4 { V4_OUTER ≡ outer_len (V4 0) }
     ensures v6 { V6_OUTER ≡ outer_len (V6 0) }

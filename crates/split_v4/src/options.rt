@@ -4,7 +4,7 @@ ghost use Rattle.split_v4.specs.Options.{are_options, begins_well, behind_option
 
 use octets::NoMemory;
 
-/// How many octets the copied options have, or none where an option isn't well formed.
+/// How many octets the copied options have; None where an option isn't well formed.
 pub(crate) fn copied_len(octets: &[u8]) -> Option<usize>
     ensures value { result
         ≡ option_map (λ options. length (copied_of options)) (options_in octets.now) }
@@ -48,14 +48,14 @@ pub(crate) fn padding(size: usize) -> usize
     (4 - size % 4) % 4
 }
 
-// No option is left.
+// Whether no option is left.
 fn ends_options(octets: &[u8]) -> bool
     ensures { result ≡ ends_options octets.now }
 {
     octets.is_empty() || octets[0] == 0
 }
 
-// The option at the front is well formed.
+// Whether the option at the front is well formed.
 fn begins_well(octets: &[u8]) -> bool
     requires { 1 ≤ length octets.now }
     ensures { result ≡ begins_well octets.now }
@@ -90,7 +90,7 @@ fn option_size(octets: &[u8]) -> usize
     }
 }
 
-// The option stands in each fragment.
+// Whether the option stands in each fragment.
 fn is_copied(option: &[u8]) -> bool
     requires { 1 ≤ length option.now }
     ensures { result ≡ is_copied option.now }

@@ -14,8 +14,9 @@ use octets::NoMemory;
 use router_core::{Course, course_of, leaving_from};
 use std::alloc::Global;
 
-/// The frame with either half of its packet, where that leaves the site and may be split. Each half
-/// keeps the frame's number, moment and link, and the octets before the packet; what was behind it goes.
+/// The frame with either half of its packet, where the packet leaves the site and may be split.
+/// Each half keeps the frame's number, moment and link, and the octets before the packet; octets
+/// behind the packet go.
 #[tactic(auto, unfolding(crate::specs::Halves::halves))]
 pub fn split_frame(
     alloc: Global,
@@ -43,7 +44,7 @@ pub fn split_frame(
     Ok(Some((first, second)))
 }
 
-// The packet of a frame that goes into a tunnel, or natively past it, by what the settings say.
+// The packet of a frame that goes into a tunnel, or natively past it, by the settings.
 fn leaving_packet<'a>(settings: &Settings, frame: &'a Frame) -> Option<IpPacket<'a>>
     requires { IsLawful settings.now }
     ensures value { option_map packet_seen result ≡ leaving_packet settings.now frame.now }

@@ -1,4 +1,5 @@
-// Copies of tables: what was put in is there, and a change of the copy leaves the original.
+// Copies of tables: each has what the original has, and a change of the copy leaves the original as
+// it is.
 ghost use Rattle.std.specs.Prelude.{◌≡◌, length};
 
 use crate::rows::{ATTACHED, cache, eid, locator, on_locators, queue, record, record_to};

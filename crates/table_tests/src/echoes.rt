@@ -1,4 +1,4 @@
-// Times and limits of echoes and solicitations, by hand.
+// Times and limits of echoes and SMRs, by hand.
 use crate::rows::{SECOND, eid, on_locators};
 use ip_headers::Addr;
 use locator_state::{EchoOut, Eid, LocatorState, NoMemory};
@@ -60,7 +60,7 @@ fn nothing_is_refused(rt: &impl Abort, state: &mut LocatorState) -> Result<(), N
     Ok(())
 }
 
-// So many of each kind but probes.
+// Adds `each` requested echoes, as many wanted ones, and as many SMRs.
 fn fill(state: &mut LocatorState, moment: u64, each: usize, eid: Eid) -> Result<(), NoMemory> {
     for _ in 0..each {
         state.echo_started(moment, FIRST, 9)?;

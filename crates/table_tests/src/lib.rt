@@ -1,6 +1,6 @@
-//! Tests of the node store, the prefix table, the map-cache, the queue of requests, what is known
-//! of locators (probes, echoes, solicitations) and the choice among them: times, limits,
-//! replacement, the longest match, shares, copies.
+//! Tests of the node store, the prefix table, the map-cache, the queue of requests, the state of
+//! locators (probes, echoes, SMRs) and the choice among them: times, limits, replacement, the
+//! longest match, shares, copies.
 #![tactic(auto)]
 
 #[cfg(test)]

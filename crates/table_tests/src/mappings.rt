@@ -11,7 +11,8 @@ use std::process::Abort;
 
 const MINUTE: u64 = 60 * SECOND;
 
-// Which status bits of a mapping are known, and what they are.
+// The status bits of the mapping of exactly that EID: which ones are known, and their values. None
+// where no such mapping lives.
 fn bits(cache: &MapCache, moment: u64, eid: &Eid) -> Option<(u32, u32)>
     requires { cache.now.now ≤ moment }
 {
@@ -76,7 +77,7 @@ fn fixed_without_end(rt: &impl Abort, alloc: Global, cache: &mut MapCache) -> Re
     Ok(())
 }
 
-// The least address above another.
+// The least locator above an address, and the least EID whose mapping names it.
 fn next(cache: &MapCache, moment: u64, after: Option<Addr>) -> Option<(Addr, Eid)>
     requires { cache.now.now ≤ moment }
 {
@@ -116,7 +117,7 @@ fn locators_in_order(rt: &impl Abort, alloc: Global, cache: &mut MapCache) -> Re
     Ok(())
 }
 
-// Learns so many hosts for a minute, from the first address on.
+// Learns hosts for a minute, from the first address on.
 fn fill(alloc: Global, cache: &mut MapCache, moment: u64, hosts: u32) -> Result<(), LearnFault>
     requires { cache.old.now ≤ moment }
     ensures { cache.new.now ≤ moment }
@@ -160,7 +161,7 @@ fn full_at(
     Ok(())
 }
 
-// Each instance below a number is attached.
+// The attachments of all instances below a number, as settings have them.
 fn attached(alloc: Global, instances: u32) -> Result<String, NoMemory> {
     let mut tables = String::new(alloc);
     for iid in 0..instances {
@@ -262,7 +263,8 @@ fn within_limits(rt: &impl Abort, alloc: Global, cache: &mut MapCache) -> Result
     Ok(())
 }
 
-// The first mapping of instance 100 has ended, and another takes its place. A fixed one has none.
+// Asserts that once the first mapping of instance 100 has ended, another one takes its place, and
+// that a fixed mapping takes none.
 fn place_again(rt: &impl Abort, alloc: Global, cache: &mut MapCache) -> Result<(), LearnFault>
     requires { cache.old.now ≡ 0 }
 {

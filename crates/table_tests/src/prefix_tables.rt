@@ -105,7 +105,7 @@ fn the_longest_that_covers_and_passes_is_found(rt: HostRuntime) -> Result<(), No
     longest_that_passes(&rt, &mut table)
 }
 
-// Nets within each other, one of another instance, and one of IPv6.
+// Puts nets within each other, one of another instance, and one of IPv6 into the table.
 fn put_nets(rt: &impl Abort, table: &mut PrefixTable<u32>) -> Result<(), NoMemory> {
     let other = Eid {
         iid: 8,
@@ -149,7 +149,7 @@ fn no_host_prefix_is_read_that_is_not_on_the_way(rt: HostRuntime) -> Result<(), 
     Ok(())
 }
 
-// All hosts of a net, in it, and it in the net of all.
+// Puts 65,534 hosts of 10.0.0.0/8, that net, and 0.0.0.0/0 into the table.
 fn put_hosts(rt: &impl Abort, table: &mut PrefixTable<u32>) -> Result<(), NoMemory> {
     put(table, v4(rt, 0, 0), 0)?;
     put(table, v4(rt, TEN, 8), 8)?;

@@ -34,7 +34,7 @@ fn answered_is_closed(rt: &impl Abort, state: &mut LocatorState) -> Result<(), N
     Ok(())
 }
 
-// So many probes with the nonces from 0 on.
+// Adds probes with the nonces from 0 on.
 fn fill(state: &mut LocatorState, moment: u64, probes: u64) -> Result<(), NoMemory> {
     for nonce in 0..probes {
         state.probed(moment, FIRST, nonce)?;

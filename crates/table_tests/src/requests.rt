@@ -8,7 +8,7 @@ use std::process::Abort;
 
 const LATE: u64 = 7 * SECOND;
 
-// A request waits that covers an EID.
+// Whether the EID of an open request covers this one.
 fn is_open(queue: &RequestQueue, moment: u64, eid: &Eid) -> bool {
     queue.open_for(moment, eid, &mut Reads::new())
 }
@@ -40,7 +40,7 @@ fn waits_until_it_is_answered(rt: &impl Abort, queue: &mut RequestQueue) -> Resu
     Ok(())
 }
 
-// The nonce of the next request that is to be sent again, which it is then.
+// Marks the next request that is due as sent again, and returns its nonce.
 fn send_next(queue: &mut RequestQueue, moment: u64, after: Option<u64>) -> Option<u64> {
     let nonce = queue.next_due(moment, after)?.nonce;
     queue.retry(nonce);
@@ -48,7 +48,7 @@ fn send_next(queue: &mut RequestQueue, moment: u64, after: Option<u64>) -> Optio
     Some(nonce)
 }
 
-// The nonce of the next request that is to be sent again.
+// The nonce of the next request that is due to be sent again.
 fn next_due(queue: &RequestQueue, moment: u64, after: Option<u64>) -> Option<u64> {
     Some(queue.next_due(moment, after)?.nonce)
 }
@@ -76,7 +76,7 @@ fn again_in_asking_order(rt: &impl Abort, queue: &mut RequestQueue) -> Result<()
     }
     assert_eq!(rt; send_next(queue, SECOND, Some(7)), Some(3));
     assert_eq!(rt; next_due(queue, SECOND, Some(7)), Some(5));
-    // A request that waits no longer isn't sent again.
+    // A request that is no longer open isn't sent again.
     let rows = [
         (SECOND, Some(7)),
         (LATE - 1, Some(7)),
@@ -89,7 +89,7 @@ fn again_in_asking_order(rt: &impl Abort, queue: &mut RequestQueue) -> Result<()
     Ok(())
 }
 
-// Asks for so many networks, with the nonces from 0 on.
+// Adds requests for networks, with the nonces from 0 on.
 fn fill(
     rt: &impl Abort,
     queue: &mut RequestQueue,
@@ -158,15 +158,15 @@ fn each_instance_asks_within_its_own_limit(rt: HostRuntime) -> Result<(), AskFau
     Ok(())
 }
 
-// A prefix of an address, of an instance.
+// A prefix of 16 bits of an address, in an instance.
 fn eid_of(rt: &impl Abort, iid: u16, address: u32) -> Eid {
     let prefix = eid(rt, address, 16).prefix;
     let iid = u32::from(iid);
     Eid { iid, prefix }
 }
 
-// Asks for one EID after another. Each row has a nonce, a moment and an instance, how it went, how
-// many requests of the instance wait then, and whether one more may.
+// Adds requests for one EID after another. Each row has a nonce, a moment and an instance, the
+// result, how many requests of the instance are open then, and whether one more may be.
 fn within_limits(rt: &impl Abort, queue: &mut RequestQueue) {
     let full = Err(AskFault::QueueFull);
     for (nonce, moment, iid, asked, open, has_place) in [

@@ -1,4 +1,4 @@
-// EIDs and records for rows.
+// EIDs, records, and empty tables for rows.
 ghost use Rattle.std.specs.Prelude.{◌≡◌, IfOk, length};
 
 use ip_headers::{Addr, Prefix};
@@ -10,10 +10,10 @@ use request_queue::RequestQueue;
 use std::alloc::Global;
 use std::process::Abort;
 
-/// In nanoseconds.
+/// A second, in nanoseconds.
 pub const SECOND: u64 = 1_000_000_000;
 
-/// Instance 100 alone is attached, so that it may have all.
+/// The attachment of instance 100 alone, which shares with no other instance.
 pub const ATTACHED: &str = "[[attachment]]\nvlan = 0\niid = 100\n";
 
 /// A prefix of an IPv4 address, of instance 100.
@@ -22,20 +22,20 @@ pub fn eid(rt: &impl Abort, address: u32, len: u8) -> Eid {
     Eid { iid: 100, prefix }
 }
 
-/// The limits of instances, of settings that have these tables.
+/// The limits of instances, by settings that have these tables.
 pub fn limits(rt: &impl Abort, alloc: Global, tables: &str) -> Result<Limits, NoMemory> {
     let text = format!(in alloc; "[[locator]]\naddress = '192.0.2.1'\n{tables}")?;
     let settings = read_settings(alloc, text.as_bytes()).expect(rt, "settings without a fault");
     limits_of(alloc, &settings)
 }
 
-/// A queue with no requests, with the limits of settings that have these tables.
+/// A queue without requests, with the limits of settings that have these tables.
 pub fn queue(rt: &impl Abort, alloc: Global, tables: &str) -> Result<RequestQueue, NoMemory> {
     let limits = limits(rt, alloc, tables)?;
     RequestQueue::new(alloc, &limits)
 }
 
-/// The record of a mapping of so many minutes, without locators.
+/// The record of a mapping without locators, with its TTL in minutes.
 pub fn record(alloc: Global, eid: Eid, ttl: u32) -> Record
     ensures ttl { result.ttl ≡ ttl }
     ensures locators { length result.locators ≡ 0 }
@@ -57,7 +57,7 @@ fn record_with(eid: Eid, ttl: u32, locators: Locators) -> Record
     }
 }
 
-/// A locator of that address.
+/// A locator with that address and priority.
 pub fn locator(addr: Addr, priority: u8) -> Locator {
     Locator {
         addr,
@@ -71,7 +71,7 @@ pub fn locator(addr: Addr, priority: u8) -> Locator {
     }
 }
 
-/// The record of a mapping of so many minutes to locators.
+/// The record of a mapping to locators, with its TTL in minutes.
 pub fn record_to(
     alloc: Global,
     eid: Eid,
@@ -85,7 +85,7 @@ pub fn record_to(
     Ok(record_with(eid, ttl, Locators::from_vec(locators)))
 }
 
-/// Runs a test on what is known of locators, which is nothing at first. It alone drops that.
+/// Runs a test on an empty state of locators, and alone drops that state.
 pub fn on_locators<F>(alloc: Global, test: F) -> Result<(), NoMemory>
 where
     F: FnOnce(&mut LocatorState) -> Result<(), NoMemory>,
@@ -95,7 +95,7 @@ where
     test(&mut state)
 }
 
-/// A cache with no mappings, with the limits of settings that have these tables.
+/// A cache without mappings, with the limits of settings that have these tables.
 pub fn cache(rt: &impl Abort, alloc: Global, tables: &str) -> Result<MapCache, NoMemory>
     ensures { IfOk result (λ cache. cache.now ≡ 0) }
 {

@@ -14,7 +14,7 @@ use Rattle.mapping_records.specs.declared.record.Record.{Record}
 use Rattle.lisp_settings.specs.declared.settings.Settings.{Settings}
 use Rattle.capture_events.specs.Events.{Packet}
 
--- an IPv4 prefix in instance 0
+-- the EID of an IPv4 prefix in instance 0
 abbrev pub eid_v4 : (addr len : ℕ) → IsTrue (is_prefix (V4 addr) len) → Eid
 eid_v4 addr len lawful = record {
   iid = 0;
@@ -26,7 +26,7 @@ eid_v4 addr len lawful = record {
 abbrev pub prefix_addr : ℕ → ℕ
 prefix_addr i = (0x140000 + i) * 256
 
--- its last 8 bits are 0
+-- the last 8 bits of the first address of prefix i are 0
 pub aligned : (i : ℕ) → IsTrue (is_prefix (V4 (prefix_addr i)) 24)
 aligned i = ap (λ (low : ℕ). low == 0) (mul-mod_left (0x140000 + i) 256)
 
@@ -67,7 +67,7 @@ trial_settings n = record {
   limits = [];
 }
 
--- a datagram without payload from 192.168.0.1 to an address: port 1000 to 2000, TTL 64, no checksum of UDP
+-- a UDP datagram without payload and without checksum, from 192.168.0.1 to an address: port 1000 to 2000, TTL 64
 abbrev pub datagram_to : ℕ → List ℕ
 datagram_to dest =
     canonical_v4 (record {
@@ -85,15 +85,15 @@ datagram_to dest =
     })
     ++ canonical_udp (V4 0xc0a80001) (V4 dest) 1000 2000 [] false
 
--- that datagram at j microseconds past 1,700,000,000 seconds
+-- the datagram to an address at j microseconds past 1,700,000,000 seconds
 abbrev pub packet_to : ℕ → ℕ → Packet
 packet_to dest j =
     record { moment = 1700000000 * 1000000000 + j * 1000; octets = datagram_to dest }
 
--- packet j of n goes to the first host of prefix 7 j mod n
+-- packet j of n, which goes to the first host of prefix 7 j mod n
 abbrev pub trial_packet : ℕ → ℕ → Packet
 trial_packet n j = packet_to (prefix_addr (7 * j % n) + 1) j
 
--- all packets; the last one goes to 21.0.0.1, for which there is no mapping
+-- all n + 1 packets of a trial; the last one goes to 21.0.0.1, which no mapping covers
 abbrev pub trial_packets : ℕ → List Packet
 trial_packets n = map (trial_packet n) (range_with_len 0 n) ++ packet_to 0x15000001 n ∷ []

@@ -16,17 +16,17 @@ use octets::{NoMemory, Octets};
 use playback::what_is_written_is_read;
 use std::alloc::Global;
 
-// When the capture begins, in nanoseconds.
+// The moment of the first frame, in nanoseconds.
 const BEGIN: u64 = 1_700_000_000_000_000_000;
 
-// The address in the site that all packets come from, 192.168.0.1.
+// The source of all packets, an address of the site: 192.168.0.1.
 const SOURCE: u32 = 0xc0a8_0001;
 
-// An address that no mapping covers, 21.0.0.1.
+// The destination of the last packet, which no mapping covers: 21.0.0.1.
 const ELSEWHERE: u32 = 0x1500_0001;
 
-/// A capture with a packet for each of so many mappings, a microsecond apart, and one packet for
-/// which there is none.
+/// A capture of `n` + 1 packets, a microsecond apart: packet `j` of `n` to the first host of prefix
+/// 7 `j` mod `n`, and a last one that no mapping covers.
 pub fn trial_capture(alloc: Global, n: u32) -> Result<Octets, NoMemory>
     requires { n ≤ most_mappings }
     ensures file { IfOk result (λ file. file ≡ out_header ++ records_of (trial_packets n)) }
@@ -40,12 +40,12 @@ pub fn trial_capture(alloc: Global, n: u32) -> Result<Octets, NoMemory>
         push_packet(alloc, prefix_addr(7 * j % n) + 1, j, &mut file)?;
     }
     push_packet(alloc, ELSEWHERE, n, &mut file)?;
-    // The law from which the clauses on reading follow.
+    // The call brings the law from which the clauses on reading follow.
     what_is_written_is_read();
     Ok(file)
 }
 
-// Adds the record of a packet to the address, at that microsecond.
+// Appends the record of a packet to an address, `j` microseconds behind the capture's first moment.
 fn push_packet(alloc: Global, dest: u32, j: u32, file: &mut Octets) -> Result<(), NoMemory>
     requires { j ≤ most_mappings }
     ensures { OnOk result (file.new ≡ file.old

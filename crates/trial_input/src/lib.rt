@@ -1,5 +1,4 @@
-//! The input of a trial: settings of as many mappings as a number says, and a capture with a frame
-//! for each.
+//! The input of a trial: settings of n mappings, and a capture of n + 1 frames.
 #![tactic(auto)]
 
 mod capture;

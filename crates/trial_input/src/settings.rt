@@ -11,8 +11,8 @@ use mapping_records::{DEFAULT_MINUTES, Eid, Locator, Record};
 use octets::{Items, NoMemory};
 use std::alloc::Global;
 
-/// Settings of so many mappings, 20.0.0.0/24 and the prefixes that follow it, and of the site
-/// 192.168.0.0/16. Of as many as settings may have.
+/// Settings of `n` mappings, 20.0.0.0/24 and the prefixes that follow it, and of the site
+/// 192.168.0.0/16. `n` is at most the number of mappings that settings may have.
 pub fn trial_settings(alloc: Global, n: u32) -> Result<Settings, NoMemory>
     requires { n ≤ most_mappings }
     ensures settings { IfOk result (λ settings. settings ≡ trial_settings n) }
@@ -96,7 +96,7 @@ fn mapping(alloc: Global, i: u32) -> Result<Record, NoMemory>
     })
 }
 
-/// The first address of a prefix.
+/// The first address of prefix `i`: 20.0.0.0 + 256 `i`.
 pub(crate) fn prefix_addr(i: u32) -> u32
     requires { i < most_mappings }
     ensures addr { result ≡ prefix_addr i }

@@ -1,4 +1,4 @@
-// Lists of words that are of a form: the values that they say, which a run doesn't show.
+// Lists of words that are of a form, and their values, which a run doesn't show.
 use crate::word_lists::{said, words_in};
 use std::test::Fail;
 
@@ -113,7 +113,7 @@ fn words_of_a_form_say_their_values(rt: HostRuntime) -> Result<(), Fail> {
             "audit --settings s --in i --nonces settings --sent t",
             "audit s i t settings",
         ),
-        // Nothing is written, so all three may be one file.
+        // An audit writes no file, so all three may be one.
         ("audit --settings f --in f --sent f", "audit f f f settings"),
         (
             "audit --settings sent --in settings --sent audit",

@@ -1,4 +1,5 @@
-//! Tests of the words of the commands: what lists of words say, and which are of no form.
+//! Tests of the words of the commands: the values of lists of words, and the lists that are of no
+//! form.
 #![tactic(auto)]
 
 #[cfg(test)]

@@ -7,14 +7,14 @@ use std::test::Fail;
 #[test]
 fn empty_words_blanks_in_words_and_long_lists_are_of_no_form(rt: HostRuntime) -> Result<(), Fail> {
     let alloc = rt.alloc();
-    // Words, and one that follows so many times.
+    // Words, and one that follows `times` times.
     for (text, last, times) in [
         // An empty word is no command, no name, and belongs to no pair.
         ("", "", 0u32),
         (" replay --settings s --in i --out o", "", 0),
         ("replay --settings s --in i --out o  x", "", 0),
         ("show --in x", "", 1),
-        // Nor is it a value.
+        // An empty word is no value either.
         ("replay --settings  --in i --out o", "", 0),
         ("replay --settings s --in  --out o", "", 0),
         ("replay --settings s --in i --out", "", 1),
@@ -32,7 +32,7 @@ fn empty_words_blanks_in_words_and_long_lists_are_of_no_form(rt: HostRuntime) ->
         (WORKERS, "0 ", 1),
         ("trial", " 5", 1),
         ("trial", "5 ", 1),
-        // Nor has the name of a format, or a switch.
+        // The name of a format and a switch have no blanks either.
         (FORMAT, " ng", 1),
         (FORMAT, "ng ", 1),
         (INTERFACES, "vlan ", 1),

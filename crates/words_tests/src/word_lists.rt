@@ -1,4 +1,4 @@
-// Lists of words, and what they say.
+// Lists of words, and their values.
 use command_words::{InputFormat, Intake, NonceSource, Word, Words, WordsFault, read_words};
 use std::alloc::Global;
 use std::test::Fail;
@@ -6,22 +6,24 @@ use std::test::Fail;
 /// The words of a replay of three files.
 pub const REPLAY: &str = "replay --settings s --in i --out o";
 
-/// The same, and an option whose value is wanting.
+/// The words of a replay, and the option `--round` without its value.
 pub const ROUND: &str = "replay --settings s --in i --out o --round";
 
-/// Likewise.
+/// The words of a replay, and the option `--workers` without its value.
 pub const WORKERS: &str = "replay --settings s --in i --out o --workers";
 
-/// Likewise.
+/// The words of a replay, and the option `--format` without its value.
 pub const FORMAT: &str = "replay --settings s --in i --out o --format";
 
-/// Likewise, of a format that has interfaces.
+/// The words of a replay of a format that has interfaces, and the option `--interfaces` without its
+/// value.
 pub const INTERFACES: &str = "replay --settings s --in i --out o --format ng --interfaces";
 
-/// Likewise, of whether large packets are split.
+/// The words of a replay, and the option `--split`, of whether large packets are split, without its
+/// value.
 pub const SPLIT: &str = "replay --settings s --in i --out o --split";
 
-/// The words of an audit, and an option whose value is wanting.
+/// The words of an audit, and the option `--nonces` without its value.
 pub const NONCES: &str = "audit --settings s --in i --sent t --nonces";
 
 /// The words between the spaces of a text; two spaces in a row have an empty word between them.
@@ -33,8 +35,8 @@ pub fn words_in(alloc: Global, text: &str) -> Result<Vec<Word>, Fail> {
     Ok(words)
 }
 
-/// What the words say: the command, the files, how the capture is taken in, and the numbers of workers and of a
-/// round's frames, or where the nonces of an audit come from.
+/// The values of words, as text: the command, the files, how the capture is taken in, and the
+/// numbers of workers and of a round's frames, or where the nonces of an audit come from.
 pub fn said(alloc: Global, words: &[Word]) -> Result<String, Fail> {
     let text = match read_words(alloc, words) {
         Ok(

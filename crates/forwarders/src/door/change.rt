@@ -1,4 +1,4 @@
-// What the copies of the table take in.
+// A change that each copy of the table takes in.
 use router_log::Entry;
 
 #[derive(Debug, Drop)]

@@ -1,4 +1,4 @@
-// A forwarder: it reads the published table by looks.
+// A forwarder, which reads the published table by looks.
 ghost use Rattle.std.specs.Prelude.{◌≡◌, ◌+◌, ◌^◌, ◌<◌, IfOk, IfErr, IfSome, IfNone};
 ghost use Rattle.std.specs.Fn.{FnOnceTakesAt, FnOnceReturnsAt};
 ghost use Rattle.left_right.specs.Sides.{view as known};
@@ -36,7 +36,8 @@ impl Model for Forwarder {
     ghost invariant = { λ forwarder. IsReading (known forwarder.reader.place) };
 }
 
-// The reader after a look, with what `look` answers of the table that it found.
+// Enters the published table by a reader, and calls `look` on the table that it finds. Returns the
+// reader, and the answer of `look` with a receipt, or None where entering was refused.
 fn entered<X, F: FnOnce(&Table) -> X>(
     reader: ShownReader,
     look: (F, PhantomData<X>),
@@ -64,7 +65,7 @@ fn entered<X, F: FnOnce(&Table) -> X>(
 }
 
 impl Forwarder {
-    // A forwarder whose reader was told list and plan.
+    // A forwarder of a reader that has learned list and plan.
     pub(super) fn over(reader: ShownReader) -> Forwarder
         requires { IsReading (known reader.place) }
         ensures { result ≡ forwarding_of (known reader.place) }
@@ -72,8 +73,9 @@ impl Forwarder {
         Forwarder { reader }
     }
 
-    /// Looks at the table that is published now, which has at least what was seen before. None where
-    /// the look was refused, which the tally counts.
+    /// Calls `look` on the table that is published now, which has at least the entries that were
+    /// seen before, and returns the answer with a receipt. None where the look was refused, which
+    /// the tally counts.
     pub fn look<X, F: FnOnce(&Table) -> X>(
         &mut self,
         tally: &mut Tally,
@@ -94,7 +96,7 @@ impl Forwarder {
         seen
     }
 
-    /// The decision on a frame that is no control message, at a moment in nanoseconds: that of the
+    /// The decision on a frame that is no control message, at a moment in nanoseconds, by the
     /// journal of all that is published now.
     pub fn forward(
         &mut self,

@@ -1,4 +1,4 @@
-// The rule of what readers and the writer know, and the steps that keep it.
+// The rule for the views of readers and writer, and the steps that keep it.
 ghost use Rattle.std.specs.Prelude.{List, []};
 ghost use Rattle.router_log.specs.declared.entry.Entry.{Entry as EntryValue};
 ghost use Rattle.forwarders.specs.declared.door.view.View.{View as ViewValue};
@@ -46,14 +46,14 @@ impl Protocol<Shown, View> for Kept {
     ghost first = { Newcomer };
 }
 
-/// A look.
+/// The step of a reader that enters the published table: a look.
 pub struct Entering;
 
 impl Outcome<Shown, View> for Entering {
     ghost then = { λ v before side w. Enters v side.parts w };
 }
 
-/// What the writer knows after the first publication. The call picks it.
+/// The writer's view after the first publication, as the call picks it.
 pub trait First {
     ghost known: { ViewValue };
 }
@@ -62,7 +62,7 @@ impl First for Brand {
     ghost known = { Newcomer };
 }
 
-/// The first publication.
+/// The step of the writer that publishes for the first time.
 pub struct Beginning<F> {
     first: PhantomData<F>,
 }
@@ -71,7 +71,7 @@ impl<F: First> Outcome<Shown, View> for Beginning<F> {
     ghost then = { λ v before side w. Starts F.known side.parts w };
 }
 
-/// The batch that one publication adds. The call picks it.
+/// The batch that one publication adds, as the call picks it.
 pub trait Batch {
     ghost entries: { List EntryValue };
 }
@@ -80,7 +80,7 @@ impl Batch for Brand {
     ghost entries = { [] };
 }
 
-/// A further publication.
+/// The step of the writer that publishes a further batch.
 pub struct Publishing<B> {
     batch: PhantomData<B>,
 }
@@ -89,7 +89,7 @@ impl<B: Batch> Outcome<Shown, View> for Publishing<B> {
     ghost then = { λ v before side w. Publishes B.entries v side.parts w };
 }
 
-/// The batches by which the plan grows. The call picks them.
+/// The batches by which the plan grows, as the call picks them.
 pub trait Coming {
     ghost batches: { List (List EntryValue) };
 }
@@ -98,7 +98,7 @@ impl Coming for Brand {
     ghost batches = { [] };
 }
 
-/// The writer plans.
+/// The step of the writer that makes the plan longer.
 pub struct Planning<C> {
     coming: PhantomData<C>,
 }
@@ -109,7 +109,7 @@ impl<C: Coming> Split<View> for Planning<C> {
     ghost right = { λ _. Newcomer };
 }
 
-/// The writer tells a reader list and plan.
+/// The step of the writer that makes a note of list and plan for a reader.
 pub struct Telling;
 
 impl Split<View> for Telling {
@@ -118,7 +118,7 @@ impl Split<View> for Telling {
     ghost right = { told_of };
 }
 
-/// The reader learns them.
+/// The step of a reader that takes list and plan from the writer's note.
 pub struct Learning;
 
 impl Join<View> for Learning {

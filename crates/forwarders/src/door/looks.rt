@@ -1,4 +1,4 @@
-// What a look at the published table gives.
+// The results of a look at the published table.
 ghost use Rattle.std.specs.Prelude.{◌≡◌};
 
 use router_log::Decision;
@@ -27,14 +27,14 @@ impl Look {
     }
 }
 
-/// What a forwarder decided, and the receipt of its look.
+/// The decision of a forwarder, and the receipt of the look by which it was made.
 #[derive(Drop)]
 pub struct Forwarded {
     pub look: Look,
     pub decision: Decision,
 }
 
-/// Why a forwarder decided nothing.
+/// Why a forwarder has no decision.
 #[derive(Clone, Copy, Debug, PartialEq, Eq)]
 pub enum ForwardFault {
     /// The look was refused, which the tally counts.

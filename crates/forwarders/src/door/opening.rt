@@ -1,4 +1,4 @@
-// How a publication begins.
+// The beginning of a publication.
 ghost use Rattle.std.specs.Prelude.{◌≡◌, ◌<◌, ◌≤◌, false, [], ◌∷◌, drop, IfOk};
 ghost use Rattle.command_words.specs.Limits.{most_workers};
 ghost use Rattle.left_right.specs.Sides.{view as known};
@@ -21,7 +21,7 @@ use std::alloc::Global;
 use std::marker::Brand;
 use std::sync::Wait;
 
-// The writer after the first publication, as which it knows what the caller picks.
+// Publishes for the first time, after which the writer has the view of `F`.
 fn opened_as<F: First, R: Wait>(
     rt: &R,
     alloc: Global,
@@ -47,7 +47,7 @@ fn opened_as<F: First, R: Wait>(
     }
 }
 
-// The writer after the first publication, which gives it the static mappings as its list.
+// Publishes for the first time, after which the static mappings are the writer's list and plan.
 fn opened<R: Wait>(
     rt: &R,
     alloc: Global,
@@ -64,7 +64,7 @@ fn opened<R: Wait>(
     opened_as::<Brand, R>(rt, alloc, settings, writer)
 }
 
-// Two copies of a table, whose publication hasn't begun.
+// Two copies of a table, before their publication begins.
 fn copies(table: &Table) -> Result<(Shown, Shown), NoMemory>
     ensures { IfOk result (λ both.
         let side : Side = record { parts = table.now.parts; is_open = false } in
@@ -80,8 +80,8 @@ fn copies(table: &Table) -> Result<(Shown, Shown), NoMemory>
     }
 }
 
-/// Publishes a table that has just begun, whose static mappings are the first batch, for at most so
-/// many forwarders at a time. It may wait, as `publish` does.
+/// Publishes a table that has just begun, with its static mappings as the first batch, for at most
+/// `readers` forwarders at a time. The call may wait, as `publish` does.
 pub fn open_hall<R: Wait>(
     rt: &R,
     alloc: Global,

@@ -1,4 +1,4 @@
-// The published table: the one that changes it.
+// The published table, in the hands of its one writer.
 ghost use Rattle.std.specs.Prelude.{◌≡◌, ◌+◌, ◌^◌, ◌<◌, IsTrue, nat_le, List, [], ◌∷◌, ◌++◌, drop, IfSome, IfNone, OnOk, OnErr};
 ghost use Rattle.left_right.specs.Sides.{view as known};
 ghost use Rattle.router_log.specs.declared.entry.Entry.{Entry as EntryValue};
@@ -22,7 +22,7 @@ use std::alloc::Global;
 use std::marker::Model;
 use std::sync::Wait;
 
-/// The one that changes the published table. It ends by `close` alone.
+/// The published table, in the hands of its one writer. It ends by `close` alone.
 pub struct Published {
     alloc: Global,
     writer: ShownWriter,
@@ -46,7 +46,7 @@ impl Model for Published {
 }
 
 impl Published {
-    // A publication whose writer has a list, and nothing that no one sees yet.
+    // A published table of a writer that has a list, without pending entries.
     pub(super) fn over(alloc: Global, writer: ShownWriter) -> Published
         requires shows { Shows writer.desk.shown.value.parts (known writer.desk.place) }
         requires none { drop writer.behind writer.log.items ≡ [] }
@@ -55,15 +55,15 @@ impl Published {
         Published { alloc, writer }
     }
 
-    /// Makes the plan longer by batches. What is published has to follow it.
+    /// Makes the plan longer by batches. Publications have to follow the plan.
     pub fn plan(&mut self, batches: &[Entries])
         ensures { self.new ≡ record self.old { plan = self.old.plan ++ batches.now } }
     {
         planned(&mut self.writer, batches);
     }
 
-    /// A forwarder that has seen what is published, and knows what is planned. None where its place was
-    /// refused, which the tally counts.
+    /// A forwarder that has seen all that is published, and has learned the whole plan. None where
+    /// its place was refused, which the tally counts.
     pub fn forwarder(&mut self, tally: &mut Tally) -> Option<Forwarder>
         requires tally { tally.old < 2 ^ 63 }
         ensures kept { self.new ≡ self.old }
@@ -83,7 +83,7 @@ impl Published {
         Some(Forwarder::over(reader))
     }
 
-    /// Adds an entry behind the pending ones. No one sees it yet.
+    /// Adds an entry behind the pending ones. No reader sees it yet.
     pub fn append(&mut self, entry: &Entry) -> Result<(), NoMemory>
         requires { IsTrue (fits self.old.settings
             (extended (journal_of self.old.batches) self.old.pending) entry.now) }
@@ -95,8 +95,8 @@ impl Published {
         appended(&mut self.writer, entry)
     }
 
-    /// Publishes the pending entries at once, as the next batch of the plan. It waits for those that
-    /// still read the other copy.
+    /// Publishes the pending entries at once, as the next batch of the plan. Waits for readers that
+    /// are still in the other copy. A refusal leaves all as it was.
     pub fn publish<R: Wait>(&mut self, rt: &R) -> Result<(), NoMemory>
         requires { Begins (self.old.batches ++ self.old.pending ∷ []) self.old.plan }
         ensures ok { OnOk result (self.new ≡ record self.old {
@@ -118,8 +118,8 @@ impl Published {
         self.writer.published().table().count()
     }
 
-    /// Whether the list that was looked at has no more entries than the published one. If it goes
-    /// along what is published, its entries are then the first ones of the journal.
+    /// Whether the list that a look found has no more entries than the published one. If that list
+    /// goes along what is published, its entries are then the first ones of the journal.
     #[tactic(auto, using(crate::proofs::LookLemmas::covered))]
     pub fn covers(&self, look: &Look) -> bool
         ensures test { result ≡ nat_le look.now (count_of self.now.batches) }
@@ -130,7 +130,7 @@ impl Published {
         look.count() <= self.count()
     }
 
-    /// Ends the publication. It waits for those that still read.
+    /// Ends the publication. Waits for readers that are still in a copy.
     pub fn close<R: Wait>(self, rt: &R) {
         let Published { alloc: _, writer } = self;
         writer.take(rt);

@@ -1,4 +1,4 @@
-// Steps of the writer, of which each picks what it tells.
+// The steps of the writer: it appends entries, publishes them, and makes the plan longer.
 ghost use Rattle.std.specs.Prelude.{◌≡◌, [], ◌∷◌, ◌++◌, drop, OnOk, OnErr};
 ghost use Rattle.left_right.specs.Sides.{view as known};
 ghost use Rattle.forwarders.specs.Keeping.{GoesOn, IsNext, Publishes, Shows};
@@ -12,7 +12,7 @@ use std::alloc::AllocError;
 use std::marker::Brand;
 use std::sync::Wait;
 
-/// Adds an entry behind those that are pending.
+/// Adds an entry behind the pending ones.
 #[tactic(auto, using(crate::proofs::ChangeLemmas::entries_push))]
 pub(super) fn appended(writer: &mut ShownWriter, entry: Entry) -> Result<(), NoMemory>
     ensures desk { writer.new.desk ≡ writer.old.desk }
@@ -27,7 +27,7 @@ pub(super) fn appended(writer: &mut ShownWriter, entry: Entry) -> Result<(), NoM
     }
 }
 
-// Publishes what is pending, as the batch that the caller picks.
+// Publishes the pending entries, as the batch that `B` has.
 fn published_as<B: Batch, R: Wait>(
     rt: &R,
     writer: ShownWriter,
@@ -47,7 +47,7 @@ fn published_as<B: Batch, R: Wait>(
     writer.publish_as::<Publishing<B>, R>(rt)
 }
 
-/// Publishes what is pending, as one batch. Where that is refused, all is as it was.
+/// Publishes the pending entries as one batch. A refusal leaves all as it was.
 pub(super) fn published<R: Wait>(
     writer: ShownWriter,
     rt: &R,
@@ -68,7 +68,7 @@ pub(super) fn published<R: Wait>(
     published_as::<Brand, R>(rt, writer)
 }
 
-// Makes the plan longer by the batches that the caller picks.
+// Makes the plan longer by the batches that `C` has.
 fn planned_as<C: Coming>(writer: &mut ShownWriter, batches: &[Entries])
     requires writes { IsWriting (known writer.old.desk.place) }
     ensures view { known writer.new.desk.place

@@ -11,7 +11,7 @@ use std::marker::Model;
 #[derive(Drop)]
 pub struct Shown {
     table: Table,
-    // The publication has begun.
+    // Whether the publication has begun.
     is_open: bool,
 }
 
@@ -40,8 +40,8 @@ impl Shown {
         &self.table
     }
 
-    /// Takes in an entry that the table admits. Any other leaves it, and so does one that is refused
-    /// memory.
+    /// Takes in an entry that the table admits. Any other entry leaves the copy as it was, and so
+    /// does a refusal of memory.
     #[tactic(auto, unfolding(router_model::specs::Parts::absorbed))]
     pub fn absorb(&mut self, entry: &Entry) -> Result<(), NoMemory>
         ensures ok { OnOk result (self.new
@@ -54,7 +54,7 @@ impl Shown {
         self.table.apply(entry)
     }
 
-    /// The publication begins.
+    /// Marks that the publication has begun.
     pub fn open(&mut self)
         ensures { self.new ≡ record self.old { is_open = true } }
     {

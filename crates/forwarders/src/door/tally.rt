@@ -1,9 +1,9 @@
-// How often reading was refused.
+// The tally of refusals.
 ghost use Rattle.std.specs.Prelude.{◌≡◌, ◌+◌, ◌^◌, ◌<◌};
 
 use std::marker::Model;
 
-/// How many looks, and places of forwarders, were refused.
+/// How many looks, and how many places of forwarders, were refused.
 #[derive(Drop)]
 pub struct Tally {
     count: u64,
@@ -30,7 +30,7 @@ impl Tally {
         self.count
     }
 
-    // One refusal more.
+    // Counts a further refusal.
     pub(super) fn raise(&mut self)
         requires { self.old < 2 ^ 63 }
         ensures { self.new ≡ self.old + 1 }

@@ -1,4 +1,5 @@
-// What a seat at the published table knows. No value of it is made.
+// The view of a seat at the published table: what it has seen and learned. No value of this type is
+// made.
 use lisp_settings::Settings;
 use router_log::Entry;
 
@@ -6,12 +7,13 @@ use router_log::Entry;
 pub type Batches = [[Entry; 0]; 0];
 
 pub enum View {
-    /// Nothing yet.
+    /// A newcomer, which has no list and no plan yet.
     Newcomer,
-    /// The settings, the batches that it has seen, and the plan that it was told.
+    /// A reader: the settings, the batches that it has seen, and the plan that it has learned.
     Reads(Settings, Batches, Batches),
-    /// The settings, all that is published, and all that is planned.
+    /// The writer: the settings, all batches that are published, and all that are planned.
     Writes(Settings, Batches, Batches),
-    /// The settings, a list that was published, and what was planned then.
+    /// A note of the writer for a reader: the settings, a list that was published, and what was
+    /// planned then.
     Tells(Settings, Batches, Batches),
 }
