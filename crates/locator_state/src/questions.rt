@@ -1,5 +1,5 @@
 // Questions about locators at a moment.
-ghost use Rattle.std.specs.Prelude.{◌≡◌, ◌<◌, ◌/◌, nat_lt};
+ghost use Rattle.std.specs.Prelude.{◌≡◌, ◌<◌, ◌/◌, count_by, nat_lt, option_map, slice_get};
 ghost use Rattle.locator_state.specs.Echoes.{data_due, echo_on, echo_out, may_start, may_want, wanted};
 ghost use Rattle.locator_state.specs.Limits.{most_probes};
 ghost use Rattle.locator_state.specs.Observed.{is_up};
@@ -37,6 +37,26 @@ impl LocatorState {
             return Some(probe.moment);
         }
         None
+    }
+
+    /// The moment and the locator of the probe at a place, the oldest at 0, or None behind the end.
+    pub fn probe_at(&self, place: usize) -> Option<(u64, Addr)>
+        ensures { result ≡ option_map (λ probe. (probe.moment, probe.rloc))
+            (slice_get self.now.observed.probes place) }
+    {
+        match self.probes.get(place) {
+            None => None,
+            Some(probe) => Some((probe.moment, probe.rloc)),
+        }
+    }
+
+    /// How many probes were sent before a moment.
+    pub fn probes_before(&self, moment: u64) -> usize
+        ensures { result ≡ count_by (λ probe. nat_lt probe.moment moment)
+            self.now.observed.probes }
+    {
+        // At that moment the others are younger than one nanosecond.
+        self.probes.len() - self.probes.count(moment, 1)
     }
 
     /// How many probes count at a moment.
