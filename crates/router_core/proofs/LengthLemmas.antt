@@ -1,7 +1,7 @@
 -- How long the lists of a table get.
-use Rattle.std.proofs.Common.{◌≡◌, ◌≤◌, ◌<◌, nat_lt, ℕ, Bool, true, IsTrue, List, [], ◌∷◌, ◌++◌, count_by, filter, length, subst, arith}
+use Rattle.std.proofs.Common.{◌≡◌, ◌≤◌, ◌<◌, ◌-◌, nat_lt, ℕ, Bool, true, IsTrue, List, [], ◌∷◌, ◌++◌, count_by, drop, filter, get_or, length, take, sym, ap, subst, arith}
 use Rattle.std.proofs.lemmas.Bool.Decides.{nat_tests}
-use Rattle.std.proofs.lemmas.List.{length-append, length-map}
+use Rattle.std.proofs.lemmas.List.{length-append, length-map, take_all}
 use Rattle.std.proofs.lemmas.List.Sums.{count_by-le-length, length-filter}
 use Rattle.ip_headers.specs.declared.addr.Addr.{Addr}
 use Rattle.mapping_records.specs.declared.eid.Eid.{Eid}
@@ -110,3 +110,10 @@ module _ (p : Parts) (m : ℕ) (after : p.now ≤ m) where
   few-solicits rloc eid may =
       let now = subst (λ (t : ℕ). IsTrue (may_solicit t p.observed.solicits rloc eid)) (later m p.now after) may in
       below (count_by (solicit_counts m) p.observed.solicits) (both _ _ now).1
+
+-- ### a list and its first item
+
+-- the first of some locators, and those behind it
+pub first-left : {A : Type 0} (items : List A) (d : A) → 1 ≤ length items → items ≡ get_or items 0 d ∷ take (length items - 1) (drop 1 items)
+first-left [] d some = absurd (omega (arith, some))
+first-left (first ∷ others) d some = ap (λ l. first ∷ l) (sym (take_all (length (first ∷ others) - 1) others (omega arith)))

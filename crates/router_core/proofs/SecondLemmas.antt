@@ -1,5 +1,5 @@
 -- A second at which own locators change: which changes are due, what they leave, and what follows them.
-use Rattle.std.proofs.Common.{◌≡◌, ℕ, zero, suc, ◌*◌, Result, Ok, Err, OnOk, ◌+◌, ◌-◌, ◌<◌, ◌≤◌, ◌||◌, nat_le, nat_lt, Bool, true, false, cond, if◌then◌else◌, List, [], ◌∷◌, ◌++◌, drop, get_or, length, take, refl, sym, ap, ap₂, ◌∙◌, arith}
+use Rattle.std.proofs.Common.{◌≡◌, ℕ, zero, suc, ◌*◌, ◌/◌, Result, Ok, Err, OnOk, ◌+◌, ◌-◌, ◌<◌, ◌≤◌, ◌||◌, nat_le, nat_lt, Bool, true, false, cond, if◌then◌else◌, List, [], ◌∷◌, ◌++◌, drop, get_or, length, take, refl, sym, ap, ap₂, ◌∙◌, arith}
 use Rattle.std.specs.List.{slice_index_or, slice_set}
 use Rattle.std.specs.Result.{IfOk}
 use Rattle.std.proofs.Math.Nat.{mul-le-mul_left, mul-le-mul_right}
@@ -18,11 +18,12 @@ use Rattle.router_log.specs.declared.emit.Emit.{Emit}
 use Rattle.router_log.specs.declared.entry.Entry.{Entry}
 use Rattle.router_log.specs.declared.entry.Entry.TheVariants.{Changed}
 use Rattle.router_model.proofs.KeptLemmas.{filter_map-Some}
+use Rattle.router_model.proofs.UpsLemmas.{changed-site, ups-tell}
 use Rattle.router_model.specs.Changes.{Change, unchanged}
 use Rattle.router_model.specs.Parts.{Parts, absorbed, admits, standing_in, table, with_entry}
-use Rattle.router_model.specs.Standing.{changing, due_changes, own_in, standing_by}
-use Rattle.router_model.specs.Tick.{after_changes, all_changed, all_told, all_probed, retried_where, some_came, ticked, ticked_by}
-use Rattle.router_model.specs.Site.{reaches_resolver}
+use Rattle.router_model.specs.Standing.{changing, due_changes, own_in, standing_by, with_ups, without_ups}
+use Rattle.router_model.specs.Tick.{after_changes, all_changed, made, all_told, all_probed, retried_where, some_came, ticked, ticked_by}
+use Rattle.router_model.specs.Site.{own_bits, reaches_resolver}
 use Rattle.router_core.specs.Steps.{HasEntered, IsSecond, IsStep}
 use Rattle.router_core.specs.Table.{change_of}
 use Rattle.router_core.specs.Telling.{is_some_due}
@@ -201,3 +202,32 @@ few-told a b few_a few_b =
     let one = mul-le-mul_right b few_a in
     let other = mul-le-mul_left 64 few_b in
     omega (arith, one, other)
+
+-- ### own locators behind changes
+
+without-with : (ups : ℕ) (locators : List OwnLocator) → without_ups (with_ups ups locators) ≡ without_ups locators
+without-with ups [] = refl
+without-with ups (own ∷ others) = ap (λ (l : List OwnLocator). record own { up = false } ∷ l) (without-with (ups / 2) others)
+
+absorbed-site : (p : Parts) (e : Entry) → without_ups (absorbed p e).own ≡ without_ups p.own
+unfolding absorbed
+absorbed-site p e = by (admits p e)
+  where
+    by : (b : Bool) → without_ups (cond b (with_entry e p) p).own ≡ without_ups p.own
+    by true = changed-site e p.own
+    by false = refl
+
+changes-site : (settings : Settings) (m : ℕ) (changes : List OwnChange) (change : Change Parts) → without_ups (all_changed table settings m changes change).after.own ≡ without_ups change.after.own
+changes-site settings m [] change = refl
+changes-site settings m (one ∷ others) change =
+    changes-site settings m others (made table settings m one change)
+    ∙ absorbed-site change.after (Changed m one.address one.up)
+
+-- the site that stands behind changes has the own locators of the table, if it had them before
+pub own-stands : (settings : Settings) (m : ℕ) (changes : List OwnChange) (p q : Parts) (written before : List Entry) → (standing_in settings p).locators ≡ p.own → change_of q written [] ≡ all_changed table settings m changes (change_of p before []) → (standing_in settings q).locators ≡ q.own
+own-stands settings m changes p q written before own is =
+    ups-tell q.own settings.locators
+    (ap (λ (change : Change Parts). without_ups change.after.own) is
+    ∙ changes-site settings m changes (change_of p before [])
+    ∙ ap without_ups (sym own)
+    ∙ without-with (own_bits p.own) settings.locators)

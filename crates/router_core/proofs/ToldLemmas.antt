@@ -1,183 +1,216 @@
--- The first in order of the addresses that are told, a few at a time.
-use Rattle.std.proofs.Common.{◌≡◌, ◌<◌, ◌≤◌, ◌+◌, ◌||◌, ℕ, suc, not, Bool, true, false, cond, IsTrue, is_lt, List, [], ◌∷◌, ◌++◌, filter, flat_map, insert, length, map, slice_get, take, refl, sym, ap, ◌∙◌, arith}
-use Rattle.std.proofs.lemmas.List.{map-append, take_all}
-use Rattle.std.proofs.lemmas.List.Elements.{All-cons, All-head, All-nil, All-tail, All-take, All-weaker, filter-append, filter_passes}
-use Rattle.std.specs.List.{All, position_or_len}
+-- The addresses that are told, found name by name: the first ones in order.
+use Rattle.std.proofs.Common.{◌≡◌, ◌⊎◌, ◌<◌, ◌≤◌, ◌&&◌, ℕ, Bool, true, false, cond, IsTrue, is_lt, List, [], ◌∷◌, ◌++◌, filter, find, flat_map, fold, get_or, length, map, take, None, Some, inl, inr, refl, sym, ap, ap₂, subst, ◌∙◌, arith}
+use Rattle.std.proofs.lemmas.Bool.{both_ways}
+use Rattle.std.proofs.lemmas.List.{length-map, map-append, take-map}
+use Rattle.std.proofs.lemmas.List.Elements.{All-filter, All-map, All-nil, All-push, filter_passes}
+use Rattle.std.proofs.lemmas.List.Folds.{list_any_at}
+use Rattle.std.specs.List.{All, list_any}
 use Rattle.ip_headers.specs.declared.addr.Addr.{Addr}
+use Rattle.ip_headers.specs.declared.addr.Addr.TheVariants.{V4}
+use Rattle.lisp_settings.specs.declared.settings.Settings.{Settings}
+use Rattle.locator_state.proofs.TurnsLemmas.{equal-address, first-candidates, one-probe, pairs-ascend, placed}
+use Rattle.locator_state.specs.Turns.{with_target}
+use Rattle.locator_state.specs.declared.target.Target.{Target}
+use Rattle.map_cache.specs.Cache.{lasts}
+use Rattle.map_cache.specs.Named.{is_named, named_above, named_by}
+use Rattle.map_cache.specs.declared.mapping.Mapping.{Mapping}
 use Rattle.mapping_records.specs.Eids.{same_address}
 use Rattle.mapping_records.specs.Orders.{addr_order}
+use Rattle.mapping_records.specs.declared.eid.Eid.{Eid}
 use Rattle.mapping_records.specs.declared.record.Locator.{Locator}
-use Rattle.lisp_settings.specs.declared.settings.Settings.{Settings}
-use Rattle.map_cache.specs.Cache.{lasts}
-use Rattle.map_cache.specs.declared.mapping.Mapping.{Mapping}
+use Rattle.router_model.proofs.StandingLemmas.{same-address}
 use Rattle.router_model.specs.Cache.{held_of}
 use Rattle.router_model.specs.Parts.{Parts, view_in}
 use Rattle.router_model.specs.Tick.{first_told, is_told, may_take, named, named_in, with_address}
-use Rattle.router_model.specs.View.{View}
-use Rattle.router_model.proofs.TellLemmas.{all_placed, told-append}
-use Rattle.router_core.specs.Telling.{is_at, named_by, told_with}
+use Rattle.router_core.specs.Turning.{IsNext, has_address, is_covered, names_at}
+use Rattle.router_core.specs.declared.turns.Covered.{Covered}
+use Rattle.router_core.specs.declared.turns.Covered.TheVariants.{Nothing, UpTo}
 use Rattle.router_core.proofs.ChangeLemmas.{later}
+use Rattle.router_core.proofs.FreshLemmas.{AreFound, found-all, found-behind, found-next, found-none, found-past}
 
 pub none-below : {A : Type 0} (items : List A) → length items < 1 → items ≡ []
 none-below [] few = refl
 none-below (first ∷ others) few = absurd (omega (arith, few))
 
--- ### the place of an address
+-- ### addresses as targets
 
-abbrev pub place_of : Addr → List Addr → ℕ
-place_of address told = position_or_len (λ next. same_address address next || is_lt (addr_order address next)) told
+-- an EID, whichever
+abbrev some_eid : Eid
+some_eid = record { iid = 0; prefix = record { addr = V4 0; len = 0; lawful = refl }; in_range = omega arith }
 
-next : (n : ℕ) → 1 + n ≡ suc n
-next n = omega arith
+-- an address as a target without a probe
+abbrev pub as_target : Addr → Target
+as_target address = record { rloc = address; eid = some_eid; last = None }
 
--- one that isn't there is put in its place
-put : (address : Addr) (told : List Addr) → is_at address (slice_get told (place_of address told)) ≡ false → insert told (place_of address told) address ≡ with_address address told
-put address [] isn't = refl
-put address (first ∷ others) isn't = by (same_address address first) (is_lt (addr_order address first)) refl isn't (put address others)
+-- all these put in their places
+abbrev all_placed : List Addr → List Addr → List Addr
+all_placed addresses told = fold (λ so_far address. with_address address so_far) told addresses
+
+map-with : (address : Addr) (told : List Addr) → map as_target (with_address address told) ≡ with_target (as_target address) (map as_target told)
+map-with address [] = refl
+map-with address (first ∷ others) = by (same_address address first) (is_lt (addr_order address first)) (map-with address others)
   where
-    at : ℕ → Bool
-    at n = is_at address (slice_get (first ∷ others) n)
+    by : (b c : Bool) → map as_target (with_address address others) ≡ with_target (as_target address) (map as_target others)
+        → map as_target (cond b (first ∷ others) (cond c (address ∷ first ∷ others) (first ∷ with_address address others)))
+        ≡ cond b (as_target first ∷ map as_target others) (cond c (as_target address ∷ as_target first ∷ map as_target others) (as_target first ∷ with_target (as_target address) (map as_target others)))
+    by true c same = refl
+    by false true same = refl
+    by false false same = ap (λ (l : List Target). as_target first ∷ l) same
 
-    by : (b c : Bool) → same_address address first ≡ b → at (cond (not (b || c)) (1 + place_of address others) 0) ≡ false
-        → (is_at address (slice_get others (place_of address others)) ≡ false → insert others (place_of address others) address ≡ with_address address others)
-        → insert (first ∷ others) (cond (not (b || c)) (1 + place_of address others) 0) address ≡ cond b (first ∷ others) (cond c (address ∷ first ∷ others) (first ∷ with_address address others))
-    by true c same isn't rest = absurd (let never : true ≡ false = sym same ∙ isn't in cc)
-    by false true same isn't rest = refl
-    by false false same isn't rest =
-        ap (λ n. insert (first ∷ others) n address) (next (place_of address others))
-        ∙ ap (λ (l : List Addr). first ∷ l) (rest (sym (ap at (next (place_of address others))) ∙ isn't))
+map-placed : (addresses told : List Addr) → map as_target (all_placed addresses told) ≡ placed (map as_target addresses) (map as_target told)
+map-placed [] told = refl
+map-placed (address ∷ others) told =
+    map-placed others (with_address address told) ∙ ap (placed (map as_target others)) (map-with address told)
 
--- one that is there stays
-there : (address : Addr) (told : List Addr) → is_at address (slice_get told (place_of address told)) ≡ true → told ≡ with_address address told
-there address [] is = absurd cc
-there address (first ∷ others) is = by (same_address address first) (is_lt (addr_order address first)) refl is (there address others)
+map-back : (told : List Addr) → map (λ (target : Target). target.rloc) (map as_target told) ≡ told
+map-back [] = refl
+map-back (first ∷ others) = ap (λ (l : List Addr). first ∷ l) (map-back others)
+
+-- addresses whose targets are the first ones in order are the first ones
+first-addresses : (addresses told : List Addr) → map as_target told ≡ take 64 (placed (map as_target addresses) []) → told ≡ first_told (all_placed addresses [])
+unfolding first_told
+first-addresses addresses told is =
+    sym (map-back told)
+    ∙ ap (map (λ (target : Target). target.rloc))
+    (is ∙ sym (ap (take 64) (map-placed addresses [])) ∙ take-map as_target 64 (all_placed addresses []))
+    ∙ map-back (take 64 (all_placed addresses []))
+
+-- ### names that are told
+
+abbrev address_in : Addr × Eid → Addr
+address_in name = name.0
+
+-- the names that may be told, as targets
+abbrev pub told_targets : Settings → List (Addr × Eid) → List Target
+told_targets settings names = map as_target (filter (is_told settings) (map address_in names))
+
+module _ (settings : Settings) (names : List (Addr × Eid)) where
+  -- each is named
+  pub told-named : All (λ target. list_any (λ name. same_address target.rloc name.0) names ≡ true) (told_targets settings names)
+  told-named =
+      All-map (λ target. list_any (λ name. same_address target.rloc name.0) names ≡ true) as_target (filter (is_told settings) (map address_in names))
+      (All-filter (is_told settings) (λ address. list_any (λ name. same_address address name.0) names ≡ true) (map address_in names)
+      (All-map (λ address. list_any (λ name. same_address address name.0) names ≡ true) address_in names
+      (λ k d within. list_any_at (λ name. same_address (get_or names k d).0 name.0) names k d within (same-address (get_or names k d).0))))
+
+  -- an address that may not be told is no target's
+  pub told-no : (address : Addr) → is_told settings address ≡ false → All (λ target. target.last ≡ None → target.rloc ≡ address → ⊥) (told_targets settings names)
+  told-no address fails =
+      All-map (λ target. target.last ≡ None → target.rloc ≡ address → ⊥) as_target (filter (is_told settings) (map address_in names))
+      (λ k d within none same. both_ways (is_told settings address) fails (ap (is_told settings) (sym same) ∙ filter_passes (is_told settings) (map address_in names) k d within))
+
+-- the target of an address that may be told
+pub told-one : (settings : Settings) (names : List (Addr × Eid)) (next : Addr × Eid) → find (λ name. same_address next.0 name.0) names ≡ Some next → is_told settings next.0 ≡ true → find (has_address next.0) (told_targets settings names) ≡ Some (as_target next.0)
+told-one settings [] next is told = absurd (cc is)
+told-one settings (name ∷ others) next is told = by (same_address next.0 name.0) refl is (λ later. told-one settings others next later told)
   where
-    at : ℕ → Bool
-    at n = is_at address (slice_get (first ∷ others) n)
+    left : List Addr
+    left = filter (is_told settings) (map address_in others)
 
-    by : (b c : Bool) → same_address address first ≡ b → at (cond (not (b || c)) (1 + place_of address others) 0) ≡ true
-        → (is_at address (slice_get others (place_of address others)) ≡ true → others ≡ with_address address others)
-        → (first ∷ others) ≡ cond b (first ∷ others) (cond c (address ∷ first ∷ others) (first ∷ with_address address others))
-    by true c same is rest = refl
-    by false true same is rest = absurd (let never : false ≡ true = sym same ∙ is in cc)
-    by false false same is rest = ap (λ (l : List Addr). first ∷ l) (rest (sym (ap at (next (place_of address others))) ∙ is))
-
--- ### the first ones
-
--- few are all told
-pub told-few : (told : List Addr) → length told ≤ 64 → first_told told ≡ told
-unfolding first_told
-told-few told few = take_all 64 told few
-
--- one that isn't there is put among them
-pub put-told : (address : Addr) (told : List Addr) → is_at address (slice_get told (place_of address told)) ≡ false → take 64 (insert told (place_of address told) address) ≡ first_told (with_address address told)
-unfolding first_told
-put-told address told isn't = ap (take 64) (put address told isn't)
-
--- one that is there stays
-pub there-told : (address : Addr) (told : List Addr) → is_at address (slice_get told (place_of address told)) ≡ true → length told ≤ 64 → told ≡ first_told (with_address address told)
-there-told address told is few = sym (ap first_told (sym (there address told is)) ∙ told-few told few)
-
--- ### those of a mapping
-
--- the address of a locator
-abbrev address_of : Locator → Addr
-address_of locator = locator.addr
-
-module _ (settings : Settings) where
-  named-append : (locators others : List Locator) → named_by settings (locators ++ others) ≡ named_by settings locators ++ named_by settings others
-  named-append locators others =
-      ap (filter (is_told settings))
-      (ap (map address_of) (filter-append may_take locators others) ∙ map-append address_of (filter may_take locators) (filter may_take others))
-      ∙ filter-append (is_told settings) (map address_of (filter may_take locators)) (map address_of (filter may_take others))
-
-  -- one locator, then the others
-  pub told-each : (locators : List Locator) (locator : Locator) (others : List Locator) (told : List Addr) → locators ≡ locator ∷ others → told_with (named_by settings others) (told_with (named_by settings (locator ∷ [])) told) ≡ told_with (named_by settings locators) told
-  told-each locators locator others told split =
-      sym (told-append (named_by settings (locator ∷ [])) (named_by settings others) told)
-      ∙ ap (λ addresses. told_with addresses told) (sym (named-append (locator ∷ []) others) ∙ ap (named_by settings) (sym split))
-
-  -- none is named
-  pub told-none : (locators : List Locator) (told : List Addr) → locators ≡ [] → length told ≤ 64 → told ≡ told_with (named_by settings locators) told
-  told-none locators told none few = sym (ap (λ (l : List Locator). told_with (named_by settings l) told) none ∙ told-few told few)
-
-  -- one that may not be taken
-  pub told-untaken : (locator : Locator) (told : List Addr) → may_take locator ≡ false → length told ≤ 64 → told ≡ told_with (named_by settings (locator ∷ [])) told
-  told-untaken locator told isn't few =
-      sym
-      (ap (λ b. told_with (filter (is_told settings) (map address_of (cond b (locator ∷ []) []))) told) isn't
-      ∙ told-few told few)
-
-  taken-one : (locator : Locator) (told : List Addr) → may_take locator ≡ true → told_with (named_by settings (locator ∷ [])) told ≡ told_with (filter (is_told settings) (locator.addr ∷ [])) told
-  taken-one locator told takes =
-      ap (λ b. told_with (filter (is_told settings) (map address_of (cond b (locator ∷ []) []))) told) takes
-
-  -- one that is told
-  pub told-one : (locator : Locator) (told : List Addr) → may_take locator ≡ true → is_told settings locator.addr ≡ true → first_told (with_address locator.addr told) ≡ told_with (named_by settings (locator ∷ [])) told
-  told-one locator told takes is =
-      sym (taken-one locator told takes ∙ ap (λ b. told_with (cond b (locator.addr ∷ []) []) told) is)
-
-  -- one that isn't
-  pub told-unreached : (locator : Locator) (told : List Addr) → may_take locator ≡ true → is_told settings locator.addr ≡ false → length told ≤ 64 → told ≡ told_with (named_by settings (locator ∷ [])) told
-  told-unreached locator told takes isn't few =
-      sym
-      (taken-one locator told takes
-      ∙ ap (λ b. told_with (cond b (locator.addr ∷ []) []) told) isn't
-      ∙ told-few told few)
+    by : (b : Bool) → same_address next.0 name.0 ≡ b → cond b (Some name) (find (λ (n : Addr × Eid). same_address next.0 n.0) others) ≡ Some next
+        → (find (λ (n : Addr × Eid). same_address next.0 n.0) others ≡ Some next → find (has_address next.0) (map as_target left) ≡ Some (as_target next.0))
+        → find (has_address next.0) (map as_target (cond (is_told settings name.0) (name.0 ∷ left) left)) ≡ Some (as_target next.0)
+    by true same here rest =
+        let equal : next.0 ≡ name.0 = equal-address next.0 name.0 same in
+        ap (λ b. find (has_address next.0) (map as_target (cond b (name.0 ∷ left) left))) (ap (is_told settings) (sym equal) ∙ told)
+        ∙ ap (λ b. cond b (Some (as_target name.0)) (find (has_address next.0) (map as_target left))) same
+        ∙ ap (λ (a : Addr). Some (as_target a)) (sym equal)
+    by false apart here rest = at (is_told settings name.0)
+      where
+        at : (b : Bool) → find (has_address next.0) (map as_target (cond b (name.0 ∷ left) left)) ≡ Some (as_target next.0)
+        at true = ap (λ b. cond b (Some (as_target name.0)) (find (has_address next.0) (map as_target left))) apart ∙ rest here
+        at false = rest here
 
 -- ### those of all mappings
 
--- those of these mappings that last
-abbrev pub to_tell : Settings → ℕ → List Mapping → List Addr
-to_tell settings m mappings = filter (is_told settings) (flat_map named_in (map held_of (filter (lasts m) mappings)))
-
--- all of them
-pub to_tell-all : (settings : Settings) (p : Parts) (m : ℕ) → p.now ≤ m → told_with (to_tell settings m p.mappings) [] ≡ first_told (named settings (view_in p m))
-unfolding view_in
-to_tell-all settings p m after =
-    ap (λ (t : ℕ). told_with (filter (is_told settings) (flat_map named_in (map held_of (filter (lasts t) p.mappings)))) [])
-    (sym (later m p.now after))
-
--- those of a mapping that lasts, then the others
-pub told-lasting : (settings : Settings) (m : ℕ) (mapping : Mapping) (others : List Mapping) (told : List Addr) → lasts m mapping ≡ true → told_with (to_tell settings m others) (told_with (named_by settings mapping.details.locators) told) ≡ told_with (to_tell settings m (mapping ∷ others)) told
-told-lasting settings m mapping others told is =
-    sym
-    (ap (λ b. told_with (filter (is_told settings) (flat_map named_in (map held_of (cond b (mapping ∷ filter (lasts m) others) (filter (lasts m) others))))) told) is
-    ∙ ap (λ addresses. told_with addresses told) (filter-append (is_told settings) (named_in (held_of mapping)) (flat_map named_in (map held_of (filter (lasts m) others))))
-    ∙ told-append (named_by settings mapping.details.locators) (to_tell settings m others) told)
-
--- none is left
-pub told-all : (settings : Settings) (m : ℕ) (mappings : List Mapping) (told first : List Addr) → mappings ≡ [] → length told ≤ 64 → told_with (to_tell settings m mappings) told ≡ first → told ≡ first
-told-all settings m mappings told first none few is =
-    sym (told-few told few) ∙ ap (λ (l : List Mapping). told_with (to_tell settings m l) told) (sym none) ∙ is
-
--- ### each may be told
-
-All-with : (P : Addr → Type 0) (address : Addr) (told : List Addr) → P address → All P told → All P (with_address address told)
-All-with P address [] is all = All-cons P address [] is all
-All-with P address (next ∷ others) is all =
-    by (same_address address next) (is_lt (addr_order address next)) (All-with P address others is (All-tail P next others all))
+named-locators : (eid : Eid) (locators : List Locator) → map address_in (map (λ (locator : Locator). (locator.addr, eid)) (filter (is_named None) locators)) ≡ map (λ (locator : Locator). locator.addr) (filter may_take locators)
+named-locators eid [] = refl
+named-locators eid (locator ∷ others) = by (may_take locator) (named-locators eid others)
   where
-    by : (b c : Bool) → All P (with_address address others) → All P (cond b (next ∷ others) (cond c (address ∷ next ∷ others) (next ∷ with_address address others)))
-    by true c h = all
-    by false true h = All-cons P address (next ∷ others) is all
-    by false false h = All-cons P next (with_address address others) (All-head P next others all) h
+    pairs : List (Addr × Eid)
+    pairs = map (λ (l : Locator). (l.addr, eid)) (filter (is_named None) others)
 
-All-placed : (P : Addr → Type 0) (addresses told : List Addr) → All P addresses → All P told → All P (all_placed addresses told)
-All-placed P [] told these all = all
-All-placed P (address ∷ others) told these all =
-    All-placed P others (with_address address told) (All-tail P address others these)
-    (All-with P address told (All-head P address others these) all)
+    by : (b : Bool) → map address_in pairs ≡ map (λ (l : Locator). l.addr) (filter may_take others)
+        → map address_in (map (λ (l : Locator). (l.addr, eid)) (cond (b && true) (locator ∷ filter (is_named None) others) (filter (is_named None) others))) ≡ map (λ (l : Locator). l.addr) (cond b (locator ∷ filter may_take others) (filter may_take others))
+    by true same = ap (λ (l : List Addr). locator.addr ∷ l) same
+    by false same = same
 
--- a locator that may be told
-abbrev pub IsReached : Settings → Addr → Type 0
-IsReached settings address = IsTrue (is_told settings address)
+named-addresses : (mappings : List Mapping) → map address_in (named_above None mappings) ≡ flat_map named_in (map held_of mappings)
+named-addresses [] = refl
+named-addresses (mapping ∷ others) =
+    map-append address_in (named_by None mapping) (named_above None others)
+    ∙ ap₂ (λ (a b : List Addr). a ++ b) (named-locators mapping.eid mapping.details.locators) (named-addresses others)
 
-pub named-reached : (settings : Settings) (v : View) → All (IsReached settings) (first_told (named settings v))
-unfolding first_told
-named-reached settings v =
-    let all : List Addr = flat_map named_in v.mappings in
-    All-take (IsReached settings) 64 (named settings v)
-    (All-placed (IsReached settings) (filter (is_told settings) all) []
-    (All-weaker (λ address. is_told settings address ≡ true) (IsReached settings) (λ address is. is) (filter (is_told settings) all) (filter_passes (is_told settings) all))
-    (All-nil (IsReached settings)))
+-- all that are told are the names that may be
+told-placed : (settings : Settings) (p : Parts) (m : ℕ) → p.now ≤ m → named settings (view_in p m) ≡ all_placed (filter (is_told settings) (map address_in (names_at m p.mappings))) []
+unfolding view_in
+told-placed settings p m after =
+    ap (λ (t : ℕ). all_placed (filter (is_told settings) (flat_map named_in (map held_of (filter (lasts t) p.mappings)))) []) (later m p.now after)
+    ∙ ap (λ (l : List Addr). all_placed (filter (is_told settings) l) []) (sym (named-addresses (filter (lasts m) p.mappings)))
+
+-- ### what was found
+
+-- the addresses found so far
+pub record AreTold (settings : Settings) (names : List (Addr × Eid)) (covered : Covered) (told : List Addr) : Type 0 where
+  pub found : AreFound 64 (told_targets settings names) covered (map as_target told)
+  pub reached : All (λ address. IsTrue (is_told settings address)) told
+
+-- none at the start
+pub told-none : (settings : Settings) (names : List (Addr × Eid)) (told : List Addr) → told ≡ [] → AreTold settings names Nothing told
+told-none settings names told none =
+    subst (AreTold settings names Nothing) (sym none)
+    (record {
+      found = found-none 64 (told_targets settings names) Nothing (λ k d within fresh. refl);
+      reached = All-nil (λ address. IsTrue (is_told settings address));
+    })
+
+module _ (settings : Settings) (names : List (Addr × Eid)) (covered : Covered) (told : List Addr) (so_far : AreTold settings names covered told) where
+  -- they are few
+  pub told-few : length told ≤ 64
+  told-few = let same = length-map told as_target in omega (arith, so_far.found.few, same)
+
+  module _ (next : Addr × Eid) (is : IsNext covered names next) where
+    -- the next one may be told
+    pub told-next : is_told settings next.0 ≡ true → length told < 64 → AreTold settings names (UpTo next.0) (told ++ next.0 ∷ [])
+    told-next may room = record {
+      found = subst (AreFound 64 (told_targets settings names) (UpTo next.0)) (sym (map-append as_target told (next.0 ∷ [])))
+          (found-next 64 (told_targets settings names) (map as_target told) covered so_far.found names (told-named settings names) next is (as_target next.0) refl refl (told-one settings names next is.first may)
+          (let same = length-map told as_target in omega (arith, room, same)));
+      reached = All-push (λ address. IsTrue (is_told settings address)) told next.0 so_far.reached may;
+    }
+
+    -- it may not
+    pub told-past : is_told settings next.0 ≡ false → AreTold settings names (UpTo next.0) told
+    told-past fails = record {
+      found = found-past 64 (told_targets settings names) (map as_target told) covered so_far.found names (told-named settings names) next is (told-no settings names next.0 fails);
+      reached = so_far.reached;
+    }
+
+module _ (settings : Settings) (p : Parts) (m : ℕ) (after : p.now ≤ m) (covered : Covered) (told : List Addr) (so_far : AreTold settings (names_at m p.mappings) covered told) where
+  abbrev addresses : List Addr
+  addresses = filter (is_told settings) (map address_in (names_at m p.mappings))
+
+  fresh : All (λ target. target.last ≡ None) (map as_target addresses)
+  fresh = All-map (λ target. target.last ≡ None) as_target addresses (λ k d within. refl)
+
+  told-first : (length (map as_target told) ≡ 64) ⊎ All (λ target. list_any (has_address target.rloc) (map as_target told) ≡ true) (map as_target addresses) → told ≡ first_told (named settings (view_in p m))
+  told-first enough =
+      first-addresses addresses told
+      (first-candidates 64 (map as_target addresses) (map as_target told) (one-probe (λ address. None) (map as_target addresses) fresh) (pairs-ascend (map as_target told) so_far.found.ascend) so_far.found.few so_far.found.found
+      (λ k d inside unnamed. elim (found-behind 64 (map as_target addresses) (map as_target told) covered so_far.found k d inside (fresh k d inside)) [
+        | inl there ↦ absurd (both_ways (list_any (has_address (get_or (map as_target addresses) k d).rloc) (map as_target told)) unnamed there)
+        | inr behind ↦ behind
+      ])
+      enough)
+      ∙ ap first_told (sym (told-placed settings p m after))
+
+  -- as many as get SMRs are the first ones
+  pub told-most : 64 ≤ length told → told ≡ first_told (named settings (view_in p m))
+  told-most full =
+      told-first (inl (let same = length-map told as_target in omega (arith, full, same, so_far.found.few)))
+
+  -- where all names are covered, all of them are
+  pub told-all : All (λ name. is_covered covered name.0 ≡ true) (names_at m p.mappings) → told ≡ first_told (named settings (view_in p m))
+  told-all every =
+      told-first
+      (inr (λ k d inside. found-all 64 (map as_target addresses) (map as_target told) covered so_far.found (names_at m p.mappings) (told-named settings (names_at m p.mappings)) every k d inside (fresh k d inside)))

@@ -2,7 +2,6 @@ pub mod Answering
 pub mod Bounded
 pub mod Copies
 pub mod Renewing
-pub mod Resting
 pub mod Seen
 pub mod Sendable
 pub mod Site
@@ -10,3 +9,4 @@ pub mod Steps
 pub mod Table
 pub mod Telling
 pub mod Ticking
+pub mod Turning

@@ -1,9 +1,7 @@
 -- Requests that are sent again, and locators that are probed.
-use Rattle.std.specs.Prelude.{◌≡◌, ℕ, ◌==◌, nat_lt, not, Bool, true, IsTrue, List, [], ◌∷◌, fold, take, Some, is_some}
+use Rattle.std.specs.Prelude.{◌≡◌, ℕ, ◌==◌, nat_lt, not, Bool, true, IsTrue, List, [], ◌∷◌, Some, is_some}
 use Rattle.std.specs.List.{list_all}
 use Rattle.lisp_settings.specs.declared.settings.Settings.{Settings}
-use Rattle.locator_state.specs.Limits.{most_targets}
-use Rattle.locator_state.specs.Turns.{with_target}
 use Rattle.locator_state.specs.declared.target.Target.{Target}
 use Rattle.request_queue.specs.Limits.{most_retries}
 use Rattle.request_queue.specs.Queue.{with_nonce}
@@ -29,7 +27,3 @@ AreOwed waits (request ∷ others) =
 -- an own locator of the target's family is up
 abbrev pub HasSender : Settings → Target → Type 0
 HasSender settings target = IsTrue (is_some (ours settings.locators target.rloc))
-
--- the first targets in order, as many as are probed at a second, once these targets were offered
-abbrev pub offered : List Target → List Target → List Target
-offered targets first = take most_targets (fold (λ so_far target. with_target target so_far) first targets)

@@ -27,7 +27,7 @@ impl Table {
             cache,
             queue,
             locators,
-            rest: self.rest,
+            turns: self.turns,
         })
     }
 }

@@ -1,20 +1,17 @@
 // Locators that are probed at a second (RFC 9301, section 7.1).
-ghost use Rattle.std.specs.Prelude.{◌≡◌, ◌<◌, ◌≤◌, ◌+◌, ◌∷◌, [], length, filter, map, All, vec_len, vec_capacity};
+ghost use Rattle.std.specs.Prelude.{◌≡◌, ◌<◌, ◌≤◌, ◌+◌, [], length, All, vec_capacity};
 ghost use Rattle.router_model.specs.Changes.{each};
 ghost use Rattle.router_model.specs.Limits.{most_targets};
-ghost use Rattle.router_model.specs.Parts.{table, view_in};
-ghost use Rattle.router_model.specs.Tick.{all_probed, is_probed, may_take, next_targets, probed, target_of};
+ghost use Rattle.router_model.specs.Parts.{table};
+ghost use Rattle.router_model.specs.Tick.{all_probed, probed};
 ghost use Rattle.router_core.specs.Sendable.{IsSendable};
 ghost use Rattle.router_core.specs.Steps.{AreAdded, HasEntered, HaveRoom, MayEnter};
 ghost use Rattle.router_core.specs.Table.{change_of};
-ghost use Rattle.router_core.specs.Ticking.{offered, HasSender};
+ghost use Rattle.router_core.specs.Ticking.{HasSender};
 
 use crate::Table;
 use crate::site::Site;
-use lisp_settings::Locator;
-use locator_state::{Target, has_rested, offer};
-use map_cache::lasts;
-use mapping_records::Eid;
+use locator_state::Target;
 use router_log::{Emit, Entry};
 
 impl Table {
@@ -27,6 +24,7 @@ impl Table {
         entries: &mut Vec<Entry>,
         emits: &mut Vec<Emit>,
     )
+        requires own { site.now.locators ≡ self.old.parts.own }
         requires may { MayEnter most_targets m self.old.parts }
         requires none { first.old.items ≡ [] }
         requires targets { most_targets < vec_capacity first.old }
@@ -43,81 +41,8 @@ impl Table {
         if !site.probes() {
             return;
         }
-        self.find_targets(site, m, first);
+        self.find_turns(site, m, first);
         self.probe_each(site, m, first, entries, emits);
-    }
-
-    // Finds the locators that are to be probed at a moment.
-    fn find_targets(&self, site: &Site<'_>, m: u64, first: &mut Vec<Target>)
-        requires now { self.now.parts.now ≤ m }
-        requires none { first.old.items ≡ [] }
-        requires room { most_targets < vec_capacity first.old }
-        ensures items { first.new.items ≡ next_targets site.now (view_in self.now.parts m) }
-        ensures few { vec_len first.new ≤ most_targets }
-        ensures senders { All (HasSender site.now) first.new.items }
-    {
-        for mapping in self.cache.iter() {
-            if lasts(m, mapping) {
-                let locators = mapping.details.locators.as_slice();
-                self.offer_each(site, m, &mapping.eid, locators, first);
-            }
-        }
-    }
-
-    // Offers each locator of a mapping that may be probed a place among the first.
-    fn offer_each(
-        &self,
-        site: &Site<'_>,
-        m: u64,
-        eid: &Eid,
-        locators: &[Locator],
-        first: &mut Vec<Target>,
-    )
-        requires now { self.now.parts.now ≤ m }
-        requires few { vec_len first.old ≤ most_targets }
-        requires room { most_targets < vec_capacity first.old }
-        ensures items { first.new.items ≡ offered (filter (is_probed site.now m)
-            (map (target_of (view_in self.now.parts m) eid.now) (filter may_take locators.now)))
-            first.old.items }
-        ensures few { vec_len first.new ≤ most_targets }
-        ensures capacity { vec_capacity first.old ≤ vec_capacity first.new }
-    {
-        let [locator, others @ ..] = locators else {
-            return;
-        };
-        self.offer_one(site, m, eid, locator, first);
-        self.offer_each(site, m, eid, others, first);
-    }
-
-    // Offers a locator a place among the first, if its priority isn't 255 and it may be probed.
-    fn offer_one(
-        &self,
-        site: &Site<'_>,
-        m: u64,
-        eid: &Eid,
-        locator: &Locator,
-        first: &mut Vec<Target>,
-    )
-        requires now { self.now.parts.now ≤ m }
-        requires few { vec_len first.old ≤ most_targets }
-        requires room { most_targets < vec_capacity first.old }
-        ensures items { first.new.items ≡ offered (filter (is_probed site.now m)
-            (map (target_of (view_in self.now.parts m) eid.now)
-            (filter may_take (locator.now ∷ [])))) first.old.items }
-        ensures few { vec_len first.new ≤ most_targets }
-        ensures capacity { vec_capacity first.old ≤ vec_capacity first.new }
-    {
-        if locator.priority == 255 {
-            return;
-        }
-        let target = Target {
-            rloc: locator.addr,
-            eid: *eid,
-            last: self.locators.last_probe(m, &locator.addr),
-        };
-        if is_probed(site, m, &target) {
-            offer(target, first);
-        }
     }
 
     // Probes each of these locators, as long as there is room for one more probe.
@@ -187,12 +112,4 @@ impl Table {
             nonce,
         });
     }
-}
-
-// Whether a locator may be probed: it isn't an own one, an own locator of its family is up, and it
-// has rested.
-fn is_probed(site: &Site<'_>, m: u64, target: &Target) -> bool
-    ensures { result ≡ is_probed site.now m target.now }
-{
-    !site.is_own(target.rloc) && (site.has_ours(&target.rloc) && has_rested(m, target.last))
 }

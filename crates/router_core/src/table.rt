@@ -11,6 +11,7 @@ ghost use Rattle.router_core.specs.Bounded.{KeepLimits, most_kept};
 
 use crate::copies::{copied, copied_own};
 use crate::site::{Site, own_bits};
+use crate::turns::{Turns, no_turns};
 use lisp_settings::{Limits, OwnLocator, Settings, limits_of};
 use locator_state::LocatorState;
 use map_cache::MapCache;
@@ -38,15 +39,15 @@ pub struct Table {
     pub(crate) cache: MapCache,
     pub(crate) queue: RequestQueue,
     pub(crate) locators: LocatorState,
-    // The moment until which no locator is to be probed, as far as is known; 0 where it is unknown.
-    pub(crate) rest: u64,
+    // What is known of whose turn it is to be probed.
+    pub(crate) turns: Turns,
 }
 
 impl Model for Table {
     ghost use Rattle.std.specs.Prelude.{◌≤◌, ◌+◌, length};
-    ghost use Rattle.router_core.specs.Resting.{IsAtRest};
     ghost use Rattle.router_core.specs.Table.{TableSeen};
     ghost use Rattle.router_core.specs.Bounded.{AreBounded, AreLimited, AreShort, AreVersioned};
+    ghost use Rattle.router_core.specs.Turning.{IsTurned};
 
     ghost Value = { TableSeen };
 
@@ -74,8 +75,8 @@ impl Model for Table {
     } };
 
     ghost invariant = { λ table. (table.drawn ≤ table.count)
-        × IsAtRest table.own.items table.rest table.locators.observed.probes
-        table.cache.mappings
+        × IsTurned table.own.items table.turns table.cache.now
+        table.locators.observed.probes table.cache.mappings
         × AreVersioned table.cache.mappings
         × AreShort table.locators.observed
         × AreBounded table.cache table.queue table.locators (length table.own.items)
@@ -128,7 +129,7 @@ impl Table {
             cache,
             queue,
             locators: LocatorState::new(alloc),
-            rest: 0,
+            turns: no_turns(),
         })
     }
 

@@ -12,7 +12,7 @@ ghost use Rattle.router_core.specs.Bounded.{KeepLimits};
 ghost use Rattle.router_core.specs.Steps.{MayEnter};
 
 use crate::Table;
-use crate::resting::{rest_behind, rest_with};
+use crate::turns::{no_turns, turns_behind, turns_with};
 use ip_headers::{Addr, same_address};
 use lisp_settings::OwnLocator;
 use mapping_records::{Eid, Record};
@@ -35,10 +35,8 @@ impl Table {
     {
         self.queue.purge(m);
         self.locators.purge(m);
-        self.rest = rest_with(
-            rest_behind(self.rest, m),
-            self.own.as_slice(),
-            m,
+        self.turns = turns_with(
+            turns_behind(self.turns, m),
             &self.locators,
             mapping.locators.as_slice(),
         );
@@ -60,7 +58,7 @@ impl Table {
             ≡ with_entry (Asked m eid source invoked nonce) self.old.parts }
         ensures request_room { self.old.request_room ≤ self.new.request_room + 1 }
     {
-        self.rest = rest_behind(self.rest, m);
+        self.turns = turns_behind(self.turns, m);
         self.cache.purge(m);
         // The call of `len` brings the fact that there are at most as many requests as may be open.
         let _ = self.queue.len();
@@ -79,7 +77,7 @@ impl Table {
         ensures mapping_room { self.old.mapping_room ≤ self.new.mapping_room }
         ensures request_room { self.old.request_room ≤ self.new.request_room }
     {
-        self.rest = rest_behind(self.rest, m);
+        self.turns = turns_behind(self.turns, m);
         self.cache.purge(m);
         self.queue.purge(m);
         self.locators.purge(m);
@@ -94,7 +92,7 @@ impl Table {
         ensures parts { self.new.parts ≡ with_entry (Retried m nonce) self.old.parts }
         ensures probe_room { self.old.probe_room ≤ self.new.probe_room }
     {
-        self.rest = rest_behind(self.rest, m);
+        self.turns = turns_behind(self.turns, m);
         self.cache.purge(m);
         self.queue.purge(m);
         self.locators.purge(m);
@@ -110,7 +108,7 @@ impl Table {
         ensures parts { self.new.parts ≡ with_entry (Probed m rloc nonce) self.old.parts }
         ensures probe_room { self.old.probe_room ≤ self.new.probe_room + 1 }
     {
-        self.rest = 0;
+        self.turns = turns_behind(self.turns, m);
         self.cache.purge(m);
         self.queue.purge(m);
         if self.locators.probed(m, rloc, nonce).is_err() {
@@ -125,7 +123,7 @@ impl Table {
         requires may { MayEnter 1 m self.old.parts }
         ensures parts { self.new.parts ≡ with_entry (ProbeAnswered m nonce) self.old.parts }
     {
-        self.rest = rest_behind(self.rest, m);
+        self.turns = turns_behind(self.turns, m);
         self.cache.purge(m);
         self.queue.purge(m);
         self.locators.probe_answered(m, nonce);
@@ -140,7 +138,7 @@ impl Table {
         requires short { nonce < 2 ^ 24 }
         ensures parts { self.new.parts ≡ with_entry (EchoStarted m rloc nonce) self.old.parts }
     {
-        self.rest = rest_behind(self.rest, m);
+        self.turns = turns_behind(self.turns, m);
         self.cache.purge(m);
         self.queue.purge(m);
         if self.locators.echo_started(m, rloc, nonce).is_err() {
@@ -155,7 +153,7 @@ impl Table {
         requires may { MayEnter 1 m self.old.parts }
         ensures parts { self.new.parts ≡ with_entry (EchoHeard m rloc.now) self.old.parts }
     {
-        self.rest = rest_behind(self.rest, m);
+        self.turns = turns_behind(self.turns, m);
         self.cache.purge(m);
         self.queue.purge(m);
         self.locators.echo_heard(m, rloc);
@@ -167,7 +165,7 @@ impl Table {
         requires may { MayEnter 1 m self.old.parts }
         ensures parts { self.new.parts ≡ with_entry (DataFrom m rloc.now) self.old.parts }
     {
-        self.rest = rest_behind(self.rest, m);
+        self.turns = turns_behind(self.turns, m);
         self.cache.purge(m);
         self.queue.purge(m);
         self.locators.data_from(m, rloc);
@@ -182,7 +180,7 @@ impl Table {
         requires short { nonce < 2 ^ 24 }
         ensures parts { self.new.parts ≡ with_entry (EchoWanted m rloc nonce) self.old.parts }
     {
-        self.rest = rest_behind(self.rest, m);
+        self.turns = turns_behind(self.turns, m);
         self.cache.purge(m);
         self.queue.purge(m);
         if self.locators.echo_wanted(m, rloc, nonce).is_err() {
@@ -200,7 +198,7 @@ impl Table {
         ensures probe_room { self.old.probe_room ≤ self.new.probe_room }
         ensures solicit_room { self.old.solicit_room ≤ self.new.solicit_room + 1 }
     {
-        self.rest = rest_behind(self.rest, m);
+        self.turns = turns_behind(self.turns, m);
         self.cache.purge(m);
         self.queue.purge(m);
         if self.locators.solicited(m, rloc, eid).is_err() {
@@ -216,7 +214,7 @@ impl Table {
         requires width { width ≤ 32 }
         ensures parts { self.new.parts ≡ with_entry (Bits m eid.now bits width) self.old.parts }
     {
-        self.rest = rest_behind(self.rest, m);
+        self.turns = turns_behind(self.turns, m);
         self.cache.purge(m);
         self.queue.purge(m);
         self.locators.purge(m);
@@ -233,7 +231,7 @@ impl Table {
         ensures probe_room { self.old.probe_room ≤ self.new.probe_room }
         ensures solicit_room { self.old.solicit_room ≤ self.new.solicit_room }
     {
-        self.rest = 0;
+        self.turns = no_turns();
         self.cache.purge(m);
         self.queue.purge(m);
         self.locators.purge(m);

@@ -1,16 +1,15 @@
 // Seconds: what happens at each one that begins.
 ghost use Rattle.std.specs.Prelude.{◌≡◌, ◌<◌, ◌≤◌, ◌+◌, ◌*◌, [], true, false, length, vec_capacity, All, IsTrue, IfOk, OnOk};
 ghost use Rattle.lisp_settings.specs.Lawful.{IsLawful};
-ghost use Rattle.lisp_settings.specs.declared.settings.Settings.{Settings as SettingsValue};
 ghost use Rattle.request_queue.specs.Queue.{all_due, waiting};
 ghost use Rattle.router_log.specs.Moments.{seconds};
 ghost use Rattle.router_model.specs.Changes.{unchanged};
 ghost use Rattle.router_model.specs.Journal.{Journal};
 ghost use Rattle.router_model.specs.Lifting.{Follows, MayGo};
 ghost use Rattle.router_model.specs.Limits.{most_changes, most_databases, most_targets, most_ticked, most_told};
-ghost use Rattle.router_model.specs.Parts.{Stands, standing_in, table, view_in};
+ghost use Rattle.router_model.specs.Parts.{Stands, standing_in, table};
 ghost use Rattle.router_model.specs.Standing.{due_changes};
-ghost use Rattle.router_model.specs.Tick.{after_changes, all_told, next_targets, tick, ticked, ticked_by};
+ghost use Rattle.router_model.specs.Tick.{after_changes, all_told, tick, ticked, ticked_by};
 ghost use Rattle.router_core.specs.Sendable.{IsSendable};
 ghost use Rattle.router_core.specs.Site.{IsSite};
 ghost use Rattle.router_core.specs.Steps.{AreAdded, AreSent, HasEntered, HasTicked, HaveRoom, IsSecond, IsStep, MayEnter, MayStep};
@@ -20,7 +19,6 @@ ghost use Rattle.router_core.specs.Ticking.{AreOwed};
 
 use crate::changing::moment_of;
 use crate::limits::MOST_TOLD;
-use crate::resting::rest_until;
 use crate::site::Site;
 use crate::{Changed, Table};
 use ip_headers::Addr;
@@ -85,8 +83,9 @@ impl Table {
         if self.is_idle(site, m) {
             return Ok(self.nothing());
         }
+        self.begin_names(site)?;
         let changed = self.send_due(site, m)?;
-        self.look_ahead(site, m, &changed);
+        self.look_ahead(&changed);
         Ok(changed)
     }
 
@@ -101,33 +100,20 @@ impl Table {
         self.queue.next_due(m, None).is_none() && (!site.probes() || self.is_at_rest(m))
     }
 
-    // Whether it is known that no locator is to be probed at a moment.
-    fn is_at_rest(&self, m: u64) -> bool
-        requires { self.now.parts.now ≤ m }
-        ensures { IsTrue result → (settings : SettingsValue)
-            → settings.locators ≡ self.now.parts.own
-            → next_targets settings (view_in self.now.parts m) ≡ [] }
-    {
-        m < self.rest
-    }
-
-    // Finds, behind a moment without entries, the moments until which no request is due and no
-    // locator is to be probed.
-    fn look_ahead(&mut self, site: &Site<'_>, m: u64, changed: &Changed)
+    // Finds, behind a moment without entries, the moment until which no request is due.
+    fn look_ahead(&mut self, changed: &Changed)
         ensures parts { self.new.parts ≡ self.old.parts }
     {
         if changed.entries.len() > 0 {
             return;
         }
         self.queue.look_ahead();
-        if site.probes() {
-            self.rest = rest_until(self.own.as_slice(), m, &self.locators, &self.cache);
-        }
     }
 
     // Sends the requests that are due again, and probes locators.
     #[tactic(auto, unfolding(router_model::specs::Tick::after_changes))]
     fn send_due(&mut self, site: &Site<'_>, m: u64) -> Result<Changed, NoMemory>
+        requires own { site.now.locators ≡ self.old.parts.own }
         requires may { MayStep m self.old.parts }
         ensures parts { IfOk result (λ changed. changed_seen self.new.parts changed
             ≡ after_changes table site.now m false (unchanged self.old.parts)) }
@@ -151,6 +137,16 @@ impl Table {
         })
     }
 
+    // Begins to keep the locators of mappings in order, where locators are probed.
+    fn begin_names(&mut self, site: &Site<'_>) -> Result<(), NoMemory>
+        ensures same { self.new.parts ≡ self.old.parts }
+    {
+        if site.probes() {
+            return self.cache.begin_names();
+        }
+        Ok(())
+    }
+
     // Makes the changes that are due, sends SMRs for them, sends the requests that are due again,
     // and probes locators. All room is made before the first change.
     fn change_and_send(
@@ -160,6 +156,7 @@ impl Table {
         left: &[Change],
     ) -> Result<Changed, NoMemory>
         requires lawful { IsLawful settings.now }
+        requires own { (standing_in settings.now self.old.parts).locators ≡ self.old.parts.own }
         requires few { length left.now ≤ most_changes }
         requires some { IsTrue (is_some_due m left.now) }
         requires may { MayStep m self.old.parts }
@@ -203,12 +200,14 @@ impl Table {
         Ok(Found { told, targets })
     }
 
-    // Makes room for the SMRs and probes of a second.
+    // Makes room for the SMRs and probes of a second, and begins to keep the locators of mappings in
+    // order.
     fn reserve_second(&mut self) -> Result<(), NoMemory>
         ensures parts { self.new.parts ≡ self.old.parts }
         ensures solicits { OnOk result (most_told * most_databases ≤ self.new.solicit_room) }
         ensures probes { OnOk result (most_targets ≤ self.new.probe_room) }
     {
+        self.cache.begin_names()?;
         self.reserve_probes(MOST_TARGETS as u32)?;
         self.reserve_solicits((MOST_TOLD * MOST_DATABASES) as u32)
     }
@@ -227,6 +226,7 @@ impl Table {
         emits: &mut Vec<Emit>,
     )
         requires lawful { IsLawful settings.now }
+        requires own { (standing_in settings.now self.old.parts).locators ≡ self.old.parts.own }
         requires some { IsTrue (is_some_due m left.now) }
         requires may { MayEnter (length left.now + most_sent (length due.now)) m self.old.parts }
         requires due { due.now ≡ all_due m self.old.parts.requests }
@@ -261,6 +261,7 @@ impl Table {
         emits: &mut Vec<Emit>,
     )
         requires site { IsSite site.now }
+        requires own { site.now.locators ≡ self.old.parts.own }
         requires may { MayEnter (most_sent (length due.now)) m self.old.parts }
         requires due { due.now ≡ all_due m self.old.parts.requests }
         requires owed { AreOwed (waiting m self.old.parts.requests) due.now }

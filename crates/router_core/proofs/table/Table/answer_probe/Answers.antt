@@ -6,12 +6,11 @@ use Rattle.router_log.specs.declared.entry.Entry.TheVariants.{ProbeAnswered}
 use Rattle.locator_state.specs.Observed.{Observed, longest}
 use Rattle.locator_state.specs.Probes.{probe_answered}
 use Rattle.router_model.specs.Parts.{with_entry}
-use Rattle.router_core.specs.Resting.{IsAtRest}
 use Rattle.router_core.specs.Table.{TableSeen}
 use Rattle.router_core.specs.Bounded.{AreShort, AreVersioned, KeepLimits}
 use Rattle.router_core.proofs.BoundLemmas.{lasting-versioned, probes-short}
 use Rattle.router_core.proofs.EntryLemmas.{parts_with, probe_answered-parts}
-use Rattle.router_core.proofs.KeptRestLemmas.{answered-behind}
+use Rattle.router_core.proofs.KeptTurnsLemmas.{answered-behind}
 use Rattle.router_core.proofs.LimitLemmas.{lasting-keeps}
 use Rattle.router_core.proofs.LengthLemmas.{probe_answered-few}
 use Rattle.router_core.proofs.table.Table.answer_probe.Goals as goal
@@ -33,11 +32,11 @@ invariant_of-self c =
     let m = c.args.m in
     let inside = c.self.inside in
     let few = c.self.invariant.0 in
+    let later : inside.cache.now ≤ m = subst (λ (t : TableSeen). t.parts.now ≤ m) (sym c.self.view_is) c.requires.may.later in
     let limited = c.self.invariant.5 in
     let are = c.self.invariant.4 in (
       omega (arith, few),
-      subst (λ (rest : ℕ). IsAtRest inside.own.items rest c.probe_answered.new.self.observed.probes c.purge.new.self.mappings) (sym c.rest_behind-self-inside.ensures)
-          (answered-behind inside.own.items inside.rest m c.args.nonce inside.locators.observed.probes inside.cache.mappings _ _ c.self.invariant.1 (ap (λ (o : Observed). o.probes) c.probe_answered.ensures.observed) c.purge.ensures.mappings),
+      answered-behind inside.own.items inside.turns inside.cache.now m inside.locators.observed.probes inside.cache.mappings c.self.invariant.1 later _ _ _ _ c.args.nonce c.turns_behind-self-inside.ensures c.purge.ensures.now (ap (λ (o : Observed). o.probes) c.probe_answered.ensures.observed) c.purge.ensures.mappings,
       subst AreVersioned (sym c.purge.ensures.mappings) (lasting-versioned m inside.cache.mappings c.self.invariant.2),
       subst AreShort (sym c.probe_answered.ensures.observed) (probes-short m (probe_answered m c.args.nonce inside.locators.observed.probes) inside.locators.observed c.self.invariant.3),
       record {

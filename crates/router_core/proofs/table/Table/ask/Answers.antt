@@ -6,12 +6,11 @@ use Rattle.request_queue.specs.declared.request.Request.{Request}
 use Rattle.router_log.specs.declared.entry.Entry.TheVariants.{Asked}
 use Rattle.locator_state.specs.Observed.{Observed, longest}
 use Rattle.router_model.specs.Parts.{with_entry}
-use Rattle.router_core.specs.Resting.{IsAtRest}
 use Rattle.router_core.specs.Table.{TableSeen}
 use Rattle.router_core.specs.Bounded.{AreShort, AreVersioned, KeepLimits}
 use Rattle.router_core.proofs.BoundLemmas.{lasting-versioned, recent-short}
 use Rattle.router_core.proofs.EntryLemmas.{asked-parts, left_by, parts_with}
-use Rattle.router_core.proofs.KeptRestLemmas.{behind}
+use Rattle.router_core.proofs.KeptTurnsLemmas.{behind}
 use Rattle.router_core.proofs.LimitLemmas.{lasting-keeps}
 use Rattle.router_core.proofs.LengthLemmas.{recent-few}
 use Rattle.router_core.proofs.table.Table.ask.Goals as goal
@@ -33,11 +32,11 @@ invariant_of-self c =
     let m = c.args.m in
     let inside = c.self.inside in
     let few = c.self.invariant.0 in
+    let later : inside.cache.now ≤ m = subst (λ (t : TableSeen). t.parts.now ≤ m) (sym c.self.view_is) c.requires.may.later in
     let limited = c.self.invariant.5 in
     let are = c.self.invariant.4 in (
       omega (arith, few),
-      subst (λ (rest : ℕ). IsAtRest inside.own.items rest c.purge-2.new.self.observed.probes c.purge.new.self.mappings) (sym c.rest_behind-self-inside.ensures)
-          (behind inside.own.items inside.rest m inside.locators.observed.probes inside.cache.mappings _ _ c.self.invariant.1 (ap (λ (o : Observed). o.probes) c.purge-2.ensures.observed) c.purge.ensures.mappings),
+      behind inside.own.items inside.turns inside.cache.now m inside.locators.observed.probes inside.cache.mappings c.self.invariant.1 later _ _ _ _ c.turns_behind-self-inside.ensures c.purge.ensures.now (ap (λ (o : Observed). o.probes) c.purge-2.ensures.observed) c.purge.ensures.mappings,
       subst AreVersioned (sym c.purge.ensures.mappings) (lasting-versioned m inside.cache.mappings c.self.invariant.2),
       subst AreShort (sym c.purge-2.ensures.observed) (recent-short m inside.locators.observed c.self.invariant.3),
       record {

@@ -1,4 +1,4 @@
-use Rattle.std.proofs.Common.{◌≡◌, List, ap, ap₂, arith, length, refl, subst, sym, ℕ, ◌+◌, ◌∙◌, ◌≤◌}
+use Rattle.std.proofs.Common.{◌≡◌, List, ap, ap₂, arith, length, subst, sym, ℕ, ◌+◌, ◌∙◌, ◌≤◌}
 use Rattle.std.specs.Vec.{with_items}
 use Rattle.std.proofs.lemmas.List.{length-map, with_items_is}
 use Rattle.lisp_settings.specs.declared.settings.OwnLocator.{OwnLocator}
@@ -14,6 +14,7 @@ use Rattle.router_core.specs.Table.{TableSeen}
 use Rattle.router_core.specs.Bounded.{AreShort, AreVersioned, KeepLimits}
 use Rattle.router_core.proofs.BoundLemmas.{lasting-versioned, recent-short}
 use Rattle.router_core.proofs.EntryLemmas.{changed-parts, parts_with}
+use Rattle.router_core.proofs.KeptTurnsLemmas.{forgotten-behind}
 use Rattle.router_core.proofs.LimitLemmas.{lasting-keeps}
 use Rattle.router_core.proofs.LengthLemmas.{recent-few}
 use Rattle.router_core.proofs.SecondLemmas.{changed_one}
@@ -41,6 +42,7 @@ invariant_of-self c =
     let up = c.args.up in
     let inside = c.self.inside in
     let few = c.self.invariant.0 in
+    let later : inside.cache.now ≤ m = subst (λ (t : TableSeen). t.parts.now ≤ m) (sym c.self.view_is) c.requires.may.later in
     let made : c.set_up.new.locators ≡ changing address up inside.own.items = c.set_up.ensures ∙ ap (changing address up) c.as_mut_slice.ensures.value in
     let size : length c.set_up.new.locators ≡ inside.own.len = ap (λ (l : List OwnLocator). length l) made ∙ length-map inside.own.items (changed_one address up) ∙ sym inside.own.ok.0 in
     let own : length (with_items inside.own c.set_up.new.locators).items ≡ length inside.own.items =
@@ -48,7 +50,7 @@ invariant_of-self c =
     let limited = c.self.invariant.5 in
     let are = c.self.invariant.4 in (
       omega (arith, few),
-      refl,
+      forgotten-behind inside.own.items _ inside.turns inside.cache.now m inside.locators.observed.probes inside.cache.mappings c.self.invariant.1 later _ _ _ _ c.no_turns-self-inside.ensures c.purge.ensures.now (ap (λ (o : Observed). o.probes) c.purge-3.ensures.observed),
       subst AreVersioned (sym c.purge.ensures.mappings) (lasting-versioned m inside.cache.mappings c.self.invariant.2),
       subst AreShort (sym c.purge-3.ensures.observed) (recent-short m inside.locators.observed c.self.invariant.3),
       record {

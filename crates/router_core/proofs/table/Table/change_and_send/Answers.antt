@@ -1,4 +1,4 @@
-use Rattle.std.proofs.Common.{◌≤◌, ◌+◌, ◌∙◌, List, ap, ap₂, arith, length, subst, sym}
+use Rattle.std.proofs.Common.{◌≡◌, ◌≤◌, ◌+◌, ◌∙◌, List, ap, ap₂, arith, length, subst, sym}
 use Rattle.std.specs.List.{All}
 use Rattle.request_queue.specs.Queue.{all_due, waiting}
 use Rattle.router_log.specs.declared.emit.Emit.{Emit}
@@ -21,6 +21,10 @@ change_and_tell-requires-clause-may c =
     let few : length due ≤ 16384 = omega (arith, c.as_slice.ensures.len, c.in_ok-due.ensures.few) in
     subst (λ (p : Parts). MayEnter (length c.args.left.now + most_sent (length due)) c.args.m p) (sym same)
     (record { later = c.requires.may.later; count = omega (arith, few, c.requires.few, c.requires.may.count) })
+
+pub change_and_tell-requires-clause-own : goal.change_and_tell-requires-clause-own
+change_and_tell-requires-clause-own c =
+    subst (λ (p : Parts). (standing_in c.args.settings.now p).locators ≡ p.own) (sym c.in_ok-reserve_second.ensures.parts) c.requires.own
 
 pub change_and_tell-requires-clause-due : goal.change_and_tell-requires-clause-due
 change_and_tell-requires-clause-due c =

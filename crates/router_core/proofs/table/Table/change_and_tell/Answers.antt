@@ -12,7 +12,7 @@ use Rattle.router_core.specs.Sendable.{IsSendable}
 use Rattle.router_core.specs.Site.{IsSite}
 use Rattle.router_core.specs.Table.{change_of}
 use Rattle.router_core.specs.Ticking.{AreOwed}
-use Rattle.router_core.proofs.SecondLemmas.{stands-on, ticked-from}
+use Rattle.router_core.proofs.SecondLemmas.{own-stands, stands-on, ticked-from}
 use Rattle.router_core.proofs.StandLemmas.{site-by}
 use Rattle.router_core.proofs.table.Table.change_and_tell.Goals as goal
 
@@ -26,6 +26,12 @@ make_changes-requires-clause-room c = omega (arith, c.requires.places, c.require
 pub tell_and_send-requires-clause-site : goal.tell_and_send-requires-clause-site
 tell_and_send-requires-clause-site c =
     subst IsSite (sym c.site-site.ensures) (site-by c.args.settings.now (own_of c.make_changes.new.self.parts) c.requires.lawful)
+
+pub tell_and_send-requires-clause-own : goal.tell_and_send-requires-clause-own
+tell_and_send-requires-clause-own c =
+    let settings = c.args.settings.now in
+    ap (λ (site : Settings). site.locators) c.site-site.ensures
+    ∙ own-stands settings c.args.m (due_changes c.args.m c.args.left.now) c.args.self.now.parts c.make_changes.new.self.parts c.make_changes.new.entries.items c.args.entries.now.items c.requires.own (c.make_changes.ensures.change settings)
 
 pub tell_and_send-requires-clause-may : goal.tell_and_send-requires-clause-may
 tell_and_send-requires-clause-may c =

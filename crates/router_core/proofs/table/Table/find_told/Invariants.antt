@@ -1,12 +1,12 @@
-use Rattle.std.proofs.Common.{◌≡◌, ◌<◌, ◌≤◌, vec_capacity, vec_len}
-use Rattle.router_model.specs.Parts.{view_in}
-use Rattle.router_model.specs.Tick.{first_told, named}
-use Rattle.router_core.specs.Telling.{told_with}
-use Rattle.router_core.proofs.ToldLemmas.{to_tell}
+use Rattle.std.proofs.Common.{◌<◌, vec_capacity}
+use Rattle.router_core.specs.Turning.{names_at}
+use Rattle.router_core.proofs.NextNameLemmas.{names_left}
+use Rattle.router_core.proofs.ToldLemmas.{AreTold}
 use Rattle.router_core.proofs.table.Table.find_told.Given as goal
 
--- once those to come are offered too, they are the first ones
-abbrev pub invariant-loop-mapping : goal.invariant-loop-mapping
-invariant-loop-mapping l =
-    (told_with (to_tell l.site l.m l.mapping-iterator) l.told.items ≡ first_told (named l.site (view_in l.self.parts l.m)))
-    × ((vec_len l.told ≤ 64) × (64 < vec_capacity l.told))
+-- those that are covered and may be told were found
+abbrev pub invariant-loop-covered : goal.invariant-loop-covered
+invariant-loop-covered l = AreTold l.site (names_at l.m l.self.parts.mappings) l.covered l.told.items × (64 < vec_capacity l.told)
+
+abbrev pub decreases-loop-covered : goal.decreases-loop-covered
+decreases-loop-covered l = names_left l.covered (names_at l.m l.self.parts.mappings)

@@ -1,18 +1,16 @@
-use Rattle.std.proofs.Common.{List, ◌≤◌, ap, ap₂, arith, subst, sym, ℕ, ◌+◌, ◌==◌, ◌||◌, ◌∙◌, ◌≡◌}
-use Rattle.lisp_settings.specs.declared.settings.OwnLocator.{OwnLocator}
-use Rattle.mapping_records.specs.declared.record.Locator.{Locator}
+use Rattle.std.proofs.Common.{List, ◌≤◌, ap, ap₂, arith, subst, sym, ℕ, ◌+◌, ◌∙◌, ◌≡◌}
 use Rattle.map_cache.specs.Cache.{learned}
 use Rattle.map_cache.specs.declared.mapping.Mapping.{Mapping}
 use Rattle.request_queue.specs.declared.request.Request.{Request}
 use Rattle.router_log.specs.declared.entry.Entry.TheVariants.{Learned}
 use Rattle.locator_state.specs.Observed.{Observed, longest}
 use Rattle.router_model.specs.Parts.{with_entry}
-use Rattle.router_core.specs.Resting.{all_rest}
 use Rattle.router_core.specs.Table.{TableSeen}
+use Rattle.router_core.specs.Turning.{suits_all}
 use Rattle.router_core.specs.Bounded.{AreShort, AreVersioned, KeepLimits}
 use Rattle.router_core.proofs.BoundLemmas.{learned-versioned, recent-short}
 use Rattle.router_core.proofs.EntryLemmas.{learned-parts, left_by, parts_with}
-use Rattle.router_core.proofs.KeptRestLemmas.{learned-behind}
+use Rattle.router_core.proofs.KeptTurnsLemmas.{learned-behind}
 use Rattle.router_core.proofs.LengthLemmas.{recent-few}
 use Rattle.router_core.proofs.table.Table.learn.Goals as goal
 
@@ -33,16 +31,16 @@ invariant_of-self c =
     let m = c.args.m in
     let inside = c.self.inside in
     let few = c.self.invariant.0 in
+    let later : inside.cache.now ≤ m = subst (λ (t : TableSeen). t.parts.now ≤ m) (sym c.self.view_is) c.requires.may.later in
     let limited = c.self.invariant.5 in
     let are = c.self.invariant.4 in
     let ms : c.learn.new.self.mappings ≡ learned m c.args.mapping c.args.fixed inside.cache.mappings =
     left_by c.learn.result c.learn.ensures.ok (sym c.is_err.ensures.value ∙ c.if-is_err.false) in
     let keeps = subst (λ (t : TableSeen). KeepLimits t.parts.limits (learned m c.args.mapping c.args.fixed t.parts.mappings)) (sym c.self.view_is) c.requires.keeps in (
       omega (arith, few),
-      learned-behind inside.own.items inside.rest m inside.locators.observed.probes inside.cache.mappings c.args.mapping c.args.fixed c.rest_with-self-inside.result _ _ c.self.invariant.1 (ap (λ (o : Observed). o.probes) c.purge-2.ensures.observed) ms
-          (subst (λ (n : ℕ). c.rest_with-self-inside.result ≤ n) c.rest_behind.ensures c.rest_with-self-inside.ensures.sooner)
-          (ap₂ (λ (own : List OwnLocator) (locators : List Locator). (c.rest_with-self-inside.result == 0) || all_rest own c.rest_with-self-inside.result c.purge-2.new.self.observed.probes locators) (sym c.as_slice.ensures.value) (sym c.as_slice-2.ensures)
-          ∙ c.rest_with-self-inside.ensures.rest),
+      learned-behind inside.own.items inside.turns inside.cache.now m inside.locators.observed.probes inside.cache.mappings c.self.invariant.1 later c.turns_with-self-inside.result _ _ _ c.args.mapping c.args.fixed _ c.turns_behind.ensures c.turns_with-self-inside.ensures.less
+          (ap (suits_all inside.own.items c.turns_with-self-inside.result c.purge-2.new.self.observed.probes) (sym c.as_slice.ensures) ∙ c.turns_with-self-inside.ensures.suits inside.own.items)
+          c.learn.ensures.now (ap (λ (o : Observed). o.probes) c.purge-2.ensures.observed) ms,
       subst AreVersioned (sym ms) (learned-versioned m c.args.mapping c.args.fixed inside.cache.mappings c.requires.version c.self.invariant.2),
       subst AreShort (sym c.purge-2.ensures.observed) (recent-short m inside.locators.observed c.self.invariant.3),
       record {

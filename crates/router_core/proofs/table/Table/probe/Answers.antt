@@ -1,4 +1,4 @@
-use Rattle.std.proofs.Common.{List, ap, ap₂, arith, refl, subst, sym, ℕ, ◌+◌, ◌<◌, ◌∙◌, ◌≡◌, ◌≤◌}
+use Rattle.std.proofs.Common.{List, ap, ap₂, arith, subst, sym, ℕ, ◌+◌, ◌<◌, ◌∙◌, ◌≡◌, ◌≤◌}
 use Rattle.locator_state.specs.Probes.{probe_count, probed}
 use Rattle.map_cache.specs.Cache.{lasting}
 use Rattle.map_cache.specs.declared.mapping.Mapping.{Mapping}
@@ -10,6 +10,7 @@ use Rattle.router_core.specs.Table.{TableSeen}
 use Rattle.router_core.specs.Bounded.{AreShort, AreVersioned, KeepLimits}
 use Rattle.router_core.proofs.BoundLemmas.{lasting-versioned, probes-short}
 use Rattle.router_core.proofs.EntryLemmas.{left_by, parts_with, probed-parts}
+use Rattle.router_core.proofs.KeptTurnsLemmas.{probed-behind}
 use Rattle.router_core.proofs.LimitLemmas.{lasting-keeps}
 use Rattle.router_core.proofs.LengthLemmas.{few-probes, probed-few}
 use Rattle.router_core.proofs.table.Table.probe.Goals as goal
@@ -30,13 +31,14 @@ invariant_of-self c =
     let m = c.args.m in
     let inside = c.self.inside in
     let few = c.self.invariant.0 in
+    let later : inside.cache.now ≤ m = subst (λ (t : TableSeen). t.parts.now ≤ m) (sym c.self.view_is) c.requires.may.later in
     let limited = c.self.invariant.5 in
     let are = c.self.invariant.4 in
     let os : c.probed.new.self.observed ≡ with_probes m (probed m c.args.rloc c.args.nonce inside.locators.observed.probes) inside.locators.observed =
     left_by c.probed.result c.probed.ensures.ok (sym c.is_err.ensures.value ∙ c.if-is_err.false) in
     let place = subst (λ (t : TableSeen). probe_count m t.parts.observed.probes < 9600) (sym c.self.view_is) (few-probes c.args.self.now.parts m c.requires.may.later c.requires.place) in (
       omega (arith, few),
-      refl,
+      probed-behind inside.own.items inside.turns inside.cache.now m inside.locators.observed.probes inside.cache.mappings c.self.invariant.1 later _ _ _ _ c.args.rloc c.args.nonce c.turns_behind-self-inside.ensures c.purge.ensures.now (ap (λ (o : Observed). o.probes) os) c.purge.ensures.mappings,
       subst AreVersioned (sym c.purge.ensures.mappings) (lasting-versioned m inside.cache.mappings c.self.invariant.2),
       subst AreShort (sym os) (probes-short m (probed m c.args.rloc c.args.nonce inside.locators.observed.probes) inside.locators.observed c.self.invariant.3),
       record {

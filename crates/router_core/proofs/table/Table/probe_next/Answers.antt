@@ -1,9 +1,9 @@
 use Rattle.std.proofs.Common.{◌∙◌, List, ap, sym}
 use Rattle.locator_state.specs.declared.target.Target.{Target}
 use Rattle.router_model.specs.Changes.{each}
-use Rattle.router_model.specs.Parts.{table}
+use Rattle.router_model.specs.Parts.{Parts, table}
 use Rattle.router_model.specs.Tick.{probed}
-use Rattle.router_core.specs.Table.{change_of}
+use Rattle.router_core.specs.Table.{TableSeen, change_of}
 use Rattle.router_core.proofs.TickingLemmas.{probed-all, probed-none}
 use Rattle.router_core.proofs.table.Table.probe_next.Goals as goal
 
@@ -15,5 +15,6 @@ returns-clause-change c =
     let settings = c.args.site.now in
     let before = change_of c.args.self.now.parts c.args.entries.now.items c.args.emits.now.items in
     c.probe_each.ensures.change
-    ∙ ap (λ (l : List Target). each (probed table settings c.args.m) l before) (c.deref.ensures.value ∙ c.find_targets.ensures.items)
+    ∙ ap (λ (p : Parts). each (probed table settings c.args.m) c.deref.result.now (change_of p c.args.entries.now.items c.args.emits.now.items)) (ap (λ (t : TableSeen). t.parts) c.find_turns.ensures.same)
+    ∙ ap (λ (l : List Target). each (probed table settings c.args.m) l before) (c.deref.ensures.value ∙ c.find_turns.ensures.items)
     ∙ probed-all settings c.args.m before (sym c.probes.ensures ∙ c.if-not-probes.false)

@@ -1,5 +1,7 @@
-use Rattle.std.proofs.Common.{◌∙◌, ap, sym}
-use Rattle.router_model.specs.Parts.{Parts}
+use Rattle.std.proofs.Common.{◌∙◌, false, ap, sym}
+use Rattle.router_model.specs.Changes.{unchanged}
+use Rattle.router_model.specs.Parts.{Parts, table}
+use Rattle.router_model.specs.Tick.{after_changes}
 use Rattle.router_core.specs.Table.{changed_seen}
 use Rattle.router_core.proofs.table.Table.send_at.Goals as goal
 
@@ -10,3 +12,4 @@ returns-then-is_idle-clause-parts c =
 pub returns-clause-parts : goal.returns-clause-parts
 returns-clause-parts c =
     ap (λ (p : Parts). changed_seen p c.in_ok-changed.changed) c.look_ahead.ensures.parts ∙ c.in_ok-changed.ensures.parts
+    ∙ ap (λ (p : Parts). after_changes table c.args.site.now c.args.m false (unchanged p)) c.in_ok-begin_names.ensures.same

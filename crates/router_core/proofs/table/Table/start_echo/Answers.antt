@@ -6,12 +6,11 @@ use Rattle.map_cache.specs.declared.mapping.Mapping.{Mapping}
 use Rattle.request_queue.specs.declared.request.Request.{Request}
 use Rattle.router_log.specs.declared.entry.Entry.TheVariants.{EchoStarted}
 use Rattle.router_model.specs.Parts.{with_entry}
-use Rattle.router_core.specs.Resting.{IsAtRest}
 use Rattle.router_core.specs.Table.{TableSeen}
 use Rattle.router_core.specs.Bounded.{AreShort, AreVersioned, KeepLimits}
 use Rattle.router_core.proofs.BoundLemmas.{lasting-versioned, started-short}
 use Rattle.router_core.proofs.EntryLemmas.{left_by, parts_with, started-parts}
-use Rattle.router_core.proofs.KeptRestLemmas.{behind}
+use Rattle.router_core.proofs.KeptTurnsLemmas.{behind}
 use Rattle.router_core.proofs.LimitLemmas.{lasting-keeps}
 use Rattle.router_core.proofs.LengthLemmas.{few-starts, started-few}
 use Rattle.router_core.proofs.table.Table.start_echo.Goals as goal
@@ -35,14 +34,14 @@ invariant_of-self c =
     let m = c.args.m in
     let inside = c.self.inside in
     let few = c.self.invariant.0 in
+    let later : inside.cache.now ≤ m = subst (λ (t : TableSeen). t.parts.now ≤ m) (sym c.self.view_is) c.requires.may.later in
     let limited = c.self.invariant.5 in
     let are = c.self.invariant.4 in
     let os : c.echo_started.new.self.observed ≡ with_starts m (echo_started m c.args.rloc c.args.nonce inside.locators.observed.starts) inside.locators.observed =
     left_by c.echo_started.result c.echo_started.ensures.ok (sym c.is_err.ensures.value ∙ c.if-is_err.false) in
     let place = subst (λ (t : TableSeen). count_by (start_counts m) t.parts.observed.starts < 4096) (sym c.self.view_is) (few-starts c.args.self.now.parts m c.requires.may.later c.args.rloc c.requires.place) in (
       omega (arith, few),
-      subst (λ (rest : ℕ). IsAtRest inside.own.items rest c.echo_started.new.self.observed.probes c.purge.new.self.mappings) (sym c.rest_behind-self-inside.ensures)
-          (behind inside.own.items inside.rest m inside.locators.observed.probes inside.cache.mappings _ _ c.self.invariant.1 (ap (λ (o : Observed). o.probes) os) c.purge.ensures.mappings),
+      behind inside.own.items inside.turns inside.cache.now m inside.locators.observed.probes inside.cache.mappings c.self.invariant.1 later _ _ _ _ c.turns_behind-self-inside.ensures c.purge.ensures.now (ap (λ (o : Observed). o.probes) os) c.purge.ensures.mappings,
       subst AreVersioned (sym c.purge.ensures.mappings) (lasting-versioned m inside.cache.mappings c.self.invariant.2),
       subst AreShort (sym os) (started-short m c.args.rloc c.args.nonce inside.locators.observed c.requires.short c.self.invariant.3),
       record {

@@ -5,12 +5,11 @@ use Rattle.map_cache.specs.declared.mapping.Mapping.{Mapping}
 use Rattle.request_queue.specs.declared.request.Request.{Request}
 use Rattle.router_log.specs.declared.entry.Entry.TheVariants.{DataFrom}
 use Rattle.router_model.specs.Parts.{with_entry}
-use Rattle.router_core.specs.Resting.{IsAtRest}
 use Rattle.router_core.specs.Table.{TableSeen}
 use Rattle.router_core.specs.Bounded.{AreShort, AreVersioned, KeepLimits}
 use Rattle.router_core.proofs.BoundLemmas.{data-short, lasting-versioned}
 use Rattle.router_core.proofs.EntryLemmas.{data-parts, parts_with}
-use Rattle.router_core.proofs.KeptRestLemmas.{behind}
+use Rattle.router_core.proofs.KeptTurnsLemmas.{behind}
 use Rattle.router_core.proofs.LimitLemmas.{lasting-keeps}
 use Rattle.router_core.proofs.LengthLemmas.{data-few}
 use Rattle.router_core.proofs.table.Table.take_data.Goals as goal
@@ -32,11 +31,11 @@ invariant_of-self c =
     let m = c.args.m in
     let inside = c.self.inside in
     let few = c.self.invariant.0 in
+    let later : inside.cache.now ≤ m = subst (λ (t : TableSeen). t.parts.now ≤ m) (sym c.self.view_is) c.requires.may.later in
     let limited = c.self.invariant.5 in
     let are = c.self.invariant.4 in (
       omega (arith, few),
-      subst (λ (rest : ℕ). IsAtRest inside.own.items rest c.data_from.new.self.observed.probes c.purge.new.self.mappings) (sym c.rest_behind-self-inside.ensures)
-          (behind inside.own.items inside.rest m inside.locators.observed.probes inside.cache.mappings _ _ c.self.invariant.1 (ap (λ (o : Observed). o.probes) c.data_from.ensures.observed) c.purge.ensures.mappings),
+      behind inside.own.items inside.turns inside.cache.now m inside.locators.observed.probes inside.cache.mappings c.self.invariant.1 later _ _ _ _ c.turns_behind-self-inside.ensures c.purge.ensures.now (ap (λ (o : Observed). o.probes) c.data_from.ensures.observed) c.purge.ensures.mappings,
       subst AreVersioned (sym c.purge.ensures.mappings) (lasting-versioned m inside.cache.mappings c.self.invariant.2),
       subst AreShort (sym c.data_from.ensures.observed) (data-short m c.args.rloc.now inside.locators.observed c.self.invariant.3),
       record {

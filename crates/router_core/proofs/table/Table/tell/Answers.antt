@@ -5,12 +5,11 @@ use Rattle.request_queue.specs.declared.request.Request.{Request}
 use Rattle.router_log.specs.declared.entry.Entry.TheVariants.{Bits}
 use Rattle.locator_state.specs.Observed.{Observed, longest}
 use Rattle.router_model.specs.Parts.{with_entry}
-use Rattle.router_core.specs.Resting.{IsAtRest}
 use Rattle.router_core.specs.Table.{TableSeen}
 use Rattle.router_core.specs.Bounded.{AreShort, AreVersioned, KeepLimits}
 use Rattle.router_core.proofs.BoundLemmas.{lasting-versioned, recent-short, told-versioned}
 use Rattle.router_core.proofs.EntryLemmas.{parts_with, told-parts}
-use Rattle.router_core.proofs.KeptRestLemmas.{told-behind}
+use Rattle.router_core.proofs.KeptTurnsLemmas.{told-behind}
 use Rattle.router_core.proofs.LimitLemmas.{lasting-keeps, told-keeps}
 use Rattle.router_core.proofs.LengthLemmas.{recent-few}
 use Rattle.router_core.proofs.table.Table.tell.Goals as goal
@@ -34,11 +33,11 @@ invariant_of-self c =
     let m = c.args.m in
     let inside = c.self.inside in
     let few = c.self.invariant.0 in
+    let later : inside.cache.now ≤ m = subst (λ (t : TableSeen). t.parts.now ≤ m) (sym c.self.view_is) c.requires.may.later in
     let limited = c.self.invariant.5 in
     let are = c.self.invariant.4 in (
       omega (arith, few),
-      subst (λ (rest : ℕ). IsAtRest inside.own.items rest c.purge-3.new.self.observed.probes c.set_bits.new.self.mappings) (sym c.rest_behind-self-inside.ensures)
-          (told-behind inside.own.items inside.rest m inside.locators.observed.probes inside.cache.mappings c.args.eid.now c.args.bits c.args.width _ _ c.self.invariant.1 (ap (λ (o : Observed). o.probes) c.purge-3.ensures.observed) (c.set_bits.ensures.mappings ∙ ap (bits_told c.args.eid.now c.args.bits c.args.width) c.purge.ensures.mappings)),
+      told-behind inside.own.items inside.turns inside.cache.now m inside.locators.observed.probes inside.cache.mappings c.self.invariant.1 later _ _ _ _ c.args.eid.now c.args.bits c.args.width c.turns_behind-self-inside.ensures (c.set_bits.ensures.now ∙ c.purge.ensures.now) (ap (λ (o : Observed). o.probes) c.purge-3.ensures.observed) (c.set_bits.ensures.mappings ∙ ap (bits_told c.args.eid.now c.args.bits c.args.width) c.purge.ensures.mappings),
       subst AreVersioned (sym (c.set_bits.ensures.mappings ∙ ap (bits_told c.args.eid.now c.args.bits c.args.width) c.purge.ensures.mappings)) (told-versioned c.args.eid.now c.args.bits c.args.width (lasting m inside.cache.mappings) (lasting-versioned m inside.cache.mappings c.self.invariant.2)),
       subst AreShort (sym c.purge-3.ensures.observed) (recent-short m inside.locators.observed c.self.invariant.3),
       record {

@@ -36,6 +36,10 @@ retry_due-requires-clause-places c =
       emits = omega (arith, c.requires.places.emits, emits.most_more, emits.capacity);
     }
 
+pub probe_next-requires-clause-own : goal.probe_next-requires-clause-own
+probe_next-requires-clause-own c =
+    c.requires.own ∙ sym (c.retry_due.ensures.entered.own ∙ c.tell_found.ensures.entered.own)
+
 pub probe_next-requires-clause-may : goal.probe_next-requires-clause-may
 probe_next-requires-clause-may c =
     let told = c.tell_found.ensures.entered in
