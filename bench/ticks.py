@@ -1,9 +1,11 @@
 #!/usr/bin/env python3
 """Writes settings and captures between whose frames whole seconds go by.
 
-usage: ticks.py FOLDER gap SECONDS LOCATORS | ticks.py FOLDER busy FRAMES LOCATORS SEED
+usage: ticks.py FOLDER gap SECONDS LOCATORS | ticks.py FOLDER quiet SECONDS MAPPINGS |
+    ticks.py FOLDER busy FRAMES LOCATORS SEED
 gap makes settings.toml and capture.pcap: two packets to an address without a mapping, so many seconds apart, at a site
 that asks a resolver and, where there are locators (at most 2,000), probes them; each mapping names 25 of them.
+quiet makes the same with so many mappings (at most 65,536), each of which names a locator of its own.
 busy makes probing.toml, settings.toml (the same without probes) and capture.pcap: packets of 80 to 1,400 octets within
 100 s, made from a number, to one mapping of so many locators (at most 32), and an answer to each probe 0.1 s behind it.
 """
@@ -53,6 +55,15 @@ def write_gap(folder, seconds, locators):
         file.write(HEADER + record(0, octets) + record(seconds * 10**6, octets))
 
 
+def write_quiet(folder, seconds, mappings):
+    write_gap(folder, seconds, 0)
+    with open(f"{folder}/settings.toml", "w") as file:
+        file.write("probe = true\n" + SITE)
+        for i in range(mappings):
+            file.write(f'[[mapping]]\niid = 0\nprefix = "11.{i // 256}.{i % 256}.0/24"\n'
+                       f'[[mapping.locator]]\naddress = "12.0.{i // 256}.{i % 256}"\n')
+
+
 def answers(locators):
     """The moment of each answer, its locator and its nonce: probes go out in order of address, sixteen a second."""
     for i in range(SPAN // AGAIN + 1):
@@ -88,7 +99,7 @@ def write_busy(folder, count, locators, seed):
 
 def main():
     folder, kind, *numbers = sys.argv[1:]
-    {"gap": write_gap, "busy": write_busy}[kind](folder, *map(int, numbers))
+    {"gap": write_gap, "quiet": write_quiet, "busy": write_busy}[kind](folder, *map(int, numbers))
 
 
 main()

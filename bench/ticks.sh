@@ -1,8 +1,9 @@
 #!/usr/bin/env bash
 # Replays captures between whose frames whole seconds go by. First two frames 1,000,000 s apart, with one open
 # request; then two so many seconds apart (by default a day), with 1,000 locators that are probed, sixteen a second, and
-# never answer. It prints the seconds that are played in a second, user and system time, the greatest memory, and what
-# was written. Then many frames within 100 s to one mapping of 20 locators that are probed and answer; beside it the
+# never answer; and then an hour or a day with many mappings, each of which names a locator of its own that is probed. It
+# prints the seconds that are played in a second, user and system time, the greatest memory, and what was written. Then
+# many frames within 100 s to one mapping of 20 locators that are probed and answer; beside it the
 # same frames without probes. It prints frames a second.
 # usage: bench/ticks.sh [SECONDS [FRAMES [SEED]]]
 set -eu
@@ -24,6 +25,13 @@ replayed "  one request" 1000000 settings.toml
 echo "two frames $seconds s apart"
 python3 "$top/bench/ticks.py" "$folder" gap "$seconds" 1000
 replayed "  1000 probed" "$seconds" settings.toml
+
+for row in "300 86400" "5000 86400" "60000 3600" "60000 86400"; do
+    read -r mappings gap <<< "$row"
+    echo "two frames $gap s apart, $mappings mappings"
+    python3 "$top/bench/ticks.py" "$folder" quiet "$gap" "$mappings"
+    replayed "  probed" "$gap" settings.toml
+done
 
 python3 "$top/bench/ticks.py" "$folder" busy "$frames" 20 "$seed"
 echo "$frames frames within 100 s, $(stat -c %s "$folder/capture.pcap") octets"
