@@ -2,18 +2,18 @@
 """Compares the built program with the plain router on captures made from a number.
 
 usage: compare.py PROGRAM [ROUNDS [SEED [FIRST]]]
-Each round makes settings and a capture of 300 frames, at times 2,000: packets of the site, packets in tunnels that
-tell status bits, nonces and versions, replies to what the router asked and probed, Map-Requests of all kinds and
-other control messages, in both families and mostly in several instances, many of them spoiled or late, some a minute
-or ten behind the frame before, in two fifths of the rounds with small limits of instances, and up to 20 changes of own
-locators at the seconds of frames and around them; then the same frames as a pcapng file, whose interfaces may be VLANs,
-which must end as they do in records; 20 such files of some of the frames, most of them at fault; then such a capture
-that fits a router with workers, of either format and at times cut short, which the program replays with 1 to 16 of these
-and rounds of 1 to 4,096 frames; then frames of which many are large, in both formats, and in such rounds, with
-`--split on`; and then 40 settings files with spoiled values. Without workers the program must say and write what the
-plain router does, and with them what its own numbers make of that. Before these it replays worked frames with two
-workers, a hundred times. It ends with status 1 at the first difference, and leaves its files. FIRST is the number of
-the first round, 0 if it is left out: so processes in folders of their own can share the rounds of a seed.
+Each round makes settings and a capture of 300 frames, at times 2,000: packets of the site, packets in tunnels that tell
+status bits, nonces and versions, replies to what the router asked and probed, Map-Requests of all kinds and other
+control messages, in both families and mostly in several instances, many of them spoiled or late, some a minute or ten
+behind the frame before, and a few up to a day, in two fifths of the rounds with small limits of instances, and up to 20
+changes of own locators at the seconds of frames and around them; then the same frames as a pcapng file, whose
+interfaces may be VLANs, which must end as they do in records; 20 such files of some of the frames, most of them at
+fault; then such a capture that fits a router with workers, of either format and at times cut short, which the program
+replays with 1 to 16 of these and rounds of 1 to 4,096 frames; then frames of which many are large, in both formats, and
+in such rounds, with `--split on`; and then 40 settings files with spoiled values. Without workers the program must say
+and write what the plain router does, and with them what its own numbers make of that. Before these it replays worked
+frames with two workers, a hundred times. It ends with status 1 at the first difference, and leaves its files. FIRST is
+the number of the first round, 0 if it is left out: so processes in folders of their own can share the rounds of a seed.
 """
 import os
 import random

@@ -45,9 +45,17 @@ class Talk:
         second = self.now // SECOND + r.choice([1, 1, 1, 2, 3])
         return second * SECOND + r.choice([-1, 0, 0, 1]) * self.unit
 
+    def quiet(self):
+        """Behind minutes to a day without a frame: the more locators are probed in it, the shorter it is."""
+        probed = {probe.address for probe, _ in self.router.journal.probes()}
+        longest = min(DAY, 60 * SECOND * SCANNED // max(1, len(probed)))
+        return self.now + self.r.randrange(60 * SECOND, longest)
+
     def much_later(self):
-        """Some seconds or minutes from now, or where a locator was probed again."""
+        """Some seconds or minutes from now, now and then hours, or where a locator was probed again."""
         r, recent = self.r, self.router.journal.probes()[-40:]
+        if r.random() < 0.1:
+            return self.quiet()
         if recent and r.random() < 0.7:
             return r.choice(recent)[0].moment + PROBE_AGAIN + r.randrange(SECOND)
         least, most = r.choice(LONG)
