@@ -1,10 +1,10 @@
 #!/usr/bin/env bash
-# Replays captures between whose frames whole seconds go by. First two frames 1,000,000 s apart, with one open
-# request; then two so many seconds apart (by default a day), with 1,000 locators that are probed, sixteen a second, and
-# never answer; and then an hour or a day with many mappings, each of which names a locator of its own that is probed. It
+# Replays captures between whose frames whole seconds go by. First two frames 1,000,000 s apart, with one open request;
+# then two so many seconds apart (by default a day), with 1,000 locators that are probed, sixteen a second, and never
+# answer; and then an hour or a day with many mappings, each of which names a locator of its own that is probed. It
 # prints the seconds that are played in a second, user and system time, the greatest memory, and what was written. Then
-# many frames within 100 s to one mapping of 20 locators that are probed and answer; beside it the
-# same frames without probes. It prints frames a second.
+# many frames within 100 s to one mapping of 20 locators that are probed and answer; beside it the same frames without
+# probes. It prints frames a second.
 # usage: bench/ticks.sh [SECONDS [FRAMES [SEED]]]
 set -eu
 seconds=${1:-86400}
