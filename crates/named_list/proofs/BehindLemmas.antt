@@ -1,8 +1,8 @@
 -- Names behind the rings.
-use Rattle.std.proofs.Common.{◌≡◌, ℕ, ◌+◌, ◌-◌, ◌*◌, ◌<◌, ◌≤◌, List, [], ◌∷◌, ◌++◌, length, get_or, take, drop, sym, ap, subst, ◌∙◌, arith, append_assoc, append-nil, length-append}
-use Rattle.std.proofs.lemmas.List.{length-take-le, length-drop, take_at, drop_all, take-append-drop, drop_more, get_or_append_left, get_or-append_right}
+use Rattle.std.proofs.Common.{◌≡◌, ℕ, suc, ◌+◌, ◌-◌, ◌*◌, ◌<◌, ◌≤◌, List, [], ◌∷◌, ◌++◌, length, get_or, take, drop, sym, ap, subst, ◌∙◌, arith, append_assoc, append-nil, length-append}
+use Rattle.std.proofs.lemmas.List.{length-take-le, length-drop, take_at, drop_at, drop_all, take-append-drop, drop_more, get_or_append_left, get_or-append_right}
 use Rattle.std.specs.List.{insert, remove}
-use Rattle.std.proofs.lemmas.List.Edits.{insert-append_left, insert-append_right, remove-append_left, remove-append_right}
+use Rattle.std.proofs.lemmas.List.Edits.{insert-append_left, insert-append_right, remove-append_left, remove-append_right, length-remove}
 use borrow.Rule.Slice.PartMut.{put_mid}
 use Rattle.named_list.specs.Limits.{ring_names}
 use Rattle.named_list.specs.Rings.{rolled, joined}
@@ -70,12 +70,13 @@ module _ (heads slots : List ℕ) (enough : length heads * ring_names ≤ length
   get_or_behind index d past =
       subst (λ l. get_or l index d ≡ get_or (joined ring_names heads l) index d) both (get_or_front_behind heads ring_slots others ring_slots_len index d past)
 
-  -- what lies behind the rings is one more
-  pub joined_closed : length slots ≡ length heads * ring_names + ring_names → joined ring_names (heads ++ 0 ∷ []) slots ≡ joined ring_names heads slots
-  joined_closed is =
+  -- the first of what lies behind the rings is one more
+  pub joined_closed : joined ring_names (heads ++ 0 ∷ []) slots ≡ joined ring_names heads slots
+  joined_closed =
       ap (joined ring_names (heads ++ 0 ∷ [])) (sym both)
-      ∙ joined-ring heads ring_slots others 0 ring_slots_len (omega (arith, length-drop (length heads * ring_names) slots, is))
-      ∙ ap (λ part. joined ring_names heads ring_slots ++ part) (rolled_none others)
+      ∙ joined-append ring_names heads (0 ∷ []) ring_slots others ring_slots_len
+      ∙ ap (λ part. joined ring_names heads ring_slots ++ (part ++ drop ring_names others)) (rolled_none (take ring_names others))
+      ∙ ap (λ part. joined ring_names heads ring_slots ++ part) (take-append-drop ring_names others)
       ∙ sym joined-others
 
   -- the last ring lies behind the others
@@ -136,3 +137,20 @@ back_written items lent part n m len same is full all =
     written items (put_mid n m lent part) len (ap length now ∙ omega (arith, length-append (take n lent) part, length-take-le n lent (omega (arith, ap length same, is)), full, is, all))
     ∙ now
     ∙ ap (λ l. take n l ++ part) same
+
+-- names with one put behind them, turned so that it is the first
+pub pushed_turned : (names turned : List ℕ) (name n : ℕ) → length names ≡ n → turned ≡ drop n (names ++ name ∷ []) ++ take n (names ++ name ∷ []) → turned ≡ name ∷ names
+pushed_turned names turned name n is turns =
+    turns
+    ∙ ap (λ l. l ++ take n (names ++ name ∷ [])) (drop_at names (name ∷ []) n is)
+    ∙ ap (λ l. name ∷ l) (take_at names (name ∷ []) n is)
+
+-- names of which one was turned behind the others, and left out
+pub turned_popped : (names part turned : List ℕ) (index n : ℕ) → index < length names → n + 1 ≡ length names → part ≡ drop index names → turned ≡ drop 1 part ++ take 1 part → take n (take index names ++ turned) ≡ remove names index
+turned_popped names part turned index n within is part_is turns =
+    let name : ℕ = get_or names index 0 in
+    let one : index + 1 ≡ suc index = omega arith in
+    let now : part ≡ name ∷ drop (suc index) names = part_is ∙ drop_more names index 0 within ∙ ap (λ m. name ∷ drop m names) one in
+    ap (λ l. take n (take index names ++ l)) (turns ∙ ap (λ l. drop 1 l ++ take 1 l) now)
+    ∙ ap (take n) (sym (append_assoc (take index names) (drop (suc index) names) (name ∷ [])))
+    ∙ take_at (remove names index) (name ∷ []) n (omega (arith, length-remove names index within, is))

@@ -1,10 +1,10 @@
 -- A name that goes through the rings.
 use Rattle.std.proofs.Common.{◌≡◌, ℕ, ◌+◌, ◌-◌, ◌*◌, ◌<◌, ◌≤◌, List, [], ◌∷◌, ◌++◌, length, get_or, take, drop, set, sym, ap, subst, ◌∙◌, arith, append_assoc}
-use Rattle.std.proofs.lemmas.List.{length-take-le, length-drop, length-set, take-take, drop-drop, drop-take, take-append-drop, take_more_set, take_more, drop-set-lt, drop_more, drop-set, take-set, get_or-drop, get_or-take}
+use Rattle.std.proofs.lemmas.List.{length-take-le, length-drop, length-set, take-take, drop-drop, drop-take, take_more_set, take_more, drop-set-lt, drop_more, drop-set, take-set, get_or-drop, get_or-take}
 use Rattle.std.proofs.lemmas.List.Elements.{All-set}
 use Rattle.named_list.specs.Limits.{ring_names}
 use Rattle.named_list.specs.Rings.{rolled, joined, AreHeads}
-use Rattle.named_list.proofs.RingsLemmas.{joined-ring, ring-joined, laid, take-laid, drop-laid, take-laid_with, drop-laid_behind, length-laid}
+use Rattle.named_list.proofs.RingsLemmas.{take_add, joined-ring, ring-joined, laid, take-laid, drop-laid, take-laid_with, drop-laid_behind, length-laid}
 
 -- after a name was pushed through the first rings: they let one out, and those behind are as they were
 pub record Pushed (size : ℕ) (heads_before slots_before heads slots : List ℕ) (name carried ring : ℕ) : Type 0 where
@@ -25,12 +25,6 @@ pub record Pulled (size : ℕ) (heads_before slots_before heads slots : List ℕ
   pub slots_len : length slots ≡ length slots_before
   pub each : AreHeads heads
   pub within : ring ≤ length heads_before
-
-take_add : (n m : ℕ) (slots : List ℕ) → take (n + m) slots ≡ take n slots ++ take m (drop n slots)
-take_add n m slots =
-    sym (take-append-drop n (take (n + m) slots))
-    ∙ ap (λ part. part ++ drop n (take (n + m) slots)) (take-take n (n + m) slots (omega arith))
-    ∙ ap (λ part. take n slots ++ part) (drop-take n m slots)
 
 -- the head at a place is that of before, where what lies behind is
 same_head : (heads before : List ℕ) (k : ℕ) → drop k heads ≡ drop k before → get_or heads k 0 ≡ get_or before k 0

@@ -3,6 +3,7 @@ pub mod NamesLemmas
 pub mod ChangeLemmas
 pub mod PlaceLemmas
 pub mod RingsLemmas
+pub mod ShiftLemmas
 pub mod ChainLemmas
 pub mod RingChangeLemmas
 pub mod BehindLemmas

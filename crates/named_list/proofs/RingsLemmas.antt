@@ -1,9 +1,15 @@
 -- Rings of names, joined.
 use Rattle.std.proofs.Common.{◌≡◌, ℕ, ◌+◌, ◌-◌, ◌*◌, ◌<◌, ◌≤◌, List, [], ◌∷◌, ◌++◌, length, get_or, take, drop, refl, sym, ap, ◌∙◌, arith, append_assoc, append-nil, length-append}
-use Rattle.std.proofs.lemmas.List.{length-take-le, length-drop, take-append-le, drop-append-le, take_at, drop_at, take_all, drop_all, drop-drop, take-append-drop, drop_more, get_or-drop, get_or-take, get_or_append_left, get_or-append_right}
+use Rattle.std.proofs.lemmas.List.{length-take-le, length-drop, take-append-le, drop-append-le, take_at, drop_at, take-take, drop-take, take_all, drop_all, drop-drop, take-append-drop, drop_more, get_or-drop, get_or-take, get_or_append_left, get_or-append_right}
 use borrow.Rule.Slice.PartMut.{put_mid}
 use Rattle.named_list.specs.Limits.{ring_names}
 use Rattle.named_list.specs.Rings.{rolled, joined}
+
+pub take_add : (n m : ℕ) (slots : List ℕ) → take (n + m) slots ≡ take n slots ++ take m (drop n slots)
+take_add n m slots =
+    sym (take-append-drop n (take (n + m) slots))
+    ∙ ap (λ part. part ++ drop n (take (n + m) slots)) (take-take n (n + m) slots (omega arith))
+    ∙ ap (λ part. take n slots ++ part) (drop-take n m slots)
 
 pub length-rolled : (head : ℕ) (ring : List ℕ) → length (rolled head ring) ≡ length ring
 length-rolled head ring =

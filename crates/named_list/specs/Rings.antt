@@ -20,10 +20,10 @@ joined size (head ∷ heads) slots = rolled head (take size slots) ++ joined siz
 abbrev pub AreHeads : List ℕ → Type 0
 AreHeads heads = All (λ head. head ≤ ring_names) heads
 
--- names are laid out soundly: the rings are full, at most as many names as one ring has lie behind them, and there is
+-- names are laid out soundly: the rings are full, at most as many names as two rings have lie behind them, and there is
 -- place for the heads of all rings that there may be
 pub record IsOrder (heads slots : List ℕ) (places heads_places : ℕ) : Type 0 where
   pub each : AreHeads heads
   pub full : length heads * ring_names ≤ length slots
-  pub last : length slots ≤ length heads * ring_names + ring_names
+  pub last : length slots ≤ length heads * ring_names + 2 * ring_names
   pub room : places / ring_names ≤ heads_places

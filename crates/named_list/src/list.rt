@@ -14,8 +14,9 @@ use std::alloc::Global;
 use std::marker::Model;
 
 /// A list of items, each under a name that it keeps while it is in the list. An item that comes
-/// into the middle of the list moves names, of four octets each, and no items: the names of one
-/// ring, and one name of each ring behind it. A ring has 512 names.
+/// into the middle of the list moves names, of four octets each, and no items: names of one ring,
+/// one name of each ring behind it, and the names behind all rings. A ring has 512 names, and at
+/// most 1,024 lie behind all rings.
 #[derive(Drop)]
 pub struct NamedList<T> {
     store: NodeStore<T>,

@@ -1,4 +1,4 @@
-// Names in order: full rings, and behind them at most as many names as one ring has, which lie in
+// Names in order: full rings, and behind them at most as many names as two rings have, which lie in
 // order.
 ghost use Rattle.std.specs.Prelude.{◌≡◌, ◌≤◌, ◌<◌, ◌+◌, ◌*◌, [], length, max, slice_index_or, IfOk, OnOk, vec_len, vec_capacity};
 ghost use Rattle.std.specs.List.{insert, remove};
@@ -11,8 +11,8 @@ use node_store::{NoMemory, copied};
 use std::alloc::Global;
 use std::marker::Model;
 
-// Names in order. A name that comes into the middle moves the names of one ring, of four octets
-// each, and one name of each ring behind it.
+// Names in order. A name that comes into the middle moves names of one ring, of four octets each,
+// one name of each ring behind it, and the names behind all rings.
 #[derive(Drop)]
 pub(crate) struct Names {
     slots: Vec<u32>,
@@ -36,7 +36,8 @@ impl Model for Names {
         (vec_capacity order.slots) (vec_capacity order.heads) };
 }
 
-// Makes the names behind the rings a ring, where they are as many as a ring has.
+// Makes the first half of the names behind the rings a ring, where they are as many as two rings
+// have. As many names as a ring has then go before that ring is taken apart.
 fn close_last(slots: &Vec<u32>, heads: &mut Vec<usize>)
     requires { IsOrder heads.old.items slots.now.items (vec_capacity slots.now)
         (vec_capacity heads.old) }
@@ -44,9 +45,9 @@ fn close_last(slots: &Vec<u32>, heads: &mut Vec<usize>)
         ≡ joined ring_names heads.old.items slots.now.items }
     ensures order { IsOrder heads.new.items slots.now.items (vec_capacity slots.now)
         (vec_capacity heads.new) }
-    ensures last { length slots.now.items < length heads.new.items * ring_names + ring_names }
+    ensures last { length slots.now.items < length heads.new.items * ring_names + 2 * ring_names }
 {
-    if slots.len() == heads.len() * RING_NAMES + RING_NAMES {
+    if slots.len() == heads.len() * RING_NAMES + 2 * RING_NAMES {
         heads.push_reserved(0);
     }
 }
@@ -71,6 +72,32 @@ fn open_last(slots: &mut Vec<u32>, heads: &mut Vec<usize>)
     }
 }
 
+// Puts a name at a place of the slots, where there is room for it.
+fn insert_slot(slots: &mut Vec<u32>, index: usize, name: u32)
+    requires index { index ≤ vec_len slots.old }
+    requires room { vec_len slots.old < vec_capacity slots.old }
+    ensures items { slots.new.items ≡ insert slots.old.items index name }
+    ensures len { vec_len slots.new ≡ vec_len slots.old + 1 }
+    ensures places { vec_capacity slots.new ≡ vec_capacity slots.old }
+{
+    slots.push_reserved(name);
+    slots[index..].rotate_right(1);
+}
+
+// Takes the name at a place out of the slots and returns it.
+fn remove_slot(slots: &mut Vec<u32>, index: usize) -> u32
+    requires { index < vec_len slots.old }
+    ensures name { result ≡ slice_index_or slots.old.items index result }
+    ensures items { slots.new.items ≡ remove slots.old.items index }
+    ensures len { vec_len slots.new + 1 ≡ vec_len slots.old }
+    ensures places { vec_capacity slots.new ≡ vec_capacity slots.old }
+{
+    let name = slots[index];
+    slots[index..].rotate_left(1);
+    slots.pop();
+    name
+}
+
 // Puts a name at a place, with room for one more name behind the rings.
 fn insert_name(slots: &mut Vec<u32>, heads: &mut [usize], index: usize, name: u32)
     requires each { AreHeads heads.old }
@@ -86,15 +113,11 @@ fn insert_name(slots: &mut Vec<u32>, heads: &mut [usize], index: usize, name: u3
 {
     let full = heads.len() * RING_NAMES;
     if index >= full {
-        if slots.insert(index, name).is_err() {
-            unreachable!();
-        }
+        insert_slot(slots, index, name);
         return;
     }
     let carried = insert_below(&mut slots[0..full], heads, index, name);
-    if slots.insert(full, carried).is_err() {
-        unreachable!();
-    }
+    insert_slot(slots, full, carried);
 }
 
 // Takes the name at a place out and returns it, where at least one name lies behind the rings.
@@ -113,9 +136,9 @@ fn remove_name(slots: &mut Vec<u32>, heads: &mut [usize], index: usize) -> u32
 {
     let full = heads.len() * RING_NAMES;
     if index >= full {
-        return slots.remove(index);
+        return remove_slot(slots, index);
     }
-    let carried = slots.remove(full);
+    let carried = remove_slot(slots, full);
     remove_below(&mut slots[0..full], heads, index, carried)
 }
 

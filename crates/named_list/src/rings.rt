@@ -24,6 +24,33 @@ pub(crate) fn turned(head: usize, place: usize) -> usize
     }
 }
 
+// The place behind the last name of a ring in its order: its head, or the end of the ring for 0.
+fn end_of(head: usize) -> usize
+    requires { head ≤ ring_names }
+    ensures some { 0 < result }
+    ensures within { result ≤ ring_names }
+    ensures names { (ring : List ℕ) → length ring ≡ ring_names
+        → rolled result ring ≡ rolled head ring }
+{
+    if head == 0 {
+        return RING_NAMES;
+    }
+    head
+}
+
+// The place of the first name of a ring in its order: its head, or 0 for the end of the ring.
+fn first_of(head: usize) -> usize
+    requires { head ≤ ring_names }
+    ensures within { result < ring_names }
+    ensures names { (ring : List ℕ) → length ring ≡ ring_names
+        → rolled result ring ≡ rolled head ring }
+{
+    if head == RING_NAMES {
+        return 0;
+    }
+    head
+}
+
 // Puts a name before those of a ring, and returns the last of them, which goes out.
 fn roll_on(ring: &mut [u32], head: &mut usize, name: u32) -> u32
     requires full { length ring.old ≡ ring_names }
@@ -32,8 +59,7 @@ fn roll_on(ring: &mut [u32], head: &mut usize, name: u32) -> u32
     ensures len { length ring.new ≡ ring_names }
     ensures head { head.new ≤ ring_names }
 {
-    let end = if *head == 0 { RING_NAMES } else { *head };
-    let last = end - 1;
+    let last = end_of(*head) - 1;
     *head = last;
     mem::replace(&mut ring[last], name)
 }
@@ -46,7 +72,7 @@ fn roll_back(ring: &mut [u32], head: &mut usize, name: u32) -> u32
     ensures len { length ring.new ≡ ring_names }
     ensures head { head.new ≤ ring_names }
 {
-    let first = if *head == RING_NAMES { 0 } else { *head };
+    let first = first_of(*head);
     *head = first + 1;
     mem::replace(&mut ring[first], name)
 }
@@ -108,33 +134,68 @@ pub(crate) fn straighten(ring: &mut [u32], head: usize)
     ring.rotate_left(head);
 }
 
-// Puts a name at a place of a ring, which is laid out anew, and returns the last name, which goes
-// out.
-fn put_in(ring: &mut [u32], head: usize, place: usize, name: u32) -> u32
-    requires place { place < length ring.old }
-    requires head { head ≤ length ring.old }
-    ensures names { insert (rolled head ring.old) place name ≡ ring.new ++ result ∷ [] }
-    ensures len { length ring.new ≡ length ring.old }
+// Puts a name before those of a part of a ring, and returns the last of them, which goes out.
+fn shift_on(part: &mut [u32], name: u32) -> u32
+    requires { 0 < length part.old }
+    ensures names { name ∷ part.old ≡ part.new ++ result ∷ [] }
+    ensures len { length part.new ≡ length part.old }
 {
-    straighten(ring, head);
-    let part = &mut ring[place..];
     part.rotate_right(1);
     mem::replace(&mut part[0], name)
 }
 
-// Takes the name at a place out of a ring, which is laid out anew, and puts another name behind the
-// rest.
-fn take_out(ring: &mut [u32], head: usize, place: usize, name: u32) -> u32
-    requires place { place < length ring.old }
-    requires head { head ≤ length ring.old }
-    ensures name { result ≡ slice_index_or (rolled head ring.old) place result }
-    ensures names { ring.new ≡ remove (rolled head ring.old) place ++ name ∷ [] }
-    ensures len { length ring.new ≡ length ring.old }
+// Puts a name behind those of a part of a ring, and returns the first of them, which goes out.
+fn shift_back(part: &mut [u32], name: u32) -> u32
+    requires { 0 < length part.old }
+    ensures names { result ∷ part.new ≡ part.old ++ name ∷ [] }
+    ensures len { length part.new ≡ length part.old }
 {
-    straighten(ring, head);
-    let last = ring.len() - 1;
-    ring[place..].rotate_left(1);
-    mem::replace(&mut ring[last], name)
+    part.rotate_left(1);
+    let last = part.len() - 1;
+    mem::replace(&mut part[last], name)
+}
+
+// Puts a name at a place of a ring, and returns the last name, which goes out. Moves only the names
+// that lie between that place and the ring's head.
+fn put_in(ring: &mut [u32], head: &mut usize, place: usize, name: u32) -> u32
+    requires full { length ring.old ≡ ring_names }
+    requires head { head.old ≤ ring_names }
+    requires place { place < ring_names }
+    ensures names { insert (rolled head.old ring.old) place name
+        ≡ rolled head.new ring.new ++ result ∷ [] }
+    ensures len { length ring.new ≡ ring_names }
+    ensures head { head.new ≤ ring_names }
+{
+    let end = end_of(*head);
+    // The names from the head to the end of the ring are the first ones of the order.
+    let front = RING_NAMES - end;
+    if place < front {
+        let last = end - 1;
+        *head = last;
+        return shift_back(&mut ring[last..end + place], name);
+    }
+    shift_on(&mut ring[place - front..end], name)
+}
+
+// Takes the name at a place out of a ring, and puts another name behind the rest. Moves only the
+// names that lie between that place and the ring's head.
+fn take_out(ring: &mut [u32], head: &mut usize, place: usize, name: u32) -> u32
+    requires full { length ring.old ≡ ring_names }
+    requires head { head.old ≤ ring_names }
+    requires place { place < ring_names }
+    ensures name { result ≡ slice_index_or (rolled head.old ring.old) place result }
+    ensures names { rolled head.new ring.new
+        ≡ remove (rolled head.old ring.old) place ++ name ∷ [] }
+    ensures len { length ring.new ≡ ring_names }
+    ensures head { head.new ≤ ring_names }
+{
+    let first = first_of(*head);
+    let front = RING_NAMES - first;
+    if place < front {
+        *head = first + 1;
+        return shift_on(&mut ring[first..first + place + 1], name);
+    }
+    shift_back(&mut ring[place - front..first], name)
 }
 
 // Puts a name at a place of the rings, and returns the last name of all, which goes out.
@@ -151,9 +212,12 @@ pub(crate) fn insert_below(slots: &mut [u32], heads: &mut [usize], index: usize,
     let ring = index / RING_NAMES;
     let start = ring * RING_NAMES;
     let end = start + RING_NAMES;
-    let head = heads[ring];
-    heads[ring] = 0;
-    let carried = put_in(&mut slots[start..end], head, index - start, name);
+    let carried = put_in(
+        &mut slots[start..end],
+        &mut heads[ring],
+        index - start,
+        name,
+    );
     push_on(&mut slots[end..], &mut heads[ring + 1..], carried)
 }
 
@@ -172,8 +236,11 @@ pub(crate) fn remove_below(slots: &mut [u32], heads: &mut [usize], index: usize,
     let ring = index / RING_NAMES;
     let start = ring * RING_NAMES;
     let end = start + RING_NAMES;
-    let head = heads[ring];
-    heads[ring] = 0;
     let carried = pull_back(&mut slots[end..], &mut heads[ring + 1..], name);
-    take_out(&mut slots[start..end], head, index - start, carried)
+    take_out(
+        &mut slots[start..end],
+        &mut heads[ring],
+        index - start,
+        carried,
+    )
 }

@@ -8,7 +8,7 @@ use Rattle.named_list.proofs.names.insert_name.Goals as goal
 
 pub returns-then-index-full-clause-names : goal.returns-then-index-full-clause-names
 returns-then-index-full-clause-names c =
-    ap (joined ring_names c.args.heads.now) (rw (c.insert.ensures.succeeds c.requires.room) at c.insert.ensures.items)
+    ap (joined ring_names c.args.heads.now) c.insert_slot.ensures.items
     ∙ insert_behind c.args.heads.now c.args.slots.now.items c.requires.full c.args.index c.args.name c.if-index-full.true
 
 pub returns-clause-names : goal.returns-clause-names
@@ -25,6 +25,6 @@ returns-clause-names c =
     let is : insert (joined ring_names heads (take n slots)) c.args.index c.args.name ≡ joined ring_names more part ++ carried ∷ [] =
     ap (λ l. insert (joined ring_names heads l) c.args.index c.args.name) (sym lent) ∙ c.insert_below-carried.ensures.names in
     let now = front_written slots c.deref_mut.result.now part n (n - 0) c.args.slots.now.len c.deref_mut.ensures.value none c.requires.full full c.args.slots.now.ok.0 in
-    ap (joined ring_names more) (rw (c.insert-2.ensures.succeeds c.requires.room) at c.insert-2.ensures.items)
+    ap (joined ring_names more) c.insert_slot-2.ensures.items
     ∙ ap (λ l. joined ring_names more (insert l n carried)) now
     ∙ insert_before heads slots c.requires.full more part c.args.index c.args.name carried c.if-index-full.false c.insert_below-carried.ensures.heads_len full is
