@@ -3,6 +3,7 @@ pub mod KeyLemmas
 pub mod HalfLemmas
 pub mod LongestLemmas
 pub mod SearchLemmas
+pub mod BlindLemmas
 pub mod AfterLemmas
 pub mod NumberOrder
 pub mod OrderLemmas

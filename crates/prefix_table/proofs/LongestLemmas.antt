@@ -1,5 +1,5 @@
 -- Lookups in tries.
-use Rattle.std.proofs.Common.{◌≡◌, ◌⊎◌, ℕ, ◌+◌, ◌%◌, ◌<◌, Bool, true, false, [], ◌++◌, All, Contains, Option, Some, None, inl, inr, subst, refl, sym, ◌∙◌, arith}
+use Rattle.std.proofs.Common.{◌≡◌, ◌⊎◌, ℕ, ◌+◌, ◌%◌, ◌<◌, ◌≤◌, Bool, true, false, [], ◌++◌, All, Contains, Option, Some, None, inl, inr, subst, refl, sym, ◌∙◌, arith}
 use Rattle.std.proofs.lemmas.Bool.{false≢true}
 use Rattle.std.proofs.lemmas.List.Elements.{All-nil, All-cons, All-append, Contains-append_left, Contains-append_right}
 use native.Mathlib.Nat.{div-add-mod}
@@ -175,21 +175,32 @@ module _ {V : Type 0} (answers : V → Bool → Type 0) (eid : Eid) where
       each_fits Misses tree iid width bits len trie (λ k v fits covers. off (fits_covers k eid iid width bits len fits (covers_parts k eid covers)))
 
   -- below a key that doesn't cover the EID, none does
-  pub top_misses : (tree : Tree V) (name : ℕ) (key : Eid) (value : Option V) (zero one : Tree V) (iid width bits len : ℕ) → tree ≡ node name key value zero one → IsTrie iid width bits len (node name key value zero one) → covers_eid key eid ≡ false → Each (IsRefused answers eid) tree
-  top_misses tree name key value zero one iid width bits len is trie off =
+  pub none_covers : (name : ℕ) (key : Eid) (value : Option V) (zero one : Tree V) (iid width bits len : ℕ) → IsTrie iid width bits len (node name key value zero one) → covers_eid key eid ≡ false → Each Misses (node name key value zero one)
+  none_covers name key value zero one iid width bits len trie off =
       let differs = false≢true in
       let none_below = λ (other : Eid) (side : ℕ) (bit : side < 2) (fits : Fits iid width (side_bits key side) (key_len key + 1) other) (covers : covers_eid other eid ≡ true).
-      differs (sym off ∙ covers_from key eid (covers_trans key other eid (below_covers key other iid width side bit trie.0.same_iid trie.0.same_width fits) (covers_parts other eid covers))) in
-      rw is (
-        OnPair-all (IsRefused answers eid) key value (λ v covers. absurd (differs (sym off ∙ covers))),
-        each_fits (IsRefused answers eid) zero iid width (side_bits key 0) (key_len key + 1) trie.1 (λ k v fits covers. absurd (none_below k 0 (omega arith) fits covers)),
-        each_fits (IsRefused answers eid) one iid width (side_bits key 1) (key_len key + 1) trie.2 (λ k v fits covers. absurd (none_below k 1 (omega arith) fits covers)),
+      differs (sym off ∙ covers_from key eid (covers_trans key other eid (below_covers key other iid width side bit trie.0.same_iid trie.0.same_width fits) (covers_parts other eid covers))) in (
+        OnPair-all Misses key value (λ v covers. differs (sym off ∙ covers)),
+        each_fits Misses zero iid width (side_bits key 0) (key_len key + 1) trie.1 (λ k v fits covers. none_below k 0 (omega arith) fits covers),
+        each_fits Misses one iid width (side_bits key 1) (key_len key + 1) trie.2 (λ k v fits covers. none_below k 1 (omega arith) fits covers),
       )
 
-  -- no key on a side of one as long as the EID covers it
-  pub equal_misses : (tree : Tree V) (key : Eid) (iid width bits : ℕ) → key_len key ≡ key_len eid → IsTrie iid width bits (key_len key + 1) tree → Each (IsRefused answers eid) tree
-  equal_misses tree key iid width bits same trie =
-      each_fits (IsRefused answers eid) tree iid width bits (key_len key + 1) trie (λ k v fits covers. let c = covers_parts k eid covers in absurd (omega (arith, same, fits.longer, c.shorter)))
+  pub top_misses : (tree : Tree V) (name : ℕ) (key : Eid) (value : Option V) (zero one : Tree V) (iid width bits len : ℕ) → tree ≡ node name key value zero one → IsTrie iid width bits len (node name key value zero one) → covers_eid key eid ≡ false → Each (IsRefused answers eid) tree
+  top_misses tree name key value zero one iid width bits len is trie off =
+      rw is (Each-weaker Misses (IsRefused answers eid) (node name key value zero one) (λ other miss covers. absurd (miss covers)) (none_covers name key value zero one iid width bits len trie off))
+
+  -- a search of one side of a tree of which no key covers the EID finds nothing
+  pub astray : (tree near far : Tree V) (key : Eid) (value : Option V) (best result : Option (Eid × V)) → Parts tree near far key value → Each Misses tree → Answers near best result → Answers tree best result
+  astray tree near far key value best result parts misses below =
+      elim below [
+        | inl stays ↦ inl (stays.0, Each-weaker Misses (IsRefused answers eid) tree (λ other miss covers. absurd (miss covers)) misses)
+        | inr found ↦ absurd (Each-has Misses tree found.0 (parts.near_has found.0 (found.2).there) misses (found.2).covers)
+      ]
+
+  -- no key on a side of one that isn't shorter than the EID covers it
+  pub longer_misses : (tree : Tree V) (key : Eid) (iid width bits : ℕ) → key_len eid ≤ key_len key → IsTrie iid width bits (key_len key + 1) tree → Each (IsRefused answers eid) tree
+  longer_misses tree key iid width bits long trie =
+      each_fits (IsRefused answers eid) tree iid width bits (key_len key + 1) trie (λ k v fits covers. let c = covers_parts k eid covers in absurd (omega (arith, long, fits.longer, c.shorter)))
 
 -- the side of a key on which an EID that it covers is
 pub side_of : (key eid : Eid) (side : ℕ) → Covers key eid → key_len key < key_len eid → key_bits eid (key_len key + 1) % 2 ≡ side → key_bits eid (key_len key + 1) ≡ side_bits key side

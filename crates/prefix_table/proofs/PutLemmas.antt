@@ -8,7 +8,7 @@ use Rattle.ip_headers.specs.declared.addr.Addr.{Addr}
 use Rattle.ip_headers.specs.declared.addr.Addr.TheVariants.{V4, V6}
 use Rattle.mapping_records.specs.declared.eid.Eid.{Eid}
 use Rattle.mapping_records.proofs.EqualValue.{equal_eid, equal_prefix}
-use Rattle.node_store.specs.Store.{Store, node_at, Changes}
+use Rattle.node_store.specs.Store.{Store, node_at, IsLive, Changes}
 use Rattle.prefix_table.specs.declared.node.Node.{Node}
 use Rattle.mapping_records.specs.Eids.{covers_eid}
 use Rattle.prefix_table.specs.Keys.{key_width, key_len, key_bits}
@@ -21,7 +21,7 @@ use Rattle.prefix_table.specs.Grown.{IsTrieAt, Takes, Grown, Puts}
 use Rattle.prefix_table.proofs.Bits.{Covers, covers_parts, covers_from, key_len-within, same_shorter, key_bits-half}
 use Rattle.prefix_table.proofs.LongestLemmas.{side_of}
 use Rattle.prefix_table.proofs.OrderLemmas.{number_aligned}
-use Rattle.prefix_table.proofs.SearchLemmas.{key_len-most}
+use Rattle.prefix_table.proofs.SearchLemmas.{key_len-most, top_live}
 use Rattle.prefix_table.proofs.TopLemmas.{Top, apart, value_low, value_high, value_missed}
 use Rattle.prefix_table.proofs.GrowLemmas.{grown_leaf, grown_low, grown_high, grown_same, grown_above, grown_beside}
 
@@ -204,6 +204,11 @@ module _ {V : Type 0} where
         room = λ missing. t.room (ap (λ (r : Tree V). value_in eid (pairs r)) (o.is ∙ ap (λ (x : Node V). node at x.eid x.value o.low o.high) top_is) ∙ value_high old at top eid.iid (key_width eid) t.bits len o.low o.high eid here refl refl c (omega (arith, c.shorter, differs)) (side_of top.eid eid 1 c (omega (arith, c.shorter, differs)) (eqb-true _ _ bit)) ∙ missing);
       }
 
+  -- a node stays where one is put in
+  pub still_live : (old new : Store (Node V)) (at name : ℕ) (slot : Option (Node V)) → Changes old new name slot → node_at old name ≡ None → IsLive old at → IsLive new at
+  still_live old new at name slot change fresh live =
+      ap is_some (change.others at (λ same. absurd (cc (sym live ∙ ap is_some (ap (node_at old) same ∙ fresh))))) ∙ live
+
   -- the bounds of a node's length
   pub len_bounds : (old : Store (Node V)) (where_ : Option ℕ) (at : ℕ) (top : Node V) (eid : Eid) (len : ℕ) → Takes old where_ len eid → where_ ≡ Some at → node_at old at ≡ Some top → (len ≤ key_len top.eid) × (key_len top.eid ≤ 128)
   len_bounds old where_ at top eid len t is found =
@@ -252,8 +257,8 @@ module _ {V : Type 0} where
       grown_high old mid new at top eid.iid (key_width eid) bits len o.low o.high eid value name was t refl refl c (omega (arith, c.shorter, differs)) on g changes (sym rooms) slots
       )
 
-  -- the node is still there to be linked
-  pub live_low : (old mid : Store (Node V)) (where_ : Option ℕ) (at : ℕ) (top : Node V) (eid : Eid) (value : V) (len name : ℕ) (was : Option V) → Takes old where_ len eid → where_ ≡ Some at → node_at old at ≡ Some top → covers_eid top.eid eid ≡ true → key_len top.eid ≢ key_len eid → (key_bits eid (key_len top.eid + 1) % 2 == 1) ≡ false → Puts old mid top.zero (key_len top.eid + 1) eid value name was → is_some (node_at mid at) ≡ true
+  -- the node is still there to be linked, and the one below it is
+  pub live_low : (old mid : Store (Node V)) (where_ : Option ℕ) (at : ℕ) (top : Node V) (eid : Eid) (value : V) (len name : ℕ) (was : Option V) → Takes old where_ len eid → where_ ≡ Some at → node_at old at ≡ Some top → covers_eid top.eid eid ≡ true → key_len top.eid ≢ key_len eid → (key_bits eid (key_len top.eid + 1) % 2 == 1) ≡ false → Puts old mid top.zero (key_len top.eid + 1) eid value name was → IsLive mid at × IsLive mid name
   live_low old mid where_ at top eid value len name was takes is found covers differs bit below =
       let i2 = subst (λ (w : Option ℕ). IsTrieAt old w eid.iid (key_width eid) takes.bits len takes.tree) is takes.is in
       let o = open_at old at eid.iid (key_width eid) takes.bits len takes.tree i2 in
@@ -262,9 +267,9 @@ module _ {V : Type 0} where
       let c = covers_parts top.eid eid covers in
       let on = even_side top.eid eid c differs bit in
       let g = below o.low (side_bits top.eid 0) (record { named = t.low_named; spelled = t.low_spelled; trie = t.low_trie }) (record { same_iid = refl; same_width = refl; longer = omega (arith, c.shorter, differs); front = on }) in
-      ap is_some (kept_low old mid at top o.low o.high eid value takes.bits len name was t g)
+      (ap is_some (kept_low old mid at top o.low o.high eid value takes.bits len name was t g), top_live mid g.tree name g.named g.spelled)
 
-  pub live_high : (old mid : Store (Node V)) (where_ : Option ℕ) (at : ℕ) (top : Node V) (eid : Eid) (value : V) (len name : ℕ) (was : Option V) → Takes old where_ len eid → where_ ≡ Some at → node_at old at ≡ Some top → covers_eid top.eid eid ≡ true → key_len top.eid ≢ key_len eid → (key_bits eid (key_len top.eid + 1) % 2 == 1) ≡ true → Puts old mid top.one (key_len top.eid + 1) eid value name was → is_some (node_at mid at) ≡ true
+  pub live_high : (old mid : Store (Node V)) (where_ : Option ℕ) (at : ℕ) (top : Node V) (eid : Eid) (value : V) (len name : ℕ) (was : Option V) → Takes old where_ len eid → where_ ≡ Some at → node_at old at ≡ Some top → covers_eid top.eid eid ≡ true → key_len top.eid ≢ key_len eid → (key_bits eid (key_len top.eid + 1) % 2 == 1) ≡ true → Puts old mid top.one (key_len top.eid + 1) eid value name was → IsLive mid at × IsLive mid name
   live_high old mid where_ at top eid value len name was takes is found covers differs bit below =
       let i2 = subst (λ (w : Option ℕ). IsTrieAt old w eid.iid (key_width eid) takes.bits len takes.tree) is takes.is in
       let o = open_at old at eid.iid (key_width eid) takes.bits len takes.tree i2 in
@@ -273,7 +278,11 @@ module _ {V : Type 0} where
       let c = covers_parts top.eid eid covers in
       let on = side_of top.eid eid 1 c (omega (arith, c.shorter, differs)) (eqb-true _ _ bit) in
       let g = below o.high (side_bits top.eid 1) (record { named = t.high_named; spelled = t.high_spelled; trie = t.high_trie }) (record { same_iid = refl; same_width = refl; longer = omega (arith, c.shorter, differs); front = on }) in
-      ap is_some (kept_high old mid at top o.low o.high eid value takes.bits len name was t g)
+      (ap is_some (kept_high old mid at top o.low o.high eid value takes.bits len name was t g), top_live mid g.tree name g.named g.spelled)
+
+  -- the trie that takes a pair has its node
+  pub live_taken : (old : Store (Node V)) (at : ℕ) (eid : Eid) (len : ℕ) → Takes old (Some at) len eid → IsLive old at
+  live_taken old at eid len t = top_live old t.tree at (t.is).named (t.is).spelled
 
   pub room_leaf : (old : Store (Node V)) (where_ : Option ℕ) (eid : Eid) (len : ℕ) → Takes old where_ len eid → where_ ≡ None → 2 ≤ old.rooms
   room_leaf old where_ eid len t is = t.room (nothing t.tree ((t.is).named ∙ is))

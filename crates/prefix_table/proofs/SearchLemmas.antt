@@ -1,7 +1,7 @@
 -- A search on its way down a trie in a store.
-use Rattle.std.proofs.Common.{◌≡◌, ℕ, ◌+◌, ◌%◌, ◌<◌, ◌≤◌, ◌==◌, Bool, true, false, All, MatchOption, Option, is_some, Some, None, inl, inr, subst, refl, sym, ap, ◌∙◌, arith}
+use Rattle.std.proofs.Common.{◌≡◌, ℕ, ◌+◌, ◌%◌, ◌<◌, ◌≤◌, ◌==◌, Bool, true, false, All, MatchOption, IfSome, Option, is_some, Some, None, inl, inr, subst, refl, sym, ap, ◌∙◌, arith}
 use Rattle.mapping_records.specs.declared.eid.Eid.{Eid}
-use Rattle.node_store.specs.Store.{Store, node_at}
+use Rattle.node_store.specs.Store.{Store, node_at, IsLive}
 use Rattle.ip_headers.specs.Addr.{width}
 use Rattle.ip_headers.specs.declared.addr.Addr.{Addr}
 use Rattle.ip_headers.specs.declared.addr.Addr.TheVariants.{V4, V6}
@@ -19,7 +19,7 @@ use Rattle.prefix_table.specs.Longest.{IsRefused, IsLongestWhere, After}
 use Rattle.prefix_table.specs.Longest.After.{passed, refused, valueless}
 use Rattle.prefix_table.specs.Spelled.{name_of, Spells}
 use Rattle.prefix_table.proofs.Bits.{covers_parts, key_len-within}
-use Rattle.prefix_table.proofs.LongestLemmas.{Each, Misses, Parts, each_fits, All-pairs, Contains-pairs, Answers, step_passed, step_refused, side_longer, side_misses, top_misses, equal_misses, parts_zero, parts_one, side_of}
+use Rattle.prefix_table.proofs.LongestLemmas.{Each, Misses, Parts, each_fits, All-pairs, Contains-pairs, Answers, step_passed, step_refused, side_longer, side_misses, top_misses, longer_misses, parts_zero, parts_one, side_of}
 
 pub width-most : (addr : Addr) → width addr ≤ 128
 width-most (V4 n) = omega arith
@@ -54,6 +54,16 @@ opened {V} store (node other key value low high) name top named spelled found =
       high_spelled = spelled.2;
     })
 
+-- the node of a tree's name is there
+pub top_live : {V : Type 0} (store : Store (Node V)) (tree : Tree V) (name : ℕ) → name_of tree ≡ Some name → Spells store tree → IsLive store name
+top_live store none name named spelled = absurd (cc (named))
+top_live store (node other key value low high) name named spelled =
+    ap (λ n. is_some (node_at store n)) (sym (same_Some other name named)) ∙ ap is_some spelled.0
+
+pub named_live : {V : Type 0} (store : Store (Node V)) (tree : Tree V) (at : Option ℕ) → name_of tree ≡ at → Spells store tree → IfSome at (IsLive store)
+named_live store tree None named spelled = tt
+named_live store tree (Some name) named spelled = top_live store tree name named spelled
+
 module _ {V : Type 0} (answers : V → Bool → Type 0) (eid : Eid) (store : Store (Node V)) (whole : Tree V) where
   -- what is left is the trie under this name; its keys are longer than the number of reads so far; what
   -- a search of it answers, a search of the whole does
@@ -84,13 +94,8 @@ module _ {V : Type 0} (answers : V → Bool → Type 0) (eid : Eid) (store : Sto
   }
 
   -- the node is there, and one more read is within the bound
-  pub live : (at : Option ℕ) (name : ℕ) (best : Option (Eid × V)) (start reads : ℕ) → Searching at best start reads → at ≡ Some name → is_some (node_at store name) ≡ true
-  live at name best start reads s is = is_there s.rest (s.named ∙ is) s.spelled
-    where
-      is_there : (rest : Tree V) → name_of rest ≡ Some name → Spells store rest → is_some (node_at store name) ≡ true
-      is_there none named spelled = absurd (cc (named))
-      is_there (node other key value low high) named spelled =
-          ap (λ n. is_some (node_at store n)) (sym (same_Some other name named)) ∙ ap is_some spelled.0
+  pub live : (at : Option ℕ) (name : ℕ) (best : Option (Eid × V)) (start reads : ℕ) → Searching at best start reads → at ≡ Some name → IsLive store name
+  live at name best start reads s is = top_live store s.rest name (s.named ∙ is) s.spelled
 
   pub fits_top : (at : Option ℕ) (name : ℕ) (best : Option (Eid × V)) (start reads : ℕ) (s : Searching at best start reads) (top : Node V) (o : Opened store s.rest name top) → IsTrie eid.iid (key_width eid) s.bits s.len (node name top.eid top.value o.low o.high)
   fits_top at name best start reads s top o = subst (λ (t : Tree V). IsTrie eid.iid (key_width eid) s.bits s.len t) o.is s.trie
@@ -127,7 +132,7 @@ module _ {V : Type 0} (answers : V → Bool → Type 0) (eid : Eid) (store : Sto
   over tree near far key value best next result parts covers longer misses valueless below =
       step_refused answers eid tree near far key None best result parts tt longer misses below
 
-  -- the search goes on on the side of the next bit
+  -- behind a node whose key covers the EID, the search goes on on the side of the next bit
   pub step_low : (at : Option ℕ) (name : ℕ) (best next : Option (Eid × V)) (start reads now : ℕ) (top : Node V) → Searching at best start reads → at ≡ Some name → node_at store name ≡ Some top → covers_eid top.eid eid ≡ true → After answers best top.eid top.value next → (key_len top.eid ≡ key_len eid → ⊥) → (key_bits eid (key_len top.eid + 1) % 2 == 1) ≡ false → now ≡ reads + 1 → Searching top.zero next start now
   step_low at name best next start reads now top s is found covers after differs bit count =
       let o = opened store s.rest name top (s.named ∙ is) s.spelled found in
@@ -181,7 +186,7 @@ module _ {V : Type 0} (answers : V → Bool → Type 0) (eid : Eid) (store : Sto
   end_equal at name best next start reads top s is found covers after same =
       let o = opened store s.rest name top (s.named ∙ is) s.spelled found in
       let t = fits_top at name best start reads s top o in
-      let none_low = equal_misses answers eid o.low top.eid eid.iid (key_width eid) (side_bits top.eid 0) same t.1 in
+      let none_low = longer_misses answers eid o.low top.eid eid.iid (key_width eid) (side_bits top.eid 0) (omega (arith, same)) t.1 in
       let misses_high = each_fits (Misses answers eid) o.high eid.iid (key_width eid) (side_bits top.eid 1) (key_len top.eid + 1) t.2 (λ k v fits covers. let c = covers_parts k eid covers in omega (arith, same, fits.longer, c.shorter)) in
       s.goes_on next (
       subst (λ (tree : Tree V). Answers answers eid tree best next) (sym o.is)

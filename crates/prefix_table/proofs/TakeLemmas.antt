@@ -1,11 +1,11 @@
 -- What each way of taking a pair out of a trie gives.
-use Rattle.std.proofs.Common.{◌≡◌, ◌≢◌, ◌⊎◌, ℕ, ◌+◌, ◌%◌, ◌≤◌, ◌==◌, ◌||◌, ◌&&◌, Bool, true, false, Option, Some, None, length, is_some, inl, inr, subst, refl, sym, ap, ◌∙◌, arith}
+use Rattle.std.proofs.Common.{◌≡◌, ◌≢◌, ◌⊎◌, ℕ, ◌+◌, ◌%◌, ◌≤◌, ◌==◌, ◌||◌, ◌&&◌, Bool, true, false, Option, Some, None, IfSome, length, is_some, inl, inr, subst, refl, sym, ap, ◌∙◌, arith}
 use Rattle.std.specs.Option.{option_or}
 use Rattle.std.proofs.lemmas.Option.{same_Some}
 use Rattle.std.proofs.lemmas.Bool.{eqb-true, cases_Bool}
 use Rattle.mapping_records.specs.declared.eid.Eid.{Eid}
 use Rattle.mapping_records.specs.Eids.{covers_eid}
-use Rattle.node_store.specs.Store.{Store, node_at, Changes}
+use Rattle.node_store.specs.Store.{Store, node_at, IsLive, Changes}
 use Rattle.prefix_table.specs.declared.node.Node.{Node}
 use Rattle.prefix_table.specs.Keys.{key_width, key_len, key_bits}
 use Rattle.prefix_table.specs.Tree.{Tree, side_bits}
@@ -15,7 +15,7 @@ use Rattle.prefix_table.specs.Grown.{IsTrieAt}
 use Rattle.prefix_table.specs.Shrunk.{Holds, Shrunk, Shrinks, Stays, Goes}
 use Rattle.prefix_table.proofs.Bits.{covers_parts}
 use Rattle.prefix_table.proofs.LongestLemmas.{side_of}
-use Rattle.prefix_table.proofs.SearchLemmas.{key_len-most}
+use Rattle.prefix_table.proofs.SearchLemmas.{key_len-most, named_live}
 use Rattle.prefix_table.proofs.TopLemmas.{Top, apart}
 use Rattle.prefix_table.proofs.PutLemmas.{open_at, even_side, same_key}
 use Rattle.prefix_table.proofs.ShrinkLemmas.{shrunk_none, shrunk_missed, shrunk_cleared, shrunk_to_low, shrunk_to_high, shrunk_low, shrunk_low_gone, shrunk_high, shrunk_high_gone}
@@ -147,7 +147,7 @@ module _ {V : Type 0} where
               let c = covers_parts top.eid eid covers in
               shrinks k.high (side_bits top.eid 1) (record { named = t.high_named; spelled = t.high_spelled; trie = t.high_trie }) (record { same_iid = refl; same_width = refl; longer = omega (arith, c.shorter, differs); front = side_of top.eid eid 1 c (omega (arith, c.shorter, differs)) (eqb-true _ _ bit) })
 
-          -- the node is still there
+          -- the node is still there, and the one that is left below it is
           pub there_low : Holds old where_ len eid → (key_bits eid (key_len top.eid + 1) % 2 == 1) ≡ false → Shrinks old mid top.zero (key_len top.eid + 1) eid below was → node_at mid at ≡ Some top
           there_low h bit shrinks =
               let k = known_at old where_ at top eid.iid (key_width eid) h.bits len h.tree h.is is found in
@@ -155,12 +155,24 @@ module _ {V : Type 0} where
               let g = low_shrunk bit shrinks h.tree h.bits k in
               g.kept at top found (apart old k.low at eid.iid (key_width eid) (side_bits top.eid 0) (key_len top.eid + 1) top t.low_spelled t.low_trie found (omega arith))
 
+          pub below_low : Holds old where_ len eid → (key_bits eid (key_len top.eid + 1) % 2 == 1) ≡ false → Shrinks old mid top.zero (key_len top.eid + 1) eid below was → IfSome below (IsLive mid)
+          below_low h bit shrinks =
+              let k = known_at old where_ at top eid.iid (key_width eid) h.bits len h.tree h.is is found in
+              let g = low_shrunk bit shrinks h.tree h.bits k in
+              named_live mid g.tree below g.named g.spelled
+
           pub there_high : Holds old where_ len eid → (key_bits eid (key_len top.eid + 1) % 2 == 1) ≡ true → Shrinks old mid top.one (key_len top.eid + 1) eid below was → node_at mid at ≡ Some top
           there_high h bit shrinks =
               let k = known_at old where_ at top eid.iid (key_width eid) h.bits len h.tree h.is is found in
               let t = k.here in
               let g = high_shrunk bit shrinks h.tree h.bits k in
               g.kept at top found (apart old k.high at eid.iid (key_width eid) (side_bits top.eid 1) (key_len top.eid + 1) top t.high_spelled t.high_trie found (omega arith))
+
+          pub below_high : Holds old where_ len eid → (key_bits eid (key_len top.eid + 1) % 2 == 1) ≡ true → Shrinks old mid top.one (key_len top.eid + 1) eid below was → IfSome below (IsLive mid)
+          below_high h bit shrinks =
+              let k = known_at old where_ at top eid.iid (key_width eid) h.bits len h.tree h.is is found in
+              let g = high_shrunk bit shrinks h.tree h.bits k in
+              named_live mid g.tree below g.named g.spelled
 
           module _ (new : Store (Node V)) (result : Option ℕ) (slots : length new.slots ≡ length mid.slots) where
             pub shrinks_low : (key_bits eid (key_len top.eid + 1) % 2 == 1) ≡ false → Shrinks old mid top.zero (key_len top.eid + 1) eid below was → ((is_some top.value || is_some below) ≡ true → Stays mid new at (record top { zero = below }) result) → ((is_some top.value || is_some below) ≡ false → Goes mid new at top.one result) → Shrinks old new where_ len eid result was

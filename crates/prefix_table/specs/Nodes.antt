@@ -1,29 +1,64 @@
--- Nodes as they are stored, and the EIDs beside them.
-use Rattle.std.specs.Prelude.{◌≡◌, ℕ, List, [], ◌∷◌, length, slice_get, Option, Some, None, IfSome}
+-- Nodes as they are stored: the way of each, which a way down reads, and its content beside it.
+use Rattle.std.specs.Prelude.{◌≡◌, ℕ, ◌^◌, ◌<◌, ◌==◌, List, [], ◌∷◌, length, slice_get, Option, Some, None, is_some, IfSome, if◌then◌else◌}
 use Rattle.std.specs.Option.{option_map}
-use Rattle.mapping_records.specs.declared.eid.Eid.{Eid}
 use Rattle.node_store.specs.Store.{Store, node_at}
-use Rattle.prefix_table.specs.Keys.{key_of}
+use Rattle.prefix_table.specs.Keys.{key_of, key_len}
+use Rattle.prefix_table.specs.declared.content.Content.{Content}
 use Rattle.prefix_table.specs.declared.node.Node.{Node}
-use Rattle.prefix_table.specs.declared.node.SlimNode.{SlimNode}
+use Rattle.prefix_table.specs.declared.node.Way.{Way}
+
+-- the link on a side without a node: no node has this name
+abbrev pub no_node : ℕ
+no_node = 4294967295
+
+-- the name of the node to which a link leads, or None
+abbrev pub linked : ℕ → Option ℕ
+linked link = if link == no_node then None else Some link
 
 module _ {V : Type 0} where
-  -- a stored node, with its EID
-  abbrev pub with_eid : Eid → SlimNode V → Node V
-  with_eid eid slim = record { eid = eid; value = slim.value; zero = slim.zero; one = slim.one }
+  -- a node with that content and the names of the nodes below it
+  abbrev pub node_with : Content V → Option ℕ → Option ℕ → Node V
+  node_with content zero one = record { eid = content.eid; value = content.value; zero = zero; one = one }
 
-  -- each slot of a store, with the EID beside it
-  abbrev pub slots_with : List (Option (SlimNode V)) → List Eid → List (Option (Node V))
-  slots_with [] eids = []
+  -- a node of its content and its way
+  abbrev pub node_of : Content V → Way → Node V
+  node_of content way = node_with content (linked way.zero) (linked way.one)
+
+  -- each slot of a store, with the content beside it
+  abbrev pub slots_with : List (Option Way) → List (Content V) → List (Option (Node V))
+  slots_with [] contents = []
   slots_with (slot ∷ slots) [] = None ∷ slots_with slots []
-  slots_with (slot ∷ slots) (eid ∷ eids) = option_map (with_eid eid) slot ∷ slots_with slots eids
+  slots_with (slot ∷ slots) (content ∷ contents) = option_map (node_of content) slot ∷ slots_with slots contents
 
-  -- a store as contracts see it: its nodes, with the EIDs beside them
-  abbrev pub whole : Store (SlimNode V) → List Eid → Store (Node V)
-  whole store eids = record { slots = slots_with store.slots eids; rooms = store.rooms }
+  -- a store as contracts see it: its nodes, with the contents beside their ways
+  abbrev pub whole : Store Way → List (Content V) → Store (Node V)
+  whole ways contents = record { slots = slots_with ways.slots contents; rooms = ways.rooms }
 
-  -- each slot has an EID beside it, and the key of each node is that of its EID
-  pub record IsWhole (store : Store (SlimNode V)) (eids : List Eid) : Type 0 where
-    pub beside : length eids ≡ length store.slots
-    pub keyed : (name : ℕ) (slim : SlimNode V) → node_at store name ≡ Some slim
-        → IfSome (slice_get eids name) (λ eid. slim.key ≡ key_of eid)
+  -- the way of a node has the length of its EID, and knows whether it has a value; its content has the EID's key
+  pub record Suits (way : Way) (content : Content V) : Type 0 where
+    pub len : way.len ≡ key_len content.eid
+    pub valued : way.valued ≡ is_some content.value
+    pub key : content.key ≡ key_of content.eid
+
+  -- the content beside a slot suits its way; where there is no node, it has no value
+  abbrev pub IsBeside : Option Way → Content V → Type 0
+  IsBeside None content = content.value ≡ None
+  IsBeside (Some way) content = Suits way content
+
+  -- each slot has its content beside it, and no slot has the name that no node has
+  pub record IsWhole (ways : Store Way) (contents : List (Content V)) : Type 0 where
+    pub same_length : length contents ≡ length ways.slots
+    pub small : length ways.slots < 2 ^ 32
+    pub beside : (name : ℕ) → IfSome (slice_get contents name) (IsBeside (node_at ways name))
+
+  -- a way is that of the node
+  pub record IsWayOf (top : Node V) (way : Way) : Type 0 where
+    pub zero : top.zero ≡ linked way.zero
+    pub one : top.one ≡ linked way.one
+    pub len : way.len ≡ key_len top.eid
+    pub valued : way.valued ≡ is_some top.value
+
+  -- a content is that of the node
+  pub record IsContentOf (top : Node V) (content : Content V) : Type 0 where
+    pub eid : content.eid ≡ top.eid
+    pub value : content.value ≡ top.value

@@ -17,7 +17,7 @@ pub record Table (V : Type 0) : Type 0 where
   pub spare : ℕ
   pub kept : ℕ
 
--- how many items a table's vectors have: roots, slots for nodes, EIDs beside them and names of free slots
+-- how many items a table's vectors have: roots, slots for nodes, contents beside them and names of free slots
 abbrev pub kept_in : {V : Type 0} → Store (Node V) → List Root → ℕ
 kept_in store roots = length roots + (2 * length store.slots + store.rooms)
 

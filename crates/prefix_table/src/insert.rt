@@ -8,7 +8,7 @@ ghost use Rattle.prefix_table.specs.Grown.{Puts, Takes};
 use crate::common::common;
 use crate::key::Key;
 use crate::node::Node;
-use crate::nodes::Nodes;
+use crate::nodes::{NodeRef, Nodes};
 use crate::place::{link_one, link_zero, swap_value};
 use crate::search::next_bit;
 use mapping_records::Eid;
@@ -51,11 +51,9 @@ fn put_under<V>(
         return put_leaf(store, eid, value);
     };
     let mut reads = Reads::new();
-    let (_, node) = store.read(at, &mut reads);
-    let len = node.key.len;
-    let zero = node.zero;
-    let one = node.one;
-    if !node.key.covers(sought) {
+    let NodeRef { content, zero, one } = store.read(at, &mut reads);
+    let len = content.key.len;
+    if !content.key.covers(sought) {
         return put_apart(store, at, eid, value, least);
     }
     if len == sought.len {
@@ -95,9 +93,7 @@ fn put_apart<V>(store: &mut Nodes<V>, at: u32, eid: &Eid, value: &mut Option<V>,
     ensures { (given : _) → value.old ≡ Some given
         → Puts store.old store.new (Some at) least eid.now given result value.new }
 {
-    let mut reads = Reads::new();
-    let (key, _) = store.read(at, &mut reads);
-    let key = *key;
+    let key = store.content(at).eid;
     if eid.covers(&key) {
         return put_above(store, at, key, *eid, value.take());
     }

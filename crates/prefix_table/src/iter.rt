@@ -6,7 +6,7 @@ ghost use Rattle.prefix_table.specs.Stacked.{stacked, AreUnder};
 ghost use Rattle.prefix_table.specs.Table.{pairs_under, IsRootIn};
 
 use crate::node::Root;
-use crate::nodes::Nodes;
+use crate::nodes::{NodeRef, Nodes};
 use crate::stack::Stack;
 use mapping_records::Eid;
 use node_store::Reads;
@@ -80,11 +80,11 @@ fn next_of<'a, V>(store: &'a Nodes<V>, stack: &mut Stack) -> Option<(&'a Eid, &'
     ensures under { AreUnder store.now 0 stack.new }
 {
     let name = stack.pop()?;
-    let (eid, node) = store.read(name, &mut Reads::new());
-    stack.push(node.one);
-    stack.push(node.zero);
-    match &node.value {
-        Some(value) => Some((eid, value)),
+    let NodeRef { content, zero, one } = store.read(name, &mut Reads::new());
+    stack.push(one);
+    stack.push(zero);
+    match &content.value {
+        Some(value) => Some((&content.eid, value)),
         None => next_of(store, stack),
     }
 }

@@ -2,6 +2,7 @@
 #![tactic(auto)]
 
 mod common;
+mod content;
 mod insert;
 mod iter;
 mod key;

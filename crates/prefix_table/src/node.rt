@@ -1,5 +1,7 @@
 // The nodes of the tries, and their roots.
-use crate::key::Key;
+ghost use Rattle.std.specs.Prelude.{◌≡◌, ◌≢◌, Some};
+ghost use Rattle.prefix_table.specs.Nodes.{linked, no_node};
+
 use mapping_records::Eid;
 
 /// A node of a trie. One without a value has nodes below it on both sides.
@@ -11,13 +13,41 @@ pub(crate) struct Node<V> {
     pub(crate) one: Option<u32>,
 }
 
-/// A node as it is stored: with the key of its EID in place of the EID.
-#[derive(Drop)]
-pub(crate) struct SlimNode<V> {
-    pub(crate) key: Key,
-    pub(crate) zero: Option<u32>,
-    pub(crate) one: Option<u32>,
-    pub(crate) value: Option<V>,
+/// What a way down reads of a node: 12 octets, so that nodes lie close together.
+#[derive(Clone, Copy, Drop)]
+pub(crate) struct Way {
+    // The links on the sides of the next bits 0 and 1.
+    pub(crate) zero: u32,
+    pub(crate) one: u32,
+    // The length of the node's EID.
+    pub(crate) len: u8,
+    pub(crate) valued: bool,
+}
+
+const _: () = prove!(std::mem::size_of::<Way>() == 12);
+
+// The link on a side without a node: no node has this name.
+const NO_NODE: u32 = u32::MAX;
+
+/// The name of the node to which a link leads, or None.
+pub(crate) fn linked(link: u32) -> Option<u32>
+    ensures { result ≡ linked link }
+{
+    if link == NO_NODE {
+        return None;
+    }
+    Some(link)
+}
+
+/// The link to the node of that name, or to none.
+pub(crate) fn link_to(name: Option<u32>) -> u32
+    requires { name ≢ Some no_node }
+    ensures { linked result ≡ name }
+{
+    match name {
+        Some(name) => name,
+        None => NO_NODE,
+    }
 }
 
 /// The root of the trie of an instance and family.

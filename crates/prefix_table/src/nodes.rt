@@ -1,25 +1,30 @@
-// Nodes, of which a way down reads little, and their EIDs beside them.
-ghost use Rattle.std.specs.Prelude.{◌≡◌, ◌+◌, ◌^◌, ◌<◌, ◌≤◌, [], max, length, slice_get, vec_capacity, OnOk, OnErr, Some, None, IfOk, IsOk};
+// Nodes, of which a way down reads little, and their contents beside them.
+ghost use Rattle.std.specs.Prelude.{◌≡◌, ◌+◌, ◌^◌, ◌<◌, ◌≤◌, [], max, length, OnOk, OnErr, Some, None, IfOk, IfSome, IsOk};
 ghost use Rattle.std.specs.Fn.{FnReturnsAt};
 ghost use Rattle.node_store.specs.Copies.{MakesCopies};
 ghost use Rattle.node_store.specs.Store.{node_at, IsLive, live, SameNodes, Changes};
 ghost use Rattle.prefix_table.specs.Keys.{key_of};
-ghost use Rattle.prefix_table.specs.Nodes.{with_eid};
+ghost use Rattle.prefix_table.specs.Nodes.{node_with, IsWayOf, IsContentOf};
 
-use crate::key::Key;
-use crate::node::{Node, SlimNode};
-use ip_headers::{Addr, Prefix};
-use mapping_records::Eid;
-use node_store::{NoMemory, NodeStore, Reads, copied};
+use crate::content::{Content, add_contents, copied_contents, fill};
+use crate::node::{Node, Way, link_to, linked};
+use node_store::{NoMemory, NodeStore, Reads};
 use std::alloc::Global;
 use std::marker::Model;
 
-/// Nodes, each under a name, with their EIDs in a list of their own.
+/// Nodes, each under a name: the ways close together, the contents in a list of their own.
 #[derive(Drop)]
 pub(crate) struct Nodes<V> {
-    pub(crate) slim: NodeStore<SlimNode<V>>,
-    // The EID of the node of each name. A name without a node has any EID.
-    pub(crate) eids: Vec<Eid>,
+    pub(crate) ways: NodeStore<Way>,
+    // The content of the node of each name. A name without a node has one without a value.
+    pub(crate) contents: Vec<Content<V>>,
+}
+
+/// A node as it is read: its content, and the names of the nodes below it.
+pub(crate) struct NodeRef<'a, V> {
+    pub(crate) content: &'a Content<V>,
+    pub(crate) zero: Option<u32>,
+    pub(crate) one: Option<u32>,
 }
 
 impl<V> Model for Nodes<V> {
@@ -29,9 +34,9 @@ impl<V> Model for Nodes<V> {
 
     ghost Value = { Store (Node V) };
 
-    ghost view = { λ nodes. whole nodes.slim nodes.eids.items };
+    ghost view = { λ nodes. whole nodes.ways nodes.contents.items };
 
-    ghost invariant = { λ nodes. IsWhole nodes.slim nodes.eids.items };
+    ghost invariant = { λ nodes. IsWhole nodes.ways nodes.contents.items };
 }
 
 impl<V> Nodes<V> {
@@ -41,8 +46,8 @@ impl<V> Nodes<V> {
         ensures rooms { result.rooms ≡ 0 }
     {
         Nodes {
-            slim: NodeStore::new(alloc),
-            eids: Vec::new(alloc),
+            ways: NodeStore::new(alloc),
+            contents: Vec::new(alloc),
         }
     }
 
@@ -55,14 +60,14 @@ impl<V> Nodes<V> {
         ensures slots { length self.new.slots ≡ live self.old + self.new.rooms }
         ensures err { OnErr result (self.new ≡ self.old) }
     {
-        let rooms = self.slim.rooms();
+        let rooms = self.ways.rooms();
         if n <= rooms {
             return Ok(());
         }
-        self.eids.reserve((n - rooms) as usize)?;
-        self.slim.make_room(n)?;
-        let all = self.eids.len() + (n - rooms) as usize;
-        add_eids(&mut self.eids, all);
+        self.contents.reserve((n - rooms) as usize)?;
+        self.ways.make_room(n)?;
+        let all = self.contents.len() + (n - rooms) as usize;
+        add_contents(&mut self.contents, all);
         Ok(())
     }
 
@@ -71,37 +76,62 @@ impl<V> Nodes<V> {
         ensures rooms { result ≡ self.now.rooms }
         ensures slots { length self.now.slots ≡ live self.now + result }
     {
-        self.slim.rooms()
+        self.ways.rooms()
     }
 
-    /// The node of that name, and a reference to its EID. The count of reads rises by one.
-    pub(crate) fn read(&self, name: u32, reads: &mut Reads) -> (&Eid, &SlimNode<V>)
+    /// What a way down reads of the node of that name. The count of reads rises by one.
+    pub(crate) fn way(&self, name: u32, reads: &mut Reads) -> Way
         requires live { IsLive self.now name }
         requires counts { reads.old + 1 < 2 ^ 64 }
-        ensures node { node_at self.now name ≡ Some (with_eid result.0.now result.1.now) }
-        ensures key { result.1.now.key ≡ key_of result.0.now }
+        ensures node { (top : _) → node_at self.now name ≡ Some top → IsWayOf top result }
         ensures count { reads.new ≡ reads.old + 1 }
     {
-        let node = self.slim.read(name, reads);
-        (&self.eids[name as usize], node)
+        *self.ways.read(name, reads)
+    }
+
+    /// The content of the node of that name.
+    pub(crate) fn content(&self, name: u32) -> &Content<V>
+        requires { IsLive self.now name }
+        ensures node { (top : _) → node_at self.now name ≡ Some top → IsContentOf top result.now }
+        ensures key { result.now.key ≡ key_of result.now.eid }
+    {
+        &self.contents[name as usize]
+    }
+
+    /// The node of that name. The count of reads rises by one.
+    pub(crate) fn read(&self, name: u32, reads: &mut Reads) -> NodeRef<'_, V>
+        requires live { IsLive self.now name }
+        requires counts { reads.old + 1 < 2 ^ 64 }
+        ensures node { node_at self.now name
+            ≡ Some (node_with result.content.now result.zero result.one) }
+        ensures key { result.content.now.key ≡ key_of result.content.now.eid }
+        ensures count { reads.new ≡ reads.old + 1 }
+    {
+        let way = self.way(name, reads);
+        NodeRef {
+            content: self.content(name),
+            zero: linked(way.zero),
+            one: linked(way.one),
+        }
     }
 
     /// Puts a node under a name that had none, and returns the name. Takes no memory.
     pub(crate) fn put(&mut self, node: Node<V>) -> u32
-        requires { 0 < self.old.rooms }
+        requires rooms { 0 < self.old.rooms }
+        requires zero { IfSome node.zero (IsLive self.old) }
+        requires one { IfSome node.one (IsLive self.old) }
         ensures fresh { node_at self.old result ≡ None }
         ensures changes { Changes self.old self.new result (Some node) }
         ensures rooms { self.new.rooms + 1 ≡ self.old.rooms }
         ensures slots { length self.new.slots ≡ length self.old.slots }
     {
-        let eid = node.eid;
-        let name = self.slim.put(SlimNode {
-            key: Key::of(&eid),
-            value: node.value,
-            zero: node.zero,
-            one: node.one,
+        let name = self.ways.put(Way {
+            zero: link_to(node.zero),
+            one: link_to(node.one),
+            len: node.eid.prefix.len,
+            valued: node.value.is_some(),
         });
-        self.eids[name as usize] = eid;
+        fill(&mut self.contents[name as usize], node.eid, node.value);
         name
     }
 }
@@ -114,58 +144,8 @@ impl<V: Drop> Nodes<V> {
         requires copies { MakesCopies (FnReturnsAt F.Fn each) }
         ensures { IfOk result (λ copy. copy ≡ self.now) }
     {
-        let slim = self
-            .slim
-            .copy(|node| copied_node(node, &each), &mut Reads::new())?;
-        let eids = copied(&self.eids)?;
-        Ok(Nodes { slim, eids })
-    }
-}
-
-fn copied_value<V: Drop, F: Fn(&V) -> Result<V, NoMemory>>(
-    value: &Option<V>,
-    each: &F,
-) -> Result<Option<V>, NoMemory>
-    requires callable { F.IsAlwaysCallable each.now }
-    requires copies { MakesCopies (FnReturnsAt F.Fn each.now) }
-    ensures { IfOk result (λ copy. copy ≡ value.now) }
-{
-    let Some(value) = value else {
-        return Ok(None);
-    };
-    let copy = each(value)?;
-    Ok(Some(copy))
-}
-
-fn copied_node<V: Drop, F: Fn(&V) -> Result<V, NoMemory>>(
-    node: &SlimNode<V>,
-    each: &F,
-) -> Result<SlimNode<V>, NoMemory>
-    requires callable { F.IsAlwaysCallable each.now }
-    requires copies { MakesCopies (FnReturnsAt F.Fn each.now) }
-    ensures { IfOk result (λ copy. copy ≡ node.now) }
-{
-    let value = copied_value(&node.value, each)?;
-    Ok(SlimNode {
-        key: node.key,
-        zero: node.zero,
-        one: node.one,
-        value,
-    })
-}
-
-// Adds EIDs, whichever, until there are `all`. Takes no memory.
-fn add_eids(eids: &mut Vec<Eid>, all: usize)
-    requires more { length eids.old.items ≤ all }
-    requires room { all ≤ vec_capacity eids.old }
-    ensures len { length eids.new.items ≡ all }
-    ensures kept { (i : _) → i < length eids.old.items
-        → slice_get eids.new.items i ≡ slice_get eids.old.items i }
-{
-    while eids.len() < all {
-        eids.push_reserved(Eid {
-            iid: 0,
-            prefix: Prefix::host(Addr::V4(0)),
-        });
+        let ways = self.ways.copy(|way| Ok(*way), &mut Reads::new())?;
+        let contents = copied_contents(&self.contents, &each)?;
+        Ok(Nodes { ways, contents })
     }
 }

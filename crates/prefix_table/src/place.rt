@@ -1,8 +1,9 @@
 // Writes of single nodes.
-ghost use Rattle.std.specs.Prelude.{◌≡◌, ◌+◌, length, Some, None};
+ghost use Rattle.std.specs.Prelude.{◌≡◌, ◌+◌, length, Some, None, IfSome};
 ghost use Rattle.node_store.specs.Store.{node_at, IsLive, Changes};
 ghost use Rattle.prefix_table.specs.Grown.{Becomes};
 
+use crate::node::link_to;
 use crate::nodes::Nodes;
 use std::mem;
 
@@ -14,30 +15,33 @@ pub(crate) fn swap_value<V>(store: &mut Nodes<V>, at: u32, value: &mut Option<V>
     ensures rooms { store.new.rooms ≡ store.old.rooms }
     ensures slots { length store.new.slots ≡ length store.old.slots }
 {
-    let node = store.slim.edit(at);
-    mem::swap(&mut node.value, value);
+    let way = store.ways.edit(at);
+    way.valued = value.is_some();
+    mem::swap(&mut store.contents[at as usize].value, value);
 }
 
 /// Sets the name of the node below a node on the side of the next bit 0.
 pub(crate) fn link_zero<V>(store: &mut Nodes<V>, at: u32, below: Option<u32>)
-    requires { IsLive store.old at }
+    requires live { IsLive store.old at }
+    requires below { IfSome below (IsLive store.old) }
     ensures changes { Becomes store.old store.new at (λ top. record top { zero = below }) }
     ensures rooms { store.new.rooms ≡ store.old.rooms }
     ensures slots { length store.new.slots ≡ length store.old.slots }
 {
-    let node = store.slim.edit(at);
-    node.zero = below;
+    let way = store.ways.edit(at);
+    way.zero = link_to(below);
 }
 
 /// Sets the name of the node below a node on the side of the next bit 1.
 pub(crate) fn link_one<V>(store: &mut Nodes<V>, at: u32, below: Option<u32>)
-    requires { IsLive store.old at }
+    requires live { IsLive store.old at }
+    requires below { IfSome below (IsLive store.old) }
     ensures changes { Becomes store.old store.new at (λ top. record top { one = below }) }
     ensures rooms { store.new.rooms ≡ store.old.rooms }
     ensures slots { length store.new.slots ≡ length store.old.slots }
 {
-    let node = store.slim.edit(at);
-    node.one = below;
+    let way = store.ways.edit(at);
+    way.one = link_to(below);
 }
 
 /// Takes the value out of a node, which stays, and returns it.
@@ -48,8 +52,9 @@ pub(crate) fn clear_value<V>(store: &mut Nodes<V>, at: u32) -> Option<V>
     ensures rooms { store.new.rooms ≡ store.old.rooms }
     ensures slots { length store.new.slots ≡ length store.old.slots }
 {
-    let node = store.slim.edit(at);
-    node.value.take()
+    let way = store.ways.edit(at);
+    way.valued = false;
+    store.contents[at as usize].value.take()
 }
 
 /// Removes a node, and returns its value.
@@ -60,5 +65,6 @@ pub(crate) fn drop_value<V>(store: &mut Nodes<V>, at: u32) -> Option<V>
     ensures rooms { store.new.rooms ≡ store.old.rooms + 1 }
     ensures slots { length store.new.slots ≡ length store.old.slots }
 {
-    store.slim.drop_node(at).value
+    store.ways.drop_node(at);
+    store.contents[at as usize].value.take()
 }

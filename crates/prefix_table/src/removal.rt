@@ -1,11 +1,11 @@
 // Removal of a pair from a trie.
-ghost use Rattle.std.specs.Prelude.{◌≡◌, length, Some, is_some};
+ghost use Rattle.std.specs.Prelude.{◌≡◌, length, Some, IfSome, is_some};
 ghost use Rattle.node_store.specs.Store.{node_at, IsLive};
 ghost use Rattle.prefix_table.specs.Keys.{key_of};
 ghost use Rattle.prefix_table.specs.Shrunk.{Holds, Shrinks, StaysWhere, GoesWhere};
 
 use crate::key::Key;
-use crate::nodes::Nodes;
+use crate::nodes::{NodeRef, Nodes};
 use crate::place::{clear_value, drop_value, link_one, link_zero};
 use mapping_records::Eid;
 use node_store::Reads;
@@ -41,12 +41,10 @@ fn take_under<V>(
         return (None, None);
     };
     let mut reads = Reads::new();
-    let (_, node) = store.read(at, &mut reads);
-    let len = node.key.len;
-    let valued = node.value.is_some();
-    let zero = node.zero;
-    let one = node.one;
-    if !node.key.covers(sought) {
+    let NodeRef { content, zero, one } = store.read(at, &mut reads);
+    let len = content.key.len;
+    let valued = content.value.is_some();
+    if !content.key.covers(sought) {
         return (Some(at), None);
     }
     if len == sought.len {
@@ -73,6 +71,7 @@ fn relink_zero<V>(
     below: Option<u32>,
 ) -> Option<u32>
     requires live { IsLive store.old at }
+    requires below { IfSome below (IsLive store.old) }
     requires valued { (top : _) → node_at store.old at ≡ Some top → valued ≡ is_some top.value }
     ensures stays { StaysWhere store.old store.new at (λ top. record top { zero = below }) below result }
     ensures goes { GoesWhere store.old store.new at one below result }
@@ -98,6 +97,7 @@ fn relink_one<V>(
     below: Option<u32>,
 ) -> Option<u32>
     requires live { IsLive store.old at }
+    requires below { IfSome below (IsLive store.old) }
     requires valued { (top : _) → node_at store.old at ≡ Some top → valued ≡ is_some top.value }
     ensures stays { StaysWhere store.old store.new at (λ top. record top { one = below }) below result }
     ensures goes { GoesWhere store.old store.new at zero below result }

@@ -97,7 +97,7 @@ impl<V> PrefixTable<V> {
         match find_root(&self.roots, root_key(eid)) {
             Ok(at) => {
                 let root = self.roots[at];
-                search::longest_where(&self.store, Some(root.name), eid, test, reads)
+                search::longest_where(&self.store, root.name, eid, test, reads)
             }
             Err(_) => None,
         }

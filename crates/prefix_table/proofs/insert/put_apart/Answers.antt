@@ -1,22 +1,30 @@
 use Rattle.std.proofs.Common.{refl}
-use Rattle.prefix_table.specs.Nodes.{with_eid}
-use Rattle.prefix_table.proofs.PutLemmas.{room_missed}
+use Rattle.node_store.specs.Store.{node_at}
+use Rattle.prefix_table.proofs.KeyLemmas.{given_of}
+use Rattle.prefix_table.proofs.PutLemmas.{live_taken, room_missed}
 use Rattle.prefix_table.proofs.insert.put_apart.Goals as goal
+
+pub content-requires : goal.content-requires
+content-requires g c = live_taken _ c.args.at c.args.eid.now c.args.least c.requires.takes
 
 pub put_above-requires-clause-rooms : goal.put_above-requires-clause-rooms
 put_above-requires-clause-rooms g c =
-    let top = with_eid c.read.result.0.now c.read.result.1.now in
-    room_missed _ _ c.args.at top c.args.eid.now c.args.least c.requires.takes refl c.read.ensures.node (c.requires.apart top c.read.ensures.node)
+    let top = given_of (node_at c.args.store.now c.args.at) (live_taken _ c.args.at c.args.eid.now c.args.least c.requires.takes) in
+    room_missed _ _ c.args.at top.value c.args.eid.now c.args.least c.requires.takes refl top.is (c.requires.apart top.value top.is)
 
 pub put_beside-requires-clause-rooms : goal.put_beside-requires-clause-rooms
 put_beside-requires-clause-rooms g c =
-    let top = with_eid c.read.result.0.now c.read.result.1.now in
-    room_missed _ _ c.args.at top c.args.eid.now c.args.least c.requires.takes refl c.read.ensures.node (c.requires.apart top c.read.ensures.node)
+    let top = given_of (node_at c.args.store.now c.args.at) (live_taken _ c.args.at c.args.eid.now c.args.least c.requires.takes) in
+    room_missed _ _ c.args.at top.value c.args.eid.now c.args.least c.requires.takes refl top.is (c.requires.apart top.value top.is)
 
 pub put_above-requires-clause-not_below : goal.put_above-requires-clause-not_below
 put_above-requires-clause-not_below g c =
-    c.requires.apart (with_eid c.read.result.0.now c.read.result.1.now) c.read.ensures.node
+    let top = given_of (node_at c.args.store.now c.args.at) (live_taken _ c.args.at c.args.eid.now c.args.least c.requires.takes) in
+    let node = c.content.ensures.node top.value top.is in
+    rw (node.eid) (c.requires.apart top.value top.is)
 
 pub put_beside-requires-clause-not_below : goal.put_beside-requires-clause-not_below
 put_beside-requires-clause-not_below g c =
-    c.requires.apart (with_eid c.read.result.0.now c.read.result.1.now) c.read.ensures.node
+    let top = given_of (node_at c.args.store.now c.args.at) (live_taken _ c.args.at c.args.eid.now c.args.least c.requires.takes) in
+    let node = c.content.ensures.node top.value top.is in
+    rw (node.eid) (c.requires.apart top.value top.is)

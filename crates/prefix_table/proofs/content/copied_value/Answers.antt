@@ -1,5 +1,5 @@
 use Rattle.std.proofs.Common.{Some, refl, sym, ap, ◌∙◌}
-use Rattle.prefix_table.proofs.nodes.copied_value.Goals as goal
+use Rattle.prefix_table.proofs.content.copied_value.Goals as goal
 
 pub returns : goal.returns
 returns g c =
