@@ -1,5 +1,5 @@
 -- What is among the items of a list, and what holds between those before and those behind.
-use Rattle.std.proofs.Common.{◌≡◌, ◌⊎◌, ℕ, zero, suc, ◌||◌, ◌&&◌, Bool, true, false, List, [], ◌∷◌, drop, slice_get, All, AllPairs, Some, inl, inr, refl, ap, ap₂, subst, ◌∙◌, arith}
+use Rattle.std.proofs.Common.{◌≡◌, ◌⊎◌, ℕ, zero, suc, ◌||◌, ◌&&◌, ◌++◌, Bool, true, false, List, [], ◌∷◌, drop, map, remove, slice_get, All, AllPairs, Some, inl, inr, refl, sym, ap, ap₂, subst, ◌∙◌, arith}
 use Rattle.std.specs.List.{list_all, list_any}
 use Rattle.std.proofs.lemmas.Option.{same_Some}
 
@@ -25,6 +25,51 @@ module _ {A : Type 0} where
   among-all P (y ∷ items) x all among = elim among [
     | inl here ↦ subst P here (all 0 y (omega arith))
     | inr later ↦ among-all P items x (λ k d within. all (suc k) d (omega (arith, within))) later
+  ]
+
+  -- what holds of each item
+  pub all-among : (P : A → Type 0) (items : List A) → ((x : A) → Among x items → P x) → All P items
+  all-among P [] each k d within = absurd (omega (arith, within))
+  all-among P (y ∷ items) each zero d within = each y (inl refl)
+  all-among P (y ∷ items) each (suc k) d within = all-among P items (λ x among. each x (inr among)) k d (omega (arith, within))
+
+  -- ### one more item, or one less
+
+  pub among-more : (items : List A) (x y : A) → Among y items → Among y (items ++ x ∷ [])
+  among-more [] x y among = absurd among
+  among-more (z ∷ items) x y among = elim among [ inl here ↦ inl here | inr later ↦ inr (among-more items x y later) ]
+
+  pub among-end : (items : List A) (x : A) → Among x (items ++ x ∷ [])
+  among-end [] x = inl refl
+  among-end (z ∷ items) x = inr (among-end items x)
+
+  -- an item is among the first ones, or the last
+  pub among-first_last : (items : List A) (x y : A) → Among y (items ++ x ∷ []) → Among y items ⊎ (x ≡ y)
+  among-first_last [] x y among = elim among [ inl here ↦ inr here | inr none ↦ absurd none ]
+  among-first_last (z ∷ items) x y among = elim among [
+    | inl here ↦ inl (inl here)
+    | inr later ↦ elim (among-first_last items x y later) [ inl first ↦ inl (inr first) | inr last ↦ inr last ]
+  ]
+
+  pub among-remove : (items : List A) (place : ℕ) (y : A) → Among y (remove items place) → Among y items
+  among-remove [] zero y among = among
+  among-remove [] (suc place) y among = among
+  among-remove (z ∷ items) zero y among = inr among
+  among-remove (z ∷ items) (suc place) y among = elim among [
+    | inl here ↦ inl here
+    | inr later ↦ inr (among-remove items place y later)
+  ]
+
+  -- all but the item at the place are left
+  pub among-left : (items : List A) (place : ℕ) (x y : A) → slice_get items place ≡ Some x → (x ≡ y → ⊥) → Among y items → Among y (remove items place)
+  among-left [] place x y at apart among = absurd among
+  among-left (z ∷ items) zero x y at apart among = elim among [
+    | inl here ↦ absurd (apart (sym (same_Some z x at) ∙ here))
+    | inr later ↦ later
+  ]
+  among-left (z ∷ items) (suc place) x y at apart among = elim among [
+    | inl here ↦ inl here
+    | inr later ↦ inr (among-left items place x y at apart later)
   ]
 
   -- one of the items that passes
@@ -74,3 +119,21 @@ module _ {A : Type 0} where
     pairs-behind (z ∷ items) zero x y pairs is among =
         subst (λ (w : A). R w y) (same_Some z x is) (pairs-behind_first z items y pairs among)
     pairs-behind (z ∷ items) (suc n) x y pairs is among = pairs-behind items n x y (pairs-tail z items pairs) is among
+
+    -- one that was removed, and one that is left
+    pub pairs-removed : (items : List A) (place : ℕ) (x y : A) → AllPairs R items → slice_get items place ≡ Some x → Among y (remove items place) → R x y ⊎ R y x
+    pairs-removed [] place x y pairs at among = absurd (cc at)
+    pairs-removed (z ∷ items) zero x y pairs at among =
+        inl (subst (λ (w : A). R w y) (same_Some z x at) (pairs-behind_first z items y pairs among))
+    pairs-removed (z ∷ items) (suc place) x y pairs at among = elim among [
+      | inl here ↦ inr (subst (λ (w : A). R w x) here (pairs-behind_first z items x pairs (among-at items place x at)))
+      | inr later ↦ pairs-removed items place x y (pairs-tail z items pairs) at later
+    ]
+
+-- an item of which one of a mapped list was made
+pub among-mapped : {A B : Type 0} (f : A → B) (items : List A) (y : B) → Among y (map f items) → (x : A) × Among x items × (f x ≡ y)
+among-mapped f [] y among = absurd among
+among-mapped f (z ∷ items) y among = elim among [
+  | inl here ↦ (z, inl refl, here)
+  | inr later ↦ let rest = among-mapped f items y later in (rest.0, inr rest.1, rest.2)
+]

@@ -1,86 +1,18 @@
 -- Items of a key that are changed, those with the greatest numbers first.
-use Rattle.std.proofs.Common.{◌≡◌, ℕ, zero, suc, ◌<◌, ◌&&◌, ◌||◌, Bool, true, cond, List, [], ◌∷◌, get_or, map, nat_le, slice_get, slice_set, All, Some, None, inl, inr, refl, sym, ap, ap₂, subst, ◌∙◌, arith}
-use Rattle.std.specs.List.{list_any}
+use Rattle.std.proofs.Common.{◌≡◌, ℕ, ◌<◌, ◌&&◌, Bool, true, cond, List, [], ◌∷◌, map, nat_le, slice_get, slice_set, All, Some, None, inl, inr, refl, sym, ap, subst, ◌∙◌, arith}
 use Rattle.std.specs.Option.{option_map}
-use Rattle.std.proofs.lemmas.Bool.{and_from, and_left, and_parts, and_right, both_ways, cases_Bool, cases_eq, cases_lt, cases_order, le-leb, lt-leb, lt-ltb}
-use Rattle.std.proofs.lemmas.List.{get_or-set_other, get_or-set_same, length-set}
-use Rattle.std.proofs.lemmas.Option.{get_or_from_slice_get, same_Some, slice_get-map, slice_get_within}
-use Rattle.keyed_list.specs.Keyed.{Ascends, changed_with, has_age, has_mark, is_below, is_key, IsKeyed}
+use Rattle.std.proofs.lemmas.Bool.{and_from, and_left, and_parts, and_right, both_ways, cases_Bool, cases_lt, le-leb, lt-leb, lt-ltb}
+use Rattle.std.proofs.lemmas.Option.{same_Some, slice_get-map}
+use Rattle.keyed_list.specs.Keyed.{Ascends, changed_with, is_below, is_key}
 use Rattle.keyed_list.specs.Lists.{last_where}
-use Rattle.keyed_list.specs.declared.key.Age.{Age}
 use Rattle.keyed_list.specs.declared.key.Key.{Key}
-use Rattle.keyed_list.specs.declared.key.Mark.{Mark}
 use Rattle.keyed_list.specs.declared.keyed.Marks.{Marks}
 use Rattle.keyed_list.specs.declared.keyed.Numbered.{Numbered}
 use Rattle.keyed_list.proofs.AmongLemmas.{among-all, among-at}
+use Rattle.keyed_list.proofs.EditLemmas.{map-same, map-stays, set-map}
 use Rattle.keyed_list.proofs.FitsLemmas.{below-number}
 use Rattle.keyed_list.proofs.LastLemmas.{none-last, IsLast}
-
--- ### an item in the place of one with its number and its marks
-
-any-set : {A : Type 0} (test : A → Bool) (items : List A) (place : ℕ) (x y : A) → slice_get items place ≡ Some x → test y ≡ test x → list_any test (slice_set items place y) ≡ list_any test items
-any-set test [] place x y at same = absurd (cc at)
-any-set test (z ∷ items) zero x y at same = ap (λ b. b || list_any test items) (same ∙ ap test (sym (same_Some z x at)))
-any-set test (z ∷ items) (suc place) x y at same = ap (λ b. test z || b) (any-set test items place x y at same)
-
-module _ {T : Type 0} (items : List (Numbered T)) (place : ℕ) (x y : Numbered T) (at : slice_get items place ≡ Some x) (same : y.number ≡ x.number) where
-  number-set : (k : ℕ) (d : Numbered T) → (get_or (slice_set items place y) k d).number ≡ (get_or items k d).number
-  number-set k d = elim (cases_eq k place) [
-    | inl here ↦
-        ap (λ n. (get_or (slice_set items place y) n d).number) here
-        ∙ ap (λ (z : Numbered T). z.number) (get_or-set_same items place y d (slice_get_within items place x at))
-        ∙ same
-        ∙ sym (ap (λ n. (get_or items n d).number) here ∙ ap (λ (z : Numbered T). z.number) (get_or_from_slice_get items place x d at))
-    | inr apart ↦ ap (λ (z : Numbered T). z.number) (get_or-set_other items place k y d apart)
-  ]
-
-  pub less-set : (bound : ℕ) → All (λ z. z.number < bound) items → All (λ z. z.number < bound) (slice_set items place y)
-  less-set bound all k d within =
-      subst (λ n. n < bound) (sym (number-set k d)) (all k d (omega (arith, within, length-set items place y)))
-
-  pub keyed-set : (marks_of : T → Marks) (index : List Mark) (ages : List Age) → IsKeyed marks_of items index ages → marks_of y.item ≡ marks_of x.item → IsKeyed marks_of (slice_set items place y) index ages
-  keyed-set marks_of index ages keyed marks = record {
-    ascends = λ j k d less within.
-        subst (λ n. n < (get_or (slice_set items place y) k d).number) (sym (number-set j d))
-        (subst (λ n. (get_or items j d).number < n) (sym (number-set k d)) (keyed.ascends j k d less (omega (arith, within, length-set items place y))));
-    found = λ mark. keyed.found mark ∙ sym (any-set (λ z. has_mark mark z.number (marks_of z.item)) items place x y at (ap₂ (has_mark mark) same marks));
-    aged = λ age. keyed.aged age ∙ sym (any-set (λ z. has_age age z.number (marks_of z.item)) items place x y at (ap₂ (has_age age) same marks));
-  }
-
--- ### what is made of items
-
-map-same : {A B : Type 0} (f g : A → B) (items : List A) → ((k : ℕ) (z : A) → slice_get items k ≡ Some z → f z ≡ g z) → map f items ≡ map g items
-map-same f g [] each = refl
-map-same f g (x ∷ items) each = ap₂ (λ a b. a ∷ b) (each 0 x refl) (map-same f g items (λ k z at. each (suc k) z at))
-
-set-map : {A B : Type 0} (f g : A → B) (items : List A) (place : ℕ) (y : B) → ((z : A) → slice_get items place ≡ Some z → y ≡ g z)
-    → ((k : ℕ) (z : A) → slice_get items k ≡ Some z → (k ≡ place → ⊥) → f z ≡ g z) → slice_set (map f items) place y ≡ map g items
-set-map f g [] zero y here others = refl
-set-map f g [] (suc place) y here others = refl
-set-map f g (x ∷ items) zero y here others =
-    ap₂ (λ a b. a ∷ b) (here x refl) (map-same f g items (λ k z at. others (suc k) z at (λ e. absurd (omega (arith, e)))))
-set-map f g (x ∷ items) (suc place) y here others =
-    ap₂ (λ a b. a ∷ b) (others 0 x refl (λ e. absurd (omega (arith, e)))) (set-map f g items place y here (λ k z at apart. others (suc k) z at (λ e. apart (omega (arith, e)))))
-
--- ### items whose numbers ascend
-
-abbrev pub made : {T : Type 0} → ℕ → T → Numbered T
-made number item = record { number = number; item = item }
-
-module _ {T : Type 0} (items : List (Numbered T)) where
-  ascend-at : (j k : ℕ) (a b : Numbered T) → Ascends items → j < k → slice_get items j ≡ Some a → slice_get items k ≡ Some b → a.number < b.number
-  ascend-at j k a b ascends less at_j at_k =
-      subst (λ (x : Numbered T). x.number < b.number) (get_or_from_slice_get items j a a at_j)
-      (subst (λ (y : Numbered T). (get_or items j a).number < y.number) (get_or_from_slice_get items k b a at_k) (ascends j k a less (slice_get_within items k b at_k)))
-
-  same-place : (j k : ℕ) (a b : Numbered T) → Ascends items → slice_get items j ≡ Some a → slice_get items k ≡ Some b → a.number ≡ b.number → j ≡ k
-  same-place j k a b ascends at_j at_k same = elim (cases_order j k) [
-    | inl here ↦ here
-    | inr apart ↦ elim apart [
-      | inl less ↦ absurd (omega (arith, same, ascend-at j k a b ascends less at_j at_k))
-      | inr more ↦ absurd (omega (arith, same, ascend-at k j b a ascends more at_k at_j))
-    ]
-  ]
+use Rattle.keyed_list.proofs.SetLemmas.{made, same-place}
 
 module _ {T : Type 0} (marks_of : T → Marks) (key : Key) where
   -- the item has the key, and this or a greater number
@@ -88,7 +20,7 @@ module _ {T : Type 0} (marks_of : T → Marks) (key : Key) where
   is_from bound x = is_key marks_of key x.item && nat_le bound x.number
 
   abbrev changed_if : (T → T) → Bool → Numbered T → Numbered T
-  changed_if changed told x = made x.number (cond told (changed x.item) x.item)
+  changed_if changed told x = made x (cond told (changed x.item) x.item)
 
   -- the item, which was changed where it has the key, and this or a greater number
   abbrev pub changed_from : ℕ → (T → T) → Numbered T → Numbered T
@@ -99,13 +31,9 @@ module _ {T : Type 0} (marks_of : T → Marks) (key : Key) where
   below-same bound changed x less =
       ap (λ b. changed_if changed b x) (and_right (is_key marks_of key x.item) (nat_le bound x.number) (lt-leb _ _ less))
 
-  map-itself : {A : Type 0} (items : List A) → map (λ x. x) items ≡ items
-  map-itself [] = refl
-  map-itself (x ∷ items) = ap (λ more. x ∷ more) (map-itself items)
-
   pub none-changed : (bound : ℕ) (changed : T → T) (items : List (Numbered T)) → All (λ x. x.number < bound) items → items ≡ map (changed_from bound changed) items
   none-changed bound changed items all =
-      sym (map-same (changed_from bound changed) (λ x. x) items (λ k x at. below-same bound changed x (among-all (λ y. y.number < bound) items x all (among-at items k x at))) ∙ map-itself items)
+      sym (map-stays (changed_from bound changed) items (λ k x at. below-same bound changed x (among-all (λ y. y.number < bound) items x all (among-at items k x at))))
 
   module _ (bound : ℕ) (changed : T → T) (old items : List (Numbered T)) (are : items ≡ map (changed_from bound changed) old) where
     now-at : (k : ℕ) (z : Numbered T) → slice_get old k ≡ Some z → slice_get items k ≡ Some (changed_from bound changed z)
@@ -136,18 +64,18 @@ module _ {T : Type 0} (marks_of : T → Marks) (key : Key) where
         ]
       ]
 
-      changed-there : (new : T) → new ≡ changed x.item → (z : Numbered T) → slice_get old place ≡ Some z → made x.number new ≡ changed_from x.number changed z
+      changed-there : (new : T) → new ≡ changed x.item → (z : Numbered T) → slice_get old place ≡ Some z → made x new ≡ changed_from x.number changed z
       changed-there new is z there =
           let now : changed_from bound changed z ≡ x = same_Some _ x (sym (now-at place z there) ∙ at) in
           let lower : z.number < bound = subst (λ n. n < bound) (sym (ap (λ (y : Numbered T). y.number) now)) less in
-          subst (λ (y : Numbered T). made x.number new ≡ changed_from x.number changed y) (sym now ∙ below-same bound changed z lower)
-          (ap (made x.number) is ∙ sym (ap (λ b. changed_if changed b x) (and_from _ _ (and_parts _ _ last.passes).0 (le-leb x.number x.number (omega arith)))))
+          subst (λ (y : Numbered T). made x new ≡ changed_from x.number changed y) (sym now ∙ below-same bound changed z lower)
+          (ap (made x) is ∙ sym (ap (λ b. changed_if changed b x) (and_from _ _ (and_parts _ _ last.passes).0 (le-leb x.number x.number (omega arith)))))
 
       -- once the last one below is changed, those with its number and greater ones are
-      pub changed-next : (new : T) → new ≡ changed x.item → slice_set items place (made x.number new) ≡ map (changed_from x.number changed) old
+      pub changed-next : (new : T) → new ≡ changed x.item → slice_set items place (made x new) ≡ map (changed_from x.number changed) old
       changed-next new is =
-          ap (λ l. slice_set l place (made x.number new)) are
-          ∙ set-map (changed_from bound changed) (changed_from x.number changed) old place (made x.number new) (changed-there new is) (λ k z there apart. ap (λ b. changed_if changed b z) (told-same k z there apart))
+          ap (λ l. slice_set l place (made x new)) are
+          ∙ set-map (changed_from bound changed) (changed_from x.number changed) old place (made x new) (changed-there new is) (λ k z there apart. ap (λ b. changed_if changed b z) (told-same k z there apart))
 
     -- where none below has the key, all that do are changed
     pub all-changed : None ≡ last_where (is_below marks_of key bound) items → map (λ y. y.item) items ≡ map (changed_with marks_of key changed) (map (λ y. y.item) old)

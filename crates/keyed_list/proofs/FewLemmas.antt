@@ -3,21 +3,25 @@ use Rattle.std.proofs.Common.{◌≡◌, ℕ, ◌*◌, ◌≤◌, ◌||◌, Bool
 use Rattle.std.specs.Cmp.{IsTotalOrder}
 use Rattle.std.specs.List.{list_any}
 use Rattle.std.specs.List.Sorted.{IsStrictlySortedBy}
+use Rattle.std.specs.Option.{option_map}
 use Rattle.std.specs.Ordering.{eq_by_cmp}
 use Rattle.std.specs.Set.{is_member}
+use Rattle.std.proofs.lemmas.Bool.{both_ways}
 use Rattle.std.proofs.lemmas.Cmp.{eq_by_cmp_equiv}
 use Rattle.std.proofs.lemmas.List.{length-map}
 use Rattle.std.proofs.lemmas.List.Elements.{recursion_from_All}
 use Rattle.std.proofs.lemmas.Map.Keys.{IsDistinct-from_sorted}
 use Rattle.std.proofs.lemmas.Map.Made.{length-le_from_is_member}
 use Rattle.ordered_set.specs.Keys.{has, Ascends}
-use Rattle.keyed_list.specs.Keyed.{has_age, has_mark, is_mark, is_other_mark, IsKeyed}
-use Rattle.keyed_list.specs.Keys.{age_order, age_order-total, mark_order, mark_order-total}
+use Rattle.keyed_list.specs.Keyed.{has_age, is_key, is_other, last_of, IsKeyed}
+use Rattle.keyed_list.specs.Keys.{age_order, age_order-total, mark_order, mark_order-total, same_key}
 use Rattle.keyed_list.specs.declared.key.Age.{Age}
 use Rattle.keyed_list.specs.declared.key.Key.{Key}
 use Rattle.keyed_list.specs.declared.key.Mark.{Mark}
 use Rattle.keyed_list.specs.declared.keyed.Marks.{Marks}
 use Rattle.keyed_list.specs.declared.keyed.Numbered.{Numbered}
+use Rattle.keyed_list.proofs.AmongLemmas.{among-any, any-among, Among}
+use Rattle.keyed_list.proofs.LastLemmas.{last-among, last-passes, none-last}
 
 -- ### keys that ascend
 
@@ -39,6 +43,10 @@ module _ {K : Type 0} (order : K → K → Ordering) (total : IsTotalOrder order
   at_most keys others ascends among =
       length-le_from_is_member (eq_by_cmp_equiv total) keys others (IsDistinct-from_sorted order keys (sorted keys ascends)) (λ key is. member-has others key ∙ among key (sym (member-has keys key) ∙ is))
 
+pub none-map : {A B : Type 0} (f : A → B) (o : Option A) → option_map f o ≡ None → o ≡ None
+none-map f None is = refl
+none-map f (Some x) is = absurd (cc is)
+
 module _ {T : Type 0} (marks_of : T → Marks) where
   -- ### by key
 
@@ -54,15 +62,15 @@ module _ {T : Type 0} (marks_of : T → Marks) where
   all_marks [] = []
   all_marks (x ∷ items) = mark_of x ∷ other_before x.number (marks_of x.item).other (all_marks items)
 
-  other-had : (mark : Mark) (number : ℕ) (other : Option Key) (marks : List Mark) (a b : Bool) → has mark_order mark marks ≡ b → (a || has mark_order mark (other_before number other marks)) ≡ ((a || is_other_mark mark number other) || b)
+  other-had : (mark : Mark) (number : ℕ) (other : Option Key) (marks : List Mark) (a b : Bool) → has mark_order mark marks ≡ b → (a || has mark_order mark (other_before number other marks)) ≡ ((a || is_other other mark.key) || b)
   other-had mark number other marks true b is = refl
   other-had mark number None marks false b is = is
-  other-had mark number (Some key) marks false b is = ap (λ c. is_mark mark number key || c) is
+  other-had mark number (Some key) marks false b is = ap (λ c. same_key key mark.key || c) is
 
-  marks-had : (mark : Mark) (items : List (Numbered T)) → has mark_order mark (all_marks items) ≡ list_any (λ x. has_mark mark x.number (marks_of x.item)) items
+  marks-had : (mark : Mark) (items : List (Numbered T)) → has mark_order mark (all_marks items) ≡ list_any (λ x. is_key marks_of mark.key x.item) items
   marks-had mark [] = refl
   marks-had mark (x ∷ items) =
-      other-had mark x.number (marks_of x.item).other (all_marks items) (is_mark mark x.number (marks_of x.item).key) _ (marks-had mark items)
+      other-had mark x.number (marks_of x.item).other (all_marks items) (same_key (marks_of x.item).key mark.key) _ (marks-had mark items)
 
   length-other : (number : ℕ) (other : Option Key) (marks : List Mark) → length (other_before number other marks) ≤ suc (length marks)
   length-other number None marks = omega arith
@@ -85,10 +93,23 @@ module _ {T : Type 0} (marks_of : T → Marks) where
   ages-had age (x ∷ some) = ap (λ b. has_age age x.number (marks_of x.item) || b) (ages-had age some)
 
   module _ (items : List (Numbered T)) (index : List Mark) (ages : List Age) (keyed : IsKeyed marks_of items index ages) where
+    -- a key that has a mark is that of an item
+    found : (mark : Mark) → has mark_order mark index ≡ true → has mark_order mark (all_marks items) ≡ true
+    found mark is =
+        let one = among-any (λ (other : Mark). same_key other.key mark.key) index is in
+        marks-had mark items ∙ by one.item one.among one.passes (last_of marks_of mark.key items) refl
+      where
+        by : (other : Mark) → Among other index → same_key other.key mark.key ≡ true → (o : Option (Numbered T)) → last_of marks_of mark.key items ≡ o → list_any (λ x. is_key marks_of mark.key x.item) items ≡ true
+        by other among same None none =
+            let number = keyed.found mark.key ∙ ap (option_map (λ x. x.number)) none in
+            absurd (both_ways _ (none-last (λ other. same_key other.key mark.key) index (none-map (λ (m : Mark). m.number) _ number) other among) same)
+        by other among same (Some x) some =
+            any-among (λ x. is_key marks_of mark.key x.item) items x (last-passes (λ x. is_key marks_of mark.key x.item) items x some) (last-among (λ x. is_key marks_of mark.key x.item) items x some)
+
     -- there are at most two marks for each item
     pub marks-few : Ascends mark_order index → length index ≤ 2 * length items
     marks-few ascends =
-        let few = at_most mark_order mark_order-total index (all_marks items) ascends (λ mark is. marks-had mark items ∙ sym (keyed.found mark) ∙ is) in
+        let few = at_most mark_order mark_order-total index (all_marks items) ascends found in
         omega (arith, few, length-all_marks items)
 
     -- there are no more ages than items

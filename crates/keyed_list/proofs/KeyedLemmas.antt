@@ -1,5 +1,5 @@
 -- What finds items still does, once one of them comes or goes.
-use Rattle.std.proofs.Common.{◌≡◌, ℕ, zero, suc, ◌+◌, ◌<◌, ◌&&◌, ◌||◌, not, Bool, true, false, List, [], ◌∷◌, ◌++◌, drop, eqb-true, insert, length, map, remove, slice_get, take, All, AllPairs, Some, inl, inr, refl, sym, ap, ap₂, ◌∙◌, arith}
+use Rattle.std.proofs.Common.{◌≡◌, ℕ, zero, suc, ◌+◌, ◌<◌, ◌&&◌, ◌||◌, not, Bool, true, false, cond, List, [], ◌∷◌, ◌++◌, drop, eqb-true, insert, length, map, remove, slice_get, take, All, AllPairs, Some, inl, inr, refl, sym, ap, ap₂, ◌∙◌, arith}
 use Rattle.std.specs.List.{list_any}
 use Rattle.std.proofs.Math.Bool.{or-false, or_comm}
 use Rattle.std.proofs.lemmas.Bool.{and_parts, cases_Bool}
@@ -7,17 +7,20 @@ use Rattle.std.proofs.lemmas.List.{drop_all, take_all}
 use Rattle.std.proofs.lemmas.List.Elements.{All-append, All-cons, All-drop, All-nil, All-take, All-weaker}
 use Rattle.std.proofs.lemmas.List.Folds.{list_any-append}
 use Rattle.std.proofs.lemmas.List.Kept.{AllPairs-cons}
-use Rattle.std.proofs.lemmas.List.Quantifiers.{all_pairs_remove}
-use Rattle.std.proofs.lemmas.Option.{same_Some, slice_get_within}
+use Rattle.std.proofs.lemmas.Option.{same_Some}
 use Rattle.ordered_set.specs.Keys.{has}
-use Rattle.keyed_list.specs.Keyed.{has_age, has_mark, IsKeyed}
-use Rattle.keyed_list.specs.Keys.{age_order, mark_order}
+use Rattle.keyed_list.specs.Keyed.{bare, has_age, has_key, number_of, IsFound, IsKeyed, IsLinked}
+use Rattle.keyed_list.specs.Keys.{age_order, same_key}
 use Rattle.keyed_list.specs.declared.key.Age.{Age}
+use Rattle.keyed_list.specs.declared.key.Key.{Key}
 use Rattle.keyed_list.specs.declared.key.Mark.{Mark}
 use Rattle.keyed_list.specs.declared.keyed.Marks.{Marks}
 use Rattle.keyed_list.specs.declared.keyed.Numbered.{Numbered}
 use Rattle.keyed_list.proofs.AmongLemmas.{among-any, among-at, pairs-behind_first, pairs-tail}
-use Rattle.keyed_list.proofs.OrderLemmas.{has_age-is, has_mark-is}
+use Rattle.keyed_list.proofs.BareLemmas.{bare-any, bare-ascends}
+use Rattle.keyed_list.proofs.NumberLemmas.{ascends-left}
+use Rattle.keyed_list.proofs.OrderLemmas.{has_age-is}
+use Rattle.keyed_list.proofs.PushLemmas.{found-push, linked-push}
 
 -- ### lists
 
@@ -49,12 +52,6 @@ module _ {A : Type 0} where
         | inr fails ↦ fails
       ])
 
-  pub map-remove : {B : Type 0} (f : A → B) (items : List A) (place : ℕ) → map f (remove items place) ≡ remove (map f items) place
-  map-remove f [] zero = refl
-  map-remove f [] (suc place) = refl
-  map-remove f (y ∷ items) zero = refl
-  map-remove f (y ∷ items) (suc place) = ap (λ more. f y ∷ more) (map-remove f items place)
-
   pub insert-end : (items : List A) (n : ℕ) (x : A) → n ≡ length items → insert items n x ≡ items ++ x ∷ []
   insert-end items n x is = ap₂ (λ a b. a ++ x ∷ b) (take_all n items (omega (arith, is))) (drop_all n items (omega (arith, is)))
 
@@ -70,63 +67,61 @@ module _ {A : Type 0} where
 -- ### numbers
 
 module _ {T : Type 0} (items : List (Numbered T)) where
-  pub less-push : (number : ℕ) (item : T) → All (λ y. y.number < number) items → All (λ y. y.number < number + 1) (items ++ record { number = number; item = item } ∷ [])
-  less-push number item all =
-      All-append (λ y. y.number < number + 1) items (record { number = number; item = item } ∷ [])
-      (All-weaker (λ y. y.number < number) (λ y. y.number < number + 1) (λ y less. omega (arith, less)) items all)
-      (All-cons (λ y. y.number < number + 1) (record { number = number; item = item }) [] (omega arith) (All-nil (λ y. y.number < number + 1)))
+  pub less-push : (x : Numbered T) → All (λ y. y.number < x.number) items → All (λ y. y.number < x.number + 1) (items ++ x ∷ [])
+  less-push x all =
+      All-append (λ y. y.number < x.number + 1) items (x ∷ [])
+      (All-weaker (λ y. y.number < x.number) (λ y. y.number < x.number + 1) (λ y less. omega (arith, less)) items all)
+      (All-cons (λ y. y.number < x.number + 1) x [] (omega arith) (All-nil (λ y. y.number < x.number + 1)))
 
   pub less-remove : (place bound : ℕ) → All (λ y. y.number < bound) items → All (λ y. y.number < bound) (remove items place)
   less-remove place bound all =
       All-append (λ y. y.number < bound) (take place items) (drop (suc place) items)
       (All-take (λ y. y.number < bound) place items all) (All-drop (λ y. y.number < bound) (suc place) items all)
 
-marks-number : (mark : Mark) (number : ℕ) (marks : Marks) → has_mark mark number marks ≡ true → number ≡ mark.number
-marks-number mark number marks is = eqb-true _ _ (and_parts _ _ (sym (has_mark-is mark number marks) ∙ is)).1
-
 age-number : (age : Age) (number : ℕ) (marks : Marks) → has_age age number marks ≡ true → number ≡ age.number
 age-number age number marks is = eqb-true _ _ (and_parts _ _ (sym (has_age-is age number marks) ∙ is)).1
 
 -- ### what finds items
 
-module _ {T : Type 0} {marks_of : T → Marks} {items : List (Numbered T)} {index now_index : List Mark} {ages now_ages : List Age} (keyed : IsKeyed marks_of items index ages) where
+module _ {T : Type 0} {marks_of : T → Marks} {items : List (Numbered T)} {index now_index : List Mark} {ages now_ages : List Age} where
   -- an item comes, with a greater number than all
-  pub keyed-push : (number : ℕ) (item : T) (marks : Marks) → marks ≡ marks_of item → All (λ y. y.number < number) items
-      → ((mark : Mark) → has mark_order mark now_index ≡ (has_mark mark number marks || has mark_order mark index))
-      → ((age : Age) → has age_order age now_ages ≡ (has_age age number marks || has age_order age ages))
-      → IsKeyed marks_of (items ++ record { number = number; item = item } ∷ []) now_index now_ages
-  keyed-push number item marks is all found aged = record {
-    ascends = pairs-push (λ a b. a.number < b.number) items (record { number = number; item = item }) keyed.ascends all;
-    found = λ mark. found mark ∙ ap₂ (λ m b. has_mark mark number m || b) is (keyed.found mark) ∙ last_first (λ y. has_mark mark y.number (marks_of y.item));
-    aged = λ age. aged age ∙ ap₂ (λ m b. has_age age number m || b) is (keyed.aged age) ∙ last_first (λ y. has_age age y.number (marks_of y.item));
-  }
+  pub keyed-push : IsKeyed marks_of items index ages → (x : Numbered T) (marks : Marks) → marks ≡ marks_of x.item → All (λ y. y.number < x.number) items
+      → ((key : Key) → has_key marks key ≡ true → cond (same_key marks.key key) x.before x.other_before ≡ number_of key index)
+      → ((key : Key) → number_of key now_index ≡ cond (has_key marks key) (Some x.number) (number_of key index))
+      → ((age : Age) → has age_order age now_ages ≡ (has_age age x.number marks || has age_order age ages))
+      → IsKeyed marks_of (items ++ x ∷ []) now_index now_ages
+  keyed-push keyed x marks is all links numbers aged =
+      let ascends = pairs-push (λ a b. a.number < b.number) items x keyed.ascends all in
+      record {
+        ascends = ascends;
+        found = λ key.
+            found-push marks_of key items x index now_index (keyed.found key) (numbers key ∙ ap (λ (m : Marks). cond (has_key m key) (Some x.number) (number_of key index)) is);
+        linked = λ key.
+            linked-push marks_of key items x ascends all (keyed.linked key) (λ has.
+            sym (ap (λ (m : Marks). cond (same_key m.key key) x.before x.other_before) is) ∙ links key (ap (λ (m : Marks). has_key m key) is ∙ has) ∙ keyed.found key);
+        aged = λ age. aged age ∙ ap₂ (λ m b. has_age age x.number m || b) is (keyed.aged age) ∙ last_first (λ y. has_age age y.number (marks_of y.item));
+      }
     where
-      last : Numbered T
-      last = record { number = number; item = item }
-
-      last_first : (test : Numbered T → Bool) → (test last || list_any test items) ≡ list_any test (items ++ last ∷ [])
+      last_first : (test : Numbered T → Bool) → (test x || list_any test items) ≡ list_any test (items ++ x ∷ [])
       last_first test =
-          or_comm (test last) (list_any test items)
-          ∙ ap (λ b. list_any test items || b) (sym (or-false (test last)))
-          ∙ sym (list_any-append test items (last ∷ []))
+          or_comm (test x) (list_any test items)
+          ∙ ap (λ b. list_any test items || b) (sym (or-false (test x)))
+          ∙ sym (list_any-append test items (x ∷ []))
 
-  -- an item goes
-  pub keyed-remove : (place : ℕ) (x : Numbered T) (marks : Marks) → slice_get items place ≡ Some x → marks ≡ marks_of x.item
-      → ((mark : Mark) → has mark_order mark now_index ≡ (not (has_mark mark x.number marks) && has mark_order mark index))
+  -- an item goes, once all keys lead past it
+  pub keyed-remove : IsKeyed marks_of items index ages → (new : List (Numbered T)) → map bare new ≡ map bare items → (place : ℕ) (x : Numbered T) (marks : Marks) → slice_get new place ≡ Some x → marks ≡ marks_of x.item
+      → ((key : Key) → IsFound marks_of key (remove new place) now_index)
+      → ((key : Key) → IsLinked marks_of key (remove new place))
       → ((age : Age) → has age_order age now_ages ≡ (not (has_age age x.number marks) && has age_order age ages))
-      → IsKeyed marks_of (remove items place) now_index now_ages
-  keyed-remove place x marks at is found aged = record {
-    ascends = all_pairs_remove (λ a b. a.number < b.number) items place (slice_get_within items place x at) keyed.ascends;
-    found = λ mark.
-        found mark
-        ∙ ap₂ (λ m b. not (has_mark mark x.number m) && b) is (keyed.found mark)
-        ∙ sym (left (λ y. has_mark mark y.number (marks_of y.item)) mark.number (λ y. marks-number mark y.number (marks_of y.item)));
-    aged = λ age.
-        aged age
-        ∙ ap₂ (λ m b. not (has_age age x.number m) && b) is (keyed.aged age)
-        ∙ sym (left (λ y. has_age age y.number (marks_of y.item)) age.number (λ y. age-number age y.number (marks_of y.item)));
-  }
-    where
-      left : (test : Numbered T → Bool) (number : ℕ) → ((y : Numbered T) → test y ≡ true → y.number ≡ number) → list_any test (remove items place) ≡ (not (test x) && list_any test items)
-      left test number one =
-          any-remove test (λ a b. a.number < b.number) (λ a b less first second. omega (arith, less, one a first, one b second)) items place x keyed.ascends at
+      → IsKeyed marks_of (remove new place) now_index now_ages
+  keyed-remove keyed new same place x marks at is found linked aged =
+      let ascends = bare-ascends new items same keyed.ascends in
+      record {
+        ascends = ascends-left new place x ascends at;
+        found = found;
+        linked = linked;
+        aged = λ age.
+            aged age
+            ∙ ap₂ (λ m b. not (has_age age x.number m) && b) is (keyed.aged age ∙ sym (bare-any new items same (λ pair. has_age age pair.0 (marks_of pair.1))))
+            ∙ sym (any-remove (λ y. has_age age y.number (marks_of y.item)) (λ a b. a.number < b.number) (λ a b less first second. omega (arith, less, age-number age a.number (marks_of a.item) first, age-number age b.number (marks_of b.item) second)) new place x ascends at);
+      }

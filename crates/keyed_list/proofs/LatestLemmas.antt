@@ -9,7 +9,7 @@ use Rattle.keyed_list.specs.declared.key.Key.{Key}
 use Rattle.keyed_list.specs.declared.keyed.Marks.{Marks}
 use Rattle.keyed_list.specs.declared.keyed.Numbered.{Numbered}
 use Rattle.keyed_list.proofs.AmongLemmas.{among-any, any-among, Among}
-use Rattle.keyed_list.proofs.FitsLemmas.{fits, none-fits, none-from-last, NoneFrom}
+use Rattle.keyed_list.proofs.FitsLemmas.{fits, last-item, none-fits, none-from-last, NoneFrom}
 use Rattle.keyed_list.proofs.LastLemmas.{none-last, IsLast}
 
 -- a moment is past the greatest so far
@@ -120,17 +120,17 @@ module _ {T : Type 0} (marks_of : T → Marks) (key : Key) where
             ap (λ (n : ℕ). Some n) (omega (arith, least, y.then_came, ltb-false _ _ short))
       ]
 
-  module _ (bound : ℕ) (best : Option ℕ) (items : List (Numbered T)) (none : NoneFrom (fits marks_of key (beyond best)) bound items) where
+  module _ (bound : ℕ) (best : Option ℕ) (items : List (Numbered T)) (none : NoneFrom (fits marks_of key (λ y. beyond best y.item)) bound items) where
     -- none below has the key: the greatest so far is the greatest
     pub latest-end : None ≡ last_where (is_below marks_of key bound) items → IsReached best (map (λ y. y.item) items) → best ≡ latest marks_of key (map (λ y. y.item) items)
     latest-end is reached =
-        latest-is (map (λ y. y.item) items) best (none-last (λ item. is_key marks_of key item && beyond best item) (map (λ y. y.item) items) (sym (none-fits marks_of key bound (beyond best) items none is))) reached
+        latest-is (map (λ y. y.item) items) best (none-last (λ item. is_key marks_of key item && beyond best item) (map (λ y. y.item) items) (sym (last-item marks_of key (beyond best) items None (none-fits marks_of key bound (λ y. beyond best y.item) items none is)))) reached
 
     module _ (x : Numbered T) (ascends : Ascends items) (last : IsLast (is_below marks_of key bound) (λ a b. a.number < b.number) items x) where
       -- after a look at the last one below none from it on is past the greatest so far
-      pub latest-next : NoneFrom (fits marks_of key (beyond (Some (greater best (marks_of x.item).moment)))) x.number items
+      pub latest-next : NoneFrom (fits marks_of key (λ y. beyond (Some (greater best (marks_of x.item).moment)) y.item)) x.number items
       latest-next =
-          none-from-last marks_of key bound (beyond (Some (greater best (marks_of x.item).moment))) items (λ y among least. exceeds-less (is_key marks_of key y.item) best (marks_of x.item).moment (marks_of y.item).moment (none y among least)) x ascends last (exceeds-itself best (marks_of x.item).moment)
+          none-from-last marks_of key bound (λ y. beyond (Some (greater best (marks_of x.item).moment)) y.item) items (λ y among least. exceeds-less (is_key marks_of key y.item) best (marks_of x.item).moment (marks_of y.item).moment (none y among least)) x ascends last (exceeds-itself best (marks_of x.item).moment)
 
       among-map : (some : List (Numbered T)) → Among x some → Among x.item (map (λ y. y.item) some)
       among-map [] among = among

@@ -1,10 +1,12 @@
 -- Items in order of coming, and the keys and ages by which they are found.
-use Rattle.std.specs.Prelude.{◌≡◌, ◌≤◌, ◌<◌, ◌-◌, ◌*◌, ◌&&◌, ◌||◌, ℕ, nat_lt, Bool, false, List, Option, None, Some, All, AllPairs, drop, fold, length, max, slice_get, take, if◌then◌else◌}
-use Rattle.std.specs.List.{list_any}
+use Rattle.std.specs.Prelude.{◌≡◌, ◌≤◌, ◌<◌, ◌-◌, ◌*◌, ◌==◌, ◌&&◌, ◌||◌, ℕ, nat_lt, Bool, true, false, List, Option, None, Some, IfSome, All, AllPairs, drop, fold, length, map, max, slice_get, take, if◌then◌else◌}
+use Rattle.std.specs.List.{list_any, remove}
+use Rattle.std.specs.Option.{option_map}
 use Rattle.std.specs.Ordering.{is_eq}
 use Rattle.ordered_set.specs.Keys.{has}
 use Rattle.keyed_list.specs.Limits.{most_items}
-use Rattle.keyed_list.specs.Keys.{age_order, mark_order, same_key}
+use Rattle.keyed_list.specs.Lists.{last_where}
+use Rattle.keyed_list.specs.Keys.{age_order, same_key}
 use Rattle.keyed_list.specs.declared.key.Age.{Age}
 use Rattle.keyed_list.specs.declared.key.Key.{Key}
 use Rattle.keyed_list.specs.declared.key.Mark.{Mark}
@@ -56,18 +58,19 @@ module _ {T : Type 0} (marks_of : T → Marks) where
 
 -- ### how items are found; no public clause cites what follows
 
--- whether a mark is that of a key and a number
-abbrev pub is_mark : Mark → ℕ → Key → Bool
-is_mark mark number key = is_eq (mark_order (record { key = key; number = number }) mark)
+-- whether there is a number, and it is that one
+abbrev pub is_number : Option ℕ → ℕ → Bool
+is_number None number = false
+is_number (Some other) number = other == number
 
--- whether a mark is that of a second key, if there is one, and a number
-abbrev pub is_other_mark : Mark → ℕ → Option Key → Bool
-is_other_mark mark number None = false
-is_other_mark mark number (Some key) = is_mark mark number key
+-- the number of a key's mark, or None
+abbrev pub number_of : Key → List Mark → Option ℕ
+number_of key index = option_map (λ mark. mark.number) (last_where (λ mark. same_key mark.key key) index)
 
--- whether a mark is that of one of an item's keys and its number
-abbrev pub has_mark : Mark → ℕ → Marks → Bool
-has_mark mark number marks = is_mark mark number marks.key || is_other_mark mark number marks.other
+-- the number of a mark, if there is one, and it is that of a key
+abbrev pub number_at : Key → Option Mark → Option ℕ
+number_at key None = None
+number_at key (Some mark) = if same_key mark.key key then Some mark.number else None
 
 -- whether an age is that of an item's moment and its number
 abbrev pub has_age : Age → ℕ → Marks → Bool
@@ -89,16 +92,75 @@ abbrev pub item_at : {A : Type 0} → List A → Option ℕ → Option A
 item_at items None = None
 item_at items (Some place) = slice_get items place
 
+-- the item with a number, or None where there is no number, or none has it
+abbrev pub item_numbered : {T : Type 0} → List (Numbered T) → Option ℕ → Option (Numbered T)
+item_numbered items None = None
+item_numbered items (Some number) = last_where (λ item. item.number == number) items
+
+-- an item and its number, without its links
+abbrev pub bare : {T : Type 0} → Numbered T → ℕ × T
+bare item = (item.number, item.item)
+
 module _ {T : Type 0} (marks_of : T → Marks) where
   -- whether an item has the key, and a number below a bound
   abbrev pub is_below : Key → ℕ → Numbered T → Bool
   is_below key bound numbered = is_key marks_of key numbered.item && nat_lt numbered.number bound
 
-  -- the numbers of items ascend, and the marks and ages are those of the items
+  -- the last item that has a key, or None
+  abbrev pub last_of : Key → List (Numbered T) → Option (Numbered T)
+  last_of key items = last_where (λ item. is_key marks_of key item.item) items
+
+  -- the link of an item by a key of its own: the number of the last item before it that has the key
+  abbrev pub link_of : Key → Numbered T → Option ℕ
+  link_of key item = if same_key (marks_of item.item).key key then item.before else item.other_before
+
+  -- an item with another link by a key of its own
+  abbrev pub with_link : Key → Option ℕ → Numbered T → Numbered T
+  with_link key link item =
+      let first : Bool = same_key (marks_of item.item).key key in
+      record { number = item.number; item = item.item; before = if first then link else item.before; other_before = if first then item.other_before else link }
+
+  -- whether an item is linked to a number by a key that it has
+  abbrev pub is_linked : Key → ℕ → Numbered T → Bool
+  is_linked key number item = is_key marks_of key item.item && is_number (link_of key item) number
+
+  -- an item, linked anew by a key where it has that number and the key
+  abbrev pub relinked : Key → Option ℕ → Option ℕ → Numbered T → Numbered T
+  relinked key number link item = if is_key marks_of key item.item && is_number number item.number then with_link key link item else item
+
+  -- of items that have a key one is linked anew by it, or none
+  pub record IsRelinked (key : Key) (items new : List (Numbered T)) : Type 0 where
+    pub number : Option ℕ
+    pub link : Option ℕ
+    pub are : new ≡ map (relinked key number link) items
+
+  -- the mark of a key has the number of the last item that has the key
+  abbrev pub IsFound : Key → List (Numbered T) → List Mark → Type 0
+  IsFound key items index = number_of key index ≡ option_map (λ item. item.number) (last_of key items)
+
+  -- a link leads to the last item with the key that stands before; a number that no item has means that there is none
+  pub record IsLink (key : Key) (items : List (Numbered T)) (item : Numbered T) (link : Option ℕ) : Type 0 where
+    pub earlier : IfSome link (λ number. number < item.number)
+    pub leads : item_numbered items link ≡ last_where (is_below key item.number) items
+
+  -- the items that have a key are linked by it
+  abbrev pub IsLinked : Key → List (Numbered T) → Type 0
+  IsLinked key items = All (λ item. is_key marks_of key item.item ≡ true → IsLink key items item (link_of key item)) items
+
+  -- the numbers of items ascend, marks and links lead to the items of each key, and the ages are those of the items
   pub record IsKeyed (items : List (Numbered T)) (index : List Mark) (ages : List Age) : Type 0 where
     pub ascends : Ascends items
-    pub found : (mark : Mark) → has mark_order mark index ≡ list_any (λ numbered. has_mark mark numbered.number (marks_of numbered.item)) items
+    pub found : (key : Key) → IsFound key items index
+    pub linked : (key : Key) → IsLinked key items
     pub aged : (age : Age) → has age_order age ages ≡ list_any (λ numbered. has_age age numbered.number (marks_of numbered.item)) items
+
+  -- a key leads past the item at a place: those without it are found by the key and linked by it, and other keys lead
+  -- where they led
+  pub record IsUnlinked (key : Key) (place : ℕ) (items new : List (Numbered T)) (index new_index : List Mark) : Type 0 where
+    pub relinked : IsRelinked key items new
+    pub others : (other : Key) → same_key key other ≡ false → number_of other new_index ≡ number_of other index
+    pub found : IsFound key (remove new place) new_index
+    pub linked : IsLinked key (remove new place)
 
 -- for each item that is there, or for which there is room, there are two places for keys and one for its age
 pub record HasPlaces (all for_keys for_ages : ℕ) : Type 0 where

@@ -55,12 +55,12 @@ same_key a b = is_eq (key_order a b)
 
 -- ### what finds items
 
--- the order of marks: by key, then by number
+-- the order of marks: that of their keys
 abbrev pub mark_order : Mark → Mark → Ordering
-mark_order a b = ordering_then (key_order a.key b.key) (nat_cmp a.number b.number)
+mark_order a b = key_order a.key b.key
 
 pub mark_order-total : IsTotalOrder mark_order
-mark_order-total = then_total (on_total (λ mark. mark.key) key_order-total) (on_total (λ mark. mark.number) nat_cmp_total)
+mark_order-total = on_total (λ mark. mark.key) key_order-total
 
 -- the order of ages: by moment, then by number
 abbrev pub age_order : Age → Age → Ordering

@@ -1,15 +1,12 @@
 // Look-ups of items, by key and by age.
 ghost use Rattle.std.specs.Prelude.{◌≡◌, ◌-◌, ◌≤◌, ◌<◌, Some, count_by, false, map, max, nat_lt, not, true, length, slice_get, IfSome, is_some};
 ghost use Rattle.std.specs.List.{list_all};
-ghost use Rattle.std.specs.Option.{option_copied};
-ghost use Rattle.std.specs.Ordering.{is_lt};
-ghost use Rattle.ordered_set.specs.Keys.{Ascends as KeysAscend};
-ghost use Rattle.keyed_list.specs.Keys.{mark_order};
-ghost use Rattle.keyed_list.specs.Keyed.{Ascends, IsKeyed, IsPlace, greater, is_below, is_young, item_at};
+ghost use Rattle.keyed_list.specs.Keyed.{Ascends, IsFound, IsKeyed, IsLinked, IsPlace, greater, is_below, is_key, is_young, item_at, item_numbered, last_of};
 ghost use Rattle.keyed_list.specs.Lists.{last_where};
 
 use crate::key::{Age, Mark};
-use crate::keyed::Numbered;
+use crate::keyed::{Numbered, link_of};
+use crate::marks::last_number;
 use crate::{Key, Keyed};
 use named_list::NamedList;
 use ordered_set::OrderedSet;
@@ -40,44 +37,61 @@ fn place_behind_first<T>(number: u64, list: &NamedList<Numbered<T>>) -> Option<u
     Some(place)
 }
 
-// The greatest mark below that of a key and a number, or None.
-fn mark_below<'a>(key: &Key, number: u64, index: &'a OrderedSet<Mark>) -> Option<&'a Mark>
-    ensures last { option_copied result
-        ≡ last_where (λ other. is_lt (mark_order other (record { key = key.now; number = number })))
-        index.now.keys }
-    ensures ascends { KeysAscend mark_order index.now.keys }
+// The place of the item with a number, or None where it is gone.
+fn place_numbered<T>(number: u64, list: &NamedList<Numbered<T>>) -> Option<usize>
+    requires { Ascends list.now.items }
+    ensures item { item_at list.now.items result ≡ item_numbered list.now.items (Some number) }
+    ensures within { IfSome result (λ place. place < length list.now.items) }
 {
-    // The call of `len` brings the fact that keys ascend.
-    let _ = index.len();
-    let place = index.place(|other| other.is_below(key, number));
-    if place == 0 {
+    let first = list.get(0)?;
+    if number < first.number {
         return None;
     }
-    index.get(place - 1)
+    let place = place_of(number, list);
+    let numbered = list.get(place)?;
+    if numbered.number != number {
+        return None;
+    }
+    Some(place)
 }
 
-/// The place of the last item that has a key and a number below `bound`, or None.
-pub(crate) fn place_below<T: Keyed>(
+/// The place of the last item that has a key, or None.
+pub(crate) fn place_last<T: Keyed>(
     key: &Key,
-    bound: u64,
     list: &NamedList<Numbered<T>>,
     index: &OrderedSet<Mark>,
-    ages: &OrderedSet<Age>,
 ) -> Option<usize>
-    requires { IsKeyed T.marks_of list.now.items index.now.keys ages.now.keys }
-    ensures last { item_at list.now.items result
-        ≡ last_where (is_below T.marks_of key.now bound) list.now.items }
+    requires ascends { Ascends list.now.items }
+    requires found { IsFound T.marks_of key.now list.now.items index.now.keys }
+    ensures last { item_at list.now.items result ≡ last_of T.marks_of key.now list.now.items }
     ensures within { IfSome result (λ place. place < length list.now.items) }
 {
     // Mostly no echo is kept, and each data packet looks here.
     if list.len() == 0 {
         return None;
     }
-    let mark = mark_below(key, bound, index)?;
-    if !mark.key.is_same(key) {
-        return None;
-    }
-    Some(place_of(mark.number, list))
+    let number = last_number(key, index)?;
+    Some(place_of(number, list))
+}
+
+/// The place of the last item that has a key, of those before the item at a place, which has the
+/// key too. None where there is none.
+pub(crate) fn place_before<T: Keyed>(
+    key: &Key,
+    place: usize,
+    list: &NamedList<Numbered<T>>,
+) -> Option<usize>
+    requires ascends { Ascends list.now.items }
+    requires linked { IsLinked T.marks_of key.now list.now.items }
+    requires has { IfSome (slice_get list.now.items place)
+        (λ item. is_key T.marks_of key.now item.item ≡ true) }
+    ensures last { IfSome (slice_get list.now.items place) (λ item. item_at list.now.items result
+        ≡ last_where (is_below T.marks_of key.now item.number) list.now.items) }
+    ensures within { IfSome result (λ place. place < length list.now.items) }
+{
+    let numbered = list.get(place)?;
+    let number = link_of(key, numbered)?;
+    place_numbered(number, list)
 }
 
 /// The place of an item that isn't younger than `life` at a moment, or None where there is none.

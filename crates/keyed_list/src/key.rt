@@ -1,4 +1,4 @@
-// Keys, and the order of keys and numbers.
+// Keys, and their order.
 ghost use Rattle.std.specs.Prelude.{◌≡◌, None, false, true, IfSome};
 ghost use Rattle.std.specs.Ordering.{is_eq, is_lt, nat_cmp, ordering_then};
 ghost use Rattle.mapping_records.specs.Orders.{addr_order};
@@ -123,6 +123,33 @@ impl Key {
         by_address.then_with(|| self.len.cmp(&other.len))
     }
 
+    /// Whether this key is below another. Keys are found by halving, and mostly differ in one of the
+    /// first parts.
+    pub(crate) fn is_below(&self, other: &Key) -> bool
+        ensures { result ≡ is_lt (key_order self.now other.now) }
+    {
+        let (rank, other_rank) = (self.kind.rank(), other.kind.rank());
+        if rank != other_rank {
+            return rank < other_rank;
+        }
+        if self.number != other.number {
+            return self.number < other.number;
+        }
+        match first_is_below(&self.rloc, &other.rloc) {
+            Some(below) => below,
+            None => self.is_below_by_prefix(other),
+        }
+    }
+
+    fn is_below_by_prefix(&self, other: &Key) -> bool
+        ensures { result ≡ is_lt (key_prefix_order self.now other.now) }
+    {
+        match first_is_below(&self.addr, &other.addr) {
+            Some(below) => below,
+            None => self.len < other.len,
+        }
+    }
+
     pub(crate) fn is_same(&self, other: &Key) -> bool
         ensures { result ≡ same_key self.now other.now }
     {
@@ -145,55 +172,11 @@ impl Key {
     }
 }
 
-/// A key of the item with a number.
+/// A key, and the number of the last item that has it.
 #[derive(Clone, Copy, Debug, PartialEq, Eq, Drop)]
 pub(crate) struct Mark {
     pub key: Key,
     pub number: u64,
-}
-
-impl Mark {
-    /// Whether this mark is below that of a key and a number. Marks are found by halving, and
-    /// mostly differ in one of the first parts.
-    pub(crate) fn is_below(&self, key: &Key, number: u64) -> bool
-        ensures { result ≡ is_lt (mark_order self.now (record { key = key.now; number = number })) }
-    {
-        let (rank, other_rank) = (self.key.kind.rank(), key.kind.rank());
-        if rank != other_rank {
-            return rank < other_rank;
-        }
-        if self.key.number != key.number {
-            return self.key.number < key.number;
-        }
-        match first_is_below(&self.key.rloc, &key.rloc) {
-            Some(below) => below,
-            None => self.is_below_by_prefix(key, number),
-        }
-    }
-
-    // Whether this mark is below that of a key and a number, where the parts before the address are
-    // the same.
-    fn is_below_by_prefix(&self, key: &Key, number: u64) -> bool
-        ensures { result ≡ is_lt (ordering_then (key_prefix_order self.now.key key.now)
-            (nat_cmp self.now.number number)) }
-    {
-        match first_is_below(&self.key.addr, &key.addr) {
-            Some(below) => below,
-            None => self.is_below_by_len(key, number),
-        }
-    }
-
-    // Whether this mark is below that of a key and a number, where the parts before the length are
-    // the same.
-    fn is_below_by_len(&self, key: &Key, number: u64) -> bool
-        ensures { result ≡ is_lt (ordering_then (nat_cmp self.now.key.len key.now.len)
-            (nat_cmp self.now.number number)) }
-    {
-        if self.key.len != key.len {
-            return self.key.len < key.len;
-        }
-        self.number < number
-    }
 }
 
 // Whether the first of two addresses is below the second, or None where they are the same. Each
@@ -229,8 +212,7 @@ impl Ordered for Mark {
     ghost is_total = { mark_order-total };
 
     fn compare(&self, other: &Self) -> Ordering {
-        let by_key = self.key.compare(&other.key);
-        by_key.then_with(|| self.number.cmp(&other.number))
+        self.key.compare(&other.key)
     }
 }
 

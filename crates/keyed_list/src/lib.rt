@@ -7,6 +7,7 @@ mod key;
 mod keyed;
 mod known;
 mod limits;
+mod linking;
 mod list;
 mod marks;
 

@@ -8,10 +8,11 @@ ghost use Rattle.keyed_list.specs.Limits.{most_items, ring_names};
 ghost use Rattle.keyed_list.specs.Lists.{last_where};
 
 use crate::ages::{add_age, drop_age};
-use crate::finding::{count_young, later, old_place, place_below};
+use crate::finding::{count_young, later, old_place, place_before, place_last};
 use crate::key::{Age, Mark};
 use crate::keyed::{Numbered, copied};
-use crate::marks::{add_marks, drop_marks};
+use crate::linking::unlink;
+use crate::marks::put_marks;
 use crate::{Key, Keyed, MOST_ITEMS, NoMemory};
 use named_list::NamedList;
 use ordered_set::OrderedSet;
@@ -24,6 +25,7 @@ use std::marker::Model;
 pub struct KeyedList<T: Keyed> {
     // Items with their numbers, which ascend.
     list: NamedList<Numbered<T>>,
+    // The last item of each key.
     index: OrderedSet<Mark>,
     ages: OrderedSet<Age>,
     // The number of the next item.
@@ -137,7 +139,7 @@ impl<T: Keyed> KeyedList<T> {
             ≡ last_where (is_key T.marks_of key.now) self.now.items }
         ensures within { IfSome result (λ place. place < length self.now.items) }
     {
-        place_below(key, self.next, &self.list, &self.index, &self.ages)
+        place_last(key, &self.list, &self.index)
     }
 
     /// The last item that has a key and passes a test, or None.
@@ -148,15 +150,15 @@ impl<T: Keyed> KeyedList<T> {
             → option_copied result
             ≡ last_where (λ item. is_key T.marks_of key.now item && passes item) self.now.items }
     {
-        let mut bound = self.next;
-        while let Some(place) = place_below(key, bound, &self.list, &self.index, &self.ages) {
+        let mut next = place_last(key, &self.list, &self.index);
+        while let Some(place) = next {
             let Some(numbered) = self.list.get(place) else {
                 unreachable!()
             };
             if test(&numbered.item) {
                 return Some(&numbered.item);
             }
-            bound = numbered.number;
+            next = place_before(key, place, &self.list);
         }
         None
     }
@@ -166,13 +168,13 @@ impl<T: Keyed> KeyedList<T> {
         ensures { result ≡ latest T.marks_of key.now self.now.items }
     {
         let mut best = None;
-        let mut bound = self.next;
-        while let Some(place) = place_below(key, bound, &self.list, &self.index, &self.ages) {
+        let mut next = place_last(key, &self.list, &self.index);
+        while let Some(place) = next {
             let Some(numbered) = self.list.get(place) else {
                 unreachable!()
             };
             best = later(best, &numbered.item);
-            bound = numbered.number;
+            next = place_before(key, place, &self.list);
         }
         best
     }
@@ -196,9 +198,17 @@ impl<T: Keyed> KeyedList<T> {
         let _ = (self.index.len(), self.ages.len());
         let marks = item.marks();
         let number = self.next;
-        add_marks(&marks, number, &mut self.index);
+        let (before, other_before) = put_marks(&marks, number, &mut self.index);
         add_age(&marks, number, &mut self.ages);
-        self.list.insert(self.list.len(), Numbered { number, item });
+        self.list.insert(
+            self.list.len(),
+            Numbered {
+                number,
+                item,
+                before,
+                other_before,
+            },
+        );
         self.next += 1;
     }
 
@@ -226,11 +236,11 @@ impl<T: Keyed> KeyedList<T> {
         ensures room { self.new.room ≡ self.old.room }
         ensures places { self.new.places ≡ self.old.places }
     {
-        let mut bound = self.next;
-        while let Some(place) = place_below(key, bound, &self.list, &self.index, &self.ages) {
+        let mut next = place_last(key, &self.list, &self.index);
+        while let Some(place) = next {
             let numbered = self.list.edit(place);
-            bound = numbered.number;
             numbered.item = change(&numbered.item);
+            next = place_before(key, place, &self.list);
         }
     }
 
@@ -244,10 +254,9 @@ impl<T: Keyed> KeyedList<T> {
             ≤ length self.old.items + self.old.room }
         ensures places { self.new.places ≡ self.old.places }
     {
-        let Numbered { number, item } = self.list.remove(place);
-        let marks = item.marks();
-        drop_marks(&marks, number, &mut self.index);
-        drop_age(&marks, number, &mut self.ages);
+        unlink(place, &mut self.list, &mut self.index);
+        let Numbered { number, item, .. } = self.list.remove(place);
+        drop_age(&item.marks(), number, &mut self.ages);
         item
     }
 }

@@ -22,7 +22,7 @@ pub record Keys (K : Type 0) : Type 0 where
   pub kept : ℕ
   pub places : ℕ
 
--- ### where a key stands; no public clause cites what follows
+-- ### where a key stands
 
 module _ {K : Type 0} (order : K → K → Ordering) (key : K) where
   -- whether there is a key, and it ties with the given one

@@ -1,6 +1,7 @@
 // The set: a list of keys in order.
-ghost use Rattle.std.specs.Prelude.{◌≡◌, ◌≤◌, ◌<◌, ◌+◌, ◌-◌, ◌*◌, ◌/◌, ◌^◌, ◌&&◌, ◌||◌, not, [], true, false, length, max, slice_get, IfOk, IfSome, IsOk, OnOk, OnErr, if◌then◌else◌};
+ghost use Rattle.std.specs.Prelude.{◌≡◌, ◌≤◌, ◌<◌, ◌+◌, ◌-◌, ◌*◌, ◌/◌, ◌^◌, ◌&&◌, ◌||◌, not, [], true, false, length, max, slice_get, slice_set, IfOk, IfSome, IsOk, OnOk, OnErr, Some, if◌then◌else◌};
 ghost use Rattle.std.specs.Fn.{FnReturnsAt};
+ghost use Rattle.std.specs.List.{insert, remove};
 ghost use Rattle.std.specs.Option.{option_copied};
 ghost use Rattle.std.specs.Ordering.{is_eq, is_lt};
 ghost use Rattle.named_list.specs.Limits.{ring_names};
@@ -134,6 +135,40 @@ impl<K: Ordered> OrderedSet<K> {
         }
         self.list.remove(place);
         true
+    }
+
+    /// Puts a key that isn't in the set at its place. Takes no memory.
+    pub fn put_at(&mut self, place: usize, key: K)
+        requires place { IsPlace K.order key self.old.keys place }
+        requires apart { ties K.order key (slice_get self.old.keys place) ≡ false }
+        requires room { 0 < self.old.spare }
+        ensures keys { self.new.keys ≡ insert self.old.keys place key }
+        ensures spare { self.new.spare + 1 ≡ self.old.spare }
+        ensures places { self.new.places ≡ self.old.places }
+    {
+        self.list.insert(place, key);
+    }
+
+    /// Takes the key at a place out of the set, and returns it. Its room is spare again. Takes no
+    /// memory.
+    pub fn take_at(&mut self, place: usize) -> K
+        requires { place < length self.old.keys }
+        ensures key { slice_get self.old.keys place ≡ Some result }
+        ensures keys { self.new.keys ≡ remove self.old.keys place }
+        ensures spare { self.new.spare ≡ self.old.spare + 1 }
+        ensures places { self.new.places ≡ self.old.places }
+    {
+        self.list.remove(place)
+    }
+
+    /// Replaces the key at a place by one that ties with it.
+    pub fn replace_at(&mut self, place: usize, key: K)
+        requires { ties K.order key (slice_get self.old.keys place) ≡ true }
+        ensures keys { self.new.keys ≡ slice_set self.old.keys place key }
+        ensures spare { self.new.spare ≡ self.old.spare }
+        ensures places { self.new.places ≡ self.old.places }
+    {
+        *self.list.edit(place) = key;
     }
 
     // The place of a key, or the one at which it would be put.

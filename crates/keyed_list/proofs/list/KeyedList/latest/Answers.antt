@@ -1,32 +1,54 @@
-use Rattle.std.proofs.Common.{None, sym, ◌<◌, ◌∙◌}
-use Rattle.keyed_list.specs.Keyed.{is_below}
-use Rattle.keyed_list.proofs.FitsLemmas.{below-number, fits, last-passes, none-from}
-use Rattle.keyed_list.proofs.LastLemmas.{some-last}
+use Rattle.std.proofs.Common.{None, sym, ap, ◌∙◌}
+use Rattle.keyed_list.specs.Keyed.{item_at}
+use Rattle.keyed_list.proofs.FitsLemmas.{fits, last-below, none-from}
 use Rattle.keyed_list.proofs.LatestLemmas.{beyond, latest-end, latest-next, reached-next}
+use Rattle.keyed_list.proofs.WalkLemmas.{walk-before, walk-has, walk-last, walk-smaller}
 use Rattle.keyed_list.proofs.list.KeyedList.latest.Goals as goal
 
-pub loop-place-init : goal.loop-place-init
-loop-place-init g c = (
-  none-from (fits g.T.Keyed.marks_of c.args.key.now (beyond g.T.Keyed.marks_of c.args.key.now None)) c.self.inside.next c.self.inside.list.items c.self.invariant.1,
-  tt,
-)
+pub loop-next-init : goal.loop-next-init
+loop-next-init g c =
+    let marks_of = g.T.Keyed.marks_of in
+    let key = c.args.key.now in
+    let items = c.self.inside.list.items in (
+      record {
+        bound = c.self.inside.next;
+        leads = c.place_last-next.ensures.last ∙ last-below marks_of key c.self.inside.next items c.self.invariant.1;
+        done = none-from (fits marks_of key (λ y. beyond marks_of key None y.item)) c.self.inside.next items c.self.invariant.1;
+      },
+      c.place_last-next.ensures.within,
+      tt,
+    )
 
-pub loop-place-smaller : goal.loop-place-smaller
-loop-place-smaller g c =
-    let is = last-passes (is_below g.T.Keyed.marks_of c.args.key.now c.loop-place.bound) c.self.inside.list.items c.in-Some-get.numbered.now (sym (c.in-Some-get.ensures ∙ c.in-Some.ensures.last)) in
-    below-number g.T.Keyed.marks_of c.args.key.now c.loop-place.bound c.in-Some-get.numbered.now is
+pub place_before-next-requires-clause-has : goal.place_before-next-requires-clause-has
+place_before-next-requires-clause-has g c =
+    let walk = c.loop-next.invariant.0 in
+    walk-has g.T.Keyed.marks_of c.args.key.now c.self.inside.list.items c.loop-next.next c.in-Some.place c.in-Some.is walk.bound walk.leads
 
-pub loop-place-preserved : goal.loop-place-preserved
-loop-place-preserved g c =
+pub loop-next-smaller : goal.loop-next-smaller
+loop-next-smaller g c =
+    walk-smaller g.T.Keyed.marks_of c.args.key.now c.self.inside.list.items c.loop-next.next c.in-Some.place c.in-Some.is c.in-Some-get.numbered.now c.in-Some-get.ensures c.place_before-next.result c.place_before-next.ensures.last
+
+pub loop-next-preserved : goal.loop-next-preserved
+loop-next-preserved g c =
+    let marks_of = g.T.Keyed.marks_of in
+    let key = c.args.key.now in
     let items = c.self.inside.list.items in
     let x = c.in-Some-get.numbered.now in
     let ascends = c.self.invariant.0.ascends in
-    let last = some-last (is_below g.T.Keyed.marks_of c.args.key.now c.loop-place.bound) (λ a b. a.number < b.number) items x ascends (sym (c.in-Some-get.ensures ∙ c.in-Some.ensures.last)) in
+    let walk = c.loop-next.invariant.0 in
+    let last = walk-last marks_of key items c.loop-next.next c.in-Some.place c.in-Some.is x c.in-Some-get.ensures walk.bound walk.leads ascends in
     rw c.later-best.ensures (
-      latest-next g.T.Keyed.marks_of c.args.key.now c.loop-place.bound c.loop-place.best items c.loop-place.invariant.0 x ascends last,
-      reached-next g.T.Keyed.marks_of c.args.key.now c.loop-place.bound c.loop-place.best items c.loop-place.invariant.0 x ascends last c.loop-place.invariant.1,
+      record {
+        bound = x.number;
+        leads = walk-before marks_of key items c.loop-next.next c.in-Some.place c.in-Some.is x c.in-Some-get.ensures c.place_before-next.result c.place_before-next.ensures.last;
+        done = latest-next marks_of key walk.bound c.loop-next.best items walk.done x ascends last;
+      },
+      c.place_before-next.ensures.within,
+      reached-next marks_of key walk.bound c.loop-next.best items walk.done x ascends last c.loop-next.invariant.2,
     )
 
 pub returns : goal.returns
 returns g c =
-    rw (← c.self.view_is) (latest-end g.T.Keyed.marks_of c.args.key.now c.loop-place.bound c.loop-place.best c.self.inside.list.items c.loop-place.invariant.0 c.in_default.ensures.last c.loop-place.invariant.1)
+    let items = c.self.inside.list.items in
+    let walk = c.loop-next.invariant.0 in
+    rw (← c.self.view_is) (latest-end g.T.Keyed.marks_of c.args.key.now walk.bound c.loop-next.best items walk.done (ap (item_at items) (sym c.in_default.is) ∙ walk.leads) c.loop-next.invariant.2)

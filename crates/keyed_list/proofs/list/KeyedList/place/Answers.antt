@@ -3,4 +3,4 @@ use Rattle.keyed_list.proofs.list.KeyedList.place.Goals as goal
 
 pub returns-clause-last : goal.returns-clause-last
 returns-clause-last g c =
-    rw (← c.self.view_is) (place-last g.T.Keyed.marks_of c.args.key.now c.self.inside.next c.self.inside.list.items c.place_below.result c.self.invariant.1 c.place_below.ensures.last)
+    rw (← c.self.view_is) (place-last g.T.Keyed.marks_of c.args.key.now c.self.inside.list.items c.place_last.result c.place_last.ensures.last)
