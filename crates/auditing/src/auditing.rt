@@ -14,9 +14,8 @@ ghost use Rattle.auditing.specs.Coming.{IsFaultOf};
 use crate::audited::Audited;
 use crate::holding::Holding;
 use crate::playing::audit_input;
-use crate::reading::own_fault;
 use capture_io::{CaptureFault, CaptureReader, Desk, DeskFault};
-use playback::Machine;
+use playback::{Machine, own_fault};
 use std::alloc::Global;
 
 /// Plays a capture through a machine, and compares the packets that it sends with the records of

@@ -10,9 +10,10 @@ ghost use Rattle.capture_io.specs.Reading as reading;
 ghost use Rattle.auditing.specs.Auditing.{run_in, IsLifted, KeepsOthers};
 ghost use Rattle.auditing.specs.Coming.{IsFaultOf};
 
-use crate::reading::{own_fault, read_next};
+use crate::reading::read_next;
 use audit::{Lift, Nonces, Settings, frames_lift_one_by_one};
 use capture_io::{CaptureFault, CaptureReader, Desk, DeskFault};
+use playback::own_fault;
 use std::alloc::Global;
 
 /// The nonces of the Map-Requests that the router of these settings sent in a capture, or the fault

@@ -15,10 +15,10 @@ ghost use Rattle.auditing.specs.Coming.{IsFaultOf};
 ghost use Rattle.auditing.specs.Holding.{IsOpen, IsOver, Proceeds};
 
 use crate::holding::Holding;
-use crate::reading::{own_fault, read_next};
+use crate::reading::read_next;
 use crate::seconds::audit_seconds;
 use capture_io::{CaptureFault, CaptureReader, Desk, Frame};
-use playback::{Machine, Output, Progress};
+use playback::{Machine, Output, Progress, own_fault};
 use std::alloc::Global;
 
 /// Plays all frames of a capture of which no record was read before, each behind the seconds before

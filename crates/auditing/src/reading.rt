@@ -1,12 +1,11 @@
 // A capture, read frame by frame, and to its end.
-ghost use Rattle.std.specs.Prelude.{◌≡◌, ◌≢◌, ◌≤◌, false, None, Some, Err, IfOk, IfSome, IsErrOf, MatchOption, OnOk};
+ghost use Rattle.std.specs.Prelude.{◌≡◌, ◌≢◌, ◌≤◌, None, Some, Err, IfOk, IfSome, IsErrOf, MatchOption, OnOk};
 ghost use Rattle.std.specs.Result.{MatchResult};
 ghost use Rattle.octets.specs.Causes.{Rose};
 ghost use Rattle.desk.specs.declared.fault.DeskFault.TheVariants.{Failed};
 ghost use Rattle.desk.specs.Causes.{HasCause, StaysSteady};
 ghost use Rattle.desk.specs.World.{to_read, shown, IsGiven};
 ghost use Rattle.capture_io.specs.declared.fault.CaptureFault.TheVariants.{Host};
-ghost use Rattle.capture_io.specs.Answers.{fault_of, is_outside_fault};
 ghost use Rattle.capture_io.specs.Limits.{most_records};
 ghost use Rattle.capture_io.specs.Reading as reading;
 ghost use Rattle.capture_io.specs.Reading.{after_frame, IsNext};
@@ -14,6 +13,7 @@ ghost use Rattle.auditing.specs.Auditing.{run_in};
 ghost use Rattle.auditing.specs.Coming.{Comes, IsFaultOf};
 
 use capture_io::{CaptureFault, CaptureReader, Desk, DeskFault, Frame};
+use playback::own_fault;
 use std::alloc::Global;
 
 /// The fault of a capture of which no record was read before, or None. The capture is read up to
@@ -85,16 +85,4 @@ pub(crate) fn read_to_end<D: Desk>(
     let mut reader = capture;
     while read_next(alloc, desk, &mut reader)?.is_some() {}
     Ok(())
-}
-
-/// Returns a fault of the file as it is; one of the desk or of memory is the error.
-pub(crate) fn own_fault(fault: CaptureFault) -> Result<CaptureFault, DeskFault>
-    ensures { MatchResult result (λ own. (own ≡ fault) × (is_outside_fault fault ≡ false))
-        (λ outside. fault ≡ fault_of outside) }
-{
-    match fault {
-        CaptureFault::Host => Err(DeskFault::Failed),
-        CaptureFault::Memory => Err(DeskFault::Memory),
-        own => Ok(own),
-    }
 }

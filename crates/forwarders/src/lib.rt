@@ -25,7 +25,7 @@ pub use door::{ForwardFault, Forwarded, Forwarder, Look, Published, Tally, open_
 pub use gate::{Gate, OpenGate};
 pub use laws::{batches_make_the_journal, decided_packets_are_ruled};
 pub use octets::NoMemory;
-pub use round::run_round;
+pub use round::{closing_moment, run_round};
 pub use round_done::{Line, Lines, Packet, Packets, RoundDone};
 pub use router_core::{Settings, Table};
 pub use router_log::{Decision, Entries, Entry, Verdict};

@@ -37,8 +37,8 @@ use std::collections::VecDeque;
 use std::sync::Wait;
 use std::thread::Threads;
 
-// The moment of the last frame.
-fn closing_moment(frames: &[Frame]) -> u64
+/// The moment of the last frame of a round, in nanoseconds: the round's notices are noted then.
+pub fn closing_moment(frames: &[Frame]) -> u64
     requires { 1 ≤ length frames.now }
     ensures { result ≡ closing_moment frames.now }
 {

@@ -1,4 +1,8 @@
 // A classic capture as the frames of a play.
+ghost use Rattle.std.specs.Prelude.{◌≡◌, false};
+ghost use Rattle.std.specs.Result.{MatchResult};
+ghost use Rattle.capture_io.specs.Answers.{fault_of, is_outside_fault};
+
 use crate::fault::InputFault;
 use crate::reader::{FrameReader, Next};
 use capture_io::{CaptureFault, CaptureReader};
@@ -27,15 +31,23 @@ impl FrameReader for CaptureReader {
         match self.next(alloc, desk) {
             Ok(Some(frame)) => Ok(Next::Frame(frame)),
             Ok(None) => Ok(Next::End),
-            Err(fault) => match fault {
-                CaptureFault::Host => Err(DeskFault::Failed),
-                CaptureFault::Memory => Err(DeskFault::Memory),
-                own => Ok(Next::Fault(InputFault::Classic(own))),
-            },
+            Err(fault) => Ok(Next::Fault(InputFault::Classic(own_fault(fault)?))),
         }
     }
 
     fn take_back(&mut self, octets: Octets) {
         self.take_back(octets);
+    }
+}
+
+/// Returns a fault of the file as it is; a fault of the desk or of memory is the error.
+pub fn own_fault(fault: CaptureFault) -> Result<CaptureFault, DeskFault>
+    ensures { MatchResult result (λ own. (own ≡ fault) × (is_outside_fault fault ≡ false))
+        (λ outside. fault ≡ fault_of outside) }
+{
+    match fault {
+        CaptureFault::Host => Err(DeskFault::Failed),
+        CaptureFault::Memory => Err(DeskFault::Memory),
+        own => Ok(own),
     }
 }

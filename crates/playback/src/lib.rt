@@ -19,6 +19,7 @@ pub use capture_io::{
     CaptureFault, CaptureReader, Desk, DeskFault, FileId, Frame, NoMemory, Octets,
 };
 pub use capture_ng::{NgFault, NgReader};
+pub use classic::own_fault;
 pub use fault::InputFault;
 pub use laws::{determined_plays_are_played, what_is_written_is_read};
 pub use limits::{PIECE_OCTETS, limits_are};

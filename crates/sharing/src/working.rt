@@ -3,15 +3,14 @@ ghost use Rattle.std.specs.Prelude.{◌≡◌, ◌<◌, ◌≤◌, ◌+◌, ◌+
 ghost use Rattle.command_words.specs.Limits.{most_workers};
 ghost use Rattle.capture_events.specs.Events.{records_of};
 ghost use Rattle.playback.specs.Playing.{GathersOne};
-ghost use Rattle.router_model.specs.Rounds.{closing_moment, lines_text};
+ghost use Rattle.router_model.specs.Rounds.{lines_text};
 ghost use Rattle.forwarders.specs.Gathering.{IsWritable};
 ghost use Rattle.forwarders.specs.Rounding.{line_seen, packet_seen};
 ghost use Rattle.sharing.specs.Gathering.{ClosesRound, MayGather, WorksRound, gathering_of};
 
 use crate::crew::Crew;
 use crate::gathering::Gathering;
-use capture_io::Frame;
-use forwarders::{Gate, Line, Packet, run_round};
+use forwarders::{Gate, Line, Packet, closing_moment, run_round};
 use octets::{NoMemory, Octets};
 use playback::{Output, Progress};
 use router_log::push_frame_line;
@@ -81,15 +80,6 @@ pub(crate) fn work_last<R: Threads + Wait + Sync, G: Gate>(
         return Ok(());
     }
     work_round(crew, alloc, router, progress, output)
-}
-
-// The moment of the last of some frames.
-fn closing_moment(frames: &[Frame]) -> u64
-    requires { 1 ≤ length frames.now }
-    ensures { result ≡ closing_moment frames.now }
-{
-    let frame = &frames[frames.len() - 1];
-    frame.moment
 }
 
 // Gathers the lines of a round.

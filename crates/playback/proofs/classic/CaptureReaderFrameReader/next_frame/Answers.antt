@@ -1,4 +1,3 @@
-use Rattle.std.proofs.Common.{rules}
 use Rattle.playback.proofs.ClassicLemmas.{comes-end, comes-fault, comes-frame}
 use Rattle.playback.proofs.classic.CaptureReaderFrameReader.next_frame.Goals as goal
 
@@ -12,6 +11,7 @@ pub returns-in-Ok-None-clause-comes : goal.returns-in-Ok-None-clause-comes
 returns-in-Ok-None-clause-comes g c =
     comes-end c.args.self.now (g.D.Desk.told c.args.desk.now) c.requires.open (rw c.in-Ok-None.field-0-is at c.in-Ok-None.ensures.answer)
 
-pub returns-in_default-clause-comes : goal.returns-in_default-clause-comes
-returns-in_default-clause-comes g c =
-    search (rules, comes-fault c.args.self.now c.in-Err.fault (g.D.Desk.told c.args.desk.now) c.requires.open c.in-Err.ensures.answer)
+pub returns-in_ok-own_fault-in-Err-clause-comes : goal.returns-in_ok-own_fault-in-Err-clause-comes
+returns-in_ok-own_fault-in-Err-clause-comes g c =
+    let own = c.in_ok-own_fault-in-Err.ensures in
+    rw own.0 (comes-fault c.args.self.now c.in-Err.fault (g.D.Desk.told c.args.desk.now) c.requires.open c.in-Err.ensures.answer own.1)
