@@ -5,6 +5,7 @@ pub mod BoundLemmas
 pub mod ChangeLemmas
 pub mod CopyLemmas
 pub mod Drops
+pub mod DueLemmas
 pub mod EligibleLemmas
 pub mod EntryLemmas
 pub mod FreshLemmas

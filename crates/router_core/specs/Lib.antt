@@ -1,5 +1,6 @@
 pub mod Answering
 pub mod Bounded
+pub mod Changing
 pub mod Copies
 pub mod Renewing
 pub mod Seen

@@ -12,7 +12,6 @@ ghost use Rattle.router_core.specs.Telling.{LeavesRoom};
 ghost use Rattle.router_core.specs.Table.{change_of};
 
 use crate::Table;
-use ip_headers::Addr;
 use lisp_settings::{Change, Settings};
 use router_log::Entry;
 
@@ -48,7 +47,8 @@ impl Table {
         self.make_changes(m, others, entries);
     }
 
-    // Makes a change, if its second isn't later than a moment.
+    // Makes a change, if its second isn't later than a moment: its entry is applied, if the table
+    // admits it.
     fn make_change(&mut self, m: u64, change: &Change, entries: &mut Vec<Entry>)
         requires may { MayEnter 1 m self.old.parts }
         requires room { vec_len entries.old < vec_capacity entries.old }
@@ -64,31 +64,28 @@ impl Table {
         if moment_of(change) > m {
             return;
         }
-        self.enter_change(m, change.address, change.up);
-        entries.push_reserved(Entry::Changed {
+        let entry = Entry::Changed {
             moment: m,
             address: change.address,
             up: change.up,
-        });
+        };
+        self.enter_change(m, change, &entry);
+        entries.push_reserved(entry);
     }
 
     // Applies the entry of a change, if the table admits it.
-    fn enter_change(&mut self, m: u64, address: Addr, up: bool)
+    fn enter_change(&mut self, m: u64, change: &Change, entry: &Entry)
         requires may { MayEnter 1 m self.old.parts }
-        ensures parts { self.new.parts ≡ absorbed self.old.parts (Changed m address up) }
+        requires entry { entry.now ≡ Changed m change.now.address change.now.up }
+        ensures parts { self.new.parts ≡ absorbed self.old.parts entry.now }
         ensures entered { HasTicked 1 m self.old.parts self.new.parts }
         ensures room { LeavesRoom self.old self.new }
         ensures waits { waiting m self.new.parts.requests ≡ waiting m self.old.parts.requests }
     {
-        let entry = Entry::Changed {
-            moment: m,
-            address,
-            up,
-        };
-        if !self.admits(&entry) {
+        if !self.admits(entry) {
             return;
         }
-        self.change(m, address, up);
+        self.change(m, change.address, change.up);
     }
 }
 

@@ -10,6 +10,7 @@ ghost use Rattle.router_model.specs.Limits.{most_changes, most_databases, most_t
 ghost use Rattle.router_model.specs.Parts.{Stands, standing_in, table};
 ghost use Rattle.router_model.specs.Standing.{due_changes};
 ghost use Rattle.router_model.specs.Tick.{after_changes, all_told, tick, ticked, ticked_by};
+ghost use Rattle.router_core.specs.Changing.{Ascend};
 ghost use Rattle.router_core.specs.Sendable.{IsSendable};
 ghost use Rattle.router_core.specs.Site.{IsSite};
 ghost use Rattle.router_core.specs.Steps.{AreAdded, AreSent, HasEntered, HasTicked, HaveRoom, IsSecond, IsStep, MayEnter, MayStep};
@@ -320,12 +321,14 @@ struct Found {
     targets: Vec<Target>,
 }
 
-// Whether one of these changes is due at a moment.
+// Whether one of these changes is due at a moment. They ascend by second, so that the first one is
+// if any is.
 fn is_due(m: u64, changes: &[Change]) -> bool
+    requires { Ascend changes.now }
     ensures { result ≡ is_some_due m changes.now }
 {
-    let [change, others @ ..] = changes else {
-        return false;
-    };
-    moment_of(change) <= m || is_due(m, others)
+    match changes.first() {
+        None => false,
+        Some(change) => moment_of(change) <= m,
+    }
 }

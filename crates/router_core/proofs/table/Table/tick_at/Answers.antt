@@ -1,9 +1,16 @@
 use Rattle.std.proofs.Common.{◌∙◌, ap, arith, sym, subst}
 use Rattle.std.proofs.lemmas.Result.{IfOk-weaker}
 use Rattle.lisp_settings.specs.declared.settings.Settings.{Settings}
+use Rattle.router_core.specs.Changing.{Ascend}
 use Rattle.router_core.specs.Steps.{AreSent, HasEntered}
+use Rattle.router_core.proofs.DueLemmas.{lawful-ascend}
 use Rattle.router_core.proofs.SecondLemmas.{if_ok-with, second-of, stands-on, ticked-left, ticked-still}
 use Rattle.router_core.proofs.table.Table.tick_at.Goals as goal
+
+pub is_due-requires : goal.is_due-requires
+is_due-requires c =
+    subst Ascend (sym c.changes_left-left.ensures.left)
+    (lawful-ascend c.args.settings.now c.args.self.now.parts.steps c.requires.lawful)
 
 pub change_and_send-requires-clause-few : goal.change_and_send-requires-clause-few
 change_and_send-requires-clause-few c = omega (arith, c.changes_left-left.ensures.few, c.requires.lawful.few_changes)
