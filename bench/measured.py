@@ -2,7 +2,8 @@
 """Runs a command, and prints items a second, user and system time and the greatest memory.
 
 usage: measured.py NAME ITEMS OUT COMMAND..
-The command's output goes to the file OUT.
+The command's output goes to the file OUT. With RUNS in the environment it runs so often, and the run that took the least
+processor time counts.
 """
 import os
 import subprocess
@@ -53,7 +54,8 @@ def tell_best(found, lines, first, items):
 
 def main():
     name, items, out, *command = sys.argv[1:]
-    print(f"{name}: {measured(out, command).text(items)}")
+    runs = [measured(out, command) for _ in range(int(os.environ.get("RUNS", "1")))]
+    print(f"{name}: {min(runs, key=lambda run: run.user + run.system).text(items)}")
 
 
 if __name__ == "__main__":

@@ -1,10 +1,11 @@
 #!/usr/bin/env python3
 """Writes settings and captures between whose frames whole seconds go by.
 
-usage: ticks.py FOLDER gap SECONDS LOCATORS | ticks.py FOLDER quiet SECONDS MAPPINGS |
+usage: ticks.py FOLDER gap SECONDS LOCATORS [CHANGES] | ticks.py FOLDER quiet SECONDS MAPPINGS |
     ticks.py FOLDER busy FRAMES LOCATORS SEED
 gap makes settings.toml and capture.pcap: two packets to an address without a mapping, so many seconds apart, at a site
-that asks a resolver and, where there are locators (at most 2,000), probes them; each mapping names 25 of them.
+that asks a resolver and, where there are locators (at most 2,000), probes them; each mapping names 25 of them. Behind
+the last packet the own locator goes down and comes up so many times (at most 256).
 quiet makes the same with so many mappings (at most 65,536), each of which names a locator of its own.
 busy makes probing.toml, settings.toml (the same without probes) and capture.pcap: packets of 80 to 1,400 octets within
 100 s, made from a number, to one mapping of so many locators (at most 32), and an answer to each probe 0.1 s behind it.
@@ -45,11 +46,17 @@ def record(moment, octets):
     return struct.pack("<IIII", *head) + octets
 
 
-def write_gap(folder, seconds, locators):
+def change(i):
+    """A change of the own locator, behind the greatest gap: down where i is even, else up."""
+    return f'[[change]]\nat = {START + 2 * 10**6 + i}\naddress = "192.0.2.1"\nup = {"false" if i % 2 == 0 else "true"}\n'
+
+
+def write_gap(folder, seconds, locators, changes=0):
     site = 'resolver = "203.0.113.9"\n' + "probe = true\n" * (locators > 0) + SITE
     with open(f"{folder}/settings.toml", "w") as file:
         file.write(site + "".join(
             mapping(i // 25, range(i, min(i + 25, locators))) for i in range(0, locators, 25)))
+        file.write("".join(map(change, range(changes))))
     octets = udp_packet(bytes([10, 1, 0, 5]), bytes([10, 3, 0, 9]), (1000, 2000), b"", False)
     with open(f"{folder}/capture.pcap", "wb") as file:
         file.write(HEADER + record(0, octets) + record(seconds * 10**6, octets))

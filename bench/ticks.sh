@@ -1,15 +1,18 @@
 #!/usr/bin/env bash
-# Replays captures between whose frames whole seconds go by. First two frames 1,000,000 s apart, with one open request;
-# then two so many seconds apart (by default a day), with 1,000 locators that are probed, sixteen a second, and never
-# answer; and then an hour or a day with many mappings, each of which names a locator of its own that is probed. It
-# prints the seconds that are played in a second, user and system time, the greatest memory, and what was written. Then
-# many frames within 100 s to one mapping of 20 locators that are probed and answer; beside it the same frames without
-# probes. It prints frames a second.
-# usage: bench/ticks.sh [SECONDS [FRAMES [SEED]]]
+# Replays captures between whose frames whole seconds go by. First two frames 1,000,000 s apart, with one open request,
+# and the same with 256 changes of the own locator ahead; then two so many seconds apart (by default a day), with 1,000
+# locators that are probed, sixteen a second, and never answer; and then an hour or a day with many mappings, each of
+# which names a locator of its own that is probed. It prints the seconds that are played in a second, user and system
+# time, the greatest memory, and what was written. Then many frames within 100 s to one mapping of 20 locators that are
+# probed and answer; beside it the same frames without probes. It prints frames a second. Each line is of the run that
+# took the least processor time.
+# usage: bench/ticks.sh [SECONDS [FRAMES [SEED [RUNS [PROGRAM]]]]]
 set -eu
 seconds=${1:-86400}
 frames=${2:-1000000}
 seed=${3:-1}
+export RUNS=${4:-5}
+given=${5:+$(realpath "$5")}
 . "$(dirname "$0")/common.sh"
 
 # Replays the capture by those settings: what it is called, the number of items, and the settings.
@@ -22,6 +25,8 @@ replayed() {
 echo "two frames 1000000 s apart"
 python3 "$top/bench/ticks.py" "$folder" gap 1000000 0
 replayed "  one request" 1000000 settings.toml
+python3 "$top/bench/ticks.py" "$folder" gap 1000000 0 256
+replayed "  and 256 changes left" 1000000 settings.toml
 echo "two frames $seconds s apart"
 python3 "$top/bench/ticks.py" "$folder" gap "$seconds" 1000
 replayed "  1000 probed" "$seconds" settings.toml
