@@ -40,13 +40,15 @@ fn push_entries(alloc: Global, from: &[Entry], entries: &mut Entries) -> Result<
     Ok(())
 }
 
-// Notes a notice of a data packet: adds its entries, and gathers its packets.
+// Notes a notice of a data packet, with the name under which the mapping in force was found: adds its
+// entries, and gathers its packets.
 fn note_one(
     alloc: Global,
     settings: &Settings,
     table: &mut Table,
     moment: u64,
     notice: &Notice,
+    found: Option<u32>,
     entries: &mut Entries,
     items: &mut VecDeque<Gathered>,
 ) -> Result<(), NoMemory>
@@ -61,7 +63,7 @@ fn note_one(
     let Changed {
         entries: more,
         emits,
-    } = table.note(settings, moment, notice)?;
+    } = table.note_found(settings, moment, notice, found)?;
     let own = table.own();
     push_entries(alloc, more.as_slice(), entries)?;
     push_emits(alloc, settings, &own, moment, emits.as_slice(), items)
@@ -74,6 +76,7 @@ fn note_each(
     table: &mut Table,
     moment: u64,
     notices: &[Notice],
+    found: Option<u32>,
     entries: &mut Entries,
     items: &mut VecDeque<Gathered>,
 ) -> Result<(), NoMemory>
@@ -87,7 +90,9 @@ fn note_each(
         entries.old items.old.items table.new.parts entries.new items.new.items) }
 {
     for notice in notices {
-        note_one(alloc, settings, table, moment, notice, entries, items)?;
+        note_one(
+            alloc, settings, table, moment, notice, found, entries, items,
+        )?;
     }
     Ok(())
 }
@@ -113,7 +118,10 @@ fn note_all(
 {
     for one in ruled {
         let notices = one.decision.notices.as_slice();
-        note_each(alloc, settings, table, moment, notices, entries, items)?;
+        let found = one.decision.notices.found();
+        note_each(
+            alloc, settings, table, moment, notices, found, entries, items,
+        )?;
     }
     Ok(())
 }

@@ -14,6 +14,7 @@ pub mod FoundLemmas
 pub mod FullLemmas
 pub mod IndexedLemmas
 pub mod LastingLemmas
+pub mod LiveLemmas
 pub mod NameLemmas
 pub mod NamedLemmas
 pub mod PlaceLemmas

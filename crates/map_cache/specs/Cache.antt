@@ -1,5 +1,6 @@
 -- The map-cache: mappings until their TTL is over (RFC 9301, section 5.4), with status bits (RFC 9300, section 10).
-use Rattle.std.specs.Prelude.{ℕ, ◌+◌, ◌*◌, ◌-◌, ◌/◌, ◌%◌, ◌^◌, ◌==◌, ◌&&◌, ◌||◌, nat_lt, not, Bool, List, count_by, filter, length, map, Option, is_some, if◌then◌else◌}
+use Rattle.std.specs.Prelude.{ℕ, ◌+◌, ◌*◌, ◌-◌, ◌/◌, ◌%◌, ◌^◌, ◌==◌, ◌&&◌, ◌||◌, nat_lt, not, Bool, List, count_by, filter, length, map, Option, is_some, option_map, if◌then◌else◌}
+use Rattle.std.specs.Borrow.{Bor}
 use Rattle.lisp_settings.specs.Instances.{mappings_in}
 use Rattle.lisp_settings.specs.declared.settings.LimitItem.{LimitItem}
 use Rattle.mapping_records.specs.Eids.{exactly, longest, same_eid}
@@ -65,6 +66,10 @@ exact mappings eid = exactly (λ mapping. mapping.eid) mappings eid
 -- the mapping in force for an EID: the longest that covers it, or None
 abbrev pub in_force : List Mapping → Eid → Option Mapping
 in_force mappings eid = longest (λ mapping. mapping.eid) mappings eid.iid eid.prefix.addr eid.prefix.len
+
+-- the mapping behind a name and a reference, or None
+abbrev pub mapping_named : Option (ℕ × Bor Mapping) → Option Mapping
+mapping_named found = option_map (λ named. named.1.now) found
 
 -- how many mappings an instance has learned: fixed ones don't count
 abbrev pub learned_in : ℕ → List Mapping → ℕ

@@ -3,12 +3,13 @@ ghost use Rattle.std.specs.Prelude.{◌≡◌, ◌≤◌, ◌<◌, ◌+◌, ◌*
 ghost use Rattle.std.specs.Option.{option_copied};
 ghost use Rattle.mapping_records.specs.Orders.{eid_order, put_in_order};
 ghost use Rattle.prefix_table.specs.Limits.{most_nodes};
-ghost use Rattle.map_cache.specs.Cache.{bits_told, exact, in_force, lasting, without_eid};
+ghost use Rattle.map_cache.specs.Cache.{bits_told, exact, in_force, lasting, mapping_named, without_eid};
 ghost use Rattle.map_cache.specs.Limits.{most_mappings};
 ghost use Rattle.map_cache.specs.Lists.{IsAscending};
 
 use crate::bits::tell;
 use crate::copies::copied;
+use crate::searching::is_live;
 use crate::stay::{Stay, stay_lasts, stay_until};
 use crate::{Iter, Mapping, NoMemory};
 use mapping_records::Eid;
@@ -110,10 +111,16 @@ impl ByEid {
         self.stays.get(eid, &mut Reads::new()).is_some()
     }
 
-    /// The longest of the mappings that haven't ended at a moment and cover an EID, or None.
-    pub(crate) fn in_force(&self, m: u64, eid: &Eid, reads: &mut Reads) -> Option<&Mapping>
+    /// The longest of the mappings that haven't ended at a moment and cover an EID, with its name, or
+    /// None.
+    pub(crate) fn in_force_named(
+        &self,
+        m: u64,
+        eid: &Eid,
+        reads: &mut Reads,
+    ) -> Option<(u32, &Mapping)>
         requires { reads.old < 2 ^ 63 }
-        ensures found { option_copied result ≡ in_force (lasting m self.now.mappings) eid.now }
+        ensures found { mapping_named result ≡ in_force (lasting m self.now.mappings) eid.now }
         ensures counted { reads.old ≤ reads.new }
         ensures bound { reads.new ≤ reads.old + most_nodes }
     {
@@ -122,7 +129,10 @@ impl ByEid {
             .longest_where(eid, |stay| stay_lasts(m, stay), reads)
         {
             None => None,
-            Some((_, stay)) => Some(self.store.read(stay.name, &mut Reads::new())),
+            Some((_, stay)) => {
+                let mapping = self.store.read(stay.name, &mut Reads::new());
+                Some((stay.name, mapping))
+            }
         }
     }
 
@@ -138,6 +148,31 @@ impl ByEid {
             return None;
         }
         Some(self.store.read(stay.name, &mut Reads::new()))
+    }
+
+    /// The mapping of exactly that EID, or None where there is none or it has ended at a moment. It is
+    /// looked up only where `name` isn't its name.
+    pub(crate) fn exact_at(
+        &self,
+        m: u64,
+        eid: &Eid,
+        name: u32,
+        reads: &mut Reads,
+    ) -> Option<&Mapping>
+        requires { reads.old < 2 ^ 63 }
+        ensures found { option_copied result ≡ exact (lasting m self.now.mappings) eid.now }
+        ensures counted { reads.old ≤ reads.new }
+        ensures bound { reads.new ≤ reads.old + most_nodes }
+    {
+        // This call brings the fact that each name is that of a mapping.
+        let _ = self.store.rooms();
+        if self.store.has(name) {
+            let mapping = self.store.read(name, &mut Reads::new());
+            if is_live(m, eid, mapping) {
+                return Some(mapping);
+            }
+        }
+        self.exact(m, eid, reads)
     }
 
     /// There is a mapping of that EID that hasn't ended at a moment.

@@ -4,7 +4,7 @@ ghost use Rattle.std.specs.Option.{option_copied};
 ghost use Rattle.lisp_settings.specs.Instances.{AreLimits, mappings_in};
 ghost use Rattle.prefix_table.specs.Limits.{most_nodes};
 ghost use Rattle.named_list.specs.Limits.{ring_names};
-ghost use Rattle.map_cache.specs.Cache.{bits_told, exact, has_room, in_force, lasting, learned, learned_in};
+ghost use Rattle.map_cache.specs.Cache.{bits_told, exact, has_room, in_force, lasting, learned, learned_in, mapping_named};
 ghost use Rattle.map_cache.specs.Limits.{most_locators, most_mappings};
 ghost use Rattle.map_cache.specs.Lists.{IsFew};
 ghost use Rattle.map_cache.specs.Named.{least_named, named_above};
@@ -229,7 +229,24 @@ impl MapCache {
         ensures counted { reads.old ≤ reads.new }
         ensures bound { reads.new ≤ reads.old + most_nodes }
     {
-        self.indexed.in_force(m, eid, reads)
+        match self.in_force_named(m, eid, reads) {
+            None => None,
+            Some((_, mapping)) => Some(mapping),
+        }
+    }
+
+    /// The mapping that `in_force` answers, with the name under which it is kept, or None. A mapping
+    /// has its name until it is replaced or removed; then another one may get it.
+    pub fn in_force_named(&self, m: u64, eid: &Eid, reads: &mut Reads) -> Option<(u32, &Mapping)>
+        requires later { self.now.now ≤ m }
+        requires reads { reads.old < 2 ^ 63 }
+        ensures found { mapping_named result
+            ≡ in_force (lasting m self.entry.now.mappings) eid.now }
+        ensures few { IfSome (mapping_named result) IsFew }
+        ensures counted { reads.old ≤ reads.new }
+        ensures bound { reads.new ≤ reads.old + most_nodes }
+    {
+        self.indexed.in_force_named(m, eid, reads)
     }
 
     /// The mapping of exactly that EID, or None where there is none or it has ended at a moment.
@@ -242,6 +259,18 @@ impl MapCache {
         ensures bound { reads.new ≤ reads.old + most_nodes }
     {
         self.indexed.exact(m, eid, reads)
+    }
+
+    /// The mapping that `exact` answers, for any name: it is looked up only where `name` isn't that
+    /// under which it is kept.
+    pub fn exact_at(&self, m: u64, eid: &Eid, name: u32, reads: &mut Reads) -> Option<&Mapping>
+        requires later { self.now.now ≤ m }
+        requires reads { reads.old < 2 ^ 63 }
+        ensures found { option_copied result ≡ exact (lasting m self.entry.now.mappings) eid.now }
+        ensures counted { reads.old ≤ reads.new }
+        ensures bound { reads.new ≤ reads.old + most_nodes }
+    {
+        self.indexed.exact_at(m, eid, name, reads)
     }
 
     /// The least address above `after` that a mapping names which hasn't ended at a moment, by a

@@ -2,7 +2,7 @@
 ghost use Rattle.std.specs.Prelude.{◌≡◌, ◌≤◌, ◌<◌, ◌+◌, ◌/◌, ◌^◌, false, length, Some, is_some, IfSome};
 ghost use Rattle.std.specs.Option.{option_copied};
 ghost use Rattle.prefix_table.specs.Limits.{most_nodes};
-ghost use Rattle.map_cache.specs.Cache.{exact, in_force, lasting, without_eid};
+ghost use Rattle.map_cache.specs.Cache.{exact, in_force, lasting, mapping_named, without_eid};
 ghost use Rattle.map_cache.specs.Lists.{IsFew};
 ghost use Rattle.map_cache.specs.Named.{least_named, named_above};
 
@@ -38,15 +38,21 @@ impl Indexed {
         self.by_eid.has(eid)
     }
 
-    /// The longest of the mappings that haven't ended at a moment and cover an EID, or None.
-    pub(crate) fn in_force(&self, m: u64, eid: &Eid, reads: &mut Reads) -> Option<&Mapping>
+    /// The longest of the mappings that haven't ended at a moment and cover an EID, with its name, or
+    /// None.
+    pub(crate) fn in_force_named(
+        &self,
+        m: u64,
+        eid: &Eid,
+        reads: &mut Reads,
+    ) -> Option<(u32, &Mapping)>
         requires { reads.old < 2 ^ 63 }
-        ensures found { option_copied result ≡ in_force (lasting m self.now.mappings) eid.now }
-        ensures few { IfSome (option_copied result) IsFew }
+        ensures found { mapping_named result ≡ in_force (lasting m self.now.mappings) eid.now }
+        ensures few { IfSome (mapping_named result) IsFew }
         ensures counted { reads.old ≤ reads.new }
         ensures bound { reads.new ≤ reads.old + most_nodes }
     {
-        self.by_eid.in_force(m, eid, reads)
+        self.by_eid.in_force_named(m, eid, reads)
     }
 
     /// The mapping of exactly that EID, or None where there is none or it has ended at a moment.
@@ -57,6 +63,23 @@ impl Indexed {
         ensures bound { reads.new ≤ reads.old + most_nodes }
     {
         self.by_eid.exact(m, eid, reads)
+    }
+
+    /// The mapping of exactly that EID, or None where there is none or it has ended at a moment. It is
+    /// looked up only where `name` isn't its name.
+    pub(crate) fn exact_at(
+        &self,
+        m: u64,
+        eid: &Eid,
+        name: u32,
+        reads: &mut Reads,
+    ) -> Option<&Mapping>
+        requires { reads.old < 2 ^ 63 }
+        ensures found { option_copied result ≡ exact (lasting m self.now.mappings) eid.now }
+        ensures counted { reads.old ≤ reads.new }
+        ensures bound { reads.new ≤ reads.old + most_nodes }
+    {
+        self.by_eid.exact_at(m, eid, name, reads)
     }
 
     /// The least address above `after` that a mapping names which hasn't ended at a moment, and the

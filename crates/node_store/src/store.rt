@@ -122,8 +122,8 @@ impl<T> NodeStore<T> {
         node
     }
 
-    // Whether there is a node of that name.
-    pub(crate) fn has(&self, name: u32) -> bool
+    /// Whether there is a node of that name.
+    pub fn has(&self, name: u32) -> bool
         ensures { result ≡ is_some (node_at self.now name) }
     {
         match self.slots.get(name as usize) {

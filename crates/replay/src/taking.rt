@@ -174,6 +174,7 @@ fn decide(
         memory,
         frame.moment,
         notices.as_slice(),
+        notices.found(),
         output,
     )
 }
@@ -203,13 +204,15 @@ fn sent_packet(verdict: Verdict) -> Option<Octets>
     }
 }
 
-// Notes the notices of a decision one after another, and gathers the packets that are sent.
+// Notes the notices of a decision one after another, with the name under which the mapping in force
+// was found, and gathers the packets that are sent.
 fn note_all(
     alloc: Global,
     settings: &Settings,
     memory: &mut Table,
     moment: u64,
     notices: &[Notice],
+    found: Option<u32>,
     output: &mut Output,
 ) -> Result<(), NoMemory>
     requires lawful { IsLawful settings.now }
@@ -231,7 +234,7 @@ fn note_all(
     let [notice, others @ ..] = notices else {
         return Ok(());
     };
-    let changed = memory.note(settings, moment, notice)?;
+    let changed = memory.note_found(settings, moment, notice, found)?;
     let own = memory.own();
     push_emits(
         alloc,
@@ -241,7 +244,7 @@ fn note_all(
         changed.emits.as_slice(),
         output,
     )?;
-    note_all(alloc, settings, memory, moment, others, output)
+    note_all(alloc, settings, memory, moment, others, found, output)
 }
 
 // Gathers the packets of emits, by the own locators and versions as they stand.

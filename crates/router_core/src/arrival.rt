@@ -60,7 +60,12 @@ fn for_home(view: &View<'_>, tunnel: &Tunnelled) -> Result<Decision, NoMemory>
         None => Ok(view.table.alone(Verdict::Drop(Reason::NotOurs))),
         Some(database) => {
             let source = host_eid(iid, tunnel.inner.header.source());
-            arrive(view.table, iid, tunnel, &database, view.in_force(&source))
+            let Some((name, mapping)) = view.in_force_named(&source) else {
+                return arrive(view.table, iid, tunnel, &database, None);
+            };
+            let mut decision = arrive(view.table, iid, tunnel, &database, Some(mapping))?;
+            decision.notices.found_at(name);
+            Ok(decision)
         }
     }
 }

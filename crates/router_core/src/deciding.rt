@@ -16,8 +16,8 @@ use crate::departure::routed;
 use crate::view::View;
 use capture_io::Frame;
 use lisp_settings::Settings;
-use octets::{Items, NoMemory};
-use router_log::{Decision, Reason, Verdict};
+use octets::NoMemory;
+use router_log::{Decision, Notices, Reason, Verdict};
 
 impl Table {
     /// The decision on a frame that is no control message, at a moment, as the journal decides it.
@@ -72,7 +72,7 @@ impl Table {
     {
         Decision {
             verdict,
-            notices: Items::new(self.alloc),
+            notices: Notices::new(self.alloc),
         }
     }
 }

@@ -32,7 +32,7 @@ use lisp_header::LispHeader;
 use locator_choice::{flow_hash, source_port};
 use map_cache::Mapping;
 use mapping_records::{Action, Eid};
-use octets::{Items, NoMemory};
+use octets::NoMemory;
 use router_log::{Decision, Notice, Notices, Reason, Verdict};
 use std::alloc::Global;
 
@@ -65,7 +65,7 @@ fn asking(alloc: Global, eid: Eid, packet: &IpPacket, reason: Reason) -> Result<
     ensures size { IfOk result (λ decision. FitsRecord decision.verdict) }
     ensures notices { IfOk result (λ decision. AreSound decision.notices) }
 {
-    let mut notices = Items::new(alloc);
+    let mut notices = Notices::new(alloc);
     notices.push(Notice::Ask {
         eid,
         source: Some(packet.header.source()),
@@ -228,7 +228,7 @@ fn echo_notices(view: &View<'_>, to: Addr) -> Result<Notices, NoMemory>
         ≡ echo_notice view.now.site (seen view.now) to) }
     ensures sound { IfOk result AreSound }
 {
-    let mut notices = Items::new(view.alloc());
+    let mut notices = Notices::new(view.alloc());
     if view.is_echo_due(&to) {
         notices.push(Notice::EchoDue { rloc: to })?;
     }

@@ -52,13 +52,50 @@ impl Table {
             changed.emits) }
         ensures step { IsStep 1 m self.old.parts self.new.parts result }
     {
+        self.note_found(settings, m, notice, None)
+    }
+
+    /// Notes a notice like `note`, with the name under which the decision found the mapping in force
+    /// (`Notices::found`), or None. With any name the outcome is the same: where the name is that of
+    /// the notice's mapping, the mapping isn't looked up again.
+    pub fn note_found(
+        &mut self,
+        settings: &Settings,
+        m: u64,
+        notice: &Notice,
+        found: Option<u32>,
+    ) -> Result<Changed, NoMemory>
+        requires may { MayStep m self.old.parts }
+        requires sound { is_sound notice.now ≡ true }
+        ensures parts { IfOk result (λ changed. changed_seen self.new.parts changed
+            ≡ noted table (standing_in settings.now self.old.parts) m notice.now
+            (unchanged self.old.parts)) }
+        ensures journal { IfOk result (λ changed. (journal : Journal)
+            → Stands settings.now self.old.parts journal → MayGo journal m
+            → Follows settings.now (changed_seen self.new.parts changed)
+            (note settings.now journal m notice.now)) }
+        ensures isolated { IfOk result (λ changed. (journal : Journal) (i : ℕ)
+            → Stands settings.now self.old.parts journal → MayGo journal m
+            → NoncesDiffer m journal → notice_instance notice.now ≡ Some i
+            → AreApart (changed_seen self.new.parts changed)
+            (note settings.now (of_instance journal i) m notice.now)) }
+        ensures sent { IfOk result (λ changed. AreSent (standing_in settings.now self.new.parts) 1
+            changed.emits) }
+        ensures step { IsStep 1 m self.old.parts self.new.parts result }
+    {
         let site = self.site(settings);
-        self.note_by(&site, m, notice)
+        self.note_by(&site, m, notice, found)
     }
 
     // Notes a notice, for the site as it stands.
     #[tactic(auto, unfolding(router_model::specs::Note::noted))]
-    fn note_by(&mut self, site: &Site<'_>, m: u64, notice: &Notice) -> Result<Changed, NoMemory>
+    fn note_by(
+        &mut self,
+        site: &Site<'_>,
+        m: u64,
+        notice: &Notice,
+        found: Option<u32>,
+    ) -> Result<Changed, NoMemory>
         requires may { MayStep m self.old.parts }
         requires sound { is_sound notice.now ≡ true }
         ensures parts { IfOk result (λ changed. changed_seen self.new.parts changed
@@ -73,7 +110,7 @@ impl Table {
                 rloc,
                 bits,
                 width,
-            } => self.note_bits(m, eid, rloc, *bits, *width),
+            } => self.note_bits(m, eid, rloc, *bits, *width, found),
             Notice::Refresh { eid } => self.note_old(site, m, eid),
             Notice::EchoWanted { rloc, nonce } => self.note_wanted(m, *rloc, *nonce),
             Notice::EchoHeard { rloc, nonce } => self.note_heard(m, rloc, *nonce),
@@ -92,6 +129,7 @@ impl Table {
         rloc: &Addr,
         bits: u32,
         width: u8,
+        found: Option<u32>,
     ) -> Result<Changed, NoMemory>
         requires may { MayStep m self.old.parts }
         requires width { ((width == 8) || (width == 32)) ≡ true }
@@ -101,7 +139,7 @@ impl Table {
         ensures quiet { IfOk result (λ changed. changed.emits ≡ []) }
         ensures step { IsStep 1 m self.old.parts self.new.parts result }
     {
-        if !self.is_news(m, eid, rloc, bits, width) {
+        if !self.is_news(m, eid, rloc, bits, width, found) {
             return Ok(self.nothing());
         }
         let entries = only(
@@ -119,11 +157,19 @@ impl Table {
 
     // Whether status bits from a locator are news: the mapping of the EID is live and names that
     // locator, and one of its locators has another status than its bit.
-    fn is_news(&self, m: u64, eid: &Eid, rloc: &Addr, bits: u32, width: u8) -> bool
+    fn is_news(
+        &self,
+        m: u64,
+        eid: &Eid,
+        rloc: &Addr,
+        bits: u32,
+        width: u8,
+        found: Option<u32>,
+    ) -> bool
         ensures { result ≡ is_news rloc.now bits width
             (exact (view_in self.now.parts m).mappings eid.now) }
     {
-        match self.exact(m, eid) {
+        match self.exact_at(m, eid, found) {
             None => false,
             Some(mapping) => {
                 let locators = mapping.details.locators.as_slice();

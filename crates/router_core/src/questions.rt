@@ -1,6 +1,7 @@
 // The questions that decisions and notices put to a table.
 ghost use Rattle.std.specs.Prelude.{◌≡◌, IfSome, max, option_map};
 ghost use Rattle.std.specs.Option.{option_copied};
+ghost use Rattle.map_cache.specs.Cache.{mapping_named};
 ghost use Rattle.map_cache.specs.Lists.{IsFew};
 ghost use Rattle.router_model.specs.Cache.{held_of};
 ghost use Rattle.router_model.specs.Mappings.{exact, force};
@@ -55,8 +56,22 @@ impl Table {
         ensures few { IfSome (option_copied result) IsFew }
         ensures version { IfSome (option_copied result) IsVersioned }
     {
+        match self.in_force_named(m, eid) {
+            None => None,
+            Some((_, mapping)) => Some(mapping),
+        }
+    }
+
+    /// The mapping in force for an EID, with the name under which it is kept, or None.
+    pub(crate) fn in_force_named(&self, m: u64, eid: &Eid) -> Option<(u32, &Mapping)>
+        ensures found { option_map held_of (mapping_named result)
+            ≡ force (view_in self.now.parts m).mappings eid.now.iid eid.now.prefix.addr
+            eid.now.prefix.len }
+        ensures few { IfSome (mapping_named result) IsFew }
+        ensures version { IfSome (mapping_named result) IsVersioned }
+    {
         self.cache
-            .in_force(self.moment_at(m), eid, &mut Reads::new())
+            .in_force_named(self.moment_at(m), eid, &mut Reads::new())
     }
 
     /// The live mapping of exactly that EID, or None.
@@ -65,5 +80,20 @@ impl Table {
             ≡ exact (view_in self.now.parts m).mappings eid.now }
     {
         self.cache.exact(self.moment_at(m), eid, &mut Reads::new())
+    }
+
+    /// The live mapping of exactly that EID, or None. It is looked up only where `found` isn't the
+    /// name under which it is kept.
+    pub(crate) fn exact_at(&self, m: u64, eid: &Eid, found: Option<u32>) -> Option<&Mapping>
+        ensures { option_map held_of (option_copied result)
+            ≡ exact (view_in self.now.parts m).mappings eid.now }
+    {
+        match found {
+            None => self.exact(m, eid),
+            Some(name) => {
+                self.cache
+                    .exact_at(self.moment_at(m), eid, name, &mut Reads::new())
+            }
+        }
     }
 }

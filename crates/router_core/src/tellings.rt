@@ -11,7 +11,7 @@ use ip_headers::Addr;
 use lisp_header::{LispHeader, newer};
 use lisp_settings::Database;
 use map_cache::Mapping;
-use octets::{Items, NoMemory};
+use octets::NoMemory;
 use router_log::{Notice, Notices};
 use std::alloc::Global;
 
@@ -29,7 +29,7 @@ pub(crate) fn notices(
         (option_map held_of (option_copied mapping.entry))) }
     ensures sound { IfOk result AreSound }
 {
-    let mut notices = Items::new(alloc);
+    let mut notices = Notices::new(alloc);
     push_bits(rloc, header, mapping, &mut notices)?;
     push_nonce(rloc, header.echo, header.nonce, &mut notices)?;
     push_solicit(rloc, header, home, &mut notices)?;

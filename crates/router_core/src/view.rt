@@ -3,6 +3,7 @@ ghost use Rattle.router_core.specs.Site.{IsSite};
 ghost use Rattle.std.specs.Prelude.{◌≡◌, ◌&&◌, IfSome, option_map};
 ghost use Rattle.std.specs.Option.{option_copied};
 ghost use Rattle.lisp_settings.specs.Home.{home_of};
+ghost use Rattle.map_cache.specs.Cache.{mapping_named};
 ghost use Rattle.map_cache.specs.Lists.{IsFew};
 ghost use Rattle.router_model.specs.Cache.{held_of};
 ghost use Rattle.router_model.specs.Mappings.{force};
@@ -93,5 +94,13 @@ impl<'t> View<'t> {
         ensures version { IfSome (option_copied result) IsVersioned }
     {
         self.table.in_force(self.m, eid)
+    }
+
+    /// The mapping in force for an EID, with the name under which it is kept, or None.
+    pub(crate) fn in_force_named(&self, eid: &Eid) -> Option<(u32, &'t Mapping)>
+        ensures { option_map held_of (mapping_named result)
+            ≡ force (seen self.now).mappings eid.now.iid eid.now.prefix.addr eid.now.prefix.len }
+    {
+        self.table.in_force_named(self.m, eid)
     }
 }

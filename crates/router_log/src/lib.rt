@@ -9,6 +9,7 @@ mod entry;
 mod kept;
 mod lines;
 mod notice;
+mod notices;
 mod numbers;
 mod refusals;
 mod verdict;
@@ -22,7 +23,8 @@ pub use kept::{EchoOut, EchoStart, EchoWish, Probe, ProbeState, Solicitation};
 pub use lines::{frame_line, push_frame_line};
 pub use map_messages::MapReply;
 pub use mapping_records::{Eid, Record};
-pub use notice::{Notice, Notices};
+pub use notice::Notice;
+pub use notices::Notices;
 pub use numbers::{
     MOST_ADDRESS, push_named, push_number, push_octets, write_address, write_hex, write_hex_octets,
     write_named,

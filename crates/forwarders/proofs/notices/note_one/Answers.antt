@@ -15,7 +15,7 @@ push_emits-requires-clause-sendable c =
 
 pub returns : goal.returns
 returns c =
-    let after : Parts = c.note.new.self.parts in
+    let after : Parts = c.note_found.new.self.parts in
     let change : Change Parts = changed_seen after c.in_ok-more.field-0 in
     notes-sent c.push_emits.result c.args.settings.now c.args.moment c.args.notice.now c.args.table.now.parts after c.own-own.result change c.as_slice-2.result.now c.as_slice.result.now
     c.args.entries.now c.push_entries.new.entries c.args.items.now.items c.push_emits.new.items.items

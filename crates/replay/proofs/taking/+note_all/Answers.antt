@@ -19,17 +19,17 @@ use Rattle.replay.proofs.ReplayLemmas.{emits-more, first-left, on_ok_two, stands
 use Rattle.replay.proofs.taking.+note_all.Goals as goal
 
 -- the settings that stand stay behind the first of them
-stays : (t : ℕ) (c : goal.After-drop-changed-3 t) → standing_in c.args.settings.now c.note.new.self.parts ≡ standing_in c.args.settings.now c.args.memory.now.parts
+stays : (t : ℕ) (c : goal.After-drop-changed-3 t) → standing_in c.args.settings.now c.note_found.new.self.parts ≡ standing_in c.args.settings.now c.args.memory.now.parts
 stays t c =
     let first = c.in_ok-changed.ensures.step.entered in
-    stands-kept c.args.settings.now c.args.memory.now.parts c.note.new.self.parts first.own first.steps
+    stands-kept c.args.settings.now c.args.memory.now.parts c.note_found.new.self.parts first.own first.steps
 
 -- all notices by the first of them, and those left
 noted-first : (t : ℕ) (c : goal.After-drop-changed-3 t) → all_noted c.args.settings.now c.args.memory.now.parts c.args.moment c.args.notices.now
-    ≡ behind c.in_ok-changed.changed.entries c.in_ok-changed.changed.emits (all_noted c.args.settings.now c.note.new.self.parts c.args.moment (take (length c.args.notices.now - 1) (drop 1 c.args.notices.now)))
+    ≡ behind c.in_ok-changed.changed.entries c.in_ok-changed.changed.emits (all_noted c.args.settings.now c.note_found.new.self.parts c.args.moment (take (length c.args.notices.now - 1) (drop 1 c.args.notices.now)))
 noted-first t c =
     let old = c.args.memory.now.parts in
-    let mid = c.note.new.self.parts in
+    let mid = c.note_found.new.self.parts in
     let stands = standing_in c.args.settings.now old in
     let moment = c.args.moment in
     let notices = c.args.notices.now in
@@ -40,8 +40,8 @@ noted-first t c =
     ∙ all-from stands moment notice left old mid changed.entries changed.emits c.in_ok-changed.ensures.parts
     ∙ ap (λ (stand : Settings). behind changed.entries changed.emits (each (noted table stand moment) left (unchanged mid))) (sym (stays t c))
 
-pub note-requires-clause-may : goal.note-requires-clause-may
-note-requires-clause-may t c = record { later = c.requires.later; count = omega (arith, c.requires.count, c.in-len1-up.len_at_least) }
+pub note_found-requires-clause-may : goal.note_found-requires-clause-may
+note_found-requires-clause-may t c = record { later = c.requires.later; count = omega (arith, c.requires.count, c.in-len1-up.len_at_least) }
 
 pub note_all-requires : goal.note_all-requires
 note_all-requires t c =
@@ -96,7 +96,7 @@ returns-clause-sends t c =
     let old = c.args.output.now in
     let mid = c.push_emits.new.output in
     let new = c.note_all.new.output in
-    let before = c.note.new.self.parts in
+    let before = c.note_found.new.self.parts in
     let after = c.note_all.new.memory.parts in
     let emits = c.in_ok-changed.changed.emits in
     let left : Change Parts = all_noted settings before moment (take (length notices - 1) (drop 1 notices)) in
@@ -116,7 +116,7 @@ pub returns-clause-few : goal.returns-clause-few
 returns-clause-few t c =
     let notices = c.args.notices.now in
     let emits = c.in_ok-changed.changed.emits in
-    let left : Change Parts = all_noted c.args.settings.now c.note.new.self.parts c.args.moment (take (length notices - 1) (drop 1 notices)) in
+    let left : Change Parts = all_noted c.args.settings.now c.note_found.new.self.parts c.args.moment (take (length notices - 1) (drop 1 notices)) in
     let one = c.in_ok-changed.ensures.sent.few in
     let some = c.in-len1-up.len_at_least in
     let split = ap (λ (l : List Notice). length l) (first-left notices c.notice-item.result some c.notice-item.is) in

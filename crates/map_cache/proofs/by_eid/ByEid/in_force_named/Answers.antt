@@ -4,10 +4,10 @@ use Rattle.map_cache.specs.Indexed.{stay_lasts}
 use Rattle.map_cache.proofs.FiledLemmas.{filed-at, filed-same}
 use Rattle.map_cache.proofs.ForceLemmas.{force-none, force-some}
 use Rattle.map_cache.proofs.FoundLemmas.{stay-at}
-use Rattle.map_cache.proofs.by_eid.ByEid.in_force.Goals as goal
+use Rattle.map_cache.proofs.by_eid.ByEid.in_force_named.Goals as goal
 
-pub read-requires-clause-live : goal.read-requires-clause-live
-read-requires-clause-live c =
+pub read-mapping-requires-clause-live : goal.read-mapping-requires-clause-live
+read-mapping-requires-clause-live c =
     let found = rw c.self.invariant.stay at c.in-Some.ensures.longest in
     let at = stay-at _ _ (c.in-Some.field-0-0.now, c.in-Some.stay.now) found.there in
     ap is_some (filed-at c.self.inside.store c.self.inside.stays.pairs c.self.invariant at.index _ at.item at.named at.there)
@@ -23,4 +23,4 @@ returns-in-Some-clause-found c =
     let at = stay-at _ _ (c.in-Some.field-0-0.now, c.in-Some.stay.now) found.there in
     let node = filed-at c.self.inside.store c.self.inside.stays.pairs c.self.invariant at.index _ at.item at.named at.there in
     let is = force-some _ c.args.m c.args.eid.now _ _ _ (omega arith) found at c.self.invariant.ascending (filed-same c.self.inside.store c.self.inside.stays.pairs c.self.invariant) (λ stay b says. search rules) in
-    rw (← c.self.view_is) (sym c.read.ensures.node ∙ node ∙ sym is)
+    rw (← c.self.view_is) (sym c.read-mapping.ensures.node ∙ node ∙ sym is)

@@ -8,7 +8,7 @@ use Rattle.router_model.specs.Parts.{Parts}
 use Rattle.router_model.proofs.FollowLemmas.{table-notes}
 use Rattle.router_model.proofs.StandsLemmas.{proper-rises}
 use Rattle.router_model.proofs.TenantFrameLemmas.{notes-isolated}
-use Rattle.router_core.proofs.table.Table.note.Goals as goal
+use Rattle.router_core.proofs.table.Table.note_found.Goals as goal
 
 pub returns-clause-journal : goal.returns-clause-journal
 returns-clause-journal c =
