@@ -137,3 +137,10 @@ among-mapped f (z ∷ items) y among = elim among [
   | inl here ↦ (z, inl refl, here)
   | inr later ↦ let rest = among-mapped f items y later in (rest.0, inr rest.1, rest.2)
 ]
+
+pub among-map : {A B : Type 0} (f : A → B) (items : List A) (x : A) → Among x items → Among (f x) (map f items)
+among-map f [] x among = absurd among
+among-map f (z ∷ items) x among = elim among [
+  | inl here ↦ inl (ap f here)
+  | inr later ↦ inr (among-map f items x later)
+]

@@ -1,18 +1,19 @@
 -- Items of a key that are changed, those with the greatest numbers first.
-use Rattle.std.proofs.Common.{◌≡◌, ℕ, ◌<◌, ◌&&◌, Bool, true, cond, List, [], ◌∷◌, map, nat_le, slice_get, slice_set, All, Some, None, inl, inr, refl, sym, ap, subst, ◌∙◌, arith}
+use Rattle.std.proofs.Common.{◌≡◌, ℕ, ◌<◌, ◌&&◌, Bool, true, cond, List, [], ◌∷◌, map, nat_le, slice_get, slice_set, Some, None, inl, inr, refl, sym, ap, subst, ◌∙◌, arith}
 use Rattle.std.specs.Option.{option_map}
 use Rattle.std.proofs.lemmas.Bool.{and_from, and_left, and_parts, and_right, both_ways, cases_Bool, cases_lt, le-leb, lt-leb, lt-ltb}
 use Rattle.std.proofs.lemmas.Option.{same_Some, slice_get-map}
-use Rattle.keyed_list.specs.Keyed.{Ascends, changed_with, is_below, is_key}
+use Rattle.keyed_list.specs.Keyed.{Ascends, changed_with, is_below, is_key, last_of}
 use Rattle.keyed_list.specs.Lists.{last_where}
 use Rattle.keyed_list.specs.declared.key.Key.{Key}
 use Rattle.keyed_list.specs.declared.keyed.Marks.{Marks}
 use Rattle.keyed_list.specs.declared.keyed.Numbered.{Numbered}
-use Rattle.keyed_list.proofs.AmongLemmas.{among-all, among-at}
+use Rattle.keyed_list.proofs.AmongLemmas.{among-at}
 use Rattle.keyed_list.proofs.EditLemmas.{map-same, map-stays, set-map}
 use Rattle.keyed_list.proofs.FitsLemmas.{below-number}
 use Rattle.keyed_list.proofs.LastLemmas.{none-last, IsLast}
 use Rattle.keyed_list.proofs.SetLemmas.{made, same-place}
+use Rattle.keyed_list.proofs.WalkLemmas.{above, below-start}
 
 module _ {T : Type 0} (marks_of : T → Marks) (key : Key) where
   -- the item has the key, and this or a greater number
@@ -31,9 +32,14 @@ module _ {T : Type 0} (marks_of : T → Marks) (key : Key) where
   below-same bound changed x less =
       ap (λ b. changed_if changed b x) (and_right (is_key marks_of key x.item) (nat_le bound x.number) (lt-leb _ _ less))
 
-  pub none-changed : (bound : ℕ) (changed : T → T) (items : List (Numbered T)) → All (λ x. x.number < bound) items → items ≡ map (changed_from bound changed) items
-  none-changed bound changed items all =
-      sym (map-stays (changed_from bound changed) items (λ k x at. below-same bound changed x (among-all (λ y. y.number < bound) items x all (among-at items k x at))))
+  -- from above the last item of the key on, none is changed
+  pub none-changed : (items : List (Numbered T)) → Ascends items → (changed : T → T) → items ≡ map (changed_from (above (last_of marks_of key items)) changed) items
+  none-changed items ascends changed =
+      sym (map-stays (changed_from (above (last_of marks_of key items)) changed) items (λ k x at. elim (cases_Bool (is_key marks_of key x.item)) [
+        | inl has ↦
+            below-same (above (last_of marks_of key items)) changed x (below-start marks_of key items ascends x (among-at items k x at) has)
+        | inr lacks ↦ ap (λ b. changed_if changed b x) (and_left _ _ lacks)
+      ]))
 
   module _ (bound : ℕ) (changed : T → T) (old items : List (Numbered T)) (are : items ≡ map (changed_from bound changed) old) where
     now-at : (k : ℕ) (z : Numbered T) → slice_get old k ≡ Some z → slice_get items k ≡ Some (changed_from bound changed z)

@@ -1,5 +1,5 @@
 -- The last item that has a key and passes a test, found from the greatest number down.
-use Rattle.std.proofs.Common.{◌≡◌, ◌⊎◌, ℕ, suc, ◌<◌, ◌≤◌, ◌&&◌, Bool, true, false, List, drop, map, slice_get, All, Option, Some, None, inl, inr, refl, sym, ap, ◌∙◌, arith}
+use Rattle.std.proofs.Common.{◌≡◌, ◌⊎◌, ℕ, suc, ◌<◌, ◌≤◌, ◌&&◌, Bool, true, false, List, drop, map, slice_get, All, Option, Some, None, IfSome, inl, inr, refl, sym, ap, subst, ◌∙◌, arith}
 use Rattle.std.specs.Option.{option_map}
 use Rattle.std.proofs.Math.Bool.{and-true}
 use Rattle.std.proofs.lemmas.Bool.{and_from, and_left, and_parts, and_right, both_ways, cases_Bool, cases_lt, lt-ltb, ltb-true}
@@ -45,6 +45,18 @@ module _ {T : Type 0} where
     pub place-last : (items : List (Numbered T)) (place : Option ℕ) → item_at items place ≡ last_of marks_of key items → item_at (map (λ y. y.item) items) place ≡ last_where (is_key marks_of key) (map (λ y. y.item) items)
     place-last items place is =
         item_at-map (λ y. y.item) items place ∙ ap (option_map (λ y. y.item)) is ∙ sym (last-map (λ y. y.item) (is_key marks_of key) None items)
+
+  -- the last item that has the first key of the one at a place
+  pub last-like : (marks_of : T → Marks) (items : List (Numbered T)) (place last : ℕ) → IfSome (slice_get items place) (λ y. slice_get items last ≡ last_of marks_of (marks_of y.item).key items)
+      → IfSome (slice_get (map (λ y. y.item) items) place) (λ item. slice_get (map (λ y. y.item) items) last ≡ last_where (is_key marks_of (marks_of item).key) (map (λ y. y.item) items))
+  last-like marks_of items place last is =
+      subst (λ (o : Option T). IfSome o (λ item. slice_get (map (λ y. y.item) items) last ≡ last_where (is_key marks_of (marks_of item).key) (map (λ y. y.item) items))) (sym (slice_get-map (λ y. y.item) items place))
+      (by (slice_get items place) is)
+    where
+      by : (o : Option (Numbered T)) → IfSome o (λ y. slice_get items last ≡ last_of marks_of (marks_of y.item).key items)
+          → IfSome (option_map (λ y. y.item) o) (λ item. slice_get (map (λ y. y.item) items) last ≡ last_where (is_key marks_of (marks_of item).key) (map (λ y. y.item) items))
+      by None is = tt
+      by (Some y) is = place-last marks_of (marks_of y.item).key items (Some last) is
 
   module _ (marks_of : T → Marks) (key : Key) (bound : ℕ) where
     pub below-number : (y : Numbered T) → is_below marks_of key bound y ≡ true → y.number < bound

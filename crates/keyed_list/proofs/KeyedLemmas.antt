@@ -1,23 +1,28 @@
 -- What finds items still does, once one of them comes or goes.
-use Rattle.std.proofs.Common.{◌≡◌, ℕ, zero, suc, ◌+◌, ◌<◌, ◌&&◌, ◌||◌, not, Bool, true, false, cond, List, [], ◌∷◌, ◌++◌, drop, eqb-true, insert, length, map, remove, slice_get, take, All, AllPairs, Some, inl, inr, refl, sym, ap, ap₂, ◌∙◌, arith}
+use Rattle.std.proofs.Common.{◌≡◌, ℕ, zero, suc, ◌+◌, ◌<◌, ◌&&◌, ◌||◌, not, Bool, true, false, cond, List, [], ◌∷◌, ◌++◌, drop, eqb-true, insert, length, map, remove, slice_get, take, All, AllPairs, Option, None, Some, IfSome, inl, inr, refl, sym, ap, ap₂, subst, ◌∙◌, arith}
 use Rattle.std.specs.List.{list_any}
+use Rattle.std.specs.Option.{option_map}
 use Rattle.std.proofs.Math.Bool.{or-false, or_comm}
 use Rattle.std.proofs.lemmas.Bool.{and_parts, cases_Bool}
-use Rattle.std.proofs.lemmas.List.{drop_all, take_all}
+use Rattle.std.proofs.lemmas.List.{drop_all, length-append, take_all}
 use Rattle.std.proofs.lemmas.List.Elements.{All-append, All-cons, All-drop, All-nil, All-take, All-weaker}
 use Rattle.std.proofs.lemmas.List.Folds.{list_any-append}
 use Rattle.std.proofs.lemmas.List.Kept.{AllPairs-cons}
 use Rattle.std.proofs.lemmas.Option.{same_Some}
 use Rattle.ordered_set.specs.Keys.{has}
-use Rattle.keyed_list.specs.Keyed.{bare, has_age, has_key, number_of, IsFound, IsKeyed, IsLinked}
+use Rattle.keyed_list.specs.Keyed.{bare, has_age, has_key, last_of, link_of, number_of, IsFound, IsKeyed, IsLinked, IsPut}
 use Rattle.keyed_list.specs.Keys.{age_order, same_key}
 use Rattle.keyed_list.specs.declared.key.Age.{Age}
 use Rattle.keyed_list.specs.declared.key.Key.{Key}
 use Rattle.keyed_list.specs.declared.key.Mark.{Mark}
+use Rattle.keyed_list.specs.declared.keyed.Link.{Link}
 use Rattle.keyed_list.specs.declared.keyed.Marks.{Marks}
 use Rattle.keyed_list.specs.declared.keyed.Numbered.{Numbered}
 use Rattle.keyed_list.proofs.AmongLemmas.{among-any, among-at, pairs-behind_first, pairs-tail}
-use Rattle.keyed_list.proofs.BareLemmas.{bare-any, bare-ascends}
+use Rattle.keyed_list.proofs.BareLemmas.{bare-any, bare-ascends, bare-items, bare-length, bare-less}
+use Rattle.keyed_list.proofs.MapLemmas.{found-mapped}
+use Rattle.keyed_list.proofs.MarkLemmas.{links-of}
+use Rattle.keyed_list.proofs.RelinkLemmas.{bare-item, bare-map, bare-number}
 use Rattle.keyed_list.proofs.NumberLemmas.{ascends-left}
 use Rattle.keyed_list.proofs.OrderLemmas.{has_age-is}
 use Rattle.keyed_list.proofs.PushLemmas.{found-push, linked-push}
@@ -81,33 +86,110 @@ module _ {T : Type 0} (items : List (Numbered T)) where
 age-number : (age : Age) (number : ℕ) (marks : Marks) → has_age age number marks ≡ true → number ≡ age.number
 age-number age number marks is = eqb-true _ _ (and_parts _ _ (sym (has_age-is age number marks) ∙ is)).1
 
+map-end : {A B : Type 0} (f : A → B) (items : List A) (x : A) → map f (items ++ x ∷ []) ≡ map f items ++ f x ∷ []
+map-end f [] x = refl
+map-end f (y ∷ items) x = ap (λ more. f y ∷ more) (map-end f items x)
+
+-- ### an item comes, with a greater number than all
+
+module _ {T : Type 0} {marks_of : T → Marks} {items : List (Numbered T)} (item : T) (number : ℕ) (before other_before : Option ℕ) (new : List (Numbered T)) (is_put : IsPut marks_of item number before other_before items new) (all : All (λ y. y.number < number) items) where
+  abbrev newest : Numbered T
+  newest = record { number = number; item = item; link = record { before = before; behind = None }; other_link = record { before = other_before; behind = None } }
+
+  abbrev linked_on : Numbered T → Numbered T
+  linked_on = is_put.followed.change
+
+  abbrev with_newest : List (Numbered T)
+  with_newest = items ++ newest ∷ []
+
+  pub put-is : new ≡ map linked_on with_newest
+  put-is =
+      is_put.are
+      ∙ ap₂ (λ (a : List (Numbered T)) (b : Numbered T). a ++ b ∷ []) is_put.followed.are (sym (is_put.followed.stays newest all))
+      ∙ sym (map-end linked_on items newest)
+
+  put-bare : map bare (map linked_on with_newest) ≡ map bare with_newest
+  put-bare = bare-map linked_on is_put.followed.same with_newest
+
+  pub put-items : map (λ y. y.item) new ≡ map (λ y. y.item) items ++ item ∷ []
+  put-items =
+      ap (map (λ y. y.item)) put-is ∙ bare-items (map linked_on with_newest) with_newest put-bare ∙ map-end (λ y. y.item) items newest
+
+  pub put-less : All (λ y. y.number < number + 1) new
+  put-less =
+      subst (λ (l : List (Numbered T)). All (λ y. y.number < number + 1) l) (sym put-is) (bare-less (map linked_on with_newest) with_newest put-bare (number + 1) (less-push items newest all))
+
+  pub put-length : length new ≡ length items + 1
+  put-length = ap length put-is ∙ bare-length (map linked_on with_newest) with_newest put-bare ∙ length-append items (newest ∷ [])
+
+-- the number of a second key's mark is that of the last item with the key
+pub other-found : {T : Type 0} (marks_of : T → Marks) (items : List (Numbered T)) (index : List Mark) → ((key : Key) → IsFound marks_of key items index) → (number : Option ℕ) (o : Option Key) → IfSome o (λ other. number ≡ number_of other index)
+    → IfSome o (λ other. number ≡ option_map (λ y. y.number) (last_of marks_of other items))
+other-found marks_of items index found number None second = tt
+other-found marks_of items index found number (Some other) second = second ∙ found other
+
 -- ### what finds items
 
-module _ {T : Type 0} {marks_of : T → Marks} {items : List (Numbered T)} {index now_index : List Mark} {ages now_ages : List Age} where
-  -- an item comes, with a greater number than all
-  pub keyed-push : IsKeyed marks_of items index ages → (x : Numbered T) (marks : Marks) → marks ≡ marks_of x.item → All (λ y. y.number < x.number) items
-      → ((key : Key) → has_key marks key ≡ true → cond (same_key marks.key key) x.before x.other_before ≡ number_of key index)
-      → ((key : Key) → number_of key now_index ≡ cond (has_key marks key) (Some x.number) (number_of key index))
-      → ((age : Age) → has age_order age now_ages ≡ (has_age age x.number marks || has age_order age ages))
-      → IsKeyed marks_of (items ++ x ∷ []) now_index now_ages
-  keyed-push keyed x marks is all links numbers aged =
-      let ascends = pairs-push (λ a b. a.number < b.number) items x keyed.ascends all in
-      record {
-        ascends = ascends;
-        found = λ key.
-            found-push marks_of key items x index now_index (keyed.found key) (numbers key ∙ ap (λ (m : Marks). cond (has_key m key) (Some x.number) (number_of key index)) is);
-        linked = λ key.
-            linked-push marks_of key items x ascends all (keyed.linked key) (λ has.
-            sym (ap (λ (m : Marks). cond (same_key m.key key) x.before x.other_before) is) ∙ links key (ap (λ (m : Marks). has_key m key) is ∙ has) ∙ keyed.found key);
-        aged = λ age. aged age ∙ ap₂ (λ m b. has_age age x.number m || b) is (keyed.aged age) ∙ last_first (λ y. has_age age y.number (marks_of y.item));
-      }
-    where
-      last_first : (test : Numbered T → Bool) → (test x || list_any test items) ≡ list_any test (items ++ x ∷ [])
-      last_first test =
-          or_comm (test x) (list_any test items)
-          ∙ ap (λ b. list_any test items || b) (sym (or-false (test x)))
-          ∙ sym (list_any-append test items (x ∷ []))
+module _ {T : Type 0} {marks_of : T → Marks} {items : List (Numbered T)} {index : List Mark} {ages : List Age} (now_index : List Mark) (now_ages : List Age) (keyed : IsKeyed marks_of items index ages) (item : T) (number : ℕ) (before other_before : Option ℕ) (new : List (Numbered T)) (is_put : IsPut marks_of item number before other_before items new) (all : All (λ y. y.number < number) items) where
+  abbrev last : Numbered T
+  last = record { number = number; item = item; link = record { before = before; behind = None }; other_link = record { before = other_before; behind = None } }
 
+  abbrev change : Numbered T → Numbered T
+  change = is_put.followed.change
+
+  abbrev more : List (Numbered T)
+  more = items ++ last ∷ []
+
+  bare-more : map bare (map change more) ≡ map bare more
+  bare-more = bare-map change is_put.followed.same more
+
+  keyed-item : before ≡ number_of (marks_of item).key index → IfSome (marks_of item).other (λ other. other_before ≡ number_of other index)
+      → ((key : Key) → number_of key now_index ≡ cond (has_key (marks_of item) key) (Some number) (number_of key index))
+      → ((age : Age) → has age_order age now_ages ≡ (has_age age number (marks_of item) || has age_order age ages))
+      → IsKeyed marks_of new now_index now_ages
+  keyed-item first second numbers aged =
+      let ascends = pairs-push (λ a b. a.number < b.number) items last keyed.ascends all in
+      subst (λ (l : List (Numbered T)). IsKeyed marks_of l now_index now_ages) (sym (put-is item number before other_before new is_put all)) (record {
+        ascends = bare-ascends (map change more) more bare-more ascends;
+        found = λ key.
+            found-mapped marks_of change more (λ y among. bare-number change is_put.followed.same y) (λ y among. ap marks_of (bare-item change is_put.followed.same y)) key now_index (found-push marks_of key items last index now_index (keyed.found key) (numbers key));
+        linked = λ key. linked-push marks_of key items last all keyed.ascends (keyed.linked key) is_put.linked is_put.followed (link key);
+        aged = λ age.
+            aged age
+            ∙ ap (λ b. has_age age number (marks_of item) || b) (keyed.aged age)
+            ∙ last_first (λ y. has_age age y.number (marks_of y.item))
+            ∙ sym (bare-any (map change more) more bare-more (λ pair. has_age age pair.0 (marks_of pair.1)));
+      })
+    where
+      last_first : (test : Numbered T → Bool) → (test last || list_any test items) ≡ list_any test more
+      last_first test =
+          or_comm (test last) (list_any test items)
+          ∙ ap (λ b. list_any test items || b) (sym (or-false (test last)))
+          ∙ sym (list_any-append test items (last ∷ []))
+
+      led : Option ℕ → Link
+      led o = record { before = o; behind = None }
+
+      either : (b : Bool) → cond b (led before) (led other_before) ≡ led (cond b before other_before)
+      either true = refl
+      either false = refl
+
+      link : (key : Key) → has_key (marks_of item) key ≡ true → link_of marks_of key last ≡ led (option_map (λ y. y.number) (last_of marks_of key items))
+      link key held =
+          either (same_key (marks_of item).key key)
+          ∙ ap led (links-of (marks_of item) index before other_before first second key held ∙ keyed.found key)
+
+  pub keyed-push : (marks : Marks) → marks ≡ marks_of item → before ≡ number_of marks.key index → IfSome marks.other (λ other. other_before ≡ number_of other index)
+      → ((key : Key) → number_of key now_index ≡ cond (has_key marks key) (Some number) (number_of key index))
+      → ((age : Age) → has age_order age now_ages ≡ (has_age age number marks || has age_order age ages))
+      → IsKeyed marks_of new now_index now_ages
+  keyed-push marks is =
+      subst (λ (m : Marks). before ≡ number_of m.key index → IfSome m.other (λ other. other_before ≡ number_of other index)
+      → ((key : Key) → number_of key now_index ≡ cond (has_key m key) (Some number) (number_of key index))
+      → ((age : Age) → has age_order age now_ages ≡ (has_age age number m || has age_order age ages))
+      → IsKeyed marks_of new now_index now_ages) (sym is) keyed-item
+
+module _ {T : Type 0} {marks_of : T → Marks} {items : List (Numbered T)} {index now_index : List Mark} {ages now_ages : List Age} where
   -- an item goes, once all keys lead past it
   pub keyed-remove : IsKeyed marks_of items index ages → (new : List (Numbered T)) → map bare new ≡ map bare items → (place : ℕ) (x : Numbered T) (marks : Marks) → slice_get new place ≡ Some x → marks ≡ marks_of x.item
       → ((key : Key) → IsFound marks_of key (remove new place) now_index)

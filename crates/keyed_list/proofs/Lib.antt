@@ -7,12 +7,14 @@ pub mod EditLemmas
 pub mod FewLemmas
 pub mod FilterLemmas
 pub mod FitsLemmas
+pub mod FollowLemmas
 pub mod KeyedLemmas
 pub mod LastLemmas
 pub mod LatestLemmas
 pub mod LinkLemmas
 pub mod MapLemmas
 pub mod MarkLemmas
+pub mod NextLemmas
 pub mod NumberLemmas
 pub mod OrderLemmas
 pub mod PlaceLemmas

@@ -1,13 +1,14 @@
 -- Items that are linked, and items made of others that keep numbers and marks: found and linked as those are.
-use Rattle.std.proofs.Common.{◌≡◌, ℕ, ◌<◌, ◌==◌, ◌&&◌, nat_lt, Bool, true, List, map, Option, None, Some, IfSome, refl, sym, ap, ap₂, subst, ◌∙◌}
+use Rattle.std.proofs.Common.{◌≡◌, ℕ, ◌==◌, ◌&&◌, nat_lt, Bool, true, List, map, Option, None, Some, IfSome, refl, sym, ap, ap₂, subst, ◌∙◌}
 use Rattle.std.specs.Option.{option_map}
-use Rattle.keyed_list.specs.Keyed.{has_key, is_below, is_key, item_numbered, link_of, IsFound, IsLink, IsLinked}
+use Rattle.keyed_list.specs.Keyed.{has_key, is_below, is_key, is_under, link_of, Holds, IsFound, IsLink, IsLinked}
 use Rattle.keyed_list.specs.Lists.{last_where}
 use Rattle.keyed_list.specs.declared.key.Key.{Key}
 use Rattle.keyed_list.specs.declared.key.Mark.{Mark}
+use Rattle.keyed_list.specs.declared.keyed.Link.{Link}
 use Rattle.keyed_list.specs.declared.keyed.Marks.{Marks}
 use Rattle.keyed_list.specs.declared.keyed.Numbered.{Numbered}
-use Rattle.keyed_list.proofs.AmongLemmas.{all-among, among-all, among-mapped, Among}
+use Rattle.keyed_list.proofs.AmongLemmas.{all-among, among-all, among-any, among-map, among-mapped, any-among, Among}
 use Rattle.keyed_list.proofs.LastLemmas.{last-among, last-map, last-same}
 
 -- ### items that are linked
@@ -35,11 +36,6 @@ module _ {T : Type 0} (marks_of : T → Marks) (f : Numbered T → Numbered T) (
       by None is = refl
       by (Some y) is = ap (λ (n : ℕ). Some n) (same_number y (last-among test items y is))
 
-  numbered-mapped : (link : Option ℕ) → item_numbered (map f items) link ≡ option_map f (item_numbered items link)
-  numbered-mapped None = refl
-  numbered-mapped (Some number) =
-      last-mapped (λ y. y.number == number) (λ y among. ap (λ n. n == number) (same_number y among))
-
   module _ (key : Key) where
     has-same : (y : Numbered T) → Among y items → is_key marks_of key (f y).item ≡ is_key marks_of key y.item
     has-same y among = ap (λ (marks : Marks). has_key marks key) (same_marks y among)
@@ -53,14 +49,27 @@ module _ {T : Type 0} (marks_of : T → Marks) (f : Numbered T → Numbered T) (
         ∙ sym (number-mapped (λ y. is_key marks_of key y.item))
         ∙ sym (ap (option_map (λ y. y.number)) (last-mapped (λ y. is_key marks_of key y.item) has-same))
 
-    link-mapped : (z : Numbered T) (link : Option ℕ) → Among z items → IsLink marks_of key items z link → IsLink marks_of key (map f items) (f z) link
+    holds-mapped : (number : ℕ) → Holds marks_of key items number → Holds marks_of key (map f items) number
+    holds-mapped number held =
+        let one = among-any (λ y. is_key marks_of key y.item && (y.number == number)) items held in
+        any-among (λ y. is_key marks_of key y.item && (y.number == number)) (map f items) (f one.item)
+        (ap₂ (λ b n. b && (n == number)) (has-same one.item one.among) (same_number one.item one.among) ∙ one.passes) (among-map f items one.item one.among)
+
+    pub next-mapped : (o : Option ℕ) → IfSome o (Holds marks_of key items) → IfSome o (Holds marks_of key (map f items))
+    next-mapped None next = tt
+    next-mapped (Some number) next = holds-mapped number next
+
+    link-mapped : (z : Numbered T) (link : Link) → Among z items → IsLink marks_of key items z link → IsLink marks_of key (map f items) (f z) link
     link-mapped z link among is = record {
-      earlier = subst (λ (n : ℕ). IfSome link (λ k. k < n)) (sym (same_number z among)) is.earlier;
-      leads =
-          numbered-mapped link
-          ∙ ap (option_map f) is.leads
-          ∙ sym (last-mapped (is_below marks_of key z.number) (below-same z.number))
-          ∙ ap (λ n. last_where (is_below marks_of key n) (map f items)) (sym (same_number z among));
+      before =
+          is.before
+          ∙ sym (number-mapped (is_below marks_of key z.number))
+          ∙ sym (ap (option_map (λ y. y.number)) (last-mapped (is_below marks_of key z.number) (below-same z.number)))
+          ∙ ap (λ n. option_map (λ y. y.number) (last_where (is_below marks_of key n) (map f items))) (sym (same_number z among));
+      behind =
+          last-mapped (λ y. is_key marks_of key y.item && is_under link.behind y.number) (λ y among. ap₂ (λ b n. b && is_under link.behind n) (has-same y among) (same_number y among))
+          ∙ ap (option_map f) is.behind;
+      next = next-mapped link.behind is.next;
     }
 
     -- links to what was before

@@ -1,10 +1,10 @@
 -- The number of each key's mark, once a mark comes, changes or goes.
-use Rattle.std.proofs.Common.{◌≡◌, ℕ, suc, ◌||◌, Bool, true, false, cond, List, drop, insert, remove, slice_get, slice_set, Option, None, Some, Less, Equal, inl, inr, refl, sym, ap, ◌∙◌}
+use Rattle.std.proofs.Common.{◌≡◌, ℕ, suc, ◌||◌, Bool, true, false, cond, List, drop, insert, remove, slice_get, slice_set, Option, None, Some, IfSome, is_some, Less, Equal, inl, inr, refl, sym, ap, ◌∙◌}
 use Rattle.std.specs.List.{list_any}
 use Rattle.std.specs.Option.{option_map}
 use Rattle.std.proofs.Math.Bool.{or-false}
 use Rattle.std.proofs.lemmas.Bool.{both_ways, cases_Bool}
-use Rattle.ordered_set.specs.Keys.{has, ties, Ascends, IsPlace}
+use Rattle.ordered_set.specs.Keys.{ties, Ascends, IsPlace}
 use Rattle.ordered_set.proofs.KeysLemmas.{has-at}
 use Rattle.keyed_list.specs.Keyed.{has_key, is_other, number_at, number_of}
 use Rattle.keyed_list.specs.Keys.{key_order, mark_order, mark_order-total, same_key}
@@ -23,6 +23,10 @@ none-any test items y none among = elim (cases_Bool (test y)) [
 ]
 
 -- ### numbers
+
+pub some-number : (o : Option ℕ) → is_some o ≡ true → (n : ℕ) × (o ≡ Some n)
+some-number None some = absurd (cc some)
+some-number (Some n) some = (n, refl)
 
 -- keys that tie have one number
 pub number-alike : (a b : Key) (index : List Mark) → key_order a b ≡ Equal → number_of a index ≡ number_of b index
@@ -85,6 +89,13 @@ module _ (key : Key) (number : ℕ) where
               ∙ ap (λ b. cond b (Some (mark.mark).number) None) mark.same
               ∙ sym (number-there key index place mark.mark mark.at mark.same (λ other among. same-apart (mark.mark).key other.key key (pairs-behind (λ a b. mark_order a b ≡ Less) index place mark.mark other here.ascends mark.at among) mark.same))
 
+      -- a key that has a number has a mark at its place
+      pub there-of : is_some (number_of key index) ≡ true → IsThere (slice_get index place) 0
+      there-of some =
+          let number = some-number (number_of key index) some in
+          let mark = there (slice_get index place) number.0 (number-at ∙ number.1) in
+          record { mark = mark.mark; at = mark.at; same = mark.same }
+
       -- a mark comes
       pub number-insert : number_at key (slice_get index place) ≡ None → (other : Key) → number_of other (insert index place own) ≡ cond (same_key key other) (Some number) (number_of other index)
       number-insert new other = by (same_key key other) refl
@@ -132,17 +143,12 @@ second-true false b apart either = either
 
 module _ (marks : Marks) where
   module _ (is : marks.other ≡ None) where
-    only-key : (key : Key) → same_key marks.key key ≡ has_key marks key
+    pub only-key : (key : Key) → same_key marks.key key ≡ has_key marks key
     only-key key =
         sym (or-false (same_key marks.key key)) ∙ ap (λ (o : Option Key). same_key marks.key key || is_other o key) (sym is)
 
     pub numbers-one : (key : Key) (number old : Option ℕ) → cond (same_key marks.key key) number old ≡ cond (has_key marks key) number old
     numbers-one key number old = ap (λ b. cond b number old) (only-key key)
-
-    pub links-one : (index : List Mark) (before : Option ℕ) → before ≡ number_of marks.key index → (key : Key) → has_key marks key ≡ true → cond (same_key marks.key key) before None ≡ number_of key index
-    links-one index before was key has =
-        let same = only-key key ∙ has in
-        ap (λ b. cond b before None) same ∙ was ∙ number-alike marks.key key index (keys-tie marks.key key same)
 
   module _ (other : Key) (is : marks.other ≡ Some other) (number : ℕ) (index mid : List Mark) (between : (key : Key) → number_of key mid ≡ cond (same_key marks.key key) (Some number) (number_of key index)) where
     pub numbers-two : (new : List Mark) (key : Key) → number_of key new ≡ cond (same_key other key) (Some number) (number_of key mid) → number_of key new ≡ cond (has_key marks key) (Some number) (number_of key index)
@@ -158,14 +164,29 @@ module _ (marks : Marks) where
         both false true = refl
         both false false = refl
 
-    pub links-two : (before other_before : Option ℕ) → before ≡ number_of marks.key index → other_before ≡ number_of other mid → (key : Key) → has_key marks key ≡ true → cond (same_key marks.key key) before other_before ≡ number_of key index
-    links-two before other_before was also key has = by (same_key marks.key key) refl
+    -- the second key is the first one
+    pub numbers-same : same_key marks.key other ≡ true → (key : Key) → number_of key mid ≡ cond (has_key marks key) (Some number) (number_of key index)
+    numbers-same same key =
+        between key
+        ∙ ap (λ b. cond b (Some number) (number_of key index)) (both (same_key marks.key key) (same_key other key) (same-left marks.key other key (keys-tie marks.key other same)))
+        ∙ ap (λ (o : Option Key). cond (same_key marks.key key || is_other o key) (Some number) (number_of key index)) (sym is)
       where
-        by : (b : Bool) → same_key marks.key key ≡ b → cond b before other_before ≡ number_of key index
-        by true same = was ∙ number-alike marks.key key index (keys-tie marks.key key same)
-        by false apart =
-            let second = second-true (same_key marks.key key) (same_key other key) apart (sym (ap (λ (o : Option Key). same_key marks.key key || is_other o key) is) ∙ has) in
-            also
-            ∙ number-alike other key mid (keys-tie other key second)
-            ∙ between key
-            ∙ ap (λ b. cond b (Some number) (number_of key index)) apart
+        both : (a b : Bool) → a ≡ b → a ≡ (a || b)
+        both true b same = refl
+        both false b same = same
+
+    -- it is another one: its mark had the number that it had before
+    pub before-other : same_key marks.key other ≡ false → number_of other mid ≡ number_of other index
+    before-other apart = between other ∙ ap (λ b. cond b (Some number) (number_of other index)) apart
+
+  -- the number that the mark of a key had
+  pub links-of : (index : List Mark) (before other_before : Option ℕ) → before ≡ number_of marks.key index → IfSome marks.other (λ other. other_before ≡ number_of other index) → (key : Key) → has_key marks key ≡ true → cond (same_key marks.key key) before other_before ≡ number_of key index
+  links-of index before other_before first second key held =
+      by (same_key marks.key key) refl marks.other held second
+    where
+      by : (b : Bool) → same_key marks.key key ≡ b → (o : Option Key) → (same_key marks.key key || is_other o key) ≡ true → IfSome o (λ other. other_before ≡ number_of other index) → cond b before other_before ≡ number_of key index
+      by true same o held also = first ∙ number-alike marks.key key index (keys-tie marks.key key same)
+      by false apart None held also =
+          absurd (both_ways false refl (second-true (same_key marks.key key) false apart held))
+      by false apart (Some other) held also =
+          also ∙ number-alike other key index (keys-tie other key (second-true (same_key marks.key key) (same_key other key) apart held))

@@ -1,14 +1,13 @@
 -- Items whose numbers ascend: found by number, and the last of those that pass a test.
-use Rattle.std.proofs.Common.{◌≡◌, ℕ, ◌<◌, ◌≤◌, ◌==◌, Bool, true, List, [], ◌∷◌, remove, slice_get, Option, None, Some, inl, inr, refl, sym, ap, ◌∙◌, arith, eq-eqb, eqb-true}
-use Rattle.std.proofs.lemmas.Bool.{both_ways, cases_Bool, ne_eqb}
+use Rattle.std.proofs.Common.{◌≡◌, ℕ, ◌<◌, Bool, true, List, [], ◌∷◌, remove, slice_get, Option, None, Some, inl, inr, refl, sym, ap, ◌∙◌, arith}
+use Rattle.std.proofs.lemmas.Bool.{both_ways, cases_Bool}
 use Rattle.std.proofs.lemmas.List.Quantifiers.{all_pairs_remove}
-use Rattle.std.proofs.lemmas.Option.{same_Some, slice_get_within}
-use Rattle.keyed_list.specs.Keyed.{Ascends, item_numbered, IsPlace}
+use Rattle.std.proofs.lemmas.Option.{slice_get_within}
+use Rattle.keyed_list.specs.Keyed.{Ascends}
 use Rattle.keyed_list.specs.Lists.{last_where}
 use Rattle.keyed_list.specs.declared.keyed.Numbered.{Numbered}
 use Rattle.keyed_list.proofs.AmongLemmas.{among-at, among-left, among-remove, pairs-behind_first, pairs-removed, pairs-tail, Among}
-use Rattle.keyed_list.proofs.LastLemmas.{last-among, last-none, last-passes, none-last, some-last, IsLast}
-use Rattle.keyed_list.proofs.PlaceLemmas.{at-place}
+use Rattle.keyed_list.proofs.LastLemmas.{last-none, none-last, some-last, IsLast}
 
 module _ {T : Type 0} where
   -- the number of an item is lower
@@ -75,19 +74,7 @@ module _ {T : Type 0} where
             others = λ y among passes. let also = there y among passes in last.others y also.0 also.1;
           })
 
-  -- ### an item with a number
-
   module _ (items : List (Numbered T)) where
-    pub numbered-is : (x : Numbered T) → Ascends items → Among x items → item_numbered items (Some x.number) ≡ Some x
-    numbered-is x ascends among = last-is (λ y. y.number == x.number) items ascends x (record {
-      among = among;
-      passes = eq-eqb x.number x.number refl;
-      others = λ y other same. inl (same-number items y x ascends other among (eqb-true y.number x.number same));
-    })
-
-    pub numbered-has : (number : ℕ) (x : Numbered T) → item_numbered items (Some number) ≡ Some x → x.number ≡ number
-    numbered-has number x is = eqb-true x.number number (last-passes (λ y. y.number == number) items x is)
-
     -- ### one item goes
 
     module _ (place : ℕ) (x : Numbered T) (ascends : Ascends items) (at : slice_get items place ≡ Some x) where
@@ -121,50 +108,3 @@ module _ {T : Type 0} where
                 passes = last.passes;
                 others = λ z among. last.others z (among-remove items place z among);
               })
-
-      pub numbered-left : (number : ℕ) → (number ≡ x.number → ⊥) → item_numbered (remove items place) (Some number) ≡ item_numbered items (Some number)
-      numbered-left number apart =
-          last-left (λ y. y.number == number) (λ is. apart (sym (numbered-has number x is)))
-
-      -- the one that goes isn't there
-      pub numbered-gone : item_numbered (remove items place) (Some x.number) ≡ None
-      numbered-gone =
-          last-none (λ y. y.number == x.number) (remove items place) (λ y among. ne_eqb y.number x.number (other-number y among))
-
-    -- ### where it stands
-
-    pub numbered-none : (number : ℕ) → None ≡ slice_get items 0 → None ≡ item_numbered items (Some number)
-    numbered-none number none = by items none
-      where
-        by : (some : List (Numbered T)) → None ≡ slice_get some 0 → None ≡ item_numbered some (Some number)
-        by [] none = refl
-        by (y ∷ some) none = absurd (cc none)
-
-    module _ (ascends : Ascends items) (number : ℕ) where
-      -- the first one has a greater number
-      pub numbered-early : (first : Numbered T) → Some first ≡ slice_get items 0 → number < first.number → None ≡ item_numbered items (Some number)
-      numbered-early first at less =
-          sym (last-none (λ y. y.number == number) items (λ y among. ne_eqb y.number number (λ same. absurd (omega (arith, same, less, least items ascends y at among)))))
-        where
-          least : (some : List (Numbered T)) → Ascends some → (y : Numbered T) → Some first ≡ slice_get some 0 → Among y some → first.number ≤ y.number
-          least [] ascends y at among = absurd among
-          least (z ∷ some) ascends y at among =
-              let same : z.number ≡ first.number = ap (λ (x : Numbered T). x.number) (same_Some z first (sym at)) in
-              elim among [
-                | inl here ↦ omega (arith, same, ap (λ (x : Numbered T). x.number) here)
-                | inr later ↦ omega (arith, same, pairs-behind_first Lower z some y ascends later)
-              ]
-
-      module _ (place : ℕ) (at : IsPlace number items place) where
-        pub numbered-apart : ((y : Numbered T) → slice_get items place ≡ Some y → y.number ≡ number → ⊥) → None ≡ item_numbered items (Some number)
-        numbered-apart apart = by (item_numbered items (Some number)) refl
-          where
-            by : (o : Option (Numbered T)) → item_numbered items (Some number) ≡ o → None ≡ o
-            by None is = refl
-            by (Some y) is =
-                let same = numbered-has number y is in
-                absurd (apart y (at-place number items place y ascends at (last-among (λ z. z.number == number) items y is) same) same)
-
-        pub numbered-there : (y : Numbered T) → slice_get items place ≡ Some y → y.number ≡ number → slice_get items place ≡ item_numbered items (Some number)
-        numbered-there y there same =
-            there ∙ sym (numbered-is y ascends (among-at items place y there)) ∙ ap (λ n. item_numbered items (Some n)) same

@@ -1,13 +1,15 @@
 -- All keys lead past an item that goes.
-use Rattle.std.proofs.Common.{◌≡◌, ℕ, ◌&&◌, ◌||◌, Bool, true, false, cond, List, remove, slice_get, Option, None, Some, Equal, inl, inr, refl, sym, ap, subst, ◌∙◌, nat_lt}
+use Rattle.std.proofs.Common.{◌≡◌, ℕ, ◌&&◌, ◌||◌, Bool, true, false, cond, List, remove, slice_get, Option, None, Some, IfSome, Equal, inl, inr, refl, sym, ap, subst, ◌∙◌, ◌==◌, nat_lt}
 use Rattle.std.specs.Option.{option_map}
 use Rattle.std.proofs.lemmas.Bool.{both_ways, cases_Bool}
-use Rattle.keyed_list.specs.Keyed.{Ascends, has_key, is_below, is_key, is_other, link_of, IsLink, IsUnlinked}
+use Rattle.keyed_list.specs.Keyed.{Ascends, has_key, is_below, is_key, is_other, is_under, link_of, Holds, IsLink, IsUnlinked}
 use Rattle.keyed_list.specs.Keys.{key_order, same_key}
 use Rattle.keyed_list.specs.declared.key.Key.{Key}
 use Rattle.keyed_list.specs.declared.key.Mark.{Mark}
+use Rattle.keyed_list.specs.declared.keyed.Link.{Link}
 use Rattle.keyed_list.specs.declared.keyed.Marks.{Marks}
 use Rattle.keyed_list.specs.declared.keyed.Numbered.{Numbered}
+use Rattle.keyed_list.proofs.AmongLemmas.{among-any, any-among}
 use Rattle.keyed_list.proofs.LastLemmas.{last-passes, last-same}
 use Rattle.keyed_list.proofs.LinkLemmas.{linked-other}
 use Rattle.keyed_list.proofs.MapLemmas.{linked-at, linked-each}
@@ -59,7 +61,14 @@ module _ {T : Type 0} (marks_of : T → Marks) where
     key-alike y = has_key-alike (marks_of y.item) a b tied
 
     link-alike : (y : Numbered T) → link_of marks_of a y ≡ link_of marks_of b y
-    link-alike y = ap (λ same. cond same y.before y.other_before) (same-right a b (marks_of y.item).key tied)
+    link-alike y = ap (λ same. cond same y.link y.other_link) (same-right a b (marks_of y.item).key tied)
+
+    next-alike : (o : Option ℕ) → IfSome o (Holds marks_of a items) → IfSome o (Holds marks_of b items)
+    next-alike None next = tt
+    next-alike (Some number) next =
+        let one = among-any (λ y. is_key marks_of a y.item && (y.number == number)) items next in
+        any-among (λ y. is_key marks_of b y.item && (y.number == number)) items one.item
+        (ap (λ has. has && ((one.item).number == number)) (sym (key-alike one.item)) ∙ one.passes) one.among
 
     pub ready-alike : (index : List Mark) → IsReady marks_of a items index → IsReady marks_of b items index
     ready-alike index is = record {
@@ -69,11 +78,14 @@ module _ {T : Type 0} (marks_of : T → Marks) where
           ∙ ap (option_map (λ y. y.number)) (last-same (λ y. is_key marks_of a y.item) (λ y. is_key marks_of b y.item) None items (λ y among. key-alike y));
       linked = linked-each marks_of b items (λ y among has.
           let link = linked-at marks_of a items is.linked y among (key-alike y ∙ has) in
-          subst (λ (o : Option ℕ). IsLink marks_of b items y o) (link-alike y) (record {
-            earlier = link.earlier;
-            leads =
-                link.leads
-                ∙ last-same (is_below marks_of a y.number) (is_below marks_of b y.number) None items (λ z among. ap (λ has. has && nat_lt z.number y.number) (key-alike z));
+          subst (λ (o : Link). IsLink marks_of b items y o) (link-alike y) (record {
+            before =
+                link.before
+                ∙ ap (option_map (λ z. z.number)) (last-same (is_below marks_of a y.number) (is_below marks_of b y.number) None items (λ z among. ap (λ has. has && nat_lt z.number y.number) (key-alike z)));
+            behind =
+                sym (last-same (λ z. is_key marks_of a z.item && is_under (link_of marks_of a y).behind z.number) (λ z. is_key marks_of b z.item && is_under (link_of marks_of a y).behind z.number) None items (λ z among. ap (λ has. has && is_under (link_of marks_of a y).behind z.number) (key-alike z)))
+                ∙ link.behind;
+            next = next-alike (link_of marks_of a y).behind link.next;
           }));
     }
 
@@ -84,7 +96,7 @@ module _ {T : Type 0} (marks_of : T → Marks) where
       found =
           (ready key).found
           ∙ sym (ap (option_map (λ y. y.number)) (last-left items place x ascends at (λ y. is_key marks_of key y.item) (λ last. both_ways _ lacks (last-passes (λ y. is_key marks_of key y.item) items x last))));
-      linked = linked-other marks_of key items place x ascends at (ready key).linked lacks;
+      linked = linked-other marks_of key items ascends place x at (ready key).linked lacks;
     }
 
     module _ (first : Key) (mid : List (Numbered T)) (mid_index : List Mark) (one : IsUnlinked marks_of first place items mid index mid_index) where

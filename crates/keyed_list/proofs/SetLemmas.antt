@@ -16,7 +16,7 @@ use Rattle.keyed_list.proofs.MapLemmas.{found-mapped, linked-at, linked-mapped}
 use Rattle.keyed_list.proofs.NumberLemmas.{same-number}
 
 module _ {T : Type 0} (items : List (Numbered T)) where
-  ascend-at : (j k : ℕ) (a b : Numbered T) → Ascends items → j < k → slice_get items j ≡ Some a → slice_get items k ≡ Some b → a.number < b.number
+  pub ascend-at : (j k : ℕ) (a b : Numbered T) → Ascends items → j < k → slice_get items j ≡ Some a → slice_get items k ≡ Some b → a.number < b.number
   ascend-at j k a b ascends less at_j at_k =
       subst (λ (x : Numbered T). x.number < b.number) (get_or_from_slice_get items j a a at_j)
       (subst (λ (y : Numbered T). (get_or items j a).number < y.number) (get_or_from_slice_get items k b a at_k) (ascends j k a less (slice_get_within items k b at_k)))
@@ -54,7 +54,7 @@ module _ {T : Type 0} (items : List (Numbered T)) (place : ℕ) (x y : Numbered 
 
 -- an item in the place of another
 abbrev pub made : {T : Type 0} → Numbered T → T → Numbered T
-made x item = record { number = x.number; item = item; before = x.before; other_before = x.other_before }
+made x item = record { number = x.number; item = item; link = x.link; other_link = x.other_link }
 
 module _ {T : Type 0} (marks_of : T → Marks) (items : List (Numbered T)) (place : ℕ) (x : Numbered T) (item : T) (at : slice_get items place ≡ Some x) (marks : marks_of item ≡ marks_of x.item) (ascends : Ascends items) where
   abbrev set : List (Numbered T)
@@ -86,7 +86,7 @@ module _ {T : Type 0} (marks_of : T → Marks) (items : List (Numbered T)) (plac
       subst (λ (l : List (Numbered T)). IsLinked marks_of key l) (sym set-is)
       (linked-mapped marks_of exchanged items (common (λ z. z.number) refl) (common (λ z. marks_of z.item) marks) key (λ z among has.
       subst (λ o. IsLink marks_of key items z o)
-      (sym (common (link_of marks_of key) (ap (λ (m : Marks). cond (same_key m.key key) x.before x.other_before) marks) z among))
+      (sym (common (link_of marks_of key) (ap (λ (m : Marks). cond (same_key m.key key) x.link x.other_link) marks) z among))
       (linked-at marks_of key items linked z among has)))
 
   pub ascends-set : Ascends set

@@ -1,20 +1,18 @@
 -- A walk over the items of a key, from the greatest number down.
-use Rattle.std.proofs.Common.{◌≡◌, ℕ, suc, ◌<◌, Bool, true, inl, inr, List, length, slice_get, slice_set, Option, None, Some, IfSome, refl, sym, ap, subst, ◌∙◌, arith}
+use Rattle.std.proofs.Common.{◌≡◌, ℕ, suc, ◌<◌, Bool, true, inl, inr, List, length, slice_get, slice_set, Option, None, Some, IfSome, is_some, refl, sym, ap, subst, ◌∙◌, arith}
 use Rattle.std.specs.Option.{option_map}
 use Rattle.std.proofs.lemmas.Bool.{and_from, and_left, and_parts, both_ways, cases_Bool, lt-ltb}
 use Rattle.std.proofs.lemmas.Option.{same_Some, slice_get_within}
-use Rattle.keyed_list.specs.Keyed.{has_key, is_below, is_key, item_at, item_numbered, last_of, link_of, number_of, Ascends, IsFound, IsLinked, IsPlace}
+use Rattle.keyed_list.specs.Keyed.{has_key, is_below, is_key, item_at, last_of, Ascends, IsPlace}
 use Rattle.keyed_list.specs.Lists.{last_where}
 use Rattle.keyed_list.specs.declared.key.Key.{Key}
-use Rattle.keyed_list.specs.declared.key.Mark.{Mark}
 use Rattle.keyed_list.specs.declared.keyed.Marks.{Marks}
 use Rattle.keyed_list.specs.declared.keyed.Numbered.{Numbered}
-use Rattle.keyed_list.proofs.AmongLemmas.{among-at, Among}
+use Rattle.keyed_list.proofs.AmongLemmas.{Among}
 use Rattle.keyed_list.proofs.EditLemmas.{set-at}
 use Rattle.keyed_list.proofs.FewLemmas.{none-map}
-use Rattle.keyed_list.proofs.FitsLemmas.{below-number, fits, NoneFrom}
+use Rattle.keyed_list.proofs.FitsLemmas.{below-number}
 use Rattle.keyed_list.proofs.LastLemmas.{last-among, last-passes, last-same, none-last, some-last, IsLast}
-use Rattle.keyed_list.proofs.MapLemmas.{linked-at}
 use Rattle.keyed_list.proofs.PlaceLemmas.{at-place}
 use Rattle.keyed_list.proofs.SetLemmas.{made}
 
@@ -40,7 +38,7 @@ module _ {T : Type 0} where
 
     -- the walk begins with the last item of the key
     module _ (ascends : Ascends items) where
-      below-start : (y : Numbered T) → Among y items → is_key marks_of key y.item ≡ true → y.number < above (last_of marks_of key items)
+      pub below-start : (y : Numbered T) → Among y items → is_key marks_of key y.item ≡ true → y.number < above (last_of marks_of key items)
       below-start y among has = by (last_of marks_of key items) refl
         where
           by : (o : Option (Numbered T)) → last_of marks_of key items ≡ o → y.number < above o
@@ -58,12 +56,6 @@ module _ {T : Type 0} where
             | inl has ↦ has ∙ sym (and_from _ _ has (lt-ltb _ _ (below-start y among has)))
             | inr lacks ↦ lacks ∙ sym (and_left _ _ lacks)
           ])
-
-      pub start-none : (passes : Numbered T → Bool) → NoneFrom (fits marks_of key passes) (above (last_of marks_of key items)) items
-      start-none passes y among least = elim (cases_Bool (is_key marks_of key y.item)) [
-        | inl has ↦ absurd (omega (arith, least, below-start y among has))
-        | inr lacks ↦ and_left _ _ lacks
-      ]
 
     module _ (next : Option ℕ) (place : ℕ) (is : next ≡ Some place) where
       -- the item at the place is the last one below
@@ -114,28 +106,38 @@ module _ {T : Type 0} where
 
     -- ### where it begins, and where it goes on
 
-    module _ (ascends : Ascends items) (index : List Mark) (found : IsFound marks_of key items index) where
-      pub place-none : None ≡ number_of key index → None ≡ last_of marks_of key items
-      place-none is = sym (none-map (λ y. y.number) (last_of marks_of key items) (sym found ∙ sym is))
+    module _ (ascends : Ascends items) (test : Numbered T → Bool) where
+      pub place-none : (o : Option ℕ) → o ≡ None → o ≡ option_map (λ y. y.number) (last_where test items) → None ≡ last_where test items
+      place-none o none is = sym (none-map (λ y. y.number) (last_where test items) (sym is ∙ none))
 
-      module _ (number place : ℕ) (is : Some number ≡ number_of key index) (at : IsPlace number items place) where
-        there : (o : Option (Numbered T)) → last_of marks_of key items ≡ o → slice_get items place ≡ o
-        there None none = absurd (cc (is ∙ found ∙ ap (option_map (λ y. y.number)) none))
+      module _ (number place : ℕ) (is : Some number ≡ option_map (λ y. y.number) (last_where test items)) (at : IsPlace number items place) where
+        there : (o : Option (Numbered T)) → last_where test items ≡ o → slice_get items place ≡ o
+        there None none = absurd (cc (is ∙ ap (option_map (λ y. y.number)) none))
         there (Some y) some =
-            at-place number items place y ascends at (last-among (λ z. is_key marks_of key z.item) items y some)
-            (sym (same_Some number y.number (is ∙ found ∙ ap (option_map (λ z. z.number)) some)))
+            at-place number items place y ascends at (last-among test items y some)
+            (sym (same_Some number y.number (is ∙ ap (option_map (λ z. z.number)) some)))
 
-        pub place-found : slice_get items place ≡ last_of marks_of key items
-        place-found = there (last_of marks_of key items) refl
+        pub place-found : slice_get items place ≡ last_where test items
+        place-found = there (last_where test items) refl
 
         pub place-within : place < length items
-        place-within = by (last_of marks_of key items) refl
+        place-within = by (last_where test items) refl
           where
-            by : (o : Option (Numbered T)) → last_of marks_of key items ≡ o → place < length items
-            by None none = absurd (cc (is ∙ found ∙ ap (option_map (λ y. y.number)) none))
+            by : (o : Option (Numbered T)) → last_where test items ≡ o → place < length items
+            by None none = absurd (cc (is ∙ ap (option_map (λ y. y.number)) none))
             by (Some y) some = slice_get_within items place y (place-found ∙ some)
 
-    module _ (linked : IsLinked marks_of key items) (place : ℕ) (x : Numbered T) (at : slice_get items place ≡ Some x) where
-      pub leads-on : IfSome (slice_get items place) (λ y. is_key marks_of key y.item ≡ true) → item_numbered items (link_of marks_of key x) ≡ last_where (is_below marks_of key x.number) items
-      leads-on has =
-          (linked-at marks_of key items linked x (among-at items place x at) (subst (λ o. IfSome o (λ (y : Numbered T). is_key marks_of key y.item ≡ true)) at has)).leads
+      -- the place of a number, if there is one
+      pub place-if : (number result : Option ℕ) → is_some result ≡ is_some number → IfSome result (λ place. IfSome number (λ number. IsPlace number items place)) → number ≡ option_map (λ y. y.number) (last_where test items)
+          → (item_at items result ≡ last_where test items) × IfSome result (λ place. place < length items)
+      place-if None None same places is = (place-none None refl is, tt)
+      place-if (Some number) None same places is = absurd (cc same)
+      place-if None (Some place) same places is = absurd (cc same)
+      place-if (Some number) (Some place) same places is = (place-found number place is places, place-within number place is places)
+
+    -- what holds of the item at a place
+    pub holds-at : (P : Numbered T → Type 0) (place : ℕ) (x : Numbered T) → slice_get items place ≡ Some x → IfSome (slice_get items place) P → P x
+    holds-at P place x at is = subst (λ (o : Option (Numbered T)). IfSome o P) at is
+
+    pub holds-of : (P : Numbered T → Type 0) (place : ℕ) (x : Numbered T) → slice_get items place ≡ Some x → P x → IfSome (slice_get items place) P
+    holds-of P place x at is = subst (λ (o : Option (Numbered T)). IfSome o P) (sym at) is

@@ -1,5 +1,5 @@
 -- Items in order of coming, and the keys and ages by which they are found.
-use Rattle.std.specs.Prelude.{◌≡◌, ◌≤◌, ◌<◌, ◌-◌, ◌*◌, ◌==◌, ◌&&◌, ◌||◌, ℕ, nat_lt, Bool, true, false, List, Option, None, Some, IfSome, All, AllPairs, drop, fold, length, map, max, slice_get, take, if◌then◌else◌}
+use Rattle.std.specs.Prelude.{◌≡◌, ◌≤◌, ◌<◌, ◌-◌, ◌*◌, ◌==◌, ◌&&◌, ◌||◌, [], ◌∷◌, ◌++◌, ℕ, nat_lt, Bool, true, false, List, Option, None, Some, IfSome, All, AllPairs, drop, fold, length, map, max, slice_get, take, if◌then◌else◌}
 use Rattle.std.specs.List.{list_any, remove}
 use Rattle.std.specs.Option.{option_map}
 use Rattle.std.specs.Ordering.{is_eq}
@@ -10,6 +10,7 @@ use Rattle.keyed_list.specs.Keys.{age_order, same_key}
 use Rattle.keyed_list.specs.declared.key.Age.{Age}
 use Rattle.keyed_list.specs.declared.key.Key.{Key}
 use Rattle.keyed_list.specs.declared.key.Mark.{Mark}
+use Rattle.keyed_list.specs.declared.keyed.Link.{Link}
 use Rattle.keyed_list.specs.declared.keyed.Marks.{Marks}
 use Rattle.keyed_list.specs.declared.keyed.Numbered.{Numbered}
 
@@ -47,6 +48,11 @@ module _ {T : Type 0} (marks_of : T → Marks) where
   -- an item, which was changed where it has the key
   abbrev pub changed_with : Key → (T → T) → T → T
   changed_with key changed item = if is_key key item then changed item else item
+
+  -- an item, which was changed where there is a second key and the item has it
+  abbrev pub changed_like : Option Key → (T → T) → T → T
+  changed_like None changed item = item
+  changed_like (Some key) changed item = changed_with key changed item
 
   -- the greatest moment so far, with that of an item where it has the key
   abbrev pub later_moment : Key → Option ℕ → T → Option ℕ
@@ -92,10 +98,18 @@ abbrev pub item_at : {A : Type 0} → List A → Option ℕ → Option A
 item_at items None = None
 item_at items (Some place) = slice_get items place
 
--- the item with a number, or None where there is no number, or none has it
-abbrev pub item_numbered : {T : Type 0} → List (Numbered T) → Option ℕ → Option (Numbered T)
-item_numbered items None = None
-item_numbered items (Some number) = last_where (λ item. item.number == number) items
+-- whether a number lies below a bound, or there is none
+abbrev pub is_under : Option ℕ → ℕ → Bool
+is_under None number = true
+is_under (Some bound) number = nat_lt number bound
+
+-- a link with another neighbour before
+abbrev pub with_before : Option ℕ → Link → Link
+with_before number link = record { before = number; behind = link.behind }
+
+-- a link with another neighbour behind
+abbrev pub with_behind : Option ℕ → Link → Link
+with_behind number link = record { before = link.before; behind = number }
 
 -- an item and its number, without its links
 abbrev pub bare : {T : Type 0} → Numbered T → ℕ × T
@@ -110,38 +124,41 @@ module _ {T : Type 0} (marks_of : T → Marks) where
   abbrev pub last_of : Key → List (Numbered T) → Option (Numbered T)
   last_of key items = last_where (λ item. is_key marks_of key item.item) items
 
-  -- the link of an item by a key of its own: the number of the last item before it that has the key
-  abbrev pub link_of : Key → Numbered T → Option ℕ
-  link_of key item = if same_key (marks_of item.item).key key then item.before else item.other_before
+  -- the neighbours of an item by a key of its own
+  abbrev pub link_of : Key → Numbered T → Link
+  link_of key item = if same_key (marks_of item.item).key key then item.link else item.other_link
 
-  -- an item with another link by a key of its own
-  abbrev pub with_link : Key → Option ℕ → Numbered T → Numbered T
+  -- an item with other neighbours by a key of its own
+  abbrev pub with_link : Key → Link → Numbered T → Numbered T
   with_link key link item =
       let first : Bool = same_key (marks_of item.item).key key in
-      record { number = item.number; item = item.item; before = if first then link else item.before; other_before = if first then item.other_before else link }
+      record { number = item.number; item = item.item; link = if first then link else item.link; other_link = if first then item.other_link else link }
 
-  -- whether an item is linked to a number by a key that it has
-  abbrev pub is_linked : Key → ℕ → Numbered T → Bool
-  is_linked key number item = is_key marks_of key item.item && is_number (link_of key item) number
+  -- an item, whose link by a key was changed where it has the key and that number
+  abbrev pub relinked : Key → Option ℕ → (Link → Link) → Numbered T → Numbered T
+  relinked key number change item = if is_key marks_of key item.item && is_number number item.number then with_link key (change (link_of key item)) item else item
 
-  -- an item, linked anew by a key where it has that number and the key
-  abbrev pub relinked : Key → Option ℕ → Option ℕ → Numbered T → Numbered T
-  relinked key number link item = if is_key marks_of key item.item && is_number number item.number then with_link key link item else item
-
-  -- of items that have a key one is linked anew by it, or none
+  -- items differ in their links by a key alone
   pub record IsRelinked (key : Key) (items new : List (Numbered T)) : Type 0 where
-    pub number : Option ℕ
-    pub link : Option ℕ
-    pub are : new ≡ map (relinked key number link) items
+    pub change : Numbered T → Numbered T
+    pub same : (item : Numbered T) → bare (change item) ≡ bare item
+    pub others : (other : Key) → same_key key other ≡ false → (item : Numbered T) → is_key marks_of other item.item ≡ true → link_of other (change item) ≡ link_of other item
+    pub are : new ≡ map change items
+
+  -- an item that has the key has that number
+  abbrev pub Holds : Key → List (Numbered T) → ℕ → Type 0
+  Holds key items number = list_any (λ item. is_key marks_of key item.item && (item.number == number)) items ≡ true
 
   -- the mark of a key has the number of the last item that has the key
   abbrev pub IsFound : Key → List (Numbered T) → List Mark → Type 0
   IsFound key items index = number_of key index ≡ option_map (λ item. item.number) (last_of key items)
 
-  -- a link leads to the last item with the key that stands before; a number that no item has means that there is none
-  pub record IsLink (key : Key) (items : List (Numbered T)) (item : Numbered T) (link : Option ℕ) : Type 0 where
-    pub earlier : IfSome link (λ number. number < item.number)
-    pub leads : item_numbered items link ≡ last_where (is_below key item.number) items
+  -- a link has the numbers of the last item with the key that stands before, and of the first one that stands behind:
+  -- the item is the last one before that, or of all where there is none
+  pub record IsLink (key : Key) (items : List (Numbered T)) (item : Numbered T) (link : Link) : Type 0 where
+    pub before : link.before ≡ option_map (λ other. other.number) (last_where (is_below key item.number) items)
+    pub behind : last_where (λ other. is_key marks_of key other.item && is_under link.behind other.number) items ≡ Some item
+    pub next : IfSome link.behind (Holds key items)
 
   -- the items that have a key are linked by it
   abbrev pub IsLinked : Key → List (Numbered T) → Type 0
@@ -161,6 +178,21 @@ module _ {T : Type 0} (marks_of : T → Marks) where
     pub others : (other : Key) → same_key key other ≡ false → number_of other new_index ≡ number_of other index
     pub found : IsFound key (remove new place) new_index
     pub linked : IsLinked key (remove new place)
+
+  -- the last item of each key of the marks is linked to a number behind it
+  pub record IsFollowed (marks : Marks) (number : ℕ) (items new : List (Numbered T)) : Type 0 where
+    pub change : Numbered T → Numbered T
+    pub same : (item : Numbered T) → bare (change item) ≡ bare item
+    pub links : (key : Key) (item : Numbered T) → is_key marks_of key item.item ≡ true → link_of key (change item)
+        ≡ (if has_key marks key && is_number (option_map (λ last. last.number) (last_of key items)) item.number then with_behind (Some number) (link_of key item) else link_of key item)
+    pub stays : (item : Numbered T) → All (λ other. other.number < item.number) items → change item ≡ item
+    pub are : new ≡ map change items
+
+  -- an item comes under a number, and is linked to those before
+  pub record IsPut (item : T) (number : ℕ) (before other_before : Option ℕ) (items new : List (Numbered T)) : Type 0 where
+    pub linked : List (Numbered T)
+    pub followed : IsFollowed (marks_of item) number items linked
+    pub are : new ≡ linked ++ record { number = number; item = item; link = record { before = before; behind = None }; other_link = record { before = other_before; behind = None } } ∷ []
 
 -- for each item that is there, or for which there is room, there are two places for keys and one for its age
 pub record HasPlaces (all for_keys for_ages : ℕ) : Type 0 where

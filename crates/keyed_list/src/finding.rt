@@ -1,7 +1,7 @@
 // Look-ups of items, by key and by age.
-ghost use Rattle.std.specs.Prelude.{◌≡◌, ◌-◌, ◌≤◌, ◌<◌, Some, count_by, false, map, max, nat_lt, not, true, length, slice_get, IfSome, is_some};
+ghost use Rattle.std.specs.Prelude.{◌≡◌, ◌-◌, ◌≤◌, ◌<◌, None, Some, count_by, false, map, max, nat_lt, not, true, length, slice_get, IfSome, is_some};
 ghost use Rattle.std.specs.List.{list_all};
-ghost use Rattle.keyed_list.specs.Keyed.{Ascends, IsFound, IsKeyed, IsLinked, IsPlace, greater, is_below, is_key, is_young, item_at, item_numbered, last_of};
+ghost use Rattle.keyed_list.specs.Keyed.{Ascends, IsFound, IsKeyed, IsLinked, IsPlace, greater, is_below, is_key, is_young, item_at, last_of};
 ghost use Rattle.keyed_list.specs.Lists.{last_where};
 
 use crate::key::{Age, Mark};
@@ -11,8 +11,8 @@ use crate::{Key, Keyed};
 use named_list::NamedList;
 use ordered_set::OrderedSet;
 
-// The place of the item with a number, or the place where it would stand.
-fn place_of<T>(number: u64, list: &NamedList<Numbered<T>>) -> usize
+/// The place of the item with a number, or the place where it would stand.
+pub(crate) fn place_of<T>(number: u64, list: &NamedList<Numbered<T>>) -> usize
     requires { Ascends list.now.items }
     ensures { IsPlace number list.now.items result }
 {
@@ -30,24 +30,6 @@ fn place_behind_first<T>(number: u64, list: &NamedList<Numbered<T>>) -> Option<u
 {
     let first = list.get(0)?;
     let place = number.checked_sub(first.number)? as usize;
-    let numbered = list.get(place)?;
-    if numbered.number != number {
-        return None;
-    }
-    Some(place)
-}
-
-// The place of the item with a number, or None where it is gone.
-fn place_numbered<T>(number: u64, list: &NamedList<Numbered<T>>) -> Option<usize>
-    requires { Ascends list.now.items }
-    ensures item { item_at list.now.items result ≡ item_numbered list.now.items (Some number) }
-    ensures within { IfSome result (λ place. place < length list.now.items) }
-{
-    let first = list.get(0)?;
-    if number < first.number {
-        return None;
-    }
-    let place = place_of(number, list);
     let numbered = list.get(place)?;
     if numbered.number != number {
         return None;
@@ -90,8 +72,51 @@ pub(crate) fn place_before<T: Keyed>(
     ensures within { IfSome result (λ place. place < length list.now.items) }
 {
     let numbered = list.get(place)?;
-    let number = link_of(key, numbered)?;
-    place_numbered(number, list)
+    let number = link_of(key, numbered).before?;
+    Some(place_of(number, list))
+}
+
+// The place of the first item that has a key, of those behind the item at a place, which has the
+// key too. None where there is none.
+fn place_behind<T: Keyed>(key: &Key, place: usize, list: &NamedList<Numbered<T>>) -> Option<usize>
+    requires ascends { Ascends list.now.items }
+    requires linked { IsLinked T.marks_of key.now list.now.items }
+    requires place { place < length list.now.items }
+    requires has { IfSome (slice_get list.now.items place)
+        (λ item. is_key T.marks_of key.now item.item ≡ true) }
+    ensures further { IfSome result (λ behind. place < behind) }
+    ensures within { IfSome result (λ behind. behind < length list.now.items) }
+    ensures has { IfSome result (λ behind. IfSome (slice_get list.now.items behind)
+        (λ item. is_key T.marks_of key.now item.item ≡ true)) }
+    ensures none { result ≡ None
+        → slice_get list.now.items place ≡ last_of T.marks_of key.now list.now.items }
+{
+    let Some(numbered) = list.get(place) else {
+        unreachable!()
+    };
+    let number = link_of(key, numbered).behind?;
+    Some(place_of(number, list))
+}
+
+/// The place of the last item that has the first key of the item at a place.
+pub(crate) fn place_last_like<T: Keyed>(place: usize, list: &NamedList<Numbered<T>>) -> usize
+    requires ascends { Ascends list.now.items }
+    requires linked { (key : _) → IsLinked T.marks_of key list.now.items }
+    requires place { place < length list.now.items }
+    ensures last { IfSome (slice_get list.now.items place)
+        (λ numbered. slice_get list.now.items result
+        ≡ last_of T.marks_of (T.marks_of numbered.item).key list.now.items) }
+    ensures within { result < length list.now.items }
+{
+    let Some(numbered) = list.get(place) else {
+        unreachable!()
+    };
+    let key = numbered.item.marks().key;
+    let mut last = place;
+    while let Some(behind) = place_behind(&key, last, list) {
+        last = behind;
+    }
+    last
 }
 
 /// The place of an item that isn't younger than `life` at a moment, or None where there is none.

@@ -1,6 +1,6 @@
 // Items of a list, and their keys and moments.
 ghost use Rattle.std.specs.Prelude.{◌≡◌};
-ghost use Rattle.keyed_list.specs.Keyed.{link_of, with_link};
+ghost use Rattle.keyed_list.specs.Keyed.{link_of, with_before, with_behind, with_link};
 
 use crate::Key;
 
@@ -25,16 +25,22 @@ pub trait Keyed: Drop {
         ensures { result ≡ marks_of self.now };
 }
 
+/// The neighbours of an item among those that have one of its keys: their numbers.
+#[derive(Clone, Copy, Debug, PartialEq, Eq, Drop)]
+pub(crate) struct Link {
+    pub before: Option<u64>,
+    pub behind: Option<u64>,
+}
+
 /// An item, and the number under which it came.
 #[derive(Drop)]
 pub(crate) struct Numbered<T> {
     pub number: u64,
     pub item: T,
-    /// The number of the last item before this one that has its first key, or None. A number whose
-    /// item is gone means that there is none.
-    pub before: Option<u64>,
-    /// The number of the last item before this one that has its second key.
-    pub other_before: Option<u64>,
+    /// Its neighbours by its first key.
+    pub link: Link,
+    /// Its neighbours by its second key.
+    pub other_link: Link,
 }
 
 pub(crate) fn copied<T: Copy>(numbered: &Numbered<T>) -> Numbered<T>
@@ -43,29 +49,42 @@ pub(crate) fn copied<T: Copy>(numbered: &Numbered<T>) -> Numbered<T>
     Numbered {
         number: numbered.number,
         item: numbered.item,
-        before: numbered.before,
-        other_before: numbered.other_before,
+        link: numbered.link,
+        other_link: numbered.other_link,
     }
 }
 
-/// The link of an item by a key of its own.
-pub(crate) fn link_of<T: Keyed>(key: &Key, numbered: &Numbered<T>) -> Option<u64>
+/// The neighbours of an item by a key of its own.
+pub(crate) fn link_of<T: Keyed>(key: &Key, numbered: &Numbered<T>) -> Link
     ensures { result ≡ link_of T.marks_of key.now numbered.now }
 {
     if numbered.item.marks().key.is_same(key) {
-        numbered.before
+        numbered.link
     } else {
-        numbered.other_before
+        numbered.other_link
     }
 }
 
-/// Links an item to another one by a key of its own.
-pub(crate) fn link<T: Keyed>(key: &Key, number: Option<u64>, numbered: &mut Numbered<T>)
-    ensures { numbered.new ≡ with_link T.marks_of key.now number numbered.old }
+/// Gives an item another neighbour before it, by a key of its own.
+pub(crate) fn set_before<T: Keyed>(key: &Key, number: Option<u64>, numbered: &mut Numbered<T>)
+    ensures { numbered.new ≡ with_link T.marks_of key.now
+        (with_before number (link_of T.marks_of key.now numbered.old)) numbered.old }
 {
     if numbered.item.marks().key.is_same(key) {
-        numbered.before = number;
+        numbered.link.before = number;
     } else {
-        numbered.other_before = number;
+        numbered.other_link.before = number;
+    }
+}
+
+/// Gives an item another neighbour behind it, by a key of its own.
+pub(crate) fn set_behind<T: Keyed>(key: &Key, number: Option<u64>, numbered: &mut Numbered<T>)
+    ensures { numbered.new ≡ with_link T.marks_of key.now
+        (with_behind number (link_of T.marks_of key.now numbered.old)) numbered.old }
+{
+    if numbered.item.marks().key.is_same(key) {
+        numbered.link.behind = number;
+    } else {
+        numbered.other_link.behind = number;
     }
 }

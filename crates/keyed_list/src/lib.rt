@@ -2,6 +2,7 @@
 #![tactic(auto)]
 
 mod ages;
+mod changing;
 mod finding;
 mod key;
 mod keyed;

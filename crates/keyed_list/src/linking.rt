@@ -1,86 +1,117 @@
-// Marks and links where an item goes.
-ghost use Rattle.std.specs.Prelude.{◌≡◌, ◌<◌, ◌+◌, false, length, map, slice_get, true, IfSome};
+// Links where an item comes or goes.
+ghost use Rattle.std.specs.Prelude.{◌≡◌, ◌<◌, ◌+◌, length, map, slice_get, true, IfSome};
 ghost use Rattle.std.specs.List.{remove};
 ghost use Rattle.std.specs.Option.{option_map};
-ghost use Rattle.keyed_list.specs.Keyed.{Ascends, IsFound, IsLinked, IsUnlinked, bare, is_below, is_key, is_linked, item_at, relinked};
-ghost use Rattle.keyed_list.specs.Lists.{last_where};
+ghost use Rattle.keyed_list.specs.Keyed.{Ascends, Holds, IsFollowed, IsFound, IsLinked, IsPut, IsUnlinked, bare, is_key, last_of, relinked, with_before, with_behind};
 
-use crate::finding::{place_before, place_last};
+use crate::finding::place_of;
 use crate::key::Mark;
-use crate::keyed::{Numbered, link, link_of};
-use crate::marks::{is_number, turn_back};
-use crate::{Key, Keyed};
+use crate::keyed::{Link, Numbered, link_of, set_before, set_behind};
+use crate::marks::turn_back;
+use crate::{Key, Keyed, Marks};
 use named_list::NamedList;
 use ordered_set::OrderedSet;
 
-// The number of the last item that has a key, of those before the item at a place, which has the
-// key too. None where there is none.
-fn number_before<T: Keyed>(key: &Key, place: usize, list: &NamedList<Numbered<T>>) -> Option<u64>
-    requires ascends { Ascends list.now.items }
-    requires linked { IsLinked T.marks_of key.now list.now.items }
-    requires has { IfSome (slice_get list.now.items place)
-        (λ item. is_key T.marks_of key.now item.item ≡ true) }
-    ensures { IfSome (slice_get list.now.items place) (λ item. result
-        ≡ option_map (λ other. other.number)
-        (last_where (is_below T.marks_of key.now item.number) list.now.items)) }
-{
-    let before = place_before(key, place, list)?;
-    let numbered = list.get(before)?;
-    Some(numbered.number)
-}
-
-// The place of the last item that has a key and is linked by it to a number, or None.
-fn place_behind<T: Keyed>(
+// Links the item with a number, which has the key, if there is one, to another one behind it.
+fn link_behind<T: Keyed>(
     key: &Key,
-    number: u64,
-    list: &NamedList<Numbered<T>>,
-    index: &OrderedSet<Mark>,
-) -> Option<usize>
-    requires ascends { Ascends list.now.items }
-    requires found { IsFound T.marks_of key.now list.now.items index.now.keys }
-    requires linked { IsLinked T.marks_of key.now list.now.items }
-    ensures last { item_at list.now.items result
-        ≡ last_where (is_linked T.marks_of key.now number) list.now.items }
-    ensures within { IfSome result (λ place. place < length list.now.items) }
-{
-    let mut next = place_last(key, list, index);
-    while let Some(place) = next {
-        let Some(numbered) = list.get(place) else {
-            unreachable!()
-        };
-        if is_number(link_of(key, numbered), number) {
-            return Some(place);
-        }
-        next = place_before(key, place, list);
-    }
-    None
-}
-
-// Links the last item that has a key and is linked by it to a number, if there is one, to another
-// number.
-fn relink<T: Keyed>(
-    key: &Key,
-    number: u64,
-    before: Option<u64>,
+    number: Option<u64>,
+    behind: Option<u64>,
     list: &mut NamedList<Numbered<T>>,
-    index: &OrderedSet<Mark>,
 )
     requires ascends { Ascends list.old.items }
-    requires found { IsFound T.marks_of key.now list.old.items index.now.keys }
-    requires linked { IsLinked T.marks_of key.now list.old.items }
-    ensures items { list.new.items ≡ map (relinked T.marks_of key.now
-        (option_map (λ item. item.number)
-        (last_where (is_linked T.marks_of key.now number) list.old.items)) before)
-        list.old.items }
+    requires holds { IfSome number (Holds T.marks_of key.now list.old.items) }
+    ensures items { list.new.items
+        ≡ map (relinked T.marks_of key.now number (with_behind behind)) list.old.items }
     ensures spare { list.new.spare ≡ list.old.spare }
 {
-    if let Some(place) = place_behind(key, number, list, index) {
-        link(key, before, list.edit(place));
+    if let Some(number) = number {
+        let place = place_of(number, list);
+        set_behind(key, behind, list.edit(place));
     }
 }
 
-// Lets a key lead past the item at a place, which has the key and is about to go. The mark of the
-// key takes the number before, or the item behind it is linked to that number.
+// Links the item with a number, which has the key, if there is one, to another one before it.
+fn link_before<T: Keyed>(
+    key: &Key,
+    number: Option<u64>,
+    before: Option<u64>,
+    list: &mut NamedList<Numbered<T>>,
+)
+    requires ascends { Ascends list.old.items }
+    requires holds { IfSome number (Holds T.marks_of key.now list.old.items) }
+    ensures items { list.new.items
+        ≡ map (relinked T.marks_of key.now number (with_before before)) list.old.items }
+    ensures spare { list.new.spare ≡ list.old.spare }
+{
+    if let Some(number) = number {
+        let place = place_of(number, list);
+        set_before(key, before, list.edit(place));
+    }
+}
+
+// Links the last item of each key of an item, if there is one, to the number of that item, which
+// comes behind it.
+fn follow<T: Keyed>(
+    marks: &Marks,
+    number: u64,
+    before: Option<u64>,
+    other_before: Option<u64>,
+    list: &mut NamedList<Numbered<T>>,
+)
+    requires ascends { Ascends list.old.items }
+    requires first { before
+        ≡ option_map (λ last. last.number) (last_of T.marks_of marks.now.key list.old.items) }
+    requires second { IfSome marks.now.other (λ other. other_before
+        ≡ option_map (λ last. last.number) (last_of T.marks_of other list.old.items)) }
+    ensures followed { IsFollowed T.marks_of marks.now number list.old.items list.new.items }
+    ensures spare { list.new.spare ≡ list.old.spare }
+{
+    link_behind(&marks.key, before, Some(number), list);
+    if let Some(other) = &marks.other {
+        link_behind(other, other_before, Some(number), list);
+    }
+}
+
+/// Adds an item at the end, and links it to the last item of each of its keys. Takes no memory.
+pub(crate) fn put<T: Keyed>(
+    item: T,
+    marks: &Marks,
+    number: u64,
+    before: Option<u64>,
+    other_before: Option<u64>,
+    list: &mut NamedList<Numbered<T>>,
+)
+    requires spare { 0 < list.old.spare }
+    requires ascends { Ascends list.old.items }
+    requires marks { marks.now ≡ T.marks_of item }
+    requires first { before
+        ≡ option_map (λ last. last.number) (last_of T.marks_of marks.now.key list.old.items) }
+    requires second { IfSome marks.now.other (λ other. other_before
+        ≡ option_map (λ last. last.number) (last_of T.marks_of other list.old.items)) }
+    ensures put { IsPut T.marks_of item number before other_before list.old.items list.new.items }
+    ensures spare { list.new.spare + 1 ≡ list.old.spare }
+{
+    follow(marks, number, before, other_before, list);
+    list.insert(
+        list.len(),
+        Numbered {
+            number,
+            item,
+            link: Link {
+                before,
+                behind: None,
+            },
+            other_link: Link {
+                before: other_before,
+                behind: None,
+            },
+        },
+    );
+}
+
+// Lets a key lead past the item at a place, which has the key and is about to go. Its neighbours
+// are linked to each other, and where there is none behind it, the mark of the key turns back.
 fn unlink_key<T: Keyed>(
     key: &Key,
     place: usize,
@@ -102,14 +133,11 @@ fn unlink_key<T: Keyed>(
     let Some(numbered) = list.get(place) else {
         unreachable!()
     };
-    let number = numbered.number;
-    let before = number_before(key, place, list);
-    if turn_back(key, number, before, index) {
-        return;
-    }
-    // Where there is none before, the item behind keeps a link to an item that is gone.
-    if before.is_some() {
-        relink(key, number, before, list, index);
+    let link = link_of(key, numbered);
+    link_behind(key, link.before, link.behind, list);
+    link_before(key, link.behind, link.before, list);
+    if link.behind.is_none() {
+        turn_back(key, link.before, index);
     }
 }
 

@@ -3,15 +3,16 @@ ghost use Rattle.std.specs.Prelude.{◌≡◌, ◌≤◌, ◌<◌, ◌+◌, ◌*
 ghost use Rattle.std.specs.List.{list_all, remove};
 ghost use Rattle.std.specs.Fn.{FnReturnsAt};
 ghost use Rattle.std.specs.Option.{option_copied};
-ghost use Rattle.keyed_list.specs.Keyed.{changed_with, is_key, is_young, item_at, latest};
+ghost use Rattle.keyed_list.specs.Keyed.{changed_like, changed_with, is_key, is_young, item_at, latest};
 ghost use Rattle.keyed_list.specs.Limits.{most_items, ring_names};
 ghost use Rattle.keyed_list.specs.Lists.{last_where};
 
 use crate::ages::{add_age, drop_age};
-use crate::finding::{count_young, later, old_place, place_before, place_last};
+use crate::changing::{change_from, change_like};
+use crate::finding::{count_young, later, old_place, place_before, place_last, place_last_like};
 use crate::key::{Age, Mark};
 use crate::keyed::{Numbered, copied};
-use crate::linking::unlink;
+use crate::linking::{put, unlink};
 use crate::marks::put_marks;
 use crate::{Key, Keyed, MOST_ITEMS, NoMemory};
 use named_list::NamedList;
@@ -179,6 +180,17 @@ impl<T: Keyed> KeyedList<T> {
         best
     }
 
+    /// The place of the last item that has the first key of the item at a place.
+    pub fn last_like(&self, place: usize) -> usize
+        requires { place < length self.now.items }
+        ensures last { IfSome (slice_get self.now.items place)
+            (λ item. slice_get self.now.items result
+            ≡ last_where (is_key T.marks_of (T.marks_of item).key) self.now.items) }
+        ensures within { result < length self.now.items }
+    {
+        place_last_like(place, &self.list)
+    }
+
     /// How many items are younger than `life` at a moment, found by halving.
     pub fn count(&self, now: u64, life: u64) -> usize
         ensures { result ≡ count_by (is_young T.marks_of now life) self.now.items }
@@ -200,15 +212,33 @@ impl<T: Keyed> KeyedList<T> {
         let number = self.next;
         let (before, other_before) = put_marks(&marks, number, &mut self.index);
         add_age(&marks, number, &mut self.ages);
-        self.list.insert(
-            self.list.len(),
-            Numbered {
-                number,
-                item,
-                before,
-                other_before,
-            },
-        );
+        put(item, &marks, number, before, other_before, &mut self.list);
+        self.next += 1;
+    }
+
+    /// Adds an item at the end, and changes the earlier ones that have its second key by `change`,
+    /// which keeps an item's keys and moment. Takes no memory.
+    pub fn push_changing<F: Fn(&T) -> T>(&mut self, item: T, change: F)
+        requires room { 0 < self.old.room }
+        requires callable { F.IsAlwaysCallable change }
+        requires marks { (item new : T) → FnReturnsAt F.Fn change item new
+            → T.marks_of new ≡ T.marks_of item }
+        ensures items { (changed : T → T)
+            → ((item new : T) → FnReturnsAt F.Fn change item new → new ≡ changed item)
+            → self.new.items ≡ map (changed_like T.marks_of (T.marks_of item).other changed)
+            self.old.items ++ item ∷ [] }
+        ensures room { self.new.room + 1 ≡ self.old.room }
+        ensures places { self.new.places ≡ self.old.places }
+    {
+        // The calls of `len` bring the facts that keys and ages ascend, and so that there are no
+        // more than those of the items.
+        let _ = (self.index.len(), self.ages.len());
+        let marks = item.marks();
+        let number = self.next;
+        let (before, other_before) = put_marks(&marks, number, &mut self.index);
+        add_age(&marks, number, &mut self.ages);
+        change_like(&marks.other, other_before, change, &mut self.list);
+        put(item, &marks, number, before, other_before, &mut self.list);
         self.next += 1;
     }
 
@@ -236,12 +266,8 @@ impl<T: Keyed> KeyedList<T> {
         ensures room { self.new.room ≡ self.old.room }
         ensures places { self.new.places ≡ self.old.places }
     {
-        let mut next = place_last(key, &self.list, &self.index);
-        while let Some(place) = next {
-            let numbered = self.list.edit(place);
-            numbered.item = change(&numbered.item);
-            next = place_before(key, place, &self.list);
-        }
+        let last = place_last(key, &self.list, &self.index);
+        change_from(key, last, change, &mut self.list);
     }
 
     /// Removes the item at a place, and returns it.

@@ -1,8 +1,8 @@
 // The last item of each key, in a set of marks.
-ghost use Rattle.std.specs.Prelude.{◌≡◌, ◌≤◌, ◌<◌, ◌+◌, ◌&&◌, ℕ, None, Some, true, length, slice_get, if◌then◌else◌};
+ghost use Rattle.std.specs.Prelude.{◌≡◌, ◌≤◌, ◌<◌, ◌+◌, ◌&&◌, ℕ, None, Some, true, length, slice_get, is_some, IfSome, if◌then◌else◌};
 ghost use Rattle.ordered_set.specs.Keys.{IsPlace};
 ghost use Rattle.keyed_list.specs.Keys.{mark_order, same_key};
-ghost use Rattle.keyed_list.specs.Keyed.{has_key, is_number, number_at, number_of};
+ghost use Rattle.keyed_list.specs.Keyed.{has_key, number_at, number_of};
 
 use crate::key::Mark;
 use crate::{Key, Marks};
@@ -36,16 +36,6 @@ pub(crate) fn last_number(key: &Key, index: &OrderedSet<Mark>) -> Option<u64>
     number_at(key, place_of(key, index), index)
 }
 
-/// Whether there is a number, and it is that one.
-pub(crate) fn is_number(found: Option<u64>, number: u64) -> bool
-    ensures { result ≡ is_number found number }
-{
-    match found {
-        None => false,
-        Some(found) => found == number,
-    }
-}
-
 // Gives the mark of a key a number, and returns the number that it had, or None where it is new.
 // Takes no memory.
 fn put_mark(key: &Key, number: u64, index: &mut OrderedSet<Mark>) -> Option<u64>
@@ -75,8 +65,8 @@ pub(crate) fn put_marks(
     index: &mut OrderedSet<Mark>,
 ) -> (Option<u64>, Option<u64>)
     requires { 2 ≤ index.old.spare }
-    ensures links { (key : _) → has_key marks.now key ≡ true
-        → (if same_key marks.now.key key then result.0 else result.1) ≡ number_of key index.old.keys }
+    ensures first { result.0 ≡ number_of marks.now.key index.old.keys }
+    ensures second { IfSome marks.now.other (λ other. result.1 ≡ number_of other index.old.keys) }
     ensures numbers { (key : _) → number_of key index.new.keys
         ≡ (if has_key marks.now key then Some number else number_of key index.old.keys) }
     ensures total { length index.new.keys + index.new.spare
@@ -86,33 +76,27 @@ pub(crate) fn put_marks(
     let Some(key) = &marks.other else {
         return (before, None);
     };
+    if marks.key.is_same(key) {
+        return (before, before);
+    }
     let other_before = put_mark(key, number, index);
     (before, other_before)
 }
 
-/// Where the mark of a key has a number, gives it the one before, or removes it where there is none.
-/// Returns whether it had that number. Takes no memory.
-pub(crate) fn turn_back(
-    key: &Key,
-    number: u64,
-    before: Option<u64>,
-    index: &mut OrderedSet<Mark>,
-) -> bool
-    ensures had { result ≡ is_number (number_of key.now index.old.keys) number }
+/// Gives the mark of a key, which is there, the number before, or removes it where there is none.
+/// Takes no memory.
+pub(crate) fn turn_back(key: &Key, before: Option<u64>, index: &mut OrderedSet<Mark>)
+    requires { is_some (number_of key.now index.old.keys) ≡ true }
     ensures numbers { (other : _) → number_of other index.new.keys
-        ≡ (if result && same_key key.now other then before else number_of other index.old.keys) }
+        ≡ (if same_key key.now other then before else number_of other index.old.keys) }
     ensures total { length index.new.keys + index.new.spare
         ≡ length index.old.keys + index.old.spare }
 {
     let place = place_of(key, index);
-    if !is_number(number_at(key, place, index), number) {
-        return false;
-    }
     match before {
         None => {
             index.take_at(place);
         }
         Some(number) => index.replace_at(place, Mark { key: *key, number }),
     }
-    true
 }

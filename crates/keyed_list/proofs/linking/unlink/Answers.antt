@@ -3,12 +3,12 @@ use Rattle.keyed_list.specs.Keyed.{has_key}
 use Rattle.keyed_list.specs.declared.keyed.Marks.{Marks}
 use Rattle.keyed_list.proofs.BareLemmas.{bare-ascends}
 use Rattle.keyed_list.proofs.ReadyLemmas.{first-done, has-other, one-key, only-one, only-same, only-two, two-keys}
-use Rattle.keyed_list.proofs.RelinkLemmas.{bare-new, has-new}
+use Rattle.keyed_list.proofs.RelinkLemmas.{bare-done, has-new}
 use Rattle.keyed_list.proofs.linking.unlink.Goals as goal
 
 pub returns-in_default-other-clause-bare : goal.returns-in_default-other-clause-bare
 returns-in_default-other-clause-bare g c =
-    bare-new g.T.Keyed.marks_of c.marks-marks.result.key c.args.list.now.items c.unlink_key.new.list.items c.unlink_key.ensures.unlinked.relinked
+    bare-done g.T.Keyed.marks_of c.marks-marks.result.key c.args.list.now.items c.unlink_key.new.list.items c.unlink_key.ensures.unlinked.relinked
 
 pub returns-in_default-other-clause-found : goal.returns-in_default-other-clause-found
 returns-in_default-other-clause-found g c key =
@@ -25,7 +25,7 @@ unlink_key-requires-then-not-is_same-clause-has g c =
 
 pub unlink_key-requires-then-not-is_same-clause-ascends : goal.unlink_key-requires-then-not-is_same-clause-ascends
 unlink_key-requires-then-not-is_same-clause-ascends g c =
-    bare-ascends c.unlink_key.new.list.items c.args.list.now.items (bare-new g.T.Keyed.marks_of c.marks-marks.result.key c.args.list.now.items c.unlink_key.new.list.items c.unlink_key.ensures.unlinked.relinked) c.requires.ascends
+    bare-ascends c.unlink_key.new.list.items c.args.list.now.items (bare-done g.T.Keyed.marks_of c.marks-marks.result.key c.args.list.now.items c.unlink_key.new.list.items c.unlink_key.ensures.unlinked.relinked) c.requires.ascends
 
 pub unlink_key-requires-then-not-is_same-clause-found : goal.unlink_key-requires-then-not-is_same-clause-found
 unlink_key-requires-then-not-is_same-clause-found g c =
@@ -37,8 +37,8 @@ unlink_key-requires-then-not-is_same-clause-linked g c =
 
 pub returns-then-not-is_same-clause-bare : goal.returns-then-not-is_same-clause-bare
 returns-then-not-is_same-clause-bare g c =
-    bare-new g.T.Keyed.marks_of c.in-Some-other.other c.unlink_key.new.list.items c.unlink_key-then-not-is_same.new.list.items c.unlink_key-then-not-is_same.ensures.unlinked.relinked
-    ∙ bare-new g.T.Keyed.marks_of c.marks-marks.result.key c.args.list.now.items c.unlink_key.new.list.items c.unlink_key.ensures.unlinked.relinked
+    bare-done g.T.Keyed.marks_of c.in-Some-other.other c.unlink_key.new.list.items c.unlink_key-then-not-is_same.new.list.items c.unlink_key-then-not-is_same.ensures.unlinked.relinked
+    ∙ bare-done g.T.Keyed.marks_of c.marks-marks.result.key c.args.list.now.items c.unlink_key.new.list.items c.unlink_key.ensures.unlinked.relinked
 
 pub returns-then-not-is_same-clause-found : goal.returns-then-not-is_same-clause-found
 returns-then-not-is_same-clause-found g c key =
@@ -50,7 +50,7 @@ returns-then-not-is_same-clause-linked g c key =
 
 pub returns-else-not-is_same-clause-bare : goal.returns-else-not-is_same-clause-bare
 returns-else-not-is_same-clause-bare g c =
-    bare-new g.T.Keyed.marks_of c.marks-marks.result.key c.args.list.now.items c.unlink_key.new.list.items c.unlink_key.ensures.unlinked.relinked
+    bare-done g.T.Keyed.marks_of c.marks-marks.result.key c.args.list.now.items c.unlink_key.new.list.items c.unlink_key.ensures.unlinked.relinked
 
 pub returns-else-not-is_same-clause-found : goal.returns-else-not-is_same-clause-found
 returns-else-not-is_same-clause-found g c key =

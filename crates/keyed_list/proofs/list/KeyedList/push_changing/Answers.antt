@@ -1,0 +1,51 @@
+use Rattle.std.proofs.Common.{arith, ap, map, List, [], ◌∷◌, ◌++◌, ◌∙◌}
+use Rattle.keyed_list.specs.Keyed.{changed_like}
+use Rattle.keyed_list.specs.declared.keyed.Marks.{Marks}
+use Rattle.keyed_list.proofs.FewLemmas.{ages-few, marks-few}
+use Rattle.keyed_list.proofs.KeyedLemmas.{keyed-push, other-found, put-items, put-length, put-less}
+use Rattle.keyed_list.proofs.list.KeyedList.push_changing.Goals as goal
+
+pub put_marks-before-requires : goal.put_marks-before-requires
+put_marks-before-requires g c =
+    let few = marks-few _ _ _ _ c.self.invariant.0 c.len.ensures.ascends in
+    let room = rw (← c.self.view_is) at c.requires.room in
+    omega (arith, few, room, c.self.invariant.2.keys)
+
+pub add_age-requires : goal.add_age-requires
+add_age-requires g c =
+    let few = ages-few _ _ _ _ c.self.invariant.0 c.len-2.ensures.ascends in
+    let room = rw (← c.self.view_is) at c.requires.room in
+    omega (arith, few, room, c.self.invariant.2.ages)
+
+pub change_like-requires-clause-last : goal.change_like-requires-clause-last
+change_like-requires-clause-last g c =
+    other-found g.T.Keyed.marks_of c.self.inside.list.items c.self.inside.index.keys c.self.invariant.0.found c.put_marks-before.result.1 c.marks-marks.result.other c.put_marks-before.ensures.second
+
+pub put-requires-clause-ascends : goal.put-requires-clause-ascends
+put-requires-clause-ascends g c =
+    (c.change_like.ensures.keyed c.self.inside.index.keys c.self.inside.ages.keys c.self.invariant.0).ascends
+
+pub put-requires-clause-first : goal.put-requires-clause-first
+put-requires-clause-first g c = c.put_marks-before.ensures.first ∙ (c.change_like.ensures.keyed c.self.inside.index.keys c.self.inside.ages.keys c.self.invariant.0).found c.marks-marks.result.key
+
+pub put-requires-clause-second : goal.put-requires-clause-second
+put-requires-clause-second g c =
+    other-found g.T.Keyed.marks_of c.change_like.new.list.items c.self.inside.index.keys (c.change_like.ensures.keyed c.self.inside.index.keys c.self.inside.ages.keys c.self.invariant.0).found c.put_marks-before.result.1 c.marks-marks.result.other c.put_marks-before.ensures.second
+
+pub invariant_of-self : goal.invariant_of-self
+invariant_of-self g c =
+    let more = put-length c.args.item c.self.inside.next c.put_marks-before.result.0 c.put_marks-before.result.1 c.put.new.list.items c.put.ensures.put (c.change_like.ensures.below c.self.inside.next c.self.invariant.1) in (
+      keyed-push _ _ (c.change_like.ensures.keyed c.self.inside.index.keys c.self.inside.ages.keys c.self.invariant.0) c.args.item c.self.inside.next c.put_marks-before.result.0 c.put_marks-before.result.1 c.put.new.list.items c.put.ensures.put (c.change_like.ensures.below c.self.inside.next c.self.invariant.1) c.marks-marks.result c.marks-marks.ensures c.put_marks-before.ensures.first c.put_marks-before.ensures.second c.put_marks-before.ensures.numbers c.add_age.ensures.members,
+      put-less c.args.item c.self.inside.next c.put_marks-before.result.0 c.put_marks-before.result.1 c.put.new.list.items c.put.ensures.put (c.change_like.ensures.below c.self.inside.next c.self.invariant.1),
+      record {
+        few = omega (arith, more, c.put.ensures.spare, c.change_like.ensures.len, c.change_like.ensures.spare, c.self.invariant.2.few);
+        keys = omega (arith, more, c.put.ensures.spare, c.change_like.ensures.len, c.change_like.ensures.spare, c.put_marks-before.ensures.total, c.self.invariant.2.keys);
+        ages = omega (arith, more, c.put.ensures.spare, c.change_like.ensures.len, c.change_like.ensures.spare, c.add_age.ensures.total, c.self.invariant.2.ages);
+      },
+    )
+
+pub returns-clause-items : goal.returns-clause-items
+returns-clause-items g c changed agrees =
+    rw (← c.self.view_is)
+    (put-items c.args.item c.self.inside.next c.put_marks-before.result.0 c.put_marks-before.result.1 c.put.new.list.items c.put.ensures.put (c.change_like.ensures.below c.self.inside.next c.self.invariant.1)
+    ∙ ap (λ (l : List _). l ++ c.args.item ∷ []) (c.change_like.ensures.items changed agrees ∙ ap (λ (m : Marks). map (changed_like g.T.Keyed.marks_of m.other changed) (map (λ y. y.item) c.self.inside.list.items)) c.marks-marks.ensures))
