@@ -1,5 +1,5 @@
 -- What is found by a key.
-use Rattle.std.proofs.Common.{◌≡◌, ℕ, ◌==◌, ◌&&◌, ◌||◌, Bool, true, false, cond, List, [], ◌∷◌, fold, length, map, Option, Some, None, is_some, Ordering, Less, Equal, Greater, is_eq, nat_cmp, refl, ap, ap₂, ◌∙◌, arith}
+use Rattle.std.proofs.Common.{◌≡◌, ℕ, ◌==◌, ◌&&◌, ◌||◌, Bool, true, false, cond, List, [], ◌∷◌, fold, length, map, option_map, Option, Some, None, IfSome, is_some, slice_get, subst, Ordering, Less, Equal, Greater, is_eq, nat_cmp, refl, ap, ap₂, ◌∙◌, arith}
 use Rattle.std.specs.Borrow.{Bor}
 use Rattle.std.specs.List.{list_any}
 use Rattle.std.specs.Option.{option_copied}
@@ -17,7 +17,8 @@ use Rattle.router_log.specs.declared.kept.Solicitation.{Solicitation}
 use Rattle.keyed_list.specs.Keyed.{is_key}
 use Rattle.keyed_list.specs.Keys.{locator_key, nonce_key, same_key, told_key}
 use Rattle.keyed_list.specs.Known.{probe_marks, solicit_marks, start_marks, wish_marks}
-use Rattle.locator_state.specs.Lists.{last_where, later}
+use Rattle.locator_state.specs.Lists.{last_where, later, only_if}
+use Rattle.locator_state.specs.Probes.{last_probe, probe_counts}
 use Rattle.locator_state.specs.Solicits.{is_of}
 
 -- ### keys
@@ -95,6 +96,29 @@ module _ {A : Type 0} (p q : A → Bool) (same : (x : A) → p x ≡ q x) where
   -- tests that say the same find the same
   pub last-same : (items : List A) → last_where p items ≡ last_where q items
   last-same items = same-from None items
+
+-- the one at a place is the last of a locator, for which it is found by key
+pub like-locator : (probes : List Probe) (place at : ℕ) (found : Option Probe) → found ≡ slice_get probes at
+    → IfSome (slice_get probes place) (λ probe. slice_get probes at ≡ last_where (is_key probe_marks (locator_key probe.rloc)) probes)
+    → IfSome (slice_get probes place) (λ probe. found ≡ last_where (λ other. same_address other.rloc probe.rloc) probes)
+like-locator probes place at found is last = by (slice_get probes place) last
+  where
+    by : (o : Option Probe) → IfSome o (λ probe. slice_get probes at ≡ last_where (is_key probe_marks (locator_key probe.rloc)) probes) → IfSome o (λ probe. found ≡ last_where (λ other. same_address other.rloc probe.rloc) probes)
+    by None last = tt
+    by (Some probe) last =
+        is ∙ last ∙ last-same (is_key probe_marks (locator_key probe.rloc)) (λ other. same_address other.rloc probe.rloc) (probe-locator probe.rloc) probes
+
+-- the moment of the last probe of the locator of the one at a place
+pub moment-like : (m place : ℕ) (probes all : List Probe) (found : Option Probe) (moment : Option ℕ) → moment ≡ option_map (λ probe. probe.moment) (only_if (probe_counts m) found)
+    → IfSome (slice_get probes place) (λ probe. found ≡ last_where (λ other. same_address other.rloc probe.rloc) probes)
+    → probes ≡ all
+    → IfSome (slice_get all place) (λ probe. moment ≡ last_probe m all probe.rloc)
+moment-like m place probes all found moment is last same =
+    subst (λ all. IfSome (slice_get all place) (λ probe. moment ≡ last_probe m all probe.rloc)) same (by (slice_get probes place) last)
+  where
+    by : (o : Option Probe) → IfSome o (λ probe. found ≡ last_where (λ other. same_address other.rloc probe.rloc) probes) → IfSome o (λ probe. moment ≡ last_probe m probes probe.rloc)
+    by None last = tt
+    by (Some probe) last = is ∙ ap (λ o. option_map (λ probe. probe.moment) (only_if (probe_counts m) o)) last
 
 -- where there is no item, none passes
 pub last-empty : {A : Type 0} (test : A → Bool) (items : List A) → length items ≡ 0 → None ≡ last_where test items

@@ -8,7 +8,7 @@ ghost use Rattle.locator_state.specs.Probes.{probe_answered, probed};
 ghost use Rattle.locator_state.specs.Solicits.{solicited};
 
 use crate::echoing::{come_all, drop_starts, drop_wishes, echo_wanted, hear_all};
-use crate::probing::{drop_probes, settle_nonce};
+use crate::probing::{drop_probes, push_probe, settle_nonce};
 use crate::soliciting::drop_solicits;
 use crate::{Addr, EchoStart, EchoWish, Eid, NoMemory, Probe, ProbeState, Solicitation};
 use keyed_list::{Keyed, KeyedList};
@@ -138,13 +138,7 @@ impl LocatorState {
     {
         self.probes.reserve(1)?;
         self.purge(m);
-        settle_nonce(ProbeState::Lost, nonce, &mut self.probes);
-        self.probes.push(Probe {
-            moment: m,
-            rloc,
-            nonce,
-            state: ProbeState::Open,
-        });
+        push_probe(m, rloc, nonce, &mut self.probes);
         Ok(())
     }
 

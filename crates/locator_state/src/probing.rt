@@ -1,7 +1,8 @@
 // Probes in code: which of them count, which one is meant, and what becomes of open ones.
-ghost use Rattle.std.specs.Prelude.{◌≡◌, ◌≤◌, ◌+◌, ◌&&◌, ◌==◌, length};
+ghost use Rattle.std.specs.Prelude.{◌≡◌, ◌≤◌, ◌<◌, ◌+◌, ◌&&◌, ◌==◌, [], ◌∷◌, ◌++◌, length, slice_get, IfSome};
 ghost use Rattle.std.specs.Option.{option_copied};
 ghost use Rattle.mapping_records.specs.Eids.{same_address};
+ghost use Rattle.router_log.specs.declared.kept.ProbeState.TheVariants.{Lost, Open};
 ghost use Rattle.locator_state.specs.Lists.{last_where};
 ghost use Rattle.locator_state.specs.Probes.{counting_probes, is_answered, is_judged, probe_counts, settle, settle_nonce, settled, up_by};
 
@@ -59,6 +60,18 @@ pub(crate) fn last_of<'a>(rloc: &Addr, probes: &'a KeyedList<Probe>) -> Option<&
     probes.last(&Key::locator(*rloc), |_| true)
 }
 
+/// The last probe of the locator of the probe at a place, or None behind the end. It is found
+/// without a search.
+pub(crate) fn last_like(place: usize, probes: &KeyedList<Probe>) -> Option<&Probe>
+    ensures { IfSome (slice_get probes.now.items place) (λ probe. option_copied result
+        ≡ last_where (λ other. same_address other.rloc probe.rloc) probes.now.items) }
+{
+    if place >= probes.len() {
+        return None;
+    }
+    probes.get(probes.last_like(place))
+}
+
 /// The last probe of a locator that is answered or has waited for `PROBE_WAIT`.
 pub(crate) fn last_judged<'a>(
     now: u64,
@@ -103,6 +116,23 @@ pub(crate) fn settle_nonce(state: ProbeState, nonce: u64, probes: &mut KeyedList
     ensures places { probes.new.places ≡ probes.old.places }
 {
     probes.change(&Key::nonce(nonce), |probe| settle(state, probe));
+}
+
+/// Adds an open probe, behind which open ones with its nonce are lost. Takes no memory.
+pub(crate) fn push_probe(moment: u64, rloc: Addr, nonce: u64, probes: &mut KeyedList<Probe>)
+    requires { 0 < probes.old.room }
+    ensures items { probes.new.items ≡ settle_nonce Lost nonce probes.old.items
+        ++ record { moment = moment; rloc = rloc; nonce = nonce; state = Open } ∷ [] }
+    ensures room { probes.new.room + 1 ≡ probes.old.room }
+    ensures places { probes.new.places ≡ probes.old.places }
+{
+    let probe = Probe {
+        moment,
+        rloc,
+        nonce,
+        state: ProbeState::Open,
+    };
+    probes.push_changing(probe, |earlier| settle(ProbeState::Lost, earlier));
 }
 
 /// Takes away probes that count no longer at a moment.

@@ -1,5 +1,5 @@
 // Questions about locators at a moment.
-ghost use Rattle.std.specs.Prelude.{◌≡◌, ◌<◌, ◌/◌, count_by, nat_lt, option_map, slice_get};
+ghost use Rattle.std.specs.Prelude.{◌≡◌, ◌<◌, ◌/◌, IfSome, count_by, nat_lt, option_map, slice_get};
 ghost use Rattle.locator_state.specs.Echoes.{data_due, echo_on, echo_out, may_start, may_want, wanted};
 ghost use Rattle.locator_state.specs.Limits.{most_probes};
 ghost use Rattle.locator_state.specs.Observed.{is_up};
@@ -11,7 +11,7 @@ use crate::echoing::{
     is_asked, is_other,
 };
 use crate::limits::{MOST_PROBES, PROBE_LIFE};
-use crate::probing::{is_judged, last_judged, last_of, last_with, probe_counts, up_by};
+use crate::probing::{is_judged, last_judged, last_like, last_of, last_with, probe_counts, up_by};
 use crate::soliciting::{few_solicits, is_solicited};
 use crate::{Addr, EchoOut, Eid, LocatorState};
 
@@ -33,6 +33,19 @@ impl LocatorState {
         ensures { result ≡ last_probe m self.now.observed.probes rloc.now }
     {
         let probe = last_of(rloc, &self.probes)?;
+        if probe_counts(m, probe) {
+            return Some(probe.moment);
+        }
+        None
+    }
+
+    /// The moment of the last probe of the locator of the probe at a place, in nanoseconds, or None
+    /// where that one doesn't count. It is found without a search.
+    pub fn last_probe_at(&self, m: u64, place: usize) -> Option<u64>
+        ensures { IfSome (slice_get self.now.observed.probes place)
+            (λ probe. result ≡ last_probe m self.now.observed.probes probe.rloc) }
+    {
+        let probe = last_like(place, &self.probes)?;
         if probe_counts(m, probe) {
             return Some(probe.moment);
         }
@@ -72,7 +85,7 @@ impl LocatorState {
     pub fn may_probe(&self, m: u64) -> bool
         ensures { result ≡ nat_lt (probe_count m self.now.observed.probes) most_probes }
     {
-        self.probes.count(m, PROBE_LIFE) < MOST_PROBES
+        self.probes.len() < MOST_PROBES || self.probes.count(m, PROBE_LIFE) < MOST_PROBES
     }
 
     /// The nonce of the echo that is requested of a locator, for `ECHO_WAIT` and until it is heard;
