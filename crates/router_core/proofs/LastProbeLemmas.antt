@@ -1,5 +1,5 @@
 -- Where the last probe of a locator stands among probes in the order of their moments.
-use Rattle.std.proofs.Common.{◌≡◌, ◌⊎◌, ◌≤◌, ◌<◌, ◌+◌, ℕ, zero, suc, Bool, true, false, cond, List, [], ◌∷◌, count_by, fold, get_or, length, slice_get, Option, None, Some, option_map, inl, inr, refl, sym, ap, subst, ◌∙◌, arith, nat_lt}
+use Rattle.std.proofs.Common.{◌≡◌, ◌⊎◌, ◌≤◌, ◌<◌, ◌+◌, ℕ, zero, suc, Bool, true, false, cond, List, [], ◌∷◌, count_by, fold, get_or, length, slice_get, Option, None, Some, IfSome, option_map, inl, inr, refl, sym, ap, subst, ◌∙◌, arith, nat_lt}
 use Rattle.std.proofs.lemmas.Bool.Decides.{nat_tests}
 use Rattle.std.proofs.lemmas.List.Sums.{sum_by-cons}
 use Rattle.std.proofs.lemmas.Option.{get_or_from_slice_get, same_Some, slice_get_within, some_pair_parts}
@@ -141,6 +141,13 @@ probe-read None moment rloc is = absurd (cc is)
 probe-read (Some probe) moment rloc is =
     let parts = some_pair_parts moment probe.moment rloc probe.rloc is in
     (probe, refl, parts.0, parts.1)
+
+-- what is said of the locator of the probe at a place
+pub last-of : (m place moment : ℕ) (rloc : Addr) (probes : List Probe) (last : Option ℕ) → Some (moment, rloc) ≡ option_map moment_and_rloc (slice_get probes place)
+    → IfSome (slice_get probes place) (λ probe. last ≡ last_probe m probes probe.rloc) → last ≡ last_probe m probes rloc
+last-of m place moment rloc probes last here is =
+    let read = probe-read (slice_get probes place) moment rloc here in
+    subst (λ (o : Option Probe). IfSome o (λ probe. last ≡ last_probe m probes probe.rloc)) read.1 is ∙ ap (last_probe m probes) (sym read.3)
 
 -- where there is none, the list ends
 pub none-read : (probes : List Probe) (place : ℕ) → None ≡ option_map moment_and_rloc (slice_get probes place) → length probes ≤ place

@@ -94,7 +94,7 @@ impl Table {
         let mut covered = turns.covered;
         let mut place = self.locators.probes_before(turns.since);
         while let Some((moment, rloc)) = self.locators.probe_at(place) {
-            match self.locators.last_probe(m, &rloc) {
+            match self.locators.last_probe_at(m, place) {
                 None => covered = lowered(covered, &rloc),
                 Some(last) => {
                     if last == moment && self.is_live(site, m, &rloc) {
@@ -203,37 +203,40 @@ impl Table {
             if !has_rested(m, Some(moment)) || are_full_before(moment, first) {
                 return;
             }
-            self.offer_rested(site, m, moment, rloc, first);
+            self.offer_rested(site, m, place, (moment, rloc), first);
             place += 1;
         }
     }
 
-    // Offers the locator of a probe of a moment a place among the first, if that probe is its last
-    // one, and it may be probed.
+    // Offers the locator of the probe at a place, which has rested, a place among the first, if that
+    // probe is its last one, and it may be probed.
     fn offer_rested(
         &self,
         site: &Site<'_>,
         m: u64,
-        moment: u64,
-        rloc: Addr,
+        place: usize,
+        probe: (u64, Addr),
         first: &mut Vec<Target>,
     )
         requires now { self.now.parts.now ≤ m }
-        requires rested { has_rested m (Some moment) ≡ true }
+        requires here { Some probe ≡ option_map (λ probe. (probe.moment, probe.rloc))
+            (slice_get self.now.parts.observed.probes place) }
+        requires rested { has_rested m (Some probe.0) ≡ true }
         requires chosen { AreChosen (eligible site.now self.now.parts m) first.old.items }
         requires room { most_targets < vec_capacity first.old }
         ensures chosen { AreChosen (eligible site.now self.now.parts m) first.new.items }
         ensures stay { All (λ target. IsPlaced first.old.items target
             → IsPlaced first.new.items target) (eligible site.now self.now.parts m) }
-        ensures here { All (λ target. same_address rloc target.rloc ≡ true
-            → target.last ≡ Some moment → IsPlaced first.new.items target)
+        ensures here { All (λ target. same_address probe.1 target.rloc ≡ true
+            → target.last ≡ Some probe.0 → IsPlaced first.new.items target)
             (eligible site.now self.now.parts m) }
         ensures capacity { vec_capacity first.old ≤ vec_capacity first.new }
     {
+        let (moment, rloc) = probe;
         if !site.is_told(rloc) {
             return;
         }
-        let Some(last) = self.locators.last_probe(m, &rloc) else {
+        let Some(last) = self.locators.last_probe_at(m, place) else {
             return;
         };
         if last != moment {

@@ -39,6 +39,10 @@ returns-then-not-has_rested c =
       };
     }
 
+pub offer_rested-requires-clause-here : goal.offer_rested-requires-clause-here
+offer_rested-requires-clause-here c =
+    sym c.in-Some.is ∙ c.probe_at.ensures ∙ ap (λ (t : TableSeen). option_map moment_and_rloc (slice_get t.parts.observed.probes c.loop-moment.place)) c.self.view_is
+
 pub offer_rested-requires-clause-chosen : goal.offer_rested-requires-clause-chosen
 offer_rested-requires-clause-chosen c = c.loop-moment.invariant.0
 
