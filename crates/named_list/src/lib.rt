@@ -6,6 +6,6 @@ mod list;
 mod names;
 mod rings;
 
-pub use limits::{RING_NAMES, limits_are};
+pub use limits::{RING_NAMES, SPARE_NAMES, limits_are};
 pub use list::NamedList;
 pub use octets::NoMemory;

@@ -16,7 +16,7 @@ use std::marker::Model;
 /// A list of items, each under a name that it keeps while it is in the list. An item that comes
 /// into the middle of the list moves names, of four octets each, and no items: names of one ring,
 /// one name of each ring behind it, and the names behind all rings. A ring has 512 names, and at
-/// most 1,024 lie behind all rings.
+/// most 576 lie behind all rings.
 #[derive(Drop)]
 pub struct NamedList<T> {
     store: NodeStore<T>,

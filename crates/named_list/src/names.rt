@@ -1,12 +1,11 @@
-// Names in order: full rings, and behind them at most as many names as two rings have, which lie in
-// order.
+// Names in order: full rings, and behind them few names, which lie in order.
 ghost use Rattle.std.specs.Prelude.{◌≡◌, ◌≤◌, ◌<◌, ◌+◌, ◌*◌, [], length, max, slice_index_or, IfOk, OnOk, vec_len, vec_capacity};
 ghost use Rattle.std.specs.List.{insert, remove};
-ghost use Rattle.named_list.specs.Limits.{ring_names};
+ghost use Rattle.named_list.specs.Limits.{ring_names, spare_names};
 ghost use Rattle.named_list.specs.Rings.{AreHeads, IsOrder, joined};
 
-use crate::RING_NAMES;
 use crate::rings::{insert_below, remove_below, straighten, turned};
+use crate::{RING_NAMES, SPARE_NAMES};
 use node_store::{NoMemory, copied};
 use std::alloc::Global;
 use std::marker::Model;
@@ -36,8 +35,8 @@ impl Model for Names {
         (vec_capacity order.slots) (vec_capacity order.heads) };
 }
 
-// Makes the first half of the names behind the rings a ring, where they are as many as two rings
-// have. As many names as a ring has then go before that ring is taken apart.
+// Makes the first of the names behind the rings a ring, where `SPARE_NAMES` are left behind it. So
+// many names go before that ring is taken apart.
 fn close_last(slots: &Vec<u32>, heads: &mut Vec<usize>)
     requires { IsOrder heads.old.items slots.now.items (vec_capacity slots.now)
         (vec_capacity heads.old) }
@@ -45,9 +44,10 @@ fn close_last(slots: &Vec<u32>, heads: &mut Vec<usize>)
         ≡ joined ring_names heads.old.items slots.now.items }
     ensures order { IsOrder heads.new.items slots.now.items (vec_capacity slots.now)
         (vec_capacity heads.new) }
-    ensures last { length slots.now.items < length heads.new.items * ring_names + 2 * ring_names }
+    ensures last { length slots.now.items < length heads.new.items * ring_names
+        + (ring_names + spare_names) }
 {
-    if slots.len() == heads.len() * RING_NAMES + 2 * RING_NAMES {
+    if slots.len() == heads.len() * RING_NAMES + (RING_NAMES + SPARE_NAMES) {
         heads.push_reserved(0);
     }
 }
