@@ -1,7 +1,7 @@
 // Text that is written from its end to its front, into octets that are long enough for it.
 ghost use Rattle.std.specs.Prelude.{◌≡◌, ◌+◌, ◌/◌, ◌%◌, ◌<◌, ◌≤◌, ◌∷◌, ◌++◌, length, drop};
 ghost use Rattle.std.specs.Fmt.{decimal};
-ghost use Rattle.router_log.specs.Numbers.{octet_entry};
+ghost use Rattle.router_log.specs.Numbers.{fixed_decimal, octet_entry};
 
 // The digits of 00 to 99, two octets each, so that one division gives two digits.
 static PAIRS: [u8; 200] =
@@ -31,8 +31,9 @@ static OCTETS: [u8; 1024] = *b"\
 pub const MOST_DIGITS: usize = 20;
 
 /// Writes a number so that its last digit stands before the place `end`. Returns the place of its
-/// first digit.
-#[tactic(auto, using(crate::proofs::DigitLemmas::decimal_more, crate::proofs::DigitLemmas::length_more, std::proofs::lemmas::Grind::common_steps))]
+/// first digit. Inlined, because most callers' numbers have fewer bits and need fewer tests.
+#[inline(always)]
+#[tactic(auto, using(crate::proofs::DigitLemmas::decimal_eight, crate::proofs::DigitLemmas::length_eight, std::proofs::lemmas::Grind::common_steps))]
 pub fn write_digits(number: u64, text: &mut [u8], end: usize) -> usize
     requires { (length (decimal number) ≤ end) × (end ≤ length text.old) }
     ensures place { result + length (decimal number) ≡ end }
@@ -40,18 +41,47 @@ pub fn write_digits(number: u64, text: &mut [u8], end: usize) -> usize
 {
     let mut left = number;
     let mut from = end;
-    while left >= 100 {
-        from -= 2;
-        write_pair(left % 100, text, from);
-        left /= 100;
+    while left >= 100_000_000 {
+        from -= 8;
+        write_eight((left % 100_000_000) as u32, text, from);
+        left /= 100_000_000;
     }
-    write_first(left, text, from)
+    write_few(left as u32, text, from)
+}
+
+// Writes a number of at most eight digits. Inlined, as `write_digits` is.
+#[inline(always)]
+#[tactic(auto, using(crate::proofs::DigitLemmas::decimal_four, crate::proofs::DigitLemmas::length_four, std::proofs::lemmas::Grind::common_steps))]
+fn write_few(number: u32, text: &mut [u8], end: usize) -> usize
+    requires { (number < 100000000) × ((length (decimal number) ≤ end) × (end ≤ length text.old)) }
+    ensures place { result + length (decimal number) ≡ end }
+    ensures written { drop result text.new ≡ decimal number ++ drop end text.old }
+{
+    if number < 10_000 {
+        return write_short(number, text, end);
+    }
+    write_four(number % 10_000, text, end - 4);
+    write_short(number / 10_000, text, end - 4)
+}
+
+// Writes a number of at most four digits.
+#[tactic(auto, using(crate::proofs::DigitLemmas::decimal_more, crate::proofs::DigitLemmas::length_more, std::proofs::lemmas::Grind::common_steps))]
+fn write_short(number: u32, text: &mut [u8], end: usize) -> usize
+    requires { (number < 10000) × ((length (decimal number) ≤ end) × (end ≤ length text.old)) }
+    ensures place { result + length (decimal number) ≡ end }
+    ensures written { drop result text.new ≡ decimal number ++ drop end text.old }
+{
+    if number < 100 {
+        return write_first(number, text, end);
+    }
+    write_pair(number % 100, text, end - 2);
+    write_first(number / 100, text, end - 2)
 }
 
 // Writes the one or two digits of a number below 100.
 #[tactic(auto, using(crate::proofs::DigitLemmas::decimal_two, std::proofs::lemmas::Fmt::decimal_digit, std::proofs::lemmas::Grind::common_steps))]
-fn write_first(number: u64, text: &mut [u8], end: usize) -> usize
-    requires { (number < 100) × (length (decimal number) ≤ end) × (end ≤ length text.old) }
+fn write_first(number: u32, text: &mut [u8], end: usize) -> usize
+    requires { (number < 100) × ((length (decimal number) ≤ end) × (end ≤ length text.old)) }
     ensures place { result + length (decimal number) ≡ end }
     ensures written { drop result text.new ≡ decimal number ++ drop end text.old }
 {
@@ -63,14 +93,38 @@ fn write_first(number: u64, text: &mut [u8], end: usize) -> usize
     end - 2
 }
 
+/// Writes eight decimal digits at a place, with leading zeros. The number is halved first, so that
+/// no pair of digits waits for all the pairs behind it.
+#[tactic(auto, using(crate::proofs::DigitLemmas::eight_fours, std::proofs::lemmas::Grind::common_steps))]
+pub(crate) fn write_eight(number: u32, text: &mut [u8], at: usize)
+    requires { (number < 100000000) × (at + 8 ≤ length text.old) }
+    ensures { drop at text.new ≡ fixed_decimal 8 number ++ drop (at + 8) text.old }
+{
+    write_four(number % 10_000, text, at + 4);
+    write_four(number / 10_000, text, at);
+}
+
+// Writes four decimal digits at a place, with leading zeros.
+#[tactic(auto, using(crate::proofs::DigitLemmas::four_pairs, std::proofs::lemmas::Grind::common_steps))]
+fn write_four(number: u32, text: &mut [u8], at: usize)
+    requires { (number < 10000) × (at + 4 ≤ length text.old) }
+    ensures { drop at text.new ≡ fixed_decimal 4 number ++ drop (at + 4) text.old }
+{
+    write_pair(number % 100, text, at + 2);
+    write_pair(number / 100, text, at);
+}
+
+// Both octets of a pair are read before one is written, so that one move copies them.
 #[tactic(auto, using(crate::proofs::DigitLemmas::pair_at, std::proofs::lemmas::Grind::common_steps))]
-pub(crate) fn write_pair(pair: u64, text: &mut [u8], at: usize)
+fn write_pair(pair: u32, text: &mut [u8], at: usize)
     requires { (pair < 100) × (at + 2 ≤ length text.old) }
     ensures { drop at text.new ≡ (48 + pair / 10) ∷ (48 + pair % 10) ∷ drop (at + 2) text.old }
 {
     let place = pair as usize * 2;
-    text[at + 1] = PAIRS[place + 1];
-    text[at] = PAIRS[place];
+    let tens = PAIRS[place];
+    let ones = PAIRS[place + 1];
+    text[at + 1] = ones;
+    text[at] = tens;
 }
 
 /// Writes the decimal digits of an octet before the place `end`, by one look into a table. Returns
@@ -130,7 +184,8 @@ pub fn write_octet(octet: u8, text: &mut [u8], end: usize) -> usize
 }
 
 /// Writes an octet and, behind it, the decimal digits of a number before the place `end`. Returns
-/// the place of the octet.
+/// the place of the octet. Inlined, as `write_digits` is.
+#[inline(always)]
 pub fn write_behind(octet: u8, number: u64, text: &mut [u8], end: usize) -> usize
     requires { (length (decimal number) < end) × (end ≤ length text.old) }
     ensures place { result + 1 + length (decimal number) ≡ end }

@@ -4,7 +4,7 @@ ghost use Rattle.std.specs.Fmt.{decimal};
 ghost use Rattle.router_log.specs.Numbers.{address_text, dotted, fixed_decimal, fixed_hex, four_groups, groups, hex_16, hex_glyph, named};
 
 use crate::digits::{
-    MOST_DIGITS, write_digits, write_octet, write_octet_digits, write_octets, write_pair,
+    MOST_DIGITS, write_digits, write_eight, write_octet, write_octet_digits, write_octets,
 };
 use ip_headers::Addr;
 use octets::{NoMemory, Octets};
@@ -29,6 +29,8 @@ pub fn push_named(name: &[u8], number: u64, out: &mut Octets) -> Result<(), NoMe
 }
 
 /// Writes a name and a number before the place `end`. Returns the place of the name's first octet.
+/// Inlined, as `write_digits` is.
+#[inline(always)]
 #[tactic(auto, using(crate::proofs::DigitLemmas::length_any), unfolding(crate::specs::Numbers::named))]
 pub fn write_named(name: &[u8], number: u64, text: &mut [u8], end: usize) -> usize
     requires { (length name.now + MOST_DIGITS ≤ end) × (end ≤ length text.old) }
@@ -41,16 +43,13 @@ pub fn write_named(name: &[u8], number: u64, text: &mut [u8], end: usize) -> usi
 
 /// Writes nine decimal digits before the place `end`, with leading zeros. Returns the place of the first
 /// one.
-#[tactic(auto, using(crate::proofs::DigitLemmas::nine_pairs, std::proofs::lemmas::Grind::common_steps))]
+#[tactic(auto, using(crate::proofs::DigitLemmas::nine_digits, std::proofs::lemmas::Grind::common_steps))]
 pub(crate) fn write_nine(number: u32, text: &mut [u8], end: usize) -> usize
     requires { (number < 1000000000) × ((9 ≤ end) × (end ≤ length text.old)) }
     ensures place { result + 9 ≡ end }
     ensures written { drop result text.new ≡ fixed_decimal 9 number ++ drop end text.old }
 {
-    write_pair(u64::from(number % 100), text, end - 2);
-    write_pair(u64::from(number / 100 % 100), text, end - 4);
-    write_pair(u64::from(number / 10_000 % 100), text, end - 6);
-    write_pair(u64::from(number / 1_000_000 % 100), text, end - 8);
+    write_eight(number % 100_000_000, text, end - 8);
     write_octet(b'0' + (number / 100_000_000) as u8, text, end - 8)
 }
 
@@ -88,6 +87,17 @@ fn hex_digits(number: u64) -> [u8; 16]
     ]
 }
 
+// The hexadecimal digits of 0 to 255, two octets each, so that one look into it gives both.
+static HEX_PAIRS: [u8; 512] = *b"\
+    000102030405060708090a0b0c0d0e0f101112131415161718191a1b1c1d1e1f\
+    202122232425262728292a2b2c2d2e2f303132333435363738393a3b3c3d3e3f\
+    404142434445464748494a4b4c4d4e4f505152535455565758595a5b5c5d5e5f\
+    606162636465666768696a6b6c6d6e6f707172737475767778797a7b7c7d7e7f\
+    808182838485868788898a8b8c8d8e8f909192939495969798999a9b9c9d9e9f\
+    a0a1a2a3a4a5a6a7a8a9aaabacadaeafb0b1b2b3b4b5b6b7b8b9babbbcbdbebf\
+    c0c1c2c3c4c5c6c7c8c9cacbcccdcecfd0d1d2d3d4d5d6d7d8d9dadbdcdddedf\
+    e0e1e2e3e4e5e6e7e8e9eaebecedeeeff0f1f2f3f4f5f6f7f8f9fafbfcfdfeff";
+
 /// Appends two hexadecimal digits for each octet. Where memory is refused, `out` may have some of them.
 pub fn push_octets(octets: &[u8], out: &mut Octets) -> Result<(), NoMemory>
     ensures { OnOk result (out.new ≡ out.old ++ flat_map (fixed_hex 2) octets.now) }
@@ -122,14 +132,18 @@ pub fn write_hex_octets(octets: &[u8], text: &mut [u8], end: usize) -> usize
     from
 }
 
+#[tactic(auto, using(crate::proofs::HexLemmas::octet_at, std::proofs::lemmas::Grind::common_steps))]
 fn write_hex_octet(octet: u8, text: &mut [u8], end: usize) -> usize
     requires { (2 ≤ end) × (end ≤ length text.old) }
     ensures place { result + 2 ≡ end }
     ensures written { drop result text.new ≡ fixed_hex 2 octet ++ drop end text.old }
 {
-    let octet = u64::from(octet);
-    let from = write_octet(hex_digit(octet), text, end);
-    write_octet(hex_digit(octet / 16), text, from)
+    let place = octet as usize * 2;
+    let upper = HEX_PAIRS[place];
+    let lower = HEX_PAIRS[place + 1];
+    text[end - 1] = lower;
+    text[end - 2] = upper;
+    end - 2
 }
 
 /// The most octets of an address.
@@ -177,37 +191,42 @@ fn write_groups(number: u128, text: &mut [u8], end: usize) -> usize
     ensures place { result + 39 ≡ end }
     ensures written { drop result text.new ≡ groups number ++ drop end text.old }
 {
-    let lower = four_groups((number % 0x1_0000_0000_0000_0000) as u64);
-    let upper = four_groups((number / 0x1_0000_0000_0000_0000) as u64);
-    let from = write_octets(&lower, text, end);
+    let from = write_half((number % 0x1_0000_0000_0000_0000) as u64, text, end);
     let from = write_octet(b':', text, from);
-    write_octets(&upper, text, from)
+    write_half((number / 0x1_0000_0000_0000_0000) as u64, text, from)
 }
 
+// Writes four groups, with three colons between them.
 #[tactic(auto, unfolding(crate::specs::Numbers::four_groups))]
-fn four_groups(half: u64) -> [u8; 19]
-    ensures { result ≡ four_groups half }
+fn write_half(half: u64, text: &mut [u8], end: usize) -> usize
+    requires { (19 ≤ end) × (end ≤ length text.old) }
+    ensures place { result + 19 ≡ end }
+    ensures written { drop result text.new ≡ four_groups half ++ drop end text.old }
 {
-    let a = group_text((half / 0x1_0000_0000_0000) as u16);
-    let b = group_text((half / 0x1_0000_0000 % 0x1_0000) as u16);
-    let c = group_text((half / 0x1_0000 % 0x1_0000) as u16);
-    let d = group_text((half % 0x1_0000) as u16);
-    [
-        a[0], a[1], a[2], a[3], b':', b[0], b[1], b[2], b[3], b':', c[0], c[1], c[2], c[3], b':',
-        d[0], d[1], d[2], d[3],
-    ]
+    let from = write_colon_group((half % 0x1_0000) as u16, text, end);
+    let from = write_colon_group((half / 0x1_0000 % 0x1_0000) as u16, text, from);
+    let from = write_colon_group((half / 0x1_0000_0000 % 0x1_0000) as u16, text, from);
+    write_group((half / 0x1_0000_0000_0000) as u16, text, from)
 }
 
-fn group_text(group: u16) -> [u8; 4]
-    ensures { result ≡ fixed_hex 4 group }
+// Writes a group of four digits and, before it, a colon.
+fn write_colon_group(group: u16, text: &mut [u8], end: usize) -> usize
+    requires { (5 ≤ end) × (end ≤ length text.old) }
+    ensures place { result + 5 ≡ end }
+    ensures written { drop result text.new ≡ 58 ∷ (fixed_hex 4 group ++ drop end text.old) }
 {
-    let group = u64::from(group);
-    [
-        hex_digit(group / 4096),
-        hex_digit(group / 256),
-        hex_digit(group / 16),
-        hex_digit(group),
-    ]
+    let from = write_group(group, text, end);
+    write_octet(b':', text, from)
+}
+
+#[tactic(auto, using(crate::proofs::HexLemmas::two_octets, std::proofs::lemmas::Grind::common_steps))]
+fn write_group(group: u16, text: &mut [u8], end: usize) -> usize
+    requires { (4 ≤ end) × (end ≤ length text.old) }
+    ensures place { result + 4 ≡ end }
+    ensures written { drop result text.new ≡ fixed_hex 4 group ++ drop end text.old }
+{
+    let from = write_hex_octet((group % 256) as u8, text, end);
+    write_hex_octet((group / 256) as u8, text, from)
 }
 
 // The hexadecimal digits: to look one up takes half the steps of a test for letters.
