@@ -62,3 +62,42 @@ fn full_twice(rt: &impl Abort, state: &mut LocatorState) -> Result<(), NoMemory>
     assert_eq!(rt; state.probe_count(600 * SECOND), 0);
     Ok(())
 }
+
+#[test]
+fn each_probe_of_a_locator_leads_to_the_last_one(rt: HostRuntime) -> Result<(), NoMemory> {
+    on_locators(rt.alloc(), |state| leads_to_the_last(&rt, state))
+}
+
+fn leads_to_the_last(rt: &impl Abort, state: &mut LocatorState) -> Result<(), NoMemory> {
+    state.probed(0, FIRST, 42)?;
+    state.probed(0, OTHER, 43)?;
+    state.probed(70 * SECOND, FIRST, 44)?;
+    let rows = [
+        (600 * SECOND - 1, 0, Some(70 * SECOND)),
+        (600 * SECOND - 1, 1, Some(0)),
+        (600 * SECOND - 1, 2, Some(70 * SECOND)),
+        (600 * SECOND - 1, 3, None),
+        (600 * SECOND, 0, Some(70 * SECOND)),
+        (600 * SECOND, 1, None),
+        (670 * SECOND, 0, None),
+    ];
+    for (moment, place, last) in rows {
+        assert_eq!(rt; state.last_probe_at(moment, place), last);
+    }
+    Ok(())
+}
+
+#[test]
+fn a_probe_with_the_nonce_of_an_open_one_leaves_that_lost(rt: HostRuntime) -> Result<(), NoMemory> {
+    on_locators(rt.alloc(), |state| same_nonce_is_lost(&rt, state))
+}
+
+fn same_nonce_is_lost(rt: &impl Abort, state: &mut LocatorState) -> Result<(), NoMemory> {
+    state.probed(0, FIRST, 42)?;
+    state.probed(SECOND, OTHER, 42)?;
+    assert_eq!(rt; state.probe_open(SECOND, 42), Some(OTHER));
+    state.probe_answered(2 * SECOND, 42);
+    assert!(rt; state.up(4 * SECOND, &OTHER));
+    assert!(rt; !state.up(4 * SECOND, &FIRST));
+    Ok(())
+}
