@@ -21,6 +21,7 @@ pub mod PlaceLemmas
 pub mod PushLemmas
 pub mod ReadyLemmas
 pub mod RelinkLemmas
+pub mod SameLemmas
 pub mod SetLemmas
 pub mod UnlinkLemmas
 pub mod WalkLemmas

@@ -13,12 +13,12 @@ use Rattle.keyed_list.specs.declared.keyed.Marks.{Marks}
 
 -- ### two answers, one after the other
 
-is_eq-then : (a b : Ordering) → is_eq (ordering_then a b) ≡ (is_eq a && is_eq b)
+pub is_eq-then : (a b : Ordering) → is_eq (ordering_then a b) ≡ (is_eq a && is_eq b)
 is_eq-then Less b = refl
 is_eq-then Equal b = refl
 is_eq-then Greater b = refl
 
-is_eq-nat : (x y : ℕ) → is_eq (nat_cmp x y) ≡ (x == y)
+pub is_eq-nat : (x y : ℕ) → is_eq (nat_cmp x y) ≡ (x == y)
 is_eq-nat x y = grind (arith, nat_tests)
 
 is_gt-nat : (x y : ℕ) → is_gt (nat_cmp x y) ≡ nat_lt y x

@@ -1,8 +1,7 @@
 // Keys, and their order.
-ghost use Rattle.std.specs.Prelude.{◌≡◌, None, false, true, IfSome};
-ghost use Rattle.std.specs.Ordering.{is_eq, is_lt, nat_cmp, ordering_then};
-ghost use Rattle.mapping_records.specs.Orders.{addr_order};
-ghost use Rattle.keyed_list.specs.Keys.{age_order, eid_key, key_order, key_prefix_order, kind_rank, locator_key, mark_order, nonce_key, same_key, told_key};
+ghost use Rattle.std.specs.Prelude.{◌≡◌};
+ghost use Rattle.std.specs.Ordering.{is_lt};
+ghost use Rattle.keyed_list.specs.Keys.{eid_key, family_of, high_of, key_order, kind_rank, locator_key, low_of, nonce_key, rest_order, same_key, told_key};
 
 use ip_headers::Addr;
 use mapping_records::Eid;
@@ -33,16 +32,22 @@ impl Kind {
 }
 
 /// The key of an item: a nonce, a locator, an EID, or a locator and an EID. Parts that its kind
-/// doesn't have are 0.
+/// doesn't have are 0. Addresses are kept in halves, because most keys then differ in `low`, which
+/// is compared first, and a key takes few octets.
 #[derive(Clone, Copy, Debug, PartialEq, Eq, Drop)]
 pub struct Key {
+    // A nonce, or the low half of the locator, or of the EID's address where there is no locator.
+    low: u64,
     kind: Kind,
-    // A nonce, or the instance of an EID.
-    number: u64,
-    rloc: Addr,
-    // The address of an EID, and its length.
-    addr: Addr,
+    family: u8,
+    high: u64,
+    // The instance and the length of an EID.
+    iid: u32,
     len: u8,
+    // The address of an EID behind a locator.
+    other_family: u8,
+    other_high: u64,
+    other_low: u64,
 }
 
 impl Key {
@@ -51,11 +56,15 @@ impl Key {
         ensures { result ≡ nonce_key nonce }
     {
         Key {
+            low: nonce,
             kind: Kind::Nonce,
-            number: nonce,
-            rloc: Addr::V4(0),
-            addr: Addr::V4(0),
+            family: 0,
+            high: 0,
+            iid: 0,
             len: 0,
+            other_family: 0,
+            other_high: 0,
+            other_low: 0,
         }
     }
 
@@ -64,11 +73,15 @@ impl Key {
         ensures { result ≡ locator_key rloc }
     {
         Key {
+            low: low_of(&rloc),
             kind: Kind::Locator,
-            number: 0,
-            rloc,
-            addr: Addr::V4(0),
+            family: family_of(&rloc),
+            high: high_of(&rloc),
+            iid: 0,
             len: 0,
+            other_family: 0,
+            other_high: 0,
+            other_low: 0,
         }
     }
 
@@ -76,12 +89,17 @@ impl Key {
     pub fn eid(eid: &Eid) -> Key
         ensures { result ≡ eid_key eid.now }
     {
+        let addr = eid.prefix.addr;
         Key {
+            low: low_of(&addr),
             kind: Kind::Endpoint,
-            number: u64::from(eid.iid),
-            rloc: Addr::V4(0),
-            addr: eid.prefix.addr,
+            family: family_of(&addr),
+            high: high_of(&addr),
+            iid: eid.iid,
             len: eid.prefix.len,
+            other_family: 0,
+            other_high: 0,
+            other_low: 0,
         }
     }
 
@@ -89,86 +107,89 @@ impl Key {
     pub fn told(rloc: Addr, eid: &Eid) -> Key
         ensures { result ≡ told_key rloc eid.now }
     {
+        let addr = eid.prefix.addr;
         Key {
+            low: low_of(&rloc),
             kind: Kind::Told,
-            number: u64::from(eid.iid),
-            rloc,
-            addr: eid.prefix.addr,
+            family: family_of(&rloc),
+            high: high_of(&rloc),
+            iid: eid.iid,
             len: eid.prefix.len,
+            other_family: family_of(&addr),
+            other_high: high_of(&addr),
+            other_low: low_of(&addr),
         }
     }
 
-    /// The order of this key and another: by kind, then by number, locator, address and length.
+    /// The order of this key and another, part by part.
     pub(crate) fn compare(&self, other: &Key) -> Ordering
         ensures { result ≡ key_order self.now other.now }
     {
-        let (rank, other_rank) = (self.kind.rank(), other.kind.rank());
-        if rank != other_rank {
-            return rank.cmp(&other_rank);
-        }
-        if self.number != other.number {
-            return self.number.cmp(&other.number);
-        }
-        match first_is_below(&self.rloc, &other.rloc) {
-            Some(true) => Ordering::Less,
-            Some(false) => Ordering::Greater,
-            None => self.compare_prefix(other),
-        }
+        self.low.cmp(&other.low).then(self.compare_rest(other))
     }
 
-    fn compare_prefix(&self, other: &Key) -> Ordering
-        ensures { result ≡ key_prefix_order self.now other.now }
+    // The order of this key and another where `low` is the same.
+    fn compare_rest(&self, other: &Key) -> Ordering
+        ensures { result ≡ rest_order self.now other.now }
     {
-        let by_address = self.addr.cmp(&other.addr);
-        by_address.then_with(|| self.len.cmp(&other.len))
+        let by_kind = self.kind.rank().cmp(&other.kind.rank());
+        let by_address = self
+            .family
+            .cmp(&other.family)
+            .then(self.high.cmp(&other.high));
+        let by_prefix = self.iid.cmp(&other.iid).then(self.len.cmp(&other.len));
+        let by_other = self.other_family.cmp(&other.other_family).then(
+            self.other_high
+                .cmp(&other.other_high)
+                .then(self.other_low.cmp(&other.other_low)),
+        );
+        by_kind.then(by_address.then(by_prefix.then(by_other)))
     }
 
-    /// Whether this key is below another. Keys are found by halving, and mostly differ in one of the
-    /// first parts.
+    /// Whether this key is below another.
     pub(crate) fn is_below(&self, other: &Key) -> bool
         ensures { result ≡ is_lt (key_order self.now other.now) }
     {
-        let (rank, other_rank) = (self.kind.rank(), other.kind.rank());
-        if rank != other_rank {
-            return rank < other_rank;
+        if self.low != other.low {
+            return self.low < other.low;
         }
-        if self.number != other.number {
-            return self.number < other.number;
-        }
-        match first_is_below(&self.rloc, &other.rloc) {
-            Some(below) => below,
-            None => self.is_below_by_prefix(other),
-        }
-    }
-
-    fn is_below_by_prefix(&self, other: &Key) -> bool
-        ensures { result ≡ is_lt (key_prefix_order self.now other.now) }
-    {
-        match first_is_below(&self.addr, &other.addr) {
-            Some(below) => below,
-            None => self.len < other.len,
-        }
+        self.compare_rest(other).is_lt()
     }
 
     pub(crate) fn is_same(&self, other: &Key) -> bool
         ensures { result ≡ same_key self.now other.now }
     {
-        if self.kind.rank() != other.kind.rank() || self.number != other.number {
-            return false;
-        }
-        match first_is_below(&self.rloc, &other.rloc) {
-            Some(_) => false,
-            None => self.has_same_prefix(other),
-        }
+        self.low == other.low && self.compare_rest(other).is_eq()
     }
+}
 
-    fn has_same_prefix(&self, other: &Key) -> bool
-        ensures { result ≡ is_eq (key_prefix_order self.now other.now) }
-    {
-        match first_is_below(&self.addr, &other.addr) {
-            Some(_) => false,
-            None => self.len == other.len,
-        }
+// The low half of an address, all of an IPv4 address.
+fn low_of(addr: &Addr) -> u64
+    ensures { result ≡ low_of addr.now }
+{
+    match addr {
+        Addr::V4(bits) => u64::from(*bits),
+        Addr::V6(bits) => (*bits % 0x1_0000_0000_0000_0000) as u64,
+    }
+}
+
+// The high half of an address, 0 of an IPv4 address.
+fn high_of(addr: &Addr) -> u64
+    ensures { result ≡ high_of addr.now }
+{
+    match addr {
+        Addr::V4(_) => 0,
+        Addr::V6(bits) => (*bits / 0x1_0000_0000_0000_0000) as u64,
+    }
+}
+
+// A number for the family of an address.
+fn family_of(addr: &Addr) -> u8
+    ensures { result ≡ family_of addr.now }
+{
+    match addr {
+        Addr::V4(_) => 0,
+        Addr::V6(_) => 1,
     }
 }
 
@@ -177,31 +198,6 @@ impl Key {
 pub(crate) struct Mark {
     pub key: Key,
     pub number: u64,
-}
-
-// Whether the first of two addresses is below the second, or None where they are the same. Each
-// IPv4 address is below each IPv6 address.
-fn first_is_below(a: &Addr, b: &Addr) -> Option<bool>
-    ensures differ { IfSome result (λ below. is_eq (addr_order a.now b.now) ≡ false) }
-    ensures below { IfSome result (λ below. below ≡ is_lt (addr_order a.now b.now)) }
-    ensures same { result ≡ None → is_eq (addr_order a.now b.now) ≡ true }
-{
-    match (a, b) {
-        (Addr::V4(a), Addr::V4(b)) => {
-            if a == b {
-                return None;
-            }
-            Some(a < b)
-        }
-        (Addr::V4(_), Addr::V6(_)) => Some(true),
-        (Addr::V6(_), Addr::V4(_)) => Some(false),
-        (Addr::V6(a), Addr::V6(b)) => {
-            if a == b {
-                return None;
-            }
-            Some(a < b)
-        }
-    }
 }
 
 impl Ordered for Mark {

@@ -7,7 +7,7 @@ use Rattle.std.specs.Ordering.{ordering_then}
 use Rattle.std.proofs.lemmas.Bool.Decides.{nat_tests}
 use Rattle.ip_headers.specs.declared.addr.Addr.{Addr}
 use Rattle.ip_headers.specs.declared.addr.Addr.TheVariants.{V4, V6}
-use Rattle.mapping_records.specs.Eids.{same_address, same_eid}
+use Rattle.mapping_records.specs.Eids.{same_address}
 use Rattle.mapping_records.specs.Orders.{addr_order}
 use Rattle.mapping_records.specs.declared.eid.Eid.{Eid}
 use Rattle.router_log.specs.declared.kept.EchoStart.{EchoStart}
@@ -15,8 +15,9 @@ use Rattle.router_log.specs.declared.kept.EchoWish.{EchoWish}
 use Rattle.router_log.specs.declared.kept.Probe.{Probe}
 use Rattle.router_log.specs.declared.kept.Solicitation.{Solicitation}
 use Rattle.keyed_list.specs.Keyed.{is_key}
-use Rattle.keyed_list.specs.Keys.{locator_key, nonce_key, same_key, told_key}
+use Rattle.keyed_list.specs.Keys.{locator_key, nonce_key, told_key}
 use Rattle.keyed_list.specs.Known.{probe_marks, solicit_marks, start_marks, wish_marks}
+use Rattle.keyed_list.proofs.SameLemmas.{locator-nonce, nonce-locator, same-locator, same-nonce, same-told}
 use Rattle.locator_state.specs.Lists.{last_where, later, only_if}
 use Rattle.locator_state.specs.Probes.{last_probe, probe_counts}
 use Rattle.locator_state.specs.Solicits.{is_of}
@@ -45,36 +46,13 @@ or-false : (a : Bool) → (a || false) ≡ a
 or-false true = refl
 or-false false = refl
 
-turned : (a b c d : Bool) → ((a && b) && (c && d)) ≡ (b && (a && (c && d)))
-turned true true c d = refl
-turned true false c d = refl
-turned false true c d = refl
-turned false false c d = refl
-
-then-Equal : (a : Ordering) → is_eq (ordering_then a Equal) ≡ is_eq a
-then-Equal a = is_eq-then a Equal ∙ and-true (is_eq a)
-
-same-nonce : (a b : ℕ) → same_key (nonce_key a) (nonce_key b) ≡ (a == b)
-same-nonce a b = then-Equal (ordering_then (nat_cmp a b) Equal) ∙ then-Equal (nat_cmp a b) ∙ is_eq-nat a b
-
-same-locator : (a b : Addr) → same_key (locator_key a) (locator_key b) ≡ same_address a b
-same-locator a b = then-Equal (addr_order a b) ∙ is_eq-addr a b
-
-same-told : (a : Addr) (d : Eid) (b : Addr) (e : Eid) → same_key (told_key a d) (told_key b e) ≡ (same_address a b && same_eid d e)
-same-told a d b e =
-    is_eq-then (ordering_then (nat_cmp d.iid e.iid) (addr_order a b)) (ordering_then (addr_order d.prefix.addr e.prefix.addr) (nat_cmp d.prefix.len e.prefix.len))
-    ∙ ap₂ (λ x y. x && y)
-    (is_eq-then (nat_cmp d.iid e.iid) (addr_order a b) ∙ ap₂ (λ x y. x && y) (is_eq-nat d.iid e.iid) (is_eq-addr a b))
-    (is_eq-then (addr_order d.prefix.addr e.prefix.addr) (nat_cmp d.prefix.len e.prefix.len) ∙ ap₂ (λ x y. x && y) (is_eq-addr d.prefix.addr e.prefix.addr) (is_eq-nat d.prefix.len e.prefix.len))
-    ∙ turned (d.iid == e.iid) (same_address a b) (same_address d.prefix.addr e.prefix.addr) (d.prefix.len == e.prefix.len)
-
 -- ### items of a key
 
 pub probe-nonce : (nonce : ℕ) (probe : Probe) → is_key probe_marks (nonce_key nonce) probe ≡ (probe.nonce == nonce)
-probe-nonce nonce probe = same-nonce probe.nonce nonce
+probe-nonce nonce probe = ap₂ (λ x y. x || y) (locator-nonce probe.rloc nonce) (same-nonce probe.nonce nonce)
 
 pub probe-locator : (rloc : Addr) (probe : Probe) → is_key probe_marks (locator_key rloc) probe ≡ same_address probe.rloc rloc
-probe-locator rloc probe = or-false _ ∙ same-locator probe.rloc rloc
+probe-locator rloc probe = ap₂ (λ x y. x || y) (same-locator probe.rloc rloc) (nonce-locator probe.nonce rloc) ∙ or-false _
 
 pub start-locator : (rloc : Addr) (start : EchoStart) → is_key start_marks (locator_key rloc) start ≡ same_address start.rloc rloc
 start-locator rloc start = or-false _ ∙ same-locator start.rloc rloc

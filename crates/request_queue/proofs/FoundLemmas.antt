@@ -9,6 +9,7 @@ use Rattle.ip_headers.specs.declared.addr.Addr.{Addr}
 use Rattle.ip_headers.specs.declared.addr.Addr.TheVariants.{V4, V6}
 use Rattle.keyed_list.specs.Keyed.{changed_with, is_key, item_at}
 use Rattle.keyed_list.specs.Keys.{eid_key, nonce_key}
+use Rattle.keyed_list.proofs.SameLemmas.{eid-nonce, nonce-eid, same-eid, same-nonce}
 use Rattle.keyed_list.specs.Lists.{last_where, later}
 use Rattle.request_queue.proofs.PassingLemmas.{last-passes, none-passes, NonePasses}
 use Rattle.mapping_records.specs.Eids.{same_address, same_eid}
@@ -35,25 +36,15 @@ is_eq-addr (V4 m) (V6 n) = refl
 is_eq-addr (V6 m) (V4 n) = refl
 is_eq-addr (V6 m) (V6 n) = is_eq-nat m n
 
-nonce-ties : (o : Ordering) → (is_eq (ordering_then (ordering_then (ordering_then Equal o) Equal) (ordering_then Equal Equal)) || false) ≡ is_eq o
-nonce-ties Less = refl
-nonce-ties Equal = refl
-nonce-ties Greater = refl
-
-eid-ties : (iid addr len : Ordering) → is_eq (ordering_then (ordering_then (ordering_then Equal iid) Equal) (ordering_then addr len)) ≡ (is_eq iid && (is_eq addr && is_eq len))
-eid-ties Less addr len = refl
-eid-ties Equal addr len = is_eq-then addr len
-eid-ties Greater addr len = refl
+or-false : (a : Bool) → (a || false) ≡ a
+or-false true = refl
+or-false false = refl
 
 pub is_key-nonce : (nonce : ℕ) (request : Request) → is_key request_marks (nonce_key nonce) request ≡ (request.nonce == nonce)
-is_key-nonce nonce request = nonce-ties (nat_cmp request.nonce nonce) ∙ is_eq-nat request.nonce nonce
+is_key-nonce nonce request = ap₂ (λ x y. x || y) (same-nonce request.nonce nonce) (eid-nonce request.eid nonce) ∙ or-false _
 
 pub is_key-eid : (eid : Eid) (request : Request) → is_key request_marks (eid_key eid) request ≡ same_eid request.eid eid
-is_key-eid eid request =
-    let a = request.eid in
-    eid-ties (nat_cmp a.iid eid.iid) (addr_order a.prefix.addr eid.prefix.addr) (nat_cmp a.prefix.len eid.prefix.len)
-    ∙ ap₂ (λ p q. p && q) (is_eq-nat a.iid eid.iid)
-    (ap₂ (λ p q. p && q) (is_eq-addr a.prefix.addr eid.prefix.addr) (is_eq-nat a.prefix.len eid.prefix.len))
+is_key-eid eid request = ap₂ (λ x y. x || y) (nonce-eid request.nonce eid) (same-eid request.eid eid)
 
 -- ### the last that passes
 
