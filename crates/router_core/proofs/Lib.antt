@@ -31,6 +31,7 @@ pub mod SecondLemmas
 pub mod SiteLemmas
 pub mod StandLemmas
 pub mod StaticLemmas
+pub mod StepLemmas
 pub mod SuitLemmas
 pub mod TellingLemmas
 pub mod TickingLemmas

@@ -1,12 +1,9 @@
 -- A second at which own locators change: the changes that are due, the locators that get SMRs, and room for all that is
 -- sent.
-use Rattle.std.specs.Prelude.{◌≡◌, ◌<◌, ◌≤◌, ◌+◌, ◌*◌, ℕ, nat_le, Bool, List, Vec, [], vec_len, vec_capacity}
+use Rattle.std.specs.Prelude.{◌≡◌, ◌<◌, ◌≤◌, ◌+◌, ◌*◌, ℕ, nat_le, Bool, List, [], vec_capacity}
 use Rattle.std.specs.List.{list_any}
-use Rattle.std.specs.Global.{Global}
 use Rattle.lisp_settings.specs.declared.settings.Change.{Change}
 use Rattle.router_log.specs.Moments.{seconds}
-use Rattle.router_log.specs.declared.emit.Emit.{Emit}
-use Rattle.router_log.specs.declared.entry.Entry.{Entry}
 use Rattle.router_model.specs.Limits.{most_databases, most_targets, most_told}
 use Rattle.router_core.specs.Table.{TableSeen}
 use Rattle.router_core.specs.declared.ticking.Found.{Found}
@@ -30,10 +27,3 @@ pub record IsEmptyFor (found : Found) : Type 0 where
   pub targets : found.targets.items ≡ []
   pub told_room : most_told < vec_capacity found.told
   pub target_room : most_targets < vec_capacity found.targets
-
--- the lists of entries and of emits are empty
-pub record HaveNone (written : Vec Entry Global) (sent : Vec Emit Global) : Type 0 where
-  pub entries : written.items ≡ []
-  pub emits : sent.items ≡ []
-  pub no_entries : vec_len written ≡ 0
-  pub no_emits : vec_len sent ≡ 0

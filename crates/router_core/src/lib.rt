@@ -38,6 +38,7 @@ mod retrying;
 mod room;
 mod site;
 mod status;
+mod step;
 mod stepping;
 mod table;
 mod taking;

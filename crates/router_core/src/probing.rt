@@ -4,112 +4,78 @@ ghost use Rattle.router_model.specs.Changes.{each};
 ghost use Rattle.router_model.specs.Limits.{most_targets};
 ghost use Rattle.router_model.specs.Parts.{table};
 ghost use Rattle.router_model.specs.Tick.{all_probed, probed};
-ghost use Rattle.router_core.specs.Sendable.{IsSendable};
-ghost use Rattle.router_core.specs.Steps.{AreAdded, HasEntered, HaveRoom, MayEnter};
-ghost use Rattle.router_core.specs.Table.{change_of};
+ghost use Rattle.router_core.specs.Steps.{HasTaken, MayTake, so_far};
 ghost use Rattle.router_core.specs.Ticking.{HasSender};
 
 use crate::Table;
-use crate::site::Site;
+use crate::step::Step;
 use locator_state::Target;
 use router_log::{Emit, Entry};
 
 impl Table {
-    /// Probes the locators whose turn it is, if the setting `probe` is on.
-    pub(crate) fn probe_next(
-        &mut self,
-        site: &Site<'_>,
-        m: u64,
-        first: &mut Vec<Target>,
-        entries: &mut Vec<Entry>,
-        emits: &mut Vec<Emit>,
-    )
-        requires own { site.now.locators ≡ self.old.parts.own }
-        requires may { MayEnter most_targets m self.old.parts }
-        requires none { first.old.items ≡ [] }
-        requires targets { most_targets < vec_capacity first.old }
+    /// Probes the locators whose turn it is, if the setting `probe` is on. There is room for them in
+    /// `targets`, which is empty.
+    pub(crate) fn probe_next(&mut self, step: &mut Step<'_>, targets: &mut Vec<Target>)
+        requires own { step.old.site.now.locators ≡ self.old.parts.own }
+        requires may { MayTake most_targets self.old.parts step.old }
+        requires none { targets.old.items ≡ [] }
+        requires targets { most_targets < vec_capacity targets.old }
         requires room { most_targets ≤ self.old.probe_room }
-        requires places { HaveRoom most_targets entries.old emits.old }
-        requires sendable { All (IsSendable site.now) emits.old.items }
-        ensures change { change_of self.new.parts entries.new.items emits.new.items
-            ≡ all_probed table site.now m
-            (change_of self.old.parts entries.old.items emits.old.items) }
-        ensures sendable { All (IsSendable site.now) emits.new.items }
-        ensures entered { HasEntered most_targets m self.old.parts self.new.parts }
-        ensures emits { AreAdded most_targets emits.old emits.new }
+        ensures change { so_far self.new.parts step.new
+            ≡ all_probed table step.old.site.now step.old.m (so_far self.old.parts step.old) }
+        ensures taken { HasTaken most_targets self.old.parts step.old self.new.parts step.new }
     {
-        if !site.probes() {
+        if !step.site.probes() {
             return;
         }
-        self.find_turns(site, m, first);
-        self.probe_each(site, m, first, entries, emits);
+        self.find_turns(step.site, step.m, targets);
+        self.probe_each(step, targets);
     }
 
     // Probes each of these locators, as long as there is room for one more probe.
-    fn probe_each(
-        &mut self,
-        site: &Site<'_>,
-        m: u64,
-        targets: &[Target],
-        entries: &mut Vec<Entry>,
-        emits: &mut Vec<Emit>,
-    )
-        requires may { MayEnter (length targets.now) m self.old.parts }
-        requires senders { All (HasSender site.now) targets.now }
+    fn probe_each(&mut self, step: &mut Step<'_>, targets: &[Target])
+        requires may { MayTake (length targets.now) self.old.parts step.old }
+        requires senders { All (HasSender step.old.site.now) targets.now }
         requires room { length targets.now ≤ self.old.probe_room }
-        requires places { HaveRoom (length targets.now) entries.old emits.old }
-        requires sendable { All (IsSendable site.now) emits.old.items }
-        ensures change { change_of self.new.parts entries.new.items emits.new.items
-            ≡ each (probed table site.now m) targets.now
-            (change_of self.old.parts entries.old.items emits.old.items) }
-        ensures sendable { All (IsSendable site.now) emits.new.items }
-        ensures entered { HasEntered (length targets.now) m self.old.parts self.new.parts }
-        ensures emits { AreAdded (length targets.now) emits.old emits.new }
+        ensures change { so_far self.new.parts step.new
+            ≡ each (probed table step.old.site.now step.old.m) targets.now
+            (so_far self.old.parts step.old) }
+        ensures taken { HasTaken (length targets.now) self.old.parts step.old self.new.parts step.new }
     {
         let [target, others @ ..] = targets else {
             return;
         };
-        self.probe_one(site, m, target, entries, emits);
-        self.probe_each(site, m, others, entries, emits);
+        self.probe_one(step, target);
+        self.probe_each(step, others);
     }
 
     // Probes a locator, if there is room for one more probe.
-    fn probe_one(
-        &mut self,
-        site: &Site<'_>,
-        m: u64,
-        target: &Target,
-        entries: &mut Vec<Entry>,
-        emits: &mut Vec<Emit>,
-    )
-        requires may { MayEnter 1 m self.old.parts }
-        requires sender { HasSender site.now target.now }
+    fn probe_one(&mut self, step: &mut Step<'_>, target: &Target)
+        requires may { MayTake 1 self.old.parts step.old }
+        requires sender { HasSender step.old.site.now target.now }
         requires room { 0 < self.old.probe_room }
-        requires places { HaveRoom 1 entries.old emits.old }
-        requires sendable { All (IsSendable site.now) emits.old.items }
-        ensures change { change_of self.new.parts entries.new.items emits.new.items
-            ≡ probed table site.now m target.now
-            (change_of self.old.parts entries.old.items emits.old.items) }
-        ensures sendable { All (IsSendable site.now) emits.new.items }
-        ensures entered { HasEntered 1 m self.old.parts self.new.parts }
+        ensures change { so_far self.new.parts step.new
+            ≡ probed table step.old.site.now step.old.m target.now (so_far self.old.parts step.old) }
+        ensures taken { HasTaken 1 self.old.parts step.old self.new.parts step.new }
         ensures probe_room { self.old.probe_room ≤ self.new.probe_room + 1 }
-        ensures entries { AreAdded 1 entries.old entries.new }
-        ensures emits { AreAdded 1 emits.old emits.new }
     {
+        let m = step.m;
         if !self.locators.may_probe(m) {
             return;
         }
-        let nonce = site.nonce_at(self.drawn);
+        let nonce = step.site.nonce_at(self.drawn);
         self.probe(m, target.rloc, nonce);
-        entries.push_reserved(Entry::Probed {
-            moment: m,
-            rloc: target.rloc,
-            nonce,
-        });
-        emits.push_reserved(Emit::Probe {
-            to: target.rloc,
-            eid: target.eid,
-            nonce,
-        });
+        step.push(
+            Entry::Probed {
+                moment: m,
+                rloc: target.rloc,
+                nonce,
+            },
+            Emit::Probe {
+                to: target.rloc,
+                eid: target.eid,
+                nonce,
+            },
+        );
     }
 }

@@ -7,17 +7,17 @@ ghost use Rattle.router_model.specs.Limits.{most_heard};
 ghost use Rattle.router_model.specs.Mappings.{force};
 ghost use Rattle.router_model.specs.Parts.{table, view_in};
 ghost use Rattle.router_core.specs.Renewing.{range_of, source_range};
-ghost use Rattle.router_core.specs.Sendable.{IsSendable};
-ghost use Rattle.router_core.specs.Steps.{AreAdded, AreSent, HasEntered, HaveRoom, IsStep, MayEnter, MayStep};
-ghost use Rattle.router_core.specs.Table.{change_of, heard_seen};
+ghost use Rattle.router_core.specs.Steps.{AreSent, HasTaken, IsStep, MayStep, MayTake, so_far};
+ghost use Rattle.router_core.specs.Table.{heard_seen};
 
 use crate::hosts::host_eid;
 use crate::site::Site;
-use crate::{Heard, Table};
+use crate::step::Step;
+use crate::{Changed, Heard, Table};
 use ip_headers::Addr;
 use map_messages::MapRequest;
 use mapping_records::Eid;
-use octets::{Items, NoMemory};
+use octets::NoMemory;
 use router_log::{Done, Emit, Entry, Verdict};
 
 impl Table {
@@ -38,117 +38,84 @@ impl Table {
         ensures step { IsStep most_heard m self.old.parts self.new.parts result }
     {
         let eids = request.eids.as_slice();
-        let mut entries = Vec::new(self.alloc);
-        entries.reserve(1 + eids.len())?;
-        let mut emits = Vec::new(self.alloc);
-        emits.reserve(1 + eids.len())?;
-        self.reserve_requests(1 + eids.len() as u32)?;
-        self.renew_source(site, m, request.source, &mut entries, &mut emits);
-        self.renew_each(site, m, eids, &mut entries, &mut emits);
+        let most = 1 + eids.len();
+        let mut step = Step::begin(self.alloc, site, m, most)?;
+        self.reserve_requests(most as u32)?;
+        self.renew_source(&mut step, request.source);
+        self.renew_each(&mut step, eids);
+        let asked = step.entries.len() as u32;
+        let Changed { entries, emits } = step.changed();
         Ok(Heard {
-            verdict: Verdict::Control(Done::Solicited(entries.len() as u32)),
-            entries: Items::from_vec(entries),
-            emits: Items::from_vec(emits),
+            verdict: Verdict::Control(Done::Solicited(asked)),
+            entries,
+            emits,
         })
     }
 
     // Requests anew the mapping in force for a Source EID, if there is one.
-    fn renew_source(
-        &mut self,
-        site: &Site<'_>,
-        m: u64,
-        source: Option<(u32, Addr)>,
-        entries: &mut Vec<Entry>,
-        emits: &mut Vec<Emit>,
-    )
-        requires may { MayEnter 1 m self.old.parts }
+    fn renew_source(&mut self, step: &mut Step<'_>, source: Option<(u32, Addr)>)
+        requires may { MayTake 1 self.old.parts step.old }
         requires instance { IfSome source (λ source. source.0 < 2 ^ 24) }
         requires request_room { 0 < self.old.request_room }
-        requires places { HaveRoom 1 entries.old emits.old }
-        requires sendable { All (IsSendable site.now) emits.old.items }
-        ensures change { change_of self.new.parts entries.new.items emits.new.items
-            ≡ each (renewed table site.now m) (map source_range (option_to_list source))
-            (change_of self.old.parts entries.old.items emits.old.items) }
-        ensures sendable { All (IsSendable site.now) emits.new.items }
-        ensures entered { HasEntered 1 m self.old.parts self.new.parts }
+        ensures change { so_far self.new.parts step.new
+            ≡ each (renewed table step.old.site.now step.old.m)
+            (map source_range (option_to_list source)) (so_far self.old.parts step.old) }
+        ensures taken { HasTaken 1 self.old.parts step.old self.new.parts step.new }
         ensures request_room { self.old.request_room ≤ self.new.request_room + 1 }
-        ensures entries { AreAdded 1 entries.old entries.new }
-        ensures emits { AreAdded 1 emits.old emits.new }
     {
         let Some((iid, addr)) = source else {
             return;
         };
-        self.renew_one(site, m, &host_eid(iid, addr), entries, emits);
+        self.renew_one(step, &host_eid(iid, addr));
     }
 
     // Requests anew the mapping in force for each of these EIDs, where it may be.
-    fn renew_each(
-        &mut self,
-        site: &Site<'_>,
-        m: u64,
-        eids: &[Eid],
-        entries: &mut Vec<Entry>,
-        emits: &mut Vec<Emit>,
-    )
-        requires may { MayEnter (length eids.now) m self.old.parts }
+    fn renew_each(&mut self, step: &mut Step<'_>, eids: &[Eid])
+        requires may { MayTake (length eids.now) self.old.parts step.old }
         requires request_room { length eids.now ≤ self.old.request_room }
-        requires places { HaveRoom (length eids.now) entries.old emits.old }
-        requires sendable { All (IsSendable site.now) emits.old.items }
-        ensures change { change_of self.new.parts entries.new.items emits.new.items
-            ≡ each (renewed table site.now m) (map range_of eids.now)
-            (change_of self.old.parts entries.old.items emits.old.items) }
-        ensures sendable { All (IsSendable site.now) emits.new.items }
-        ensures entered { HasEntered (length eids.now) m self.old.parts self.new.parts }
-        ensures entries { AreAdded (length eids.now) entries.old entries.new }
-        ensures emits { AreAdded (length eids.now) emits.old emits.new }
+        ensures change { so_far self.new.parts step.new
+            ≡ each (renewed table step.old.site.now step.old.m) (map range_of eids.now)
+            (so_far self.old.parts step.old) }
+        ensures taken { HasTaken (length eids.now) self.old.parts step.old self.new.parts step.new }
     {
         let [eid, others @ ..] = eids else {
             return;
         };
-        self.renew_one(site, m, eid, entries, emits);
-        self.renew_each(site, m, others, entries, emits);
+        self.renew_one(step, eid);
+        self.renew_each(step, others);
     }
 
     // Requests anew the mapping in force for an EID, if it was learned and may be requested.
-    fn renew_one(
-        &mut self,
-        site: &Site<'_>,
-        m: u64,
-        eid: &Eid,
-        entries: &mut Vec<Entry>,
-        emits: &mut Vec<Emit>,
-    )
-        requires may { MayEnter 1 m self.old.parts }
+    fn renew_one(&mut self, step: &mut Step<'_>, eid: &Eid)
+        requires may { MayTake 1 self.old.parts step.old }
         requires request_room { 0 < self.old.request_room }
-        requires places { HaveRoom 1 entries.old emits.old }
-        requires sendable { All (IsSendable site.now) emits.old.items }
-        ensures change { change_of self.new.parts entries.new.items emits.new.items
-            ≡ renewed table site.now m (range_of eid.now)
-            (change_of self.old.parts entries.old.items emits.old.items) }
-        ensures sendable { All (IsSendable site.now) emits.new.items }
-        ensures entered { HasEntered 1 m self.old.parts self.new.parts }
+        ensures change { so_far self.new.parts step.new
+            ≡ renewed table step.old.site.now step.old.m (range_of eid.now)
+            (so_far self.old.parts step.old) }
+        ensures taken { HasTaken 1 self.old.parts step.old self.new.parts step.new }
         ensures request_room { self.old.request_room ≤ self.new.request_room + 1 }
-        ensures entries { AreAdded 1 entries.old entries.new }
-        ensures emits { AreAdded 1 emits.old emits.new }
     {
-        let Some(eid) = self.renewable(site, m, eid) else {
+        let m = step.m;
+        let Some(eid) = self.renewable(step.site, m, eid) else {
             return;
         };
-        let nonce = site.nonce_at(self.drawn);
+        let nonce = step.site.nonce_at(self.drawn);
         self.ask(m, eid, None, true, nonce);
-        entries.push_reserved(Entry::Asked {
-            moment: m,
-            eid,
-            source: None,
-            invoked: true,
-            nonce,
-        });
-        emits.push_reserved(Emit::Request {
-            eid,
-            source: None,
-            invoked: true,
-            nonce,
-        });
+        step.push(
+            Entry::Asked {
+                moment: m,
+                eid,
+                source: None,
+                invoked: true,
+                nonce,
+            },
+            Emit::Request {
+                eid,
+                source: None,
+                invoked: true,
+                nonce,
+            },
+        );
     }
 
     // The EID of the mapping in force for an EID, if it was learned and may be requested.

@@ -1,6 +1,5 @@
 // Requests that are due at a second, sent again (RFC 9301, section 5.2).
 ghost use Rattle.std.specs.Prelude.{◌≡◌, ◌<◌, ◌≤◌, length, All, IfOk, vec_len};
-ghost use Rattle.lisp_settings.specs.declared.settings.Settings.{Settings as SettingsValue};
 ghost use Rattle.request_queue.specs.Queue.{all_due, waiting};
 ghost use Rattle.router_log.specs.declared.entry.Entry.TheVariants.{Retried};
 ghost use Rattle.router_model.specs.Changes.{each};
@@ -8,13 +7,11 @@ ghost use Rattle.router_model.specs.Limits.{most_open};
 ghost use Rattle.router_model.specs.Parts.{table, with_entry};
 ghost use Rattle.router_model.specs.Tick.{retried, retried_where};
 ghost use Rattle.router_model.specs.Site.{reaches_resolver};
-ghost use Rattle.router_core.specs.Sendable.{IsSendable};
-ghost use Rattle.router_core.specs.Steps.{AreAdded, HasEntered, HaveRoom, MayEnter};
-ghost use Rattle.router_core.specs.Table.{change_of};
+ghost use Rattle.router_core.specs.Steps.{HasTaken, MayTake, so_far};
 ghost use Rattle.router_core.specs.Ticking.{AreOwed, IsOwed};
 
 use crate::Table;
-use crate::site::Site;
+use crate::step::Step;
 use octets::NoMemory;
 use request_queue::Request;
 use router_log::{Emit, Entry};
@@ -38,94 +35,60 @@ impl Table {
     }
 
     /// Sends each of these requests again, where the resolver is reached.
-    pub(crate) fn retry_due(
-        &mut self,
-        site: &Site<'_>,
-        m: u64,
-        requests: &[Request],
-        entries: &mut Vec<Entry>,
-        emits: &mut Vec<Emit>,
-    )
-        requires may { MayEnter (length requests.now) m self.old.parts }
-        requires due { requests.now ≡ all_due m self.old.parts.requests }
-        requires owed { AreOwed (waiting m self.old.parts.requests) requests.now }
-        requires places { HaveRoom (length requests.now) entries.old emits.old }
-        requires sendable { All (IsSendable site.now) emits.old.items }
-        ensures change { change_of self.new.parts entries.new.items emits.new.items
-            ≡ retried_where table site.now m (reaches_resolver site.now)
-            (change_of self.old.parts entries.old.items emits.old.items) }
-        ensures sendable { All (IsSendable site.now) emits.new.items }
-        ensures entered { HasEntered (length requests.now) m self.old.parts self.new.parts }
+    pub(crate) fn retry_due(&mut self, step: &mut Step<'_>, requests: &[Request])
+        requires may { MayTake (length requests.now) self.old.parts step.old }
+        requires due { requests.now ≡ all_due step.old.m self.old.parts.requests }
+        requires owed { AreOwed (waiting step.old.m self.old.parts.requests) requests.now }
+        ensures change { so_far self.new.parts step.new
+            ≡ retried_where table step.old.site.now step.old.m (reaches_resolver step.old.site.now)
+            (so_far self.old.parts step.old) }
+        ensures taken { HasTaken (length requests.now) self.old.parts step.old self.new.parts step.new }
         ensures probe_room { self.old.probe_room ≤ self.new.probe_room }
-        ensures entries { AreAdded (length requests.now) entries.old entries.new }
-        ensures emits { AreAdded (length requests.now) emits.old emits.new }
     {
-        if !site.reaches_resolver() {
+        if !step.site.reaches_resolver() {
             return;
         }
-        self.retry_each(m, requests, entries, emits);
+        self.retry_each(step, requests);
     }
 
     // Sends each of these requests again.
-    fn retry_each(
-        &mut self,
-        m: u64,
-        requests: &[Request],
-        entries: &mut Vec<Entry>,
-        emits: &mut Vec<Emit>,
-    )
-        requires may { MayEnter (length requests.now) m self.old.parts }
-        requires owed { AreOwed (waiting m self.old.parts.requests) requests.now }
-        requires places { HaveRoom (length requests.now) entries.old emits.old }
-        ensures change { (settings : SettingsValue)
-            → change_of self.new.parts entries.new.items emits.new.items
-            ≡ each (retried table settings m) requests.now
-            (change_of self.old.parts entries.old.items emits.old.items) }
-        ensures sendable { (settings : SettingsValue) → All (IsSendable settings) emits.old.items
-            → All (IsSendable settings) emits.new.items }
-        ensures entered { HasEntered (length requests.now) m self.old.parts self.new.parts }
+    fn retry_each(&mut self, step: &mut Step<'_>, requests: &[Request])
+        requires may { MayTake (length requests.now) self.old.parts step.old }
+        requires owed { AreOwed (waiting step.old.m self.old.parts.requests) requests.now }
+        ensures change { so_far self.new.parts step.new
+            ≡ each (retried table step.old.site.now step.old.m) requests.now
+            (so_far self.old.parts step.old) }
+        ensures taken { HasTaken (length requests.now) self.old.parts step.old self.new.parts step.new }
         ensures probe_room { self.old.probe_room ≤ self.new.probe_room }
-        ensures entries { AreAdded (length requests.now) entries.old entries.new }
-        ensures emits { AreAdded (length requests.now) emits.old emits.new }
     {
         let [request, others @ ..] = requests else {
             return;
         };
-        self.retry_one(m, request, entries, emits);
-        self.retry_each(m, others, entries, emits);
+        self.retry_one(step, request);
+        self.retry_each(step, others);
     }
 
     // Sends a request again, with its nonce.
-    fn retry_one(
-        &mut self,
-        m: u64,
-        request: &Request,
-        entries: &mut Vec<Entry>,
-        emits: &mut Vec<Emit>,
-    )
-        requires may { MayEnter 1 m self.old.parts }
-        requires owed { IsOwed (waiting m self.old.parts.requests) request.now }
-        requires places { HaveRoom 1 entries.old emits.old }
-        ensures change { (settings : SettingsValue)
-            → change_of self.new.parts entries.new.items emits.new.items
-            ≡ retried table settings m request.now
-            (change_of self.old.parts entries.old.items emits.old.items) }
-        ensures parts { self.new.parts ≡ with_entry (Retried m request.now.nonce) self.old.parts }
-        ensures entered { HasEntered 1 m self.old.parts self.new.parts }
-        ensures sendable { (settings : SettingsValue) → All (IsSendable settings) emits.old.items
-            → All (IsSendable settings) emits.new.items }
+    fn retry_one(&mut self, step: &mut Step<'_>, request: &Request)
+        requires may { MayTake 1 self.old.parts step.old }
+        requires owed { IsOwed (waiting step.old.m self.old.parts.requests) request.now }
+        ensures change { so_far self.new.parts step.new
+            ≡ retried table step.old.site.now step.old.m request.now (so_far self.old.parts step.old) }
+        ensures parts { self.new.parts
+            ≡ with_entry (Retried step.old.m request.now.nonce) self.old.parts }
+        ensures taken { HasTaken 1 self.old.parts step.old self.new.parts step.new }
         ensures probe_room { self.old.probe_room ≤ self.new.probe_room }
-        ensures entries { AreAdded 1 entries.old entries.new }
-        ensures emits { AreAdded 1 emits.old emits.new }
     {
-        let nonce = request.nonce;
+        let (m, nonce) = (step.m, request.nonce);
         self.retry(m, nonce);
-        entries.push_reserved(Entry::Retried { moment: m, nonce });
-        emits.push_reserved(Emit::Request {
-            eid: request.eid,
-            source: request.source,
-            invoked: request.invoked,
-            nonce,
-        });
+        step.push(
+            Entry::Retried { moment: m, nonce },
+            Emit::Request {
+                eid: request.eid,
+                source: request.source,
+                invoked: request.invoked,
+                nonce,
+            },
+        );
     }
 }

@@ -1,5 +1,5 @@
 // Seconds: what happens at each one that begins.
-ghost use Rattle.std.specs.Prelude.{◌≡◌, ◌<◌, ◌≤◌, ◌+◌, ◌*◌, [], true, false, length, vec_capacity, All, IsTrue, IfOk, OnOk};
+ghost use Rattle.std.specs.Prelude.{◌≡◌, ◌<◌, ◌≤◌, ◌*◌, [], true, false, length, vec_capacity, IsTrue, IfOk, OnOk};
 ghost use Rattle.lisp_settings.specs.Lawful.{IsLawful};
 ghost use Rattle.request_queue.specs.Queue.{all_due, waiting};
 ghost use Rattle.router_log.specs.Moments.{seconds};
@@ -11,23 +11,22 @@ ghost use Rattle.router_model.specs.Parts.{Stands, standing_in, table};
 ghost use Rattle.router_model.specs.Standing.{due_changes};
 ghost use Rattle.router_model.specs.Tick.{after_changes, all_told, tick, ticked, ticked_by};
 ghost use Rattle.router_core.specs.Changing.{Ascend};
-ghost use Rattle.router_core.specs.Sendable.{IsSendable};
 ghost use Rattle.router_core.specs.Site.{IsSite};
-ghost use Rattle.router_core.specs.Steps.{AreAdded, AreSent, HasEntered, HasTicked, HaveRoom, IsSecond, IsStep, MayEnter, MayStep};
-ghost use Rattle.router_core.specs.Table.{change_of, changed_seen};
-ghost use Rattle.router_core.specs.Telling.{HaveNone, IsEmptyFor, is_some_due, most_sent};
+ghost use Rattle.router_core.specs.Steps.{AreSent, HasTaken, IsSecond, IsStep, MayStep, MayTake, so_far};
+ghost use Rattle.router_core.specs.Table.{changed_seen};
+ghost use Rattle.router_core.specs.Telling.{IsEmptyFor, is_some_due, most_sent};
 ghost use Rattle.router_core.specs.Ticking.{AreOwed};
 
 use crate::changing::moment_of;
 use crate::limits::MOST_TOLD;
 use crate::site::Site;
+use crate::step::Step;
 use crate::{Changed, Table};
 use ip_headers::Addr;
 use lisp_settings::{Change, MOST_DATABASES, Settings};
 use locator_state::{MOST_TARGETS, Target};
-use octets::{Items, NoMemory};
+use octets::NoMemory;
 use request_queue::Request;
-use router_log::{Emit, Entry};
 
 impl Table {
     /// Plays a second: own locators go up and down by the changes of the settings, and then SMRs go
@@ -122,20 +121,13 @@ impl Table {
         ensures step { IsStep most_ticked m self.old.parts self.new.parts result }
     {
         let due = self.due_requests(m)?;
-        let most = due.len() + MOST_TARGETS;
-        let mut entries = Vec::new(self.alloc);
-        entries.reserve(most)?;
-        let mut emits = Vec::new(self.alloc);
-        emits.reserve(most)?;
+        let mut step = Step::begin(self.alloc, site, m, due.len() + MOST_TARGETS)?;
         let mut targets = Vec::new(self.alloc);
         targets.reserve(MOST_TARGETS + 1)?;
         self.reserve_probes(MOST_TARGETS as u32)?;
-        self.retry_due(site, m, due.as_slice(), &mut entries, &mut emits);
-        self.probe_next(site, m, &mut targets, &mut entries, &mut emits);
-        Ok(Changed {
-            entries: Items::from_vec(entries),
-            emits: Items::from_vec(emits),
-        })
+        self.retry_due(&mut step, due.as_slice());
+        self.probe_next(&mut step, &mut targets);
+        Ok(step.changed())
     }
 
     // Begins to keep the locators of mappings in order, where locators are probed.
@@ -175,19 +167,16 @@ impl Table {
         emits.reserve(most)?;
         let mut found = self.found()?;
         self.reserve_second()?;
-        self.change_and_tell(
-            settings,
+        self.make_changes(m, left, &mut entries);
+        let site = self.site(settings);
+        let mut step = Step {
+            site: &site,
             m,
-            left,
-            due.as_slice(),
-            &mut found,
-            &mut entries,
-            &mut emits,
-        );
-        Ok(Changed {
-            entries: Items::from_vec(entries),
-            emits: Items::from_vec(emits),
-        })
+            entries,
+            emits,
+        };
+        self.tell_and_send(&mut step, due.as_slice(), &mut found);
+        Ok(step.changed())
     }
 
     // Empty lists with room for the locators that are found at a second.
@@ -213,104 +202,44 @@ impl Table {
         self.reserve_solicits((MOST_TOLD * MOST_DATABASES) as u32)
     }
 
-    // Makes the changes that are due, sends SMRs for them, sends the requests that are due again,
-    // and probes locators. There is room for all of it, and the lists of entries and emits are
-    // empty.
-    fn change_and_tell(
-        &mut self,
-        settings: &Settings,
-        m: u64,
-        left: &[Change],
-        due: &[Request],
-        found: &mut Found,
-        entries: &mut Vec<Entry>,
-        emits: &mut Vec<Emit>,
-    )
-        requires lawful { IsLawful settings.now }
-        requires own { (standing_in settings.now self.old.parts).locators ≡ self.old.parts.own }
-        requires some { IsTrue (is_some_due m left.now) }
-        requires may { MayEnter (length left.now + most_sent (length due.now)) m self.old.parts }
-        requires due { due.now ≡ all_due m self.old.parts.requests }
-        requires owed { AreOwed (waiting m self.old.parts.requests) due.now }
-        requires empty { IsEmptyFor found.old }
-        requires solicits { most_told * most_databases ≤ self.old.solicit_room }
-        requires probes { most_targets ≤ self.old.probe_room }
-        requires begins { HaveNone entries.old emits.old }
-        requires places { length left.now + most_sent (length due.now) ≤ vec_capacity entries.old }
-        requires sends { most_sent (length due.now) ≤ vec_capacity emits.old }
-        ensures change { change_of self.new.parts entries.new.items emits.new.items
-            ≡ ticked_by table settings.now m (due_changes m left.now) (unchanged self.old.parts) }
-        ensures sendable { All (IsSendable (standing_in settings.now self.new.parts)) emits.new.items }
-        ensures entered { HasTicked (length left.now + most_sent (length due.now)) m self.old.parts
-            self.new.parts }
-        ensures few { length emits.new.items ≤ most_sent (length due.now) }
-    {
-        self.make_changes(m, left, entries);
-        let site = self.site(settings);
-        self.tell_and_send(&site, m, due, found, entries, emits);
-    }
-
     // Sends SMRs for changes of own locators, sends the requests that are due again, and probes
     // locators, where there is room for all of it.
-    fn tell_and_send(
-        &mut self,
-        site: &Site<'_>,
-        m: u64,
-        due: &[Request],
-        found: &mut Found,
-        entries: &mut Vec<Entry>,
-        emits: &mut Vec<Emit>,
-    )
-        requires site { IsSite site.now }
-        requires own { site.now.locators ≡ self.old.parts.own }
-        requires may { MayEnter (most_sent (length due.now)) m self.old.parts }
-        requires due { due.now ≡ all_due m self.old.parts.requests }
-        requires owed { AreOwed (waiting m self.old.parts.requests) due.now }
+    fn tell_and_send(&mut self, step: &mut Step<'_>, due: &[Request], found: &mut Found)
+        requires site { IsSite step.old.site.now }
+        requires own { step.old.site.now.locators ≡ self.old.parts.own }
+        requires may { MayTake (most_sent (length due.now)) self.old.parts step.old }
+        requires due { due.now ≡ all_due step.old.m self.old.parts.requests }
+        requires owed { AreOwed (waiting step.old.m self.old.parts.requests) due.now }
         requires empty { IsEmptyFor found.old }
         requires solicits { most_told * most_databases ≤ self.old.solicit_room }
         requires probes { most_targets ≤ self.old.probe_room }
-        requires places { HaveRoom (most_sent (length due.now)) entries.old emits.old }
-        requires sendable { All (IsSendable site.now) emits.old.items }
-        ensures change { change_of self.new.parts entries.new.items emits.new.items
-            ≡ after_changes table site.now m true
-            (change_of self.old.parts entries.old.items emits.old.items) }
-        ensures sendable { All (IsSendable site.now) emits.new.items }
-        ensures entered { HasEntered (most_sent (length due.now)) m self.old.parts self.new.parts }
-        ensures emits { AreAdded (most_sent (length due.now)) emits.old emits.new }
+        ensures change { so_far self.new.parts step.new
+            ≡ after_changes table step.old.site.now step.old.m true (so_far self.old.parts step.old) }
+        ensures taken { HasTaken (most_sent (length due.now)) self.old.parts step.old
+            self.new.parts step.new }
     {
-        self.tell_found(site, m, &mut found.told, entries, emits);
-        self.retry_due(site, m, due, entries, emits);
-        self.probe_next(site, m, &mut found.targets, entries, emits);
+        self.tell_found(step, &mut found.told);
+        self.retry_due(step, due);
+        self.probe_next(step, &mut found.targets);
     }
 
     // Finds the locators that get SMRs for changes, and sends these.
-    fn tell_found(
-        &mut self,
-        site: &Site<'_>,
-        m: u64,
-        told: &mut Vec<Addr>,
-        entries: &mut Vec<Entry>,
-        emits: &mut Vec<Emit>,
-    )
-        requires site { IsSite site.now }
-        requires may { MayEnter (most_told * most_databases) m self.old.parts }
+    fn tell_found(&mut self, step: &mut Step<'_>, told: &mut Vec<Addr>)
+        requires site { IsSite step.old.site.now }
+        requires may { MayTake (most_told * most_databases) self.old.parts step.old }
         requires none { told.old.items ≡ [] }
         requires told_room { most_told < vec_capacity told.old }
         requires solicits { most_told * most_databases ≤ self.old.solicit_room }
-        requires places { HaveRoom (most_told * most_databases) entries.old emits.old }
-        requires sendable { All (IsSendable site.now) emits.old.items }
-        ensures change { change_of self.new.parts entries.new.items emits.new.items
-            ≡ all_told table site.now m true
-            (change_of self.old.parts entries.old.items emits.old.items) }
-        ensures sendable { All (IsSendable site.now) emits.new.items }
-        ensures entered { HasEntered (most_told * most_databases) m self.old.parts self.new.parts }
+        ensures change { so_far self.new.parts step.new
+            ≡ all_told table step.old.site.now step.old.m true (so_far self.old.parts step.old) }
+        ensures taken { HasTaken (most_told * most_databases) self.old.parts step.old
+            self.new.parts step.new }
         ensures probe_room { self.old.probe_room ≤ self.new.probe_room }
-        ensures entries { AreAdded (most_told * most_databases) entries.old entries.new }
-        ensures emits { AreAdded (most_told * most_databases) emits.old emits.new }
-        ensures waits { waiting m self.new.parts.requests ≡ waiting m self.old.parts.requests }
+        ensures waits { waiting step.old.m self.new.parts.requests
+            ≡ waiting step.old.m self.old.parts.requests }
     {
-        self.find_told(site, m, told);
-        self.tell_each(site, m, told.as_slice(), entries, emits);
+        self.find_told(step.site, step.m, told);
+        self.tell_each(step, told.as_slice());
     }
 }
 

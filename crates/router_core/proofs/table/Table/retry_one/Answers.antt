@@ -9,13 +9,14 @@ use Rattle.router_core.proofs.table.Table.retry_one.Goals as goal
 use Rattle.request_queue.specs.Queue.{waiting}
 
 pub retry-requires-clause-again : goal.retry-requires-clause-again
-retry-requires-clause-again c = owed-again (waiting c.args.m c.args.self.now.parts.requests) c.args.request.now c.requires.owed
+retry-requires-clause-again c = owed-again (waiting c.args.step.now.m c.args.self.now.parts.requests) c.args.request.now c.requires.owed
 
 pub returns-clause-change : goal.returns-clause-change
-returns-clause-change c settings =
-    let m = c.args.m in
+returns-clause-change c =
+    let settings = c.args.step.now.site.now in
+    let m = c.args.step.now.m in
     let p = c.args.self.now.parts in
     let request = c.args.request.now in
-    ap (λ (q : Parts). change_of q c.push_reserved.new.self.items c.push_reserved-2.new.self.items) c.retry.ensures.parts
-    ∙ ap₂ (λ (e : List Entry) (f : List Emit). change_of (with_entry (Retried m request.nonce) p) e f) c.push_reserved.ensures.items c.push_reserved-2.ensures.items
-    ∙ retried-change settings m request p c.args.entries.now.items c.args.emits.now.items c.requires.may.later (omega (arith, c.requires.may.count)) c.requires.owed
+    ap (λ (q : Parts). change_of q c.push.new.self.entries.items c.push.new.self.emits.items) c.retry.ensures.parts
+    ∙ ap₂ (λ (e : List Entry) (f : List Emit). change_of (with_entry (Retried m request.nonce) p) e f) c.push.ensures.entries c.push.ensures.emits
+    ∙ retried-change settings m request p c.args.step.now.entries.items c.args.step.now.emits.items c.requires.may.enter.later (omega (arith, c.requires.may.enter.count)) c.requires.owed

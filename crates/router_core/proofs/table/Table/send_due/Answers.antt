@@ -1,25 +1,71 @@
-use Rattle.std.proofs.Common.{◌∙◌, List, ap, ap₂, sym, subst}
-use Rattle.std.specs.List.{All}
-use Rattle.std.proofs.lemmas.List.Elements.{All-nil}
-use Rattle.router_log.specs.declared.emit.Emit.{Emit}
-use Rattle.router_log.specs.declared.entry.Entry.{Entry}
-use Rattle.router_model.specs.Parts.{Parts}
-use Rattle.router_core.specs.Sendable.{IsSendable}
-use Rattle.router_core.specs.Table.{change_of}
+use Rattle.std.proofs.Common.{◌≡◌, ℕ, ◌+◌, ◌^◌, ◌≤◌, ◌∙◌, ap, ap₂, arith, length, subst, sym}
+use Rattle.lisp_settings.specs.declared.settings.Settings.{Settings}
+use Rattle.request_queue.specs.Queue.{all_due, waiting}
+use Rattle.router_model.specs.Parts.{Parts, table}
+use Rattle.router_model.specs.Site.{reaches_resolver}
+use Rattle.router_model.specs.Tick.{all_probed, retried_where}
+use Rattle.router_core.specs.Steps.{so_far}
+use Rattle.router_core.specs.Table.{changed_seen}
+use Rattle.router_core.specs.Ticking.{AreOwed}
+use Rattle.router_core.specs.declared.changed.Changed.{Changed}
+use Rattle.router_core.proofs.StepLemmas.{begun-at, begun-entered, begun-sent, enter-few, may-begin, may-behind, may-less, taken-both}
 use Rattle.router_core.proofs.TickingLemmas.{sent-from}
 use Rattle.router_core.proofs.table.Table.send_due.Goals as goal
 
-pub retry_due-requires-clause-sendable : goal.retry_due-requires-clause-sendable
-retry_due-requires-clause-sendable c =
-    subst (All (IsSendable c.args.site.now)) (sym (c.in_ok-reserve-2.ensures.items ∙ c.new-emits.ensures.items)) (All-nil (IsSendable c.args.site.now))
+pub retry_due-requires-clause-may : goal.retry_due-requires-clause-may
+retry_due-requires-clause-may c =
+    let most = c.len.result + 16 in
+    let few : most ≤ 2 ^ 61 = omega (arith, c.len.ensures, c.in_ok-due.ensures.few) in
+    may-less (length c.as_slice.result.now) (omega (arith, c.as_slice.ensures.len, c.len.ensures))
+    (may-begin c.in_ok-step.ensures.begun (enter-few most few c.requires.may c.in_ok-reserve_probes.ensures.parts))
+
+pub retry_due-requires-clause-due : goal.retry_due-requires-clause-due
+retry_due-requires-clause-due c =
+    begun-at (λ (site : Settings) (m : ℕ). c.as_slice.result.now ≡ all_due m c.reserve_probes.new.self.parts.requests) c.in_ok-step.ensures.begun
+    (c.as_slice.ensures.value ∙ c.in_ok-due.ensures.items ∙ ap (λ (p : Parts). all_due c.args.m p.requests) (sym c.in_ok-reserve_probes.ensures.parts))
+
+pub retry_due-requires-clause-owed : goal.retry_due-requires-clause-owed
+retry_due-requires-clause-owed c =
+    begun-at (λ (site : Settings) (m : ℕ). AreOwed (waiting m c.reserve_probes.new.self.parts.requests) c.as_slice.result.now) c.in_ok-step.ensures.begun
+    (subst (λ (p : Parts). AreOwed (waiting c.args.m p.requests) c.as_slice.result.now) (sym c.in_ok-reserve_probes.ensures.parts)
+    (subst (AreOwed (waiting c.args.m c.args.self.now.parts.requests)) (sym c.as_slice.ensures.value) c.in_ok-due.ensures.owed))
 
 pub probe_next-requires-clause-own : goal.probe_next-requires-clause-own
 probe_next-requires-clause-own c =
-    c.requires.own ∙ sym (c.retry_due.ensures.entered.own ∙ ap (λ (p : Parts). p.own) c.in_ok-reserve_probes.ensures.parts)
+    let sent = c.retry_due.ensures.taken in
+    ap (λ (site : Settings). site.locators) (sent.site ∙ c.in_ok-step.ensures.begun.stands)
+    ∙ c.requires.own ∙ sym (sent.entered.own ∙ ap (λ (p : Parts). p.own) c.in_ok-reserve_probes.ensures.parts)
+
+pub probe_next-requires-clause-may : goal.probe_next-requires-clause-may
+probe_next-requires-clause-may c =
+    let most = c.len.result + 16 in
+    let few : most ≤ 2 ^ 61 = omega (arith, c.len.ensures, c.in_ok-due.ensures.few) in
+    may-behind 16 (omega (arith, c.as_slice.ensures.len, c.len.ensures))
+    (may-begin c.in_ok-step.ensures.begun (enter-few most few c.requires.may c.in_ok-reserve_probes.ensures.parts)) c.retry_due.ensures.taken
 
 pub returns-clause-parts : goal.returns-clause-parts
 returns-clause-parts c =
-    ap₂ (λ (e : List Entry) (f : List Emit). change_of c.probe_next.new.self.parts e f) c.from_vec.ensures c.from_vec-2.ensures
+    let begun = c.in_ok-step.ensures.begun in
+    let sent = c.retry_due.ensures.taken in
+    let step = c.in_ok-step.step in
+    let p = c.reserve_probes.new.self.parts in
+    ap (changed_seen c.probe_next.new.self.parts) c.changed.ensures
     ∙ c.probe_next.ensures.change
-    ∙ sent-from c.args.site.now c.args.m c.reserve_probes.new.self.parts c.args.self.now.parts c.reserve.new.self.items c.reserve-2.new.self.items _ c.retry_due.ensures.change
-    c.in_ok-reserve_probes.ensures.parts (c.in_ok-reserve.ensures.items ∙ c.new-entries.ensures.items) (c.in_ok-reserve-2.ensures.items ∙ c.new-emits.ensures.items)
+    ∙ ap₂ (λ (site : Settings) (m : ℕ). all_probed table site m (so_far c.retry_due.new.self.parts c.retry_due.new.step)) (sent.site ∙ begun.stands) (sent.moment ∙ begun.moment)
+    ∙ sent-from c.args.site.now c.args.m p c.args.self.now.parts step.entries.items step.emits.items _
+    (c.retry_due.ensures.change ∙ ap₂ (λ (site : Settings) (m : ℕ). retried_where table site m (reaches_resolver site) (so_far p step)) begun.stands begun.moment)
+    c.in_ok-reserve_probes.ensures.parts begun.no_entries begun.no_emits
+
+pub returns-clause-sent : goal.returns-clause-sent
+returns-clause-sent c =
+    let few : length c.as_slice.result.now + 16 ≤ 20752 = omega (arith, c.as_slice.ensures.len, c.in_ok-due.ensures.few) in
+    begun-sent c.changed.result.emits c.in_ok-step.ensures.begun
+    (taken-both 20752 few c.retry_due.ensures.taken c.probe_next.ensures.taken) (ap (λ (changed : Changed). changed.emits) c.changed.ensures)
+
+pub returns-clause-step : goal.returns-clause-step
+returns-clause-step c =
+    let few : length c.as_slice.result.now + 16 ≤ 20752 = omega (arith, c.as_slice.ensures.len, c.in_ok-due.ensures.few) in
+    record {
+      entered = begun-entered c.in_ok-step.ensures.begun (taken-both 20752 few c.retry_due.ensures.taken c.probe_next.ensures.taken) c.in_ok-reserve_probes.ensures.parts;
+      err = tt;
+    }

@@ -1,90 +1,57 @@
-use Rattle.std.proofs.Common.{◌∙◌, List, ap, arith, filter, subst, sym}
-use Rattle.request_queue.specs.Queue.{due}
+use Rattle.std.proofs.Common.{◌≡◌, ℕ, ◌+◌, ◌∙◌, List, ap, ap₂, arith, filter, length, subst, sym}
+use Rattle.lisp_settings.specs.declared.settings.Settings.{Settings}
+use Rattle.request_queue.specs.Queue.{all_due, due, waiting}
 use Rattle.request_queue.specs.declared.request.Request.{Request}
-use Rattle.router_core.specs.Table.{change_of}
+use Rattle.router_model.specs.Parts.{table}
+use Rattle.router_model.specs.Site.{reaches_resolver}
+use Rattle.router_model.specs.Tick.{all_probed, retried_where}
+use Rattle.router_core.specs.Steps.{so_far}
 use Rattle.router_core.specs.Ticking.{AreOwed}
 use Rattle.router_core.proofs.SecondLemmas.{told-from}
+use Rattle.router_core.proofs.StepLemmas.{may-behind, may-less, still-at, taken-both}
 use Rattle.router_core.proofs.table.Table.tell_and_send.Goals as goal
 
 pub tell_found-requires-clause-may : goal.tell_found-requires-clause-may
-tell_found-requires-clause-may c =
-    record { later = c.requires.may.later; count = omega (arith, c.requires.may.count) }
-
-pub tell_found-requires-clause-places : goal.tell_found-requires-clause-places
-tell_found-requires-clause-places c =
-    record { entries = omega (arith, c.requires.places.entries); emits = omega (arith, c.requires.places.emits) }
+tell_found-requires-clause-may c = may-less 4096 (omega arith) c.requires.may
 
 pub retry_due-requires-clause-may : goal.retry_due-requires-clause-may
-retry_due-requires-clause-may c =
-    let told = c.tell_found.ensures.entered in
-    record { later = told.now; count = omega (arith, c.requires.may.count, told.count) }
+retry_due-requires-clause-may c = may-behind (length c.args.due.now) (omega arith) c.requires.may c.tell_found.ensures.taken
 
 pub retry_due-requires-clause-due : goal.retry_due-requires-clause-due
 retry_due-requires-clause-due c =
-    c.requires.due ∙ ap (λ (l : List Request). filter (due c.args.m) l) (sym c.tell_found.ensures.waits)
+    still-at (λ (site : Settings) (m : ℕ). c.args.due.now ≡ all_due m c.tell_found.new.self.parts.requests) c.tell_found.ensures.taken
+    (c.requires.due ∙ ap (λ (l : List Request). filter (due c.args.step.now.m) l) (sym c.tell_found.ensures.waits))
 
 pub retry_due-requires-clause-owed : goal.retry_due-requires-clause-owed
 retry_due-requires-clause-owed c =
-    subst (λ (l : List Request). AreOwed l c.args.due.now) (sym c.tell_found.ensures.waits) c.requires.owed
-
-pub retry_due-requires-clause-places : goal.retry_due-requires-clause-places
-retry_due-requires-clause-places c =
-    let entries = c.tell_found.ensures.entries in
-    let emits = c.tell_found.ensures.emits in
-    record {
-      entries = omega (arith, c.requires.places.entries, entries.most_more, entries.capacity);
-      emits = omega (arith, c.requires.places.emits, emits.most_more, emits.capacity);
-    }
+    still-at (λ (site : Settings) (m : ℕ). AreOwed (waiting m c.tell_found.new.self.parts.requests) c.args.due.now) c.tell_found.ensures.taken
+    (subst (λ (l : List Request). AreOwed l c.args.due.now) (sym c.tell_found.ensures.waits) c.requires.owed)
 
 pub probe_next-requires-clause-own : goal.probe_next-requires-clause-own
 probe_next-requires-clause-own c =
-    c.requires.own ∙ sym (c.retry_due.ensures.entered.own ∙ c.tell_found.ensures.entered.own)
+    let told = c.tell_found.ensures.taken in
+    let sent = c.retry_due.ensures.taken in
+    ap (λ (site : Settings). site.locators) (sent.site ∙ told.site) ∙ c.requires.own ∙ sym (sent.entered.own ∙ told.entered.own)
 
 pub probe_next-requires-clause-may : goal.probe_next-requires-clause-may
 probe_next-requires-clause-may c =
-    let told = c.tell_found.ensures.entered in
-    let sent = c.retry_due.ensures.entered in
-    record { later = sent.now; count = omega (arith, c.requires.may.count, told.count, sent.count) }
+    may-behind 16 (omega arith) c.requires.may (taken-both (4096 + length c.args.due.now) (omega arith) c.tell_found.ensures.taken c.retry_due.ensures.taken)
 
 pub probe_next-requires-clause-room : goal.probe_next-requires-clause-room
 probe_next-requires-clause-room c =
     omega (arith, c.requires.probes, c.tell_found.ensures.probe_room, c.retry_due.ensures.probe_room)
 
-pub probe_next-requires-clause-places : goal.probe_next-requires-clause-places
-probe_next-requires-clause-places c =
-    let entries = c.tell_found.ensures.entries in
-    let emits = c.tell_found.ensures.emits in
-    let more_entries = c.retry_due.ensures.entries in
-    let more_emits = c.retry_due.ensures.emits in
-    record {
-      entries = omega (arith, c.requires.places.entries, entries.most_more, entries.capacity, more_entries.most_more, more_entries.capacity);
-      emits = omega (arith, c.requires.places.emits, emits.most_more, emits.capacity, more_emits.most_more, more_emits.capacity);
-    }
-
 pub returns-clause-change : goal.returns-clause-change
 returns-clause-change c =
-    told-from c.args.site.now c.args.m _ _ _ (change_of c.args.self.now.parts c.args.entries.now.items c.args.emits.now.items)
-    c.tell_found.ensures.change c.retry_due.ensures.change c.probe_next.ensures.change
+    let told = c.tell_found.ensures.taken in
+    let sent = c.retry_due.ensures.taken in
+    told-from c.args.step.now.site.now c.args.step.now.m _ _ _ (so_far c.args.self.now.parts c.args.step.now)
+    c.tell_found.ensures.change
+    (c.retry_due.ensures.change
+    ∙ ap₂ (λ (site : Settings) (m : ℕ). retried_where table site m (reaches_resolver site) (so_far c.tell_found.new.self.parts c.tell_found.new.step)) told.site told.moment)
+    (c.probe_next.ensures.change
+    ∙ ap₂ (λ (site : Settings) (m : ℕ). all_probed table site m (so_far c.retry_due.new.self.parts c.retry_due.new.step)) (sent.site ∙ told.site) (sent.moment ∙ told.moment))
 
-pub returns-clause-entered : goal.returns-clause-entered
-returns-clause-entered c =
-    let told = c.tell_found.ensures.entered in
-    let sent = c.retry_due.ensures.entered in
-    let probed = c.probe_next.ensures.entered in
-    record {
-      now = probed.now;
-      count = omega (arith, told.count, sent.count, probed.count);
-      own = probed.own ∙ sent.own ∙ told.own;
-      steps = probed.steps ∙ sent.steps ∙ told.steps;
-    }
-
-pub returns-clause-emits : goal.returns-clause-emits
-returns-clause-emits c =
-    let told = c.tell_found.ensures.emits in
-    let sent = c.retry_due.ensures.emits in
-    let probed = c.probe_next.ensures.emits in
-    record {
-      more = omega (arith, told.more, sent.more, probed.more);
-      most_more = omega (arith, told.most_more, sent.most_more, probed.most_more);
-      capacity = probed.capacity ∙ sent.capacity ∙ told.capacity;
-    }
+pub returns-clause-taken : goal.returns-clause-taken
+returns-clause-taken c =
+    taken-both _ (omega arith) (taken-both (4096 + length c.args.due.now) (omega arith) c.tell_found.ensures.taken c.retry_due.ensures.taken) c.probe_next.ensures.taken
