@@ -2,7 +2,7 @@ use Rattle.std.proofs.Common.{◌≡◌, ◌≤◌, ◌∙◌, List, [], ap, ari
 use Rattle.std.specs.List.{All}
 use Rattle.std.proofs.lemmas.List.Elements.{All-nil}
 use Rattle.lisp_settings.specs.declared.settings.Settings.{Settings}
-use Rattle.request_queue.specs.Queue.{all_due, due, waiting}
+use Rattle.request_queue.specs.Queue.{all_due, due}
 use Rattle.request_queue.specs.declared.request.Request.{Request}
 use Rattle.router_log.specs.declared.emit.Emit.{Emit}
 use Rattle.router_log.specs.declared.entry.Entry.{Entry}
@@ -13,20 +13,10 @@ use Rattle.router_model.specs.Tick.{all_changed, ticked_by}
 use Rattle.router_core.specs.Sendable.{IsSendable}
 use Rattle.router_core.specs.Site.{IsSite}
 use Rattle.router_core.specs.Table.{change_of, changed_seen}
-use Rattle.router_core.specs.Ticking.{AreOwed}
 use Rattle.router_core.specs.declared.changed.Changed.{Changed}
 use Rattle.router_core.proofs.SecondLemmas.{own-stands, stands-on, ticked-from}
 use Rattle.router_core.proofs.StandLemmas.{site-by}
-use Rattle.router_core.proofs.StepLemmas.{enter-few}
 use Rattle.router_core.proofs.table.Table.change_and_send.Goals as goal
-
-pub make_changes-requires-clause-may : goal.make_changes-requires-clause-may
-make_changes-requires-clause-may c =
-    enter-few _ (omega (arith, c.requires.few)) c.requires.may c.in_ok-reserve_second.ensures.parts
-
-pub make_changes-requires-clause-room : goal.make_changes-requires-clause-room
-make_changes-requires-clause-room c =
-    omega (arith, c.in_ok-reserve.ensures.ok, c.in_ok-reserve.ensures.len, c.new-entries.ensures.len)
 
 pub tell_and_send-requires-clause-site : goal.tell_and_send-requires-clause-site
 tell_and_send-requires-clause-site c =
@@ -58,21 +48,6 @@ tell_and_send-requires-clause-due c =
     c.as_slice.ensures.value ∙ c.in_ok-due.ensures.items
     ∙ ap (λ (p : Parts). all_due c.args.m p.requests) (sym c.in_ok-reserve_second.ensures.parts)
     ∙ ap (λ (l : List Request). filter (due c.args.m) l) (sym c.make_changes.ensures.waits)
-
-pub tell_and_send-requires-clause-owed : goal.tell_and_send-requires-clause-owed
-tell_and_send-requires-clause-owed c =
-    let waits = c.make_changes.ensures.waits ∙ ap (λ (p : Parts). waiting c.args.m p.requests) c.in_ok-reserve_second.ensures.parts in
-    subst (λ (l : List Request). AreOwed l c.as_slice.result.now) (sym waits)
-    (subst (AreOwed (waiting c.args.m c.args.self.now.parts.requests)) (sym c.as_slice.ensures.value) c.in_ok-due.ensures.owed)
-
-pub tell_and_send-requires-clause-empty : goal.tell_and_send-requires-clause-empty
-tell_and_send-requires-clause-empty c = c.in_ok-found.ensures
-
-pub tell_and_send-requires-clause-solicits : goal.tell_and_send-requires-clause-solicits
-tell_and_send-requires-clause-solicits c = omega (arith, c.in_ok-reserve_second.ensures.solicits, c.make_changes.ensures.room.solicits)
-
-pub tell_and_send-requires-clause-probes : goal.tell_and_send-requires-clause-probes
-tell_and_send-requires-clause-probes c = omega (arith, c.in_ok-reserve_second.ensures.probes, c.make_changes.ensures.room.probes)
 
 pub returns-clause-parts : goal.returns-clause-parts
 returns-clause-parts c =

@@ -1,14 +1,12 @@
-use Rattle.std.proofs.Common.{◌≡◌, ℕ, ◌+◌, ◌^◌, ◌≤◌, ◌∙◌, ap, ap₂, arith, length, subst, sym}
+use Rattle.std.proofs.Common.{ℕ, ◌+◌, ◌^◌, ◌≤◌, ◌∙◌, ap, ap₂, arith, length}
 use Rattle.lisp_settings.specs.declared.settings.Settings.{Settings}
-use Rattle.request_queue.specs.Queue.{all_due, waiting}
-use Rattle.router_model.specs.Parts.{Parts, table}
+use Rattle.router_model.specs.Parts.{table}
 use Rattle.router_model.specs.Site.{reaches_resolver}
 use Rattle.router_model.specs.Tick.{all_probed, retried_where}
 use Rattle.router_core.specs.Steps.{so_far}
 use Rattle.router_core.specs.Table.{changed_seen}
-use Rattle.router_core.specs.Ticking.{AreOwed}
 use Rattle.router_core.specs.declared.changed.Changed.{Changed}
-use Rattle.router_core.proofs.StepLemmas.{begun-at, begun-entered, begun-sent, enter-few, may-begin, may-behind, may-less, taken-both}
+use Rattle.router_core.proofs.StepLemmas.{begun-sent, enter-few, may-begin, may-behind, may-less, taken-both}
 use Rattle.router_core.proofs.TickingLemmas.{sent-from}
 use Rattle.router_core.proofs.table.Table.send_due.Goals as goal
 
@@ -18,23 +16,6 @@ retry_due-requires-clause-may c =
     let few : most ≤ 2 ^ 61 = omega (arith, c.len.ensures, c.in_ok-due.ensures.few) in
     may-less (length c.as_slice.result.now) (omega (arith, c.as_slice.ensures.len, c.len.ensures))
     (may-begin c.in_ok-step.ensures.begun (enter-few most few c.requires.may c.in_ok-reserve_probes.ensures.parts))
-
-pub retry_due-requires-clause-due : goal.retry_due-requires-clause-due
-retry_due-requires-clause-due c =
-    begun-at (λ (site : Settings) (m : ℕ). c.as_slice.result.now ≡ all_due m c.reserve_probes.new.self.parts.requests) c.in_ok-step.ensures.begun
-    (c.as_slice.ensures.value ∙ c.in_ok-due.ensures.items ∙ ap (λ (p : Parts). all_due c.args.m p.requests) (sym c.in_ok-reserve_probes.ensures.parts))
-
-pub retry_due-requires-clause-owed : goal.retry_due-requires-clause-owed
-retry_due-requires-clause-owed c =
-    begun-at (λ (site : Settings) (m : ℕ). AreOwed (waiting m c.reserve_probes.new.self.parts.requests) c.as_slice.result.now) c.in_ok-step.ensures.begun
-    (subst (λ (p : Parts). AreOwed (waiting c.args.m p.requests) c.as_slice.result.now) (sym c.in_ok-reserve_probes.ensures.parts)
-    (subst (AreOwed (waiting c.args.m c.args.self.now.parts.requests)) (sym c.as_slice.ensures.value) c.in_ok-due.ensures.owed))
-
-pub probe_next-requires-clause-own : goal.probe_next-requires-clause-own
-probe_next-requires-clause-own c =
-    let sent = c.retry_due.ensures.taken in
-    ap (λ (site : Settings). site.locators) (sent.site ∙ c.in_ok-step.ensures.begun.stands)
-    ∙ c.requires.own ∙ sym (sent.entered.own ∙ ap (λ (p : Parts). p.own) c.in_ok-reserve_probes.ensures.parts)
 
 pub probe_next-requires-clause-may : goal.probe_next-requires-clause-may
 probe_next-requires-clause-may c =
@@ -61,11 +42,3 @@ returns-clause-sent c =
     let few : length c.as_slice.result.now + 16 ≤ 20752 = omega (arith, c.as_slice.ensures.len, c.in_ok-due.ensures.few) in
     begun-sent c.changed.result.emits c.in_ok-step.ensures.begun
     (taken-both 20752 few c.retry_due.ensures.taken c.probe_next.ensures.taken) (ap (λ (changed : Changed). changed.emits) c.changed.ensures)
-
-pub returns-clause-step : goal.returns-clause-step
-returns-clause-step c =
-    let few : length c.as_slice.result.now + 16 ≤ 20752 = omega (arith, c.as_slice.ensures.len, c.in_ok-due.ensures.few) in
-    record {
-      entered = begun-entered c.in_ok-step.ensures.begun (taken-both 20752 few c.retry_due.ensures.taken c.probe_next.ensures.taken) c.in_ok-reserve_probes.ensures.parts;
-      err = tt;
-    }

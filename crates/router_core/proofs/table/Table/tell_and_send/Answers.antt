@@ -1,18 +1,14 @@
-use Rattle.std.proofs.Common.{◌≡◌, ℕ, ◌+◌, ◌∙◌, List, ap, ap₂, arith, filter, length, subst, sym}
+use Rattle.std.proofs.Common.{◌≡◌, ℕ, ◌+◌, ◌∙◌, List, ap, ap₂, arith, filter, length, sym}
 use Rattle.lisp_settings.specs.declared.settings.Settings.{Settings}
-use Rattle.request_queue.specs.Queue.{all_due, due, waiting}
+use Rattle.request_queue.specs.Queue.{all_due, due}
 use Rattle.request_queue.specs.declared.request.Request.{Request}
 use Rattle.router_model.specs.Parts.{table}
 use Rattle.router_model.specs.Site.{reaches_resolver}
 use Rattle.router_model.specs.Tick.{all_probed, retried_where}
 use Rattle.router_core.specs.Steps.{so_far}
-use Rattle.router_core.specs.Ticking.{AreOwed}
 use Rattle.router_core.proofs.SecondLemmas.{told-from}
-use Rattle.router_core.proofs.StepLemmas.{may-behind, may-less, still-at, taken-both}
+use Rattle.router_core.proofs.StepLemmas.{may-behind, still-at, taken-both}
 use Rattle.router_core.proofs.table.Table.tell_and_send.Goals as goal
-
-pub tell_found-requires-clause-may : goal.tell_found-requires-clause-may
-tell_found-requires-clause-may c = may-less 4096 (omega arith) c.requires.may
 
 pub retry_due-requires-clause-may : goal.retry_due-requires-clause-may
 retry_due-requires-clause-may c = may-behind (length c.args.due.now) (omega arith) c.requires.may c.tell_found.ensures.taken
@@ -22,24 +18,9 @@ retry_due-requires-clause-due c =
     still-at (λ (site : Settings) (m : ℕ). c.args.due.now ≡ all_due m c.tell_found.new.self.parts.requests) c.tell_found.ensures.taken
     (c.requires.due ∙ ap (λ (l : List Request). filter (due c.args.step.now.m) l) (sym c.tell_found.ensures.waits))
 
-pub retry_due-requires-clause-owed : goal.retry_due-requires-clause-owed
-retry_due-requires-clause-owed c =
-    still-at (λ (site : Settings) (m : ℕ). AreOwed (waiting m c.tell_found.new.self.parts.requests) c.args.due.now) c.tell_found.ensures.taken
-    (subst (λ (l : List Request). AreOwed l c.args.due.now) (sym c.tell_found.ensures.waits) c.requires.owed)
-
-pub probe_next-requires-clause-own : goal.probe_next-requires-clause-own
-probe_next-requires-clause-own c =
-    let told = c.tell_found.ensures.taken in
-    let sent = c.retry_due.ensures.taken in
-    ap (λ (site : Settings). site.locators) (sent.site ∙ told.site) ∙ c.requires.own ∙ sym (sent.entered.own ∙ told.entered.own)
-
 pub probe_next-requires-clause-may : goal.probe_next-requires-clause-may
 probe_next-requires-clause-may c =
     may-behind 16 (omega arith) c.requires.may (taken-both (4096 + length c.args.due.now) (omega arith) c.tell_found.ensures.taken c.retry_due.ensures.taken)
-
-pub probe_next-requires-clause-room : goal.probe_next-requires-clause-room
-probe_next-requires-clause-room c =
-    omega (arith, c.requires.probes, c.tell_found.ensures.probe_room, c.retry_due.ensures.probe_room)
 
 pub returns-clause-change : goal.returns-clause-change
 returns-clause-change c =

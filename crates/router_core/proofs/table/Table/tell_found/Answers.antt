@@ -13,11 +13,6 @@ tell_each-requires-clause-may c =
     let few = few-told (length c.args.step.now.site.now.databases) (length c.as_slice.result.now) c.requires.site.few_databases (omega (arith, c.as_slice.ensures.len, c.find_told.ensures.few)) in
     may-less _ few c.requires.may
 
-pub tell_each-requires-clause-room : goal.tell_each-requires-clause-room
-tell_each-requires-clause-room c =
-    let few = few-told (length c.args.step.now.site.now.databases) (length c.as_slice.result.now) c.requires.site.few_databases (omega (arith, c.as_slice.ensures.len, c.find_told.ensures.few)) in
-    omega (arith, few, c.requires.solicits)
-
 pub returns-clause-change : goal.returns-clause-change
 returns-clause-change c =
     c.tell_each.ensures.change
