@@ -38,12 +38,6 @@ record-whole number moment octets whole =
     ∙ ap (λ (n : ℕ). take n octets) (sym whole.exact)
     ∙ take_all (length octets) octets (omega arith)
 
-pub records-whole : (count : ℕ) (packets : List Packet) → All (λ (packet : Packet). IsWhole packet.octets) packets → map record_packet (frames_from count packets) ≡ map (λ (packet : Packet). packet.octets) packets
-records-whole count [] whole = refl
-records-whole count (packet ∷ packets) whole =
-    let P : Packet → Type 0 = λ (packet : Packet). IsWhole packet.octets in
-    rw (record-whole (count + 1) packet.moment packet.octets (All-head P packet packets whole), records-whole (count + 1) packets (All-tail P packet packets whole)) refl
-
 pub length-frames : (count : ℕ) (packets : List Packet) → length (frames_from count packets) ≡ length packets
 length-frames count [] = refl
 length-frames count (packet ∷ packets) = ap (λ (n : ℕ). suc n) (length-frames (count + 1) packets)

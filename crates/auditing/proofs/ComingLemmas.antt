@@ -16,7 +16,7 @@ use Rattle.capture_io.specs.Run.{Run, before, ended}
 use Rattle.capture_io.specs.declared.fault.CaptureFault.{CaptureFault}
 use Rattle.capture_io.proofs.Runs.{read_on-end, read_on-fault, read_on-frame}
 use Rattle.auditing.specs.Auditing.{run_in}
-use Rattle.auditing.specs.Coming.{Comes, IsFaultOf, StaysBut}
+use Rattle.auditing.specs.Coming.{Comes, StaysBut}
 
 -- what stands beside another id after a change
 found_at-other : {X : Type 0} (id other : ℕ) (f : X → X) (entries : List (ℕ × X)) → other ≢ id → found_at other (changed_at id f entries) ≡ found_at other entries
@@ -71,25 +71,9 @@ comes r next result told now none answers is reads =
 abbrev pub KeepsFault : Reading → Option World → Reading → Option World → Type 0
 KeepsFault first told r now = IfSome told (λ w. IsSomeAnd now (λ v. (run_in r v).fault ≡ (run_in first w).fault))
 
-pub keeps-first : (r : Reading) (told : Option World) → KeepsFault r told r told
-keeps-first r None = tt
-keeps-first r (Some w) = refl
-
 pub keeps-on : (first r next : Reading) (told mid now : Option World) (f : Frame) → KeepsFault first told r mid → IfSome mid (λ v. Comes (Ok (Some f)) r next v now)
     → KeepsFault first told next now
 keeps-on first r next None mid now f keeps comes = tt
 keeps-on first r next (Some w) None now f keeps comes = absurd keeps
 keeps-on first r next (Some w) (Some v) None f keeps comes = absurd comes
 keeps-on first r next (Some w) (Some v) (Some u) f keeps comes = ap (λ (run : Run CaptureFault). run.fault) (sym comes.0) ∙ keeps
-
-pub keeps-end : (first r next : Reading) (told mid now : Option World) → KeepsFault first told r mid → IfSome mid (λ v. Comes (Ok None) r next v now)
-    → IfSome told (λ w. (run_in first w).fault ≡ None)
-keeps-end first r next None mid now keeps comes = tt
-keeps-end first r next (Some w) None now keeps comes = absurd keeps
-keeps-end first r next (Some w) (Some v) now keeps comes = sym keeps ∙ ap (λ (run : Run CaptureFault). run.fault) comes.0
-
-pub keeps-fault : (first r next : Reading) (told mid now : Option World) (fault : CaptureFault) → KeepsFault first told r mid → IfSome mid (λ v. Comes (Err fault) r next v now)
-    → IfSome told (λ w. IsFaultOf (run_in first w) fault)
-keeps-fault first r next None mid now fault keeps comes = tt
-keeps-fault first r next (Some w) None now fault keeps comes = absurd keeps
-keeps-fault first r next (Some w) (Some v) now fault keeps comes = λ own. sym keeps ∙ ap (λ (run : Run CaptureFault). run.fault) (comes own)

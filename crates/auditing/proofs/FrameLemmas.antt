@@ -1,5 +1,5 @@
 -- The frames of a capture, one after another: which were played, and what is left.
-use Rattle.std.proofs.Common.{◌≡◌, ◌≢◌, ◌≤◌, ℕ, length, List, [], ◌∷◌, ◌++◌, Option, Some, None, Ok, Err, append_assoc, refl, sym, ap, ap₂, ◌∙◌, subst, arith, unwrap_or}
+use Rattle.std.proofs.Common.{◌≡◌, ◌≢◌, ◌≤◌, ℕ, length, List, [], ◌∷◌, ◌++◌, Option, Some, None, Ok, append_assoc, refl, sym, ap, ap₂, ◌∙◌, subst, arith, unwrap_or}
 use Rattle.std.specs.List.{All}
 use Rattle.std.specs.Option.{IfSome, IsSomeAnd}
 use Rattle.std.proofs.lemmas.List.{append-nil, length-append}
@@ -170,14 +170,6 @@ module _ {S : Type 0} (does : S → Step → Outcome S → Type 0) where
         base = u;
         holds = holds-there start (run_in sent w) passing.base v u passing.steps state holding (comes.1.1 holding.sent.id (λ e. apart (sym e))) passing.holds;
       }
-
-  -- a fault came
-  pub passing-fault : (start : S) (input sent reader next : Reading) (at : Progress) (state : S) (holding : Holding) (told mid now : Option World) (fault : CaptureFault)
-      → Passing start input sent told reader at state holding mid → IfSome mid (λ v. Comes (Err fault) reader next v now)
-      → IfSome told (λ w. IsFaultOf (run_in input w) fault)
-  passing-fault start input sent reader next at state holding None mid now fault passing comes = tt
-  passing-fault start input sent reader next at state holding (Some w) None now fault passing comes = absurd passing
-  passing-fault start input sent reader next at state holding (Some w) (Some v) now fault passing comes = λ own. sym passing.fault ∙ ap (λ (r : Run CaptureFault). r.fault) (comes own)
 
   -- a fault of what was sent, while a frame is played
   pub passing-sent : (start : S) (input sent reader next : Reading) (at : Progress) (state : S) (a : Holding) (told mid read : Option World) (f : Frame) (fault : CaptureFault)

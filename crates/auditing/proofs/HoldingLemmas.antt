@@ -131,15 +131,6 @@ pub record Reached (packets : List Packet) (rest : List ℕ) (before : Holding) 
 held-as : (a b : List (List ℕ)) (run : Run CaptureFault) (base : World) (holding : Holding) (now : Option World) → a ≡ b → IsSomeAnd now (IsHeld a run base holding) → IsSomeAnd now (IsHeld b run base holding)
 held-as a b run base holding now same held = subst (λ (l : List (List ℕ)). IsSomeAnd now (IsHeld l run base holding)) same held
 
-pub reached-first : (packets : List Packet) (rest : List ℕ) (a : Holding) (told : Option World) → rest ≡ records_of packets → Reached packets rest a told a told
-reached-first packets rest a told is = record {
-  done = [];
-  others = packets;
-  whole = refl;
-  left = is;
-  holds = λ past run base held. held-as past (past ++ []) run base a told (sym (append-nil past)) held;
-}
-
 -- a packet more
 pub reached-on : (packets : List Packet) (rest more packet : List ℕ) (before mid after : Holding) (told then now : Option World) → Reached packets rest before told mid then → 16 ≤ length rest
     → ((p : Packet) (others : List Packet) → rest ≡ records_of (p ∷ others) → packet ≡ p.octets)

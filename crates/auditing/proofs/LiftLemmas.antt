@@ -1,5 +1,5 @@
 -- The frames of a capture, out of which nonces are lifted one after another.
-use Rattle.std.proofs.Common.{◌≡◌, ℕ, List, [], ◌∷◌, ◌++◌, Option, Some, None, Ok, Err, append_assoc, append-nil, refl, sym, ap, ◌∙◌}
+use Rattle.std.proofs.Common.{◌≡◌, ℕ, List, [], ◌∷◌, ◌++◌, Option, Some, None, Ok, append_assoc, sym, ap, ◌∙◌}
 use Rattle.std.specs.Option.{IfSome, IsSomeAnd}
 use Rattle.audit.specs.Lifted.{lifted, lifted_on}
 use Rattle.desk.specs.World.{World}
@@ -8,8 +8,8 @@ use Rattle.capture_io.specs.Reading.{Reading}
 use Rattle.capture_io.specs.Run.{Run}
 use Rattle.capture_io.specs.declared.fault.CaptureFault.{CaptureFault}
 use Rattle.lisp_settings.specs.declared.settings.Settings.{Settings}
-use Rattle.auditing.specs.Auditing.{run_in, IsLifted, KeepsOthers}
-use Rattle.auditing.specs.Coming.{Comes, IsFaultOf, StaysBut}
+use Rattle.auditing.specs.Auditing.{run_in}
+use Rattle.auditing.specs.Coming.{Comes, StaysBut}
 
 -- the nonces of some frames were lifted, and the others are left
 pub record IsLifting (settings : Settings) (run : Run CaptureFault) (id : ℕ) (base : World) (reader : Reading) (nonces : List ℕ) (w : World) : Type 0 where
@@ -21,16 +21,6 @@ pub record IsLifting (settings : Settings) (run : Run CaptureFault) (id : ℕ) (
 
 abbrev pub Lifting : Settings → Reading → Option World → Reading → List ℕ → Option World → Type 0
 Lifting settings sent told reader nonces now = IfSome told (λ w. IsSomeAnd now (IsLifting settings (run_in sent w) sent.id w reader nonces))
-
-pub lifting-first : (settings : Settings) (sent : Reading) (told : Option World) (nonces : List ℕ) → nonces ≡ [] → lifted settings [] ≡ [] → Lifting settings sent told sent nonces told
-lifting-first settings sent None nonces is none = tt
-lifting-first settings sent (Some w) nonces is none = record {
-  frames = [];
-  whole = refl;
-  fault = refl;
-  nonces_are = is ∙ sym none;
-  others = λ other apart. refl;
-}
 
 -- a frame more
 pub lifting-on : (settings : Settings) (sent reader next : Reading) (nonces more : List ℕ) (f : Frame) (told mid now : Option World) → Lifting settings sent told reader nonces mid
@@ -49,27 +39,3 @@ lifting-on settings sent reader next nonces more f (Some w) (Some v) (Some u) li
       nonces_are = is ∙ ap (λ (l : List ℕ). lifted_on settings l f) lifting.nonces_are ∙ sym (law settings frames f);
       others = λ other apart. comes.1 other (λ e. apart (e ∙ id)) ∙ lifting.others other apart;
     }
-
--- the end
-pub lifting-over : (settings : Settings) (sent reader next : Reading) (nonces : List ℕ) (told mid now : Option World) → Lifting settings sent told reader nonces mid
-    → IfSome mid (λ v. Comes (Ok None) reader next v now) → IfSome told (λ w. IsLifted settings (run_in sent w) (Ok nonces))
-lifting-over settings sent reader next nonces None mid now lifting comes = tt
-lifting-over settings sent reader next nonces (Some w) None now lifting comes = absurd lifting
-lifting-over settings sent reader next nonces (Some w) (Some v) now lifting comes =
-    let frames = lifting.frames in
-    let all : frames ≡ (run_in sent w).frames = sym (append-nil frames) ∙ ap (λ (r : Run CaptureFault). frames ++ r.frames) (sym comes.0) ∙ lifting.whole in
-    (sym lifting.fault ∙ ap (λ (r : Run CaptureFault). r.fault) comes.0, lifting.nonces_are ∙ ap (lifted settings) all)
-
-pub lifting-others : (settings : Settings) (sent reader next : Reading) (nonces : List ℕ) (told mid now : Option World) → Lifting settings sent told reader nonces mid
-    → IfSome mid (λ v. Comes (Ok None) reader next v now) → reader.id ≡ sent.id → KeepsOthers sent.id told now
-lifting-others settings sent reader next nonces None mid now lifting comes id = tt
-lifting-others settings sent reader next nonces (Some w) None now lifting comes id = absurd lifting
-lifting-others settings sent reader next nonces (Some w) (Some v) None lifting comes id = absurd comes.1
-lifting-others settings sent reader next nonces (Some w) (Some v) (Some u) lifting comes id = λ other apart. comes.1.1 other (λ e. apart (e ∙ id)) ∙ lifting.others other apart
-
--- a fault
-pub lifting-fault : (settings : Settings) (sent reader next : Reading) (nonces : List ℕ) (fault : CaptureFault) (told mid now : Option World) → Lifting settings sent told reader nonces mid
-    → IfSome mid (λ v. Comes (Err fault) reader next v now) → IfSome told (λ w. IsFaultOf (run_in sent w) fault)
-lifting-fault settings sent reader next nonces fault None mid now lifting comes = tt
-lifting-fault settings sent reader next nonces fault (Some w) None now lifting comes = absurd lifting
-lifting-fault settings sent reader next nonces fault (Some w) (Some v) now lifting comes = λ own. sym lifting.fault ∙ ap (λ (r : Run CaptureFault). r.fault) (comes own)

@@ -119,10 +119,6 @@ pub part_filled : (id from size n : ℕ) (told : Option World) (buf part : List 
 part_filled id from size n told buf part within all came =
     IfSome_both told came came (λ w fills _. part_comes (left_of id w) buf part (post_of from size buf) from size n within all fills.count fills.octets)
 
--- what stands before the part stays
-pub part_front : (buf part : List ℕ) (from size : ℕ) → from ≤ length buf → take from (put_mid from size buf part) ≡ take from buf
-part_front buf part from size within = take_at (take from buf) (part ++ post_of from size buf) from (omega (arith, length-take from buf))
-
 -- octets that are more than others begin with these
 pub front_first : (old new : List ℕ) (count n : ℕ) → count ≤ length old → take count new ≡ take count old → take (length (take count old)) (take (count + n) new) ≡ take count old
 front_first old new count n within same =

@@ -4,7 +4,7 @@ use Rattle.std.specs.Option.{option_map, IfSome, unwrap_or}
 use Rattle.std.proofs.lemmas.List.{drop-drop, take_at, drop_at, take-append-le, length-append, length-take, length-drop}
 use Rattle.std.proofs.Math.Seq.{take-add, drop-nil}
 use borrow.Rule.Slice.PartMut.{put_mid, post_of}
-use Rattle.desk.specs.World.{World, found_at, left_of, after_read, Gives, Fills, shown}
+use Rattle.desk.specs.World.{World, found_at, left_of, after_read, Gives, Fills}
 use Rattle.desk.proofs.Entries.{changed_at-changed_at, changed_at-same, found_at-changed_at}
 
 left_or : (n : ℕ) (left : Option (List ℕ)) → unwrap_or (option_map (drop n) left) [] ≡ drop n (unwrap_or left [])
@@ -26,11 +26,6 @@ twice id a b (Some w) = ap (λ (readers : List (ℕ × List ℕ)). Some (record 
 -- one read after another is one read
 pub reads_on : (id a b : ℕ) (old mid new : Option World) → mid ≡ option_map (after_read id a) old → new ≡ option_map (after_read id b) mid → new ≡ option_map (after_read id (a + b)) old
 reads_on id a b old mid new first second = second ∙ ap (option_map (after_read id b)) first ∙ twice id a b old
-
--- reading shows nothing
-pub shown-after_read : (id n : ℕ) (old new : Option World) → new ≡ option_map (after_read id n) old → shown new ≡ shown old
-shown-after_read id n None new e = ap shown e
-shown-after_read id n (Some w) new e = ap shown e
 
 -- what holds of what is left after a read holds of the rest of what was left before it
 pub left_on : (id n : ℕ) (old mid : Option World) (P : List ℕ → Type 0) → mid ≡ option_map (after_read id n) old → IfSome mid (λ w. P (left_of id w)) → IfSome old (λ w. P (drop n (left_of id w)))

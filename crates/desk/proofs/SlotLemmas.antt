@@ -121,12 +121,6 @@ fresh-slot files slots said id is = record {
   writer = found_at-past writer_in 0 id slots (omega arith);
 }
 
--- a piece was written
-pub wrote-slots : (files : List NamedFile) (slots slots' : List Slot) (said : List ℕ) (id : ℕ) (piece : List ℕ) → entries reader_in slots' ≡ entries reader_in slots
-    → entries writer_in slots' ≡ changed_at id (extended piece) (entries writer_in slots) → entries direction_in slots' ≡ entries direction_in slots
-    → shelf_of files slots' said ≡ wrote id piece (shelf_of files slots said)
-wrote-slots files slots slots' said id piece readers writers given = rw (readers, writers, given) refl
-
 -- nothing was read
 pub moved-nothing : (id : ℕ) (s : Shelf) → s ≡ moved id 0 s
 moved-nothing id s =

@@ -71,16 +71,6 @@ module _ (settings : Settings) (moment : ℕ) where
         entered = record { now = y.now; count = omega (arith, xc, yc, long); own = y.own ∙ x.own; steps = y.steps ∙ x.steps };
       }
 
-  pub notes-none : (before : Parts) (entries : List Entry) (items : List Gathered) → before.now ≤ moment → Notes settings moment [] before entries items before entries items
-  notes-none before entries items later = record {
-    parts = refl;
-    entries = sym (append-nil entries);
-    items = sym (append-nil items);
-    fits = λ fit. fit;
-    few = omega arith;
-    entered = record { now = later; count = omega arith; own = refl; steps = refl };
-  }
-
 -- settings stand as long as neither own locators nor their changes come
 pub stands-still : (settings : Settings) (before after : Parts) → after.own ≡ before.own → after.steps ≡ before.steps → standing_in settings after ≡ standing_in settings before
 stands-still settings before after own steps = λ i. standing_by settings (own_in (own i) (steps i))

@@ -1,11 +1,9 @@
 -- Items that are left.
-use Rattle.std.proofs.Common.{◌≡◌, ℕ, zero, suc, ◌+◌, Bool, true, false, cond, List, [], ◌∷◌, count_by, filter, get_or, length, map, remove, slice_get, take, IfSome, Some, refl, sym, ap, ap₂, ◌∙◌}
+use Rattle.std.proofs.Common.{◌≡◌, ℕ, zero, suc, Bool, true, false, cond, List, [], ◌∷◌, filter, get_or, map, remove, slice_get, IfSome, Some, refl, sym, ap, ap₂, ◌∙◌}
 use Rattle.std.specs.List.{list_all}
 use Rattle.std.specs.Option.{option_map}
 use Rattle.std.proofs.lemmas.Bool.{and_parts}
-use Rattle.std.proofs.lemmas.List.{length-map}
-use Rattle.std.proofs.lemmas.List.Sums.{count_by_more_no, count_by_more_yes, length-filter}
-use Rattle.std.proofs.lemmas.Option.{get_or_from_slice_get, same_Some, slice_get-map, slice_get_within}
+use Rattle.std.proofs.lemmas.Option.{get_or_from_slice_get, same_Some, slice_get-map}
 
 module _ {A : Type 0} (test : A → Bool) where
   -- without an item that fails, the same pass
@@ -23,10 +21,6 @@ module _ {A : Type 0} (test : A → Bool) where
         let both = and_parts (test (f y)) _ all in
         ap₂ (λ b l. cond b (f y ∷ l) l) both.0 (filter-all items both.1)
 
-    -- and all are counted
-    pub count-all : (items : List B) → list_all (λ y. test (f y)) items ≡ true → length items ≡ count_by test (map f items)
-    count-all items all = sym (length-map items f) ∙ ap length (sym (filter-all items all)) ∙ length-filter test (map f items)
-
     -- what was made of an item that fails fails
     pub old-item : (items : List B) (place : ℕ) (x : A) → IfSome (slice_get items place) (λ y. test (f y) ≡ false) → slice_get (map f items) place ≡ Some x → test x ≡ false
     old-item [] place x fails at = absurd (cc at)
@@ -39,11 +33,3 @@ module _ {A : Type 0} (test : A → Bool) where
 
       here : test (get_or (map f items) i (f y)) ≡ test (f y)
       here = ap test (get_or_from_slice_get (map f items) i (f y) (f y) there)
-
-      -- one more is counted
-      pub count-passes : test (f y) ≡ true → count_by test (take (i + 1) (map f items)) ≡ count_by test (take i (map f items)) + 1
-      count-passes passes = count_by_more_yes test (map f items) i (f y) (slice_get_within (map f items) i (f y) there) (here ∙ passes)
-
-      -- or none
-      pub count-fails : test (f y) ≡ false → count_by test (take (i + 1) (map f items)) ≡ count_by test (take i (map f items))
-      count-fails fails = count_by_more_no test (map f items) i (f y) (slice_get_within (map f items) i (f y) there) (here ∙ fails)

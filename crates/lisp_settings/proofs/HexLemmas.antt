@@ -1,5 +1,5 @@
 -- Hexadecimal texts, read octet by octet.
-use Rattle.std.proofs.Common.{◌≡◌, ℕ, suc, ◌+◌, ◌*◌, ◌/◌, ◌%◌, ◌<◌, List, [], ◌∷◌, ◌++◌, length, get_or, take, drop, Option, Some, None, option_map, option_and_then, refl, sym, ap, ◌∙◌, arith, append_assoc, append-nil, eq-eqb, ne_eqb, drop-cons}
+use Rattle.std.proofs.Common.{◌≡◌, ℕ, suc, ◌+◌, ◌*◌, ◌/◌, ◌%◌, ◌<◌, List, [], ◌∷◌, ◌++◌, length, get_or, take, drop, Option, Some, None, option_map, option_and_then, refl, sym, ap, ◌∙◌, arith, append_assoc, append-nil, eq-eqb, drop-cons}
 use Rattle.std.proofs.Math.ListN.{set}
 use Rattle.std.proofs.lemmas.List.{take_more_set, take_all, drop_all}
 use Rattle.lisp_settings.specs.Hex.{digit, octet_of, octets_in, hex_octets}
@@ -30,10 +30,6 @@ pub octets_in-none : (text out : List ℕ) (i : ℕ) → 2 * i + 1 < length text
 octets_in-none text out i below octet read =
     let next = octets_in-next text (2 * i) (2 * i + 1) (2 * (i + 1)) refl (omega arith) below in
     read ∙ ap (option_map (λ more. take i out ++ more)) (next ∙ ap (option_and_then (λ octet. option_map (λ octets. octet ∷ octets) (octets_in (drop (2 * (i + 1)) text)))) octet)
-
--- a text of another length
-pub hex_octets-length : (n : ℕ) (text : List ℕ) → (length text ≡ 2 * n → ⊥) → hex_octets n text ≡ None
-hex_octets-length n text other = rw (ne_eqb (length text) (2 * n) other) refl
 
 -- a text of this length
 pub hex_octets-read : (n : ℕ) (text : List ℕ) (octets : Option (List ℕ)) → length text ≡ 2 * n → octets_in text ≡ octets → hex_octets n text ≡ octets

@@ -8,13 +8,6 @@ use Rattle.locator_choice.specs.declared.choice.Candidate.{Candidate}
 
 -- ### the least priority
 
-pub wider-part : (q : ℕ) (c : Candidate) (others : List Candidate) → 0 < length (partaking q others) → 0 < length (partaking q (c ∷ others))
-wider-part q c others some = by (takes_part q c)
-  where
-    by : (b : Bool) → 0 < length (cond b (c ∷ partaking q others) (partaking q others))
-    by true = omega arith
-    by false = some
-
 pub first-part : (c : Candidate) (others : List Candidate) → c.usable ≡ true → 0 < length (partaking c.priority (c ∷ others))
 first-part c others usable = subst (λ (b : Bool). 0 < length (cond b (c ∷ partaking c.priority others) (partaking c.priority others))) (sym is) (omega arith)
   where

@@ -322,14 +322,6 @@ candidate-first targets one x among =
 pub first-candidate : (targets : List Target) → HaveOneProbe targets → (rloc : Addr) (x : Target) → find (at_address rloc) targets ≡ Some x → Contains (placed targets []) x
 first-candidate targets one rloc x is = found-contained (at_address rloc) (placed targets []) x (find-candidate rloc targets one ∙ is)
 
--- of one address there is one
-pub candidate-once : (targets : List Target) → HaveOneProbe targets → (x y : Target) → Contains (placed targets []) x → Contains (placed targets []) y → same_address x.rloc y.rloc ≡ true → x ≡ y
-candidate-once targets one x y first second same =
-    same_Some x y
-    (sym (candidate-first targets one x first)
-    ∙ ap (λ (a : Addr). find (at_address a) targets) (equal-address x.rloc y.rloc same)
-    ∙ candidate-first targets one y second)
-
 -- ### the first n
 
 -- some that ascend are the first n of others that do, if they are among them, others are behind all of them, and they are n or all

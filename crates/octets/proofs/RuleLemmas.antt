@@ -1,6 +1,6 @@
 -- Rules that pass, tables one after another, and answers by rules.
-use Rattle.std.proofs.Common.{◌≡◌, ◌≢◌, Bool, true, false, List, [], ◌∷◌, ◌++◌, Option, Some, None, option_map, Ok, Err, refl}
-use Rattle.octets.specs.Rules.{first_failing, FailsBy}
+use Rattle.std.proofs.Common.{◌≡◌, Bool, true, false, List, [], ◌∷◌, ◌++◌, Some, None, refl}
+use Rattle.octets.specs.Rules.{first_failing}
 
 -- each rule of the table holds
 abbrev pub AllHold : {X : Type 0} → List (Bool × X) → Type 0
@@ -30,13 +30,3 @@ pub first_failing-append_refused : {X : Type 0} (front back : List (Bool × X)) 
 first_failing-append_refused [] back answer some = cc
 first_failing-append_refused ((true, other) ∷ front) back answer some = first_failing-append_refused front back answer some
 first_failing-append_refused ((false, other) ∷ front) back answer some = some
-
--- a value is answered where no rule fails
-pub FailsBy-ok : {X T E : Type 0} (fault : X → E) (memory : E) (failed : Option X) (value : T) → FailsBy fault memory failed (Ok value) → failed ≡ None
-FailsBy-ok fault memory None value by_rules = refl
-FailsBy-ok fault memory (Some rule) value by_rules = cc
-
--- a fault that isn't want of memory is that of a rule
-pub FailsBy-err : (T : Type 0) {X E : Type 0} (fault : X → E) (memory : E) (failed : Option X) (given : E) → given ≢ memory → FailsBy {T = T} fault memory failed (Err given) → Some given ≡ option_map fault failed
-FailsBy-err T fault memory None given other by_rules = absurd (other by_rules)
-FailsBy-err T fault memory (Some rule) given other by_rules = cc

@@ -48,11 +48,6 @@ says_and_writes file lines records None mid new id is said wrote = wrote ∙ ap 
 says_and_writes file lines records (Some w) mid new id is said wrote =
     wrote ∙ ap (option_map (after_write id records)) said ∙ ap (λ (f : Option ℕ). Some (after_output f lines records w)) (sym is)
 
-pub says_alone : (file : Option ℕ) (lines records : List ℕ) (old new : Option World) → file ≡ None
-    → new ≡ option_map (after_say lines) old → new ≡ option_map (after_output file lines records) old
-says_alone file lines records None new is said = said
-says_alone file lines records (Some w) new is said = said ∙ ap (λ (f : Option ℕ). Some (after_output f lines records w)) (sym is)
-
 -- handing on leaves all that is to be read
 pub handed-keeps : (file : Option ℕ) (output : Output) (told now : Option World) → now ≡ handed_on file output told → KeepsReaders told now
 handed-keeps file output None now handed = ap (option_map (λ (w : World). w.readers)) handed

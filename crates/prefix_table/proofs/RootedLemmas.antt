@@ -32,15 +32,6 @@ module _ {V : Type 0} where
         room = λ missing. room (value_around store roots eid (tree_of store (Some root.name)) a.around ∙ missing);
       }
 
-  pub takes_gap : (store : Store (Node V)) (roots : List Root) (eid : Eid) (at : ℕ) → IsForest store roots → IsGapFor roots (root_key eid) at → key_bits eid 0 ≡ 0 → 2 ≤ store.rooms → Takes store None 0 eid
-  takes_gap store roots eid at forest gap bits room = record {
-    tree = none;
-    bits = 0;
-    is = record { named = refl; spelled = tt; trie = tt };
-    fits = record { same_iid = refl; same_width = refl; longer = omega arith; front = bits };
-    room = λ missing. room;
-  }
-
   abbrev edited_grown : (old new : Store (Node V)) (iid width bits len : ℕ) (eid : Eid) (value : V) (before : Tree V) (name : ℕ) (was : Option V) → Grown old new iid width bits len eid value before name was → Edited old new iid width bits len before (Some name)
   edited_grown old new iid width bits len eid value before name was g = record {
     tree = g.tree;

@@ -79,20 +79,6 @@ module _ {V : Type 0} (answers : V → Bool → Type 0) (eid : Eid) (store : Sto
     pub rises : start ≤ reads
     pub goes_on : (result : Option (Eid × V)) → Answers answers eid rest best result → Answers answers eid whole None result
 
-  pub init : (root : Option ℕ) (reads : ℕ) → name_of whole ≡ root → Spells store whole → IsTrie eid.iid (key_width eid) 0 0 whole → Searching root None reads reads
-  init root reads named spelled trie = record {
-    rest = whole;
-    bits = 0;
-    len = 0;
-    named = named;
-    spelled = spelled;
-    trie = trie;
-    within = omega arith;
-    counted = omega arith;
-    rises = omega arith;
-    goes_on = λ result found. found;
-  }
-
   -- the node is there, and one more read is within the bound
   pub live : (at : Option ℕ) (name : ℕ) (best : Option (Eid × V)) (start reads : ℕ) → Searching at best start reads → at ≡ Some name → IsLive store name
   live at name best start reads s is = top_live store s.rest name (s.named ∙ is) s.spelled

@@ -74,20 +74,6 @@ module _ {V : Type 0} where
   removed key None ys after = without_pair-before key [] ys after
   removed key (Some v) ys after = let s = same_self key in rw (s.not_below) refl
 
-  -- nothing was there
-  pub shrunk_none : (old : Store (Node V)) (iid width bits len : ℕ) (eid : Eid) → Shrunk old old iid width bits len eid none None None
-  shrunk_none old iid width bits len eid = record {
-    tree = none;
-    named = refl;
-    spelled = tt;
-    trie = tt;
-    list = refl;
-    found = refl;
-    kept = λ n nd found unused. found;
-    rooms = refl;
-    slots = refl;
-  }
-
   -- the top doesn't cover the EID
   pub shrunk_missed : (old : Store (Node V)) (at : ℕ) (top : Node V) (iid width bits len : ℕ) (low high : Tree V) (eid : Eid) → Top old at top iid width bits len low high → covers_eid top.eid eid ≡ false → Shrunk old old iid width bits len eid (node at top.eid top.value low high) (Some at) None
   shrunk_missed old at top iid width bits len low high eid t missed = record {

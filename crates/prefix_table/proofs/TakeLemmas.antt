@@ -10,7 +10,6 @@ use Rattle.prefix_table.specs.declared.node.Node.{Node}
 use Rattle.prefix_table.specs.Keys.{key_width, key_len, key_bits}
 use Rattle.prefix_table.specs.Tree.{Tree, side_bits}
 use Rattle.prefix_table.specs.Tree.Tree.{none, node}
-use Rattle.prefix_table.specs.Spelled.{name_of}
 use Rattle.prefix_table.specs.Grown.{IsTrieAt}
 use Rattle.prefix_table.specs.Shrunk.{Holds, Shrunk, Shrinks, Stays, Goes}
 use Rattle.prefix_table.proofs.Bits.{covers_parts}
@@ -18,7 +17,7 @@ use Rattle.prefix_table.proofs.LongestLemmas.{side_of}
 use Rattle.prefix_table.proofs.SearchLemmas.{key_len-most, named_live}
 use Rattle.prefix_table.proofs.TopLemmas.{Top, apart}
 use Rattle.prefix_table.proofs.PutLemmas.{open_at, even_side, same_key}
-use Rattle.prefix_table.proofs.ShrinkLemmas.{shrunk_none, shrunk_missed, shrunk_cleared, shrunk_to_low, shrunk_to_high, shrunk_low, shrunk_low_gone, shrunk_high, shrunk_high_gone}
+use Rattle.prefix_table.proofs.ShrinkLemmas.{shrunk_missed, shrunk_cleared, shrunk_to_low, shrunk_to_high, shrunk_low, shrunk_low_gone, shrunk_high, shrunk_high_gone}
 
 and_both : (a b : Bool) → (a && b) ≡ true → (a ≡ true) × (b ≡ true)
 and_both false b is = absurd (cc (is))
@@ -61,13 +60,6 @@ module _ {V : Type 0} where
         is = o.is ∙ ap (λ (x : Node V). node at x.eid x.value o.low o.high) top_is;
         here = subst (λ (x : Node V). Top store at x iid width bits len o.low o.high) top_is o.here;
       }
-
-  pub shrinks_none : (old : Store (Node V)) (where_ : Option ℕ) (len : ℕ) (eid : Eid) → where_ ≡ None → Shrinks old old where_ len eid None None
-  shrinks_none old where_ len eid is tree bits i fits = by_tree tree (i.named ∙ is)
-    where
-      by_tree : (tree : Tree V) → name_of tree ≡ None → Shrunk old old eid.iid (key_width eid) bits len eid tree None None
-      by_tree none named = shrunk_none old eid.iid (key_width eid) bits len eid
-      by_tree (node other key v low high) named = absurd (cc (named))
 
   module _ (old : Store (Node V)) (where_ : Option ℕ) (at : ℕ) (top : Node V) (eid : Eid) (len : ℕ) (is : where_ ≡ Some at) (found : node_at old at ≡ Some top) where
     pub shrinks_missed : covers_eid top.eid eid ≡ false → Shrinks old old where_ len eid (Some at) None

@@ -1,5 +1,5 @@
 -- Tries in a store, and the node at their top.
-use Rattle.std.proofs.Common.{◌≡◌, ℕ, zero, suc, ◌+◌, ◌<◌, ◌≤◌, false, List, [], ◌∷◌, ◌++◌, All, Option, Some, None, inl, inr, subst, refl, sym, ap, ◌∙◌, arith}
+use Rattle.std.proofs.Common.{◌≡◌, ℕ, zero, suc, ◌+◌, ◌<◌, ◌≤◌, false, List, [], ◌∷◌, ◌++◌, All, Option, Some, None, inl, inr, refl, sym, ap, ◌∙◌, arith}
 use Rattle.std.proofs.lemmas.Option.{same_Some}
 use Rattle.std.proofs.lemmas.Bool.{false≢true}
 use Rattle.std.proofs.lemmas.List.Elements.{All-nil, All-cons, All-append}
@@ -16,7 +16,7 @@ use Rattle.prefix_table.specs.Grown.{Uses}
 use Rattle.prefix_table.proofs.Bits.{Covers, covers_trans, below_covers, side_fits, covers_from}
 use Rattle.prefix_table.proofs.LongestLemmas.{OnPair, All-pairs, each_fits}
 use Rattle.prefix_table.proofs.OrderLemmas.{Same, Lt-covers, Lt-bits, Same-covers, IsBefore, IsAfter, with_pair-before, value_in-past, value_in-before, value_in-missing, covers-Same}
-use Rattle.prefix_table.proofs.SearchLemmas.{Opened, key_len-most}
+use Rattle.prefix_table.proofs.SearchLemmas.{key_len-most}
 
 module _ {V : Type 0} where
   -- a tree's name has a node whose key fits
@@ -110,22 +110,6 @@ module _ {V : Type 0} where
 
   pub IsTrie-top : (store : Store (Node V)) (at : ℕ) (top : Node V) (iid width bits len : ℕ) (low high : Tree V) → Top store at top iid width bits len low high → IsTrie iid width bits len (node at top.eid top.value low high)
   IsTrie-top store at top iid width bits len low high t = (t.fits, t.low_trie, t.high_trie, t.branches)
-
-  -- the top of a trie under a name
-  pub top_of : (store : Store (Node V)) (rest : Tree V) (at : ℕ) (top : Node V) (iid width bits len : ℕ) → IsTrie iid width bits len rest → (o : Opened store rest at top) → node_at store at ≡ Some top → Top store at top iid width bits len o.low o.high
-  top_of store rest at top iid width bits len trie o found =
-      let t = subst (λ (r : Tree V). IsTrie iid width bits len r) o.is trie in
-      record {
-        found = found;
-        low_named = o.low_named;
-        high_named = o.high_named;
-        low_spelled = o.low_spelled;
-        high_spelled = o.high_spelled;
-        fits = t.0;
-        low_trie = t.1;
-        high_trie = t.2;
-        branches = t.3;
-      }
 
   -- lists with the pair on one side of a key
   pub after_side : (tree : Tree V) (key eid : Eid) (iid width len : ℕ) → eid.iid ≡ iid → key_width eid ≡ width → IsTrie iid width (side_bits key 1) len tree → key_bits eid len ≡ side_bits key 0 → All (IsAfter eid) (pairs tree)

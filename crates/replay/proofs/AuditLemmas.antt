@@ -5,7 +5,7 @@ use Rattle.std.specs.Result.{IfOk}
 use Rattle.std.proofs.lemmas.Bool.{cases_Bool}
 use Rattle.std.proofs.lemmas.Grind.{common_steps}
 use Rattle.audit.specs.Compared.{compared}
-use Rattle.auditing.specs.Auditing.{octets_of, run_in, IsAudited, IsLifted, KeepsOthers}
+use Rattle.auditing.specs.Auditing.{octets_of, run_in, IsAudited, IsLifted}
 use Rattle.auditing.specs.declared.audited.Audited.{Audited}
 use Rattle.auditing.specs.declared.audited.Audited.TheVariants.{Compared, Played as BadPlayed, Sent as BadSent}
 use Rattle.capture_events.specs.Events.{Determined, Outcome, events, played}
@@ -79,18 +79,6 @@ opened-keeps id n name given now (Some w) mid new fresh opens reads more = recor
       (λ other is. let apart = given-apart other id given is fresh in left-other id other n (after_open id name w) apart ∙ left-more id other name w apart);
 }
 
--- and then read on
-pub kept-on : (id : ℕ) (given mid-given now : List (ℕ × Direction)) (old mid new : Option World) → found_at id given ≡ None → KeepsGiven given old mid-given mid → now ≡ mid-given → KeepsOthers id mid new
-    → KeepsGiven given old now new
-kept-on id given mid-given now None mid new fresh keeps same others =
-    record { given_still = λ other is. rw same (keeps.given_still other is); left = tt }
-kept-on id given mid-given now (Some w) None new fresh keeps same others = absurd keeps.left
-kept-on id given mid-given now (Some w) (Some v) None fresh keeps same others = absurd others
-kept-on id given mid-given now (Some w) (Some v) (Some u) fresh keeps same others = record {
-  given_still = λ other is. rw same (keeps.given_still other is);
-  left = λ other is. others other (given-apart other id given is fresh) ∙ keeps.left other is;
-}
-
 -- the id of a reader that has begun is the one that was given
 pub started-given : (id : ℕ) (reader : Result Reading InputFault) (given : List (ℕ × Direction)) → IfOk reader (λ r. r ≡ beginning id r.format) → IsGiven id to_read given
     → IfOk reader (λ r. IsGiven r.id to_read given)
@@ -126,9 +114,6 @@ audits-as settings parts input sent (BadSent fault) lawful begins is = is
 pub whole-run : (run : Run CaptureFault) → run.fault ≡ None → whole (Ok (input_run of.Classic run)) ≡ Ok run.frames
 whole-run run none = rw none refl
 
-pub whole-fault : (run : Run CaptureFault) (fault : CaptureFault) → run.fault ≡ Some fault → whole (Ok (input_run of.Classic run)) ≡ Err (of.Classic fault)
-whole-fault run fault is = rw is refl
-
 -- the fault of what was sent counts behind that of the other
 pub found-refused : (settings : Settings) (input : Result (List Frame) InputFault) (fault : InputFault) → found FromSettings settings input (Err fault) ≡ refused input fault
 found-refused settings (Ok frames) fault = refl
@@ -137,12 +122,6 @@ found-refused settings (Err own) fault = refl
 pub found-lifted-refused : (settings : Settings) (input : Result (List Frame) InputFault) (fault : InputFault) → found FromSent settings input (Err fault) ≡ refused input fault
 found-lifted-refused settings (Ok frames) fault = refl
 found-lifted-refused settings (Err own) fault = refl
-
--- with nonces that were lifted
-pub found-lifted : (settings : Settings) (input sent : Result (List Frame) InputFault) (nonces : List ℕ) → LiftsFrom settings sent (Ok nonces)
-    → found FromSettings (record settings { nonces = nonces }) input sent ≡ found FromSent settings input sent
-found-lifted settings (Err own) sent nonces (records, is, lifts) = refl
-found-lifted settings (Ok frames) sent nonces (records, is, lifts) = rw (is, lifts) refl
 
 -- nonces were lifted out of a capture that was opened
 pub lifts-from : (settings : Settings) (what : World → Opened) (r : Reading) (nonces : List ℕ) (old mid : Option World)

@@ -231,12 +231,6 @@ pub says_none : (line : List ℕ) (told : Option World) → SaysPart line told t
 says_none line None = (0, refl)
 says_none line (Some w) = (0, ap (λ (said : List ℕ). Some (record w { said = said })) (sym (append-nil w.said)))
 
--- the same of what is shown alone
-pub front_shown : (a : List NamedFile → Answer) (parts : List NamedFile → ℕ → Part) (old new : Option World) → IfSome old (λ w. EndsFront (a w.files) (parts w.files) (shown_of w) new)
-    → IfSome (shown old) (λ s. EndsFront (a s.files) (parts s.files) s new)
-front_shown a parts None new ends = tt
-front_shown a parts (Some w) new ends = ends
-
 pub part-zero : (words : List (List ℕ)) (files : List NamedFile) → (part words files 0).said ≡ []
 unfolding part
 part-zero words files = words-zero files (words_of words)

@@ -52,11 +52,6 @@ own_fault fault.TooManyRecords not_host not_memory = refl
 pub left-opened : (id : ℕ) (name : List ℕ) (w : World) → found_at id w.readers ≡ None → left_of id (after_open id name w) ≡ content name w.files
 left-opened id name w fresh = ap (λ (o : Option (List ℕ)). unwrap_or o []) (found_at-more id (content name w.files) w.readers fresh)
 
--- opening shows nothing
-pub shown-after_open : (id : ℕ) (name : List ℕ) (old new : Option World) → new ≡ option_map (after_open id name) old → shown new ≡ shown old
-shown-after_open id name None new opened = ap shown opened
-shown-after_open id name (Some w) new opened = ap shown opened
-
 -- a classic capture whose header obeys its rules: all of its run is left
 pub classic-opens : (id : ℕ) (mid now : Option World) (r : Reading)
     → IfSome mid (λ w. Ok r ≡ started id (left_of id w)) → now ≡ option_map (after_read id 24) mid → r ≡ beginning id r.format

@@ -1,11 +1,10 @@
 -- A file that was opened, and read piece by piece.
-use Rattle.std.proofs.Common.{◌≡◌, ℕ, ◌<◌, ◌++◌, List, [], length, take, drop, Option, Some, None, refl, sym, ap, subst, ◌∙◌, inl, inr, arith, append_assoc}
+use Rattle.std.proofs.Common.{◌≡◌, ℕ, ◌++◌, List, [], take, drop, Option, Some, None, sym, ap, subst, ◌∙◌, inl, inr, append_assoc}
 use Rattle.std.specs.Option.{option_map, IfSome, IsSomeAnd, unwrap_or}
-use Rattle.std.proofs.lemmas.List.{take_all, take-append-drop, length-append}
+use Rattle.std.proofs.lemmas.List.{take-append-drop}
 use Rattle.desk.specs.World.{World, found_at, left_of, content, after_open, after_read, Fills}
 use Rattle.desk.proofs.Entries.{found_at-more}
 use Rattle.desk.proofs.Reading.{left-after_read}
-use Rattle.lisp_settings.specs.Limits.{most_text_octets}
 use Rattle.lisp_settings.specs.Settings.{settings_of}
 use Rattle.lisp_settings.proofs.ReadingLemmas.{settings_of-long}
 use Rattle.replay.specs.Readings.{ReadsAs}
@@ -23,10 +22,6 @@ abbrev pub Came : ℕ → List ℕ → Option World → Option World → Type 0
 Came id octets None now = Unit {0}
 Came id octets (Some w) now = IsSomeAnd now (λ v. left_of id w ≡ octets ++ left_of id v)
 
-pub came-none : (id : ℕ) (told : Option World) → Came id [] told told
-came-none id None = tt
-came-none id (Some w) = refl
-
 front_and_rest : (octets left : List ℕ) (n : ℕ) → octets ++ left ≡ (octets ++ take n left) ++ drop n left
 front_and_rest octets left n = ap (λ (l : List ℕ). octets ++ l) (sym (take-append-drop n left)) ∙ sym (append_assoc octets (take n left) (drop n left))
 
@@ -37,22 +32,6 @@ came-more id n octets buf None mid now came fills reads = tt
 came-more id n octets buf (Some w) None now came fills reads = absurd came
 came-more id n octets buf (Some w) (Some v) now came fills reads =
     rw reads (came ∙ front_and_rest octets (left_of id v) n ∙ ap (λ (l : List ℕ). (octets ++ l) ++ drop n (left_of id v)) (sym fills.octets) ∙ ap (λ (l : List ℕ). (octets ++ take n buf) ++ l) (sym (left-after_read id n v)))
-
--- a piece that isn't full is the last one
-pub came-last : (id n : ℕ) (octets buf : List ℕ) (old mid : Option World) → Came id octets old mid → IfSome mid (λ w. Fills (left_of id w) n buf) → n < length buf
-    → IfSome old (λ w. ReadsAs (octets ++ take n buf) (left_of id w))
-came-last id n octets buf None mid came fills short = tt
-came-last id n octets buf (Some w) None came fills short = absurd came
-came-last id n octets buf (Some w) (Some v) came fills short =
-    let all : take n (left_of id v) ≡ left_of id v = take_all n (left_of id v) (omega (arith, fills.count, short)) in
-    inl (ap (λ (l : List ℕ). octets ++ l) (fills.octets ∙ all) ∙ sym came)
-
--- more octets came than settings may have
-pub came-long : (id : ℕ) (octets : List ℕ) (old now : Option World) → Came id octets old now → most_text_octets < length octets → IfSome old (λ w. ReadsAs octets (left_of id w))
-came-long id octets None now came long = tt
-came-long id octets (Some w) None came long = absurd came
-came-long id octets (Some w) (Some v) came long =
-    inr (long, omega (arith, ap length came, length-append octets (left_of id v), long))
 
 -- what was read tells the settings of the file
 pub settings_of-read : (octets text : List ℕ) → ReadsAs octets text → settings_of octets ≡ settings_of text

@@ -7,7 +7,7 @@ use Rattle.capture_io.specs.Frame.{Frame}
 use Rattle.capture_io.specs.Output.{packet_record}
 use Rattle.lisp_settings.specs.Lawful.{IsLawful}
 use Rattle.lisp_settings.specs.declared.settings.Settings.{Settings}
-use Rattle.capture_events.specs.Events.{Arrival, Determined, End, Event, Happens, Outcome, Packet, idle, records_of, second_of}
+use Rattle.capture_events.specs.Events.{Arrival, Determined, Event, Happens, Outcome, Packet, records_of, second_of}
 use Rattle.playback.specs.Playing.{Gathers, GathersOne}
 use Rattle.playback.specs.declared.output.Output.{Output}
 use Rattle.router_log.specs.Lines.{frame_line}
@@ -200,15 +200,6 @@ ready-first settings parts lawful is =
 pub gathers-determined : {S : Type 0} (step : S → Event → Outcome S) (before after : S) (event : Event) (old new : Output)
     → Gathers (step before event) old new → after ≡ (step before event).after → GathersOne (Determined step before (Happens event)) old new after
 gathers-determined step before after event old new gathers is = record { outcome = step before event; is = refl; gathers = gathers; left = is }
-
--- nothing is left to be done at the end
-pub gathers-end : {S : Type 0} (step : S → Event → Outcome S) (state : S) (output : Output) → GathersOne (Determined step state End) output output state
-gathers-end step state output = record {
-  outcome = idle state;
-  is = refl;
-  gathers = record { lines = sym (append-nil output.lines); records = sym (append-nil output.records); written = omega arith };
-  left = refl;
-}
 
 -- behind an event a table is for the settings that it was for
 pub own-kept : (settings : Settings) (old new : Parts) (event : Event) → without_ups old.own ≡ without_ups settings.locators → router_of settings new ≡ (after_event table (router_of settings old) event).after → without_ups new.own ≡ without_ups settings.locators

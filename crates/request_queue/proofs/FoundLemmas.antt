@@ -7,7 +7,7 @@ use Rattle.std.proofs.lemmas.Bool.Decides.{nat_tests}
 use Rattle.std.proofs.lemmas.Option.{same_Some}
 use Rattle.ip_headers.specs.declared.addr.Addr.{Addr}
 use Rattle.ip_headers.specs.declared.addr.Addr.TheVariants.{V4, V6}
-use Rattle.keyed_list.specs.Keyed.{changed_with, is_key, item_at}
+use Rattle.keyed_list.specs.Keyed.{changed_with, is_key}
 use Rattle.keyed_list.specs.Keys.{eid_key, nonce_key}
 use Rattle.keyed_list.proofs.SameLemmas.{eid-nonce, nonce-eid, same-eid, same-nonce}
 use Rattle.keyed_list.specs.Lists.{last_where, later}
@@ -15,7 +15,7 @@ use Rattle.request_queue.proofs.PassingLemmas.{last-passes, none-passes, NonePas
 use Rattle.mapping_records.specs.Eids.{same_address, same_eid}
 use Rattle.mapping_records.specs.Orders.{addr_order}
 use Rattle.mapping_records.specs.declared.eid.Eid.{Eid}
-use Rattle.request_queue.specs.Found.{asks_for, request_marks}
+use Rattle.request_queue.specs.Found.{request_marks}
 use Rattle.request_queue.specs.Lists.{all_may_again, are_distinct, has_nonce}
 use Rattle.request_queue.specs.Queue.{all_due, behind, due, is_waiting, once_more, sent_again, waiting, with_nonce, without_nonce}
 use Rattle.request_queue.specs.declared.request.Request.{Request}
@@ -69,27 +69,6 @@ module _ {A : Type 0} (test : A → Bool) where
 pub some-copied : {A : Type 0} (o : Option (Bor A)) → is_some (option_copied o) ≡ is_some o
 some-copied None = refl
 some-copied (Some x) = refl
-
--- there is one exactly where one passes
-pub some-eid : (m : ℕ) (eid : Eid) (requests : List Request) → is_some (last_where (λ request. is_key request_marks (eid_key eid) request && is_waiting m request) requests) ≡ list_any (λ request. same_eid request.eid eid && is_waiting m request) requests
-some-eid m eid requests =
-    ap is_some (last-same (λ request. is_key request_marks (eid_key eid) request && is_waiting m request) (λ request. same_eid request.eid eid && is_waiting m request) None requests (λ y. ap (λ b. b && is_waiting m y) (is_key-eid eid y)))
-    ∙ some-from (λ request. same_eid request.eid eid && is_waiting m request) None requests
-
-some-asks : (eid : Eid) (requests : List Request) → is_some (last_where (is_key request_marks (eid_key eid)) requests) ≡ asks_for eid requests
-some-asks eid requests =
-    ap is_some (last-same (is_key request_marks (eid_key eid)) (λ request. same_eid request.eid eid) None requests (is_key-eid eid))
-    ∙ some-from (λ request. same_eid request.eid eid) None requests
-
--- one is for the EID exactly where a place was found
-pub asks-at : (eid : Eid) (requests : List Request) (place : Option ℕ) → item_at requests place ≡ last_where (is_key request_marks (eid_key eid)) requests → IfSome place (λ n. n < length requests) → asks_for eid requests ≡ is_some place
-asks-at eid requests None last within = sym (some-asks eid requests) ∙ ap is_some (sym last)
-asks-at eid requests (Some n) last within = sym (some-asks eid requests) ∙ ap is_some (sym last) ∙ there requests n within
-  where
-    there : (some : List Request) (k : ℕ) → k < length some → is_some (slice_get some k) ≡ true
-    there [] k less = absurd (omega (arith, less))
-    there (x ∷ some) zero less = refl
-    there (x ∷ some) (suc k) less = there some k (omega (arith, less))
 
 -- ### by nonce
 

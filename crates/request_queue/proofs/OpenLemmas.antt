@@ -94,9 +94,6 @@ module _ (m iid : ℕ) (old purged : List Request) (were limits : List LimitItem
 
 -- ### limits are kept
 
-pub keeps-none : (limits : List LimitItem) → KeepsLimits limits []
-keeps-none limits iid = omega arith
-
 pub keeps-filter : (test : Request → Bool) (limits : List LimitItem) (requests : List Request) → KeepsLimits limits requests → KeepsLimits limits (filter test requests)
 keeps-filter test limits requests keeps iid =
     omega (arith, keeps iid, count-filter (λ (request : Request). request.eid.iid == iid) test requests)

@@ -12,7 +12,7 @@ use Rattle.router_log.specs.declared.emit.Emit.{Emit}
 use Rattle.router_log.specs.declared.emit.Emit.TheVariants.{Request as AskFor}
 use Rattle.router_log.specs.declared.entry.Entry.{Entry}
 use Rattle.router_log.specs.declared.entry.Entry.TheVariants.{Answered, Asked, Learned}
-use Rattle.router_model.specs.Changes.{Change, asked, each, entered, has_room, may_open, unchanged}
+use Rattle.router_model.specs.Changes.{asked, each, entered, has_room, may_open, unchanged}
 use Rattle.octets.specs.Rules.{first_failing}
 use Rattle.map_messages.specs.Message.{message_rules}
 use Rattle.map_messages.specs.declared.message.MapReply.{MapReply}
@@ -69,11 +69,6 @@ pub requests-now : (p : Parts) (m : ℕ) → p.now ≤ m → (view_in p m).reque
 requests-now p m after = requests-seen p m ∙ ap (λ (t : ℕ). waiting t p.requests) (later m p.now after)
 
 -- ### a record
-
--- one that isn't to be learned
-pub taught-not : (settings : Settings) (m : ℕ) (asked : Eid) (mappings : List Record) (mapping : Record) (change : Change Parts) → (is_asked_for asked mappings mapping && (not (is_static settings mapping) && has_room change.after.limits (view_in change.after m) mapping)) ≡ false → change ≡ taught table settings m asked mappings mapping change
-taught-not settings m asked mappings mapping change isn't =
-    sym (ap (λ b. cond b (entered table settings m (Learned m (shortened mapping) false) change) change) isn't)
 
 -- one that is
 pub taught-so : (settings : Settings) (m : ℕ) (asked : Eid) (mappings : List Record) (mapping : Record) (p : Parts) (entries : List Entry) → p.now ≤ m → p.count < 2 ^ 62 → mapping.action ≤ 7 → mapping.version ≤ 4095 → length (shortened mapping).locators ≤ 32 → (is_asked_for asked mappings mapping && (not (is_static settings mapping) && has_room p.limits (view_in p m) mapping)) ≡ true → change_of (with_entry (Learned m (shortened mapping) false) p) (entries ++ Learned m (shortened mapping) false ∷ []) [] ≡ taught table settings m asked mappings mapping (change_of p entries [])

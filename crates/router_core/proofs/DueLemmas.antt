@@ -1,5 +1,5 @@
 -- Which changes of own locators are due at a second, since they ascend by second.
-use Rattle.std.proofs.Common.{◌≡◌, ℕ, zero, suc, ◌==◌, ◌<◌, ◌≤◌, ◌||◌, nat_le, nat_lt, Bool, true, false, cond, List, [], ◌∷◌, drop, map, slice_get, None, Some, Ordering, Less, Equal, Greater, refl, sym, ap, ◌∙◌, arith}
+use Rattle.std.proofs.Common.{◌≡◌, ℕ, zero, suc, ◌==◌, ◌<◌, ◌≤◌, ◌||◌, nat_le, nat_lt, Bool, true, false, cond, List, [], ◌∷◌, drop, map, slice_get, Some, Ordering, Less, Equal, Greater, refl, sym, ap, ◌∙◌, arith}
 use Rattle.std.proofs.lemmas.Bool.Decides.{nat_tests}
 use Rattle.std.specs.List.{AllByRecursion}
 use Rattle.std.specs.List.Sorted.{IsStrictlySortedBy}
@@ -72,8 +72,3 @@ module _ (m : ℕ) where
       by : (b : Bool) → nat_le (seconds first.at) m ≡ b → b ≡ (b || is_some_due m others)
       by true is = refl
       by false is = sym (none-behind first others is ascend.0)
-
-  -- without one none is
-  pub due-none : (changes : List OwnChange) → slice_get changes 0 ≡ None → false ≡ is_some_due m changes
-  due-none [] none = refl
-  due-none (first ∷ others) none = absurd cc

@@ -177,10 +177,6 @@ answered-parts limits own steps count drawn now ms rs o m nonce =
 
 -- ### status bits that were told
 
--- a mapping by its step
-step-told : (m : ℕ) (eid : Eid) (bits width : ℕ) (mapping : Mapping) → mapping_step (Bits m eid bits width) mapping ≡ Some (told_mapping eid bits width mapping)
-step-told m eid bits width mapping = refl
-
 pub told-parts : (limits : List LimitItem) (own : List OwnLocator) (steps count drawn now : ℕ) (ms : List Mapping) (rs : List Request) (o : Observed) (m : ℕ) (eid : Eid) (bits width : ℕ) → parts_with limits own steps (count + 1) drawn m (bits_told eid bits width (lasting m ms)) (waiting m rs) (recent m o) ≡ with_entry (Bits m eid bits width) (parts_with limits own steps count drawn now ms rs o)
 told-parts limits own steps count drawn now ms rs o m eid bits width =
     same-parts limits own steps (count + 1) (suc count) drawn (0 + drawn) m _ (absorb mapping_kind (lasts m) (Bits m eid bits width) ms) _ (absorb request_kind (is_waiting m) (Bits m eid bits width) rs) _ (observing m (Bits m eid bits width) o)

@@ -1,5 +1,5 @@
 -- What is found among mappings is found among them as decisions see them.
-use Rattle.std.proofs.Common.{◌≡◌, ℕ, max, nat_le, Bool, true, false, cond, List, [], ◌∷◌, map, filter, find, fold, Option, Some, None, is_some, option_map, refl, sym, ap, ◌∙◌}
+use Rattle.std.proofs.Common.{◌≡◌, ℕ, max, nat_le, Bool, true, false, cond, List, [], ◌∷◌, map, filter, find, fold, Option, Some, None, option_map, refl, sym, ap, ◌∙◌}
 use Rattle.mapping_records.specs.Eids.{covers_prefix, longer, same_eid}
 use Rattle.mapping_records.specs.declared.eid.Eid.{Eid}
 use Rattle.map_cache.specs.Cache as cache
@@ -49,10 +49,6 @@ force-seen p m eid = sym (fold-map held_of (λ (held : Held). held.eid) (λ key.
 pub exact-seen : (p : Parts) (m : ℕ) (eid : Eid) → option_map held_of (cache.exact (lasting (max m p.now) p.mappings) eid) ≡ exact (view_in p m).mappings eid
 unfolding view_in
 exact-seen p m eid = sym (find-map held_of (λ (held : Held). held.eid) (λ key. same_eid key eid) (lasting (max m p.now) p.mappings))
-
-pub some-map : {A B : Type 0} (f : A → B) (o : Option A) → is_some (option_map f o) ≡ is_some o
-some-map f None = refl
-some-map f (Some a) = refl
 
 -- the requests and nonces of a view
 pub requests-seen : (p : Parts) (m : ℕ) → (view_in p m).requests ≡ waiting (max m p.now) p.requests

@@ -39,7 +39,3 @@ module _ (settings : Settings) (m : ℕ) (p : Parts) where
   renewed-so range eid entries emits after few is =
       asked-change settings m eid None true p entries emits after few (renewable-place _ eid after is)
       ∙ sym (ap (λ o. asked_again table settings m o (change_of p entries emits)) is)
-
-  -- and one that isn't
-  pub renewed-not : (range : Range) (entries : List Entry) (emits : List Emit) → renewable settings p.limits (view_in p m) (force (view_in p m).mappings range.iid range.addr range.len) ≡ None → change_of p entries emits ≡ renewed table settings m range (change_of p entries emits)
-  renewed-not range entries emits is = sym (ap (λ o. asked_again table settings m o (change_of p entries emits)) is)

@@ -18,27 +18,12 @@ use Rattle.map_messages.specs.Range.{InRangeEcm, InRangeRequest}
 use Rattle.map_messages.specs.Request.{canonical_asked_eid, canonical_request, canonical_source}
 use Rattle.map_messages.proofs.WritingLemmas.{length-control_packet}
 use Rattle.map_messages.specs.declared.message.MapRequest.{MapRequest}
-use Rattle.lisp_settings.specs.Resolver.{is_reachable}
 use Rattle.lisp_settings.specs.declared.settings.Database.{Database}
 use Rattle.lisp_settings.specs.declared.settings.OwnLocator.{OwnLocator}
 use Rattle.lisp_settings.specs.declared.settings.Settings.{Settings}
 use Rattle.router_model.specs.Emits.{database_address, ecm_for, inner_source, message_packet, no_address, request_for, source_eid}
 use Rattle.router_model.specs.Site.{ours, up_locators}
 use Rattle.router_core.specs.Site.{IsSite}
-
--- a family that can be reached has an own address
-pub ours-reachable : (locators : List OwnLocator) (to : Addr) → IsTrue (is_reachable locators to) → IsTrue (is_some (ours locators to))
-ours-reachable [] to is = cc
-ours-reachable (own ∷ others) to is =
-    elim (cases_Bool (own.up && (width own.addr == width to))) [
-      | inl found ↦ rw found refl
-      | inr other ↦ rw other (ours-reachable others to (rw other at is))
-    ]
-
--- what is up, one more
-filter-least : (up : Bool) (own : OwnLocator) (others : List OwnLocator) → 1 ≤ length others → 1 ≤ length (cond up (own ∷ others) others)
-filter-least true own others least = omega arith
-filter-least false own others least = least
 
 filter-most : (up : Bool) (own : OwnLocator) (others : List OwnLocator) (n : ℕ) → length others ≤ n → length (cond up (own ∷ others) others) ≤ n + 1
 filter-most true own others n most = omega (arith, most)

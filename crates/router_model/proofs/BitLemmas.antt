@@ -1,8 +1,8 @@
 -- Status bits: the numbers that are kept have the bits that the journal tells.
-use Rattle.std.proofs.Common.{◌≡◌, ℕ, ◌*◌, ◌+◌, ◌-◌, ◌/◌, ◌%◌, ◌^◌, ◌<◌, ◌≤◌, ◌==◌, ◌&&◌, nat_lt, min, Bool, true, false, cond, [], ◌∷◌, Option, Some, None, unwrap_or, refl, sym, ap, ◌∙◌, arith, mod-lt, ap₂, subst, mod-eq_of_lt, div-lt_iff_lt-mul, div-mul-le_self, mul-le-mul_right}
+use Rattle.std.proofs.Common.{◌≡◌, ℕ, ◌+◌, ◌-◌, ◌/◌, ◌%◌, ◌^◌, ◌<◌, ◌≤◌, ◌==◌, ◌&&◌, nat_lt, min, Bool, true, false, cond, [], ◌∷◌, Option, Some, None, unwrap_or, refl, sym, ap, ◌∙◌, arith, mod-lt}
 use Rattle.std.specs.Int.{bit_at}
 use Rattle.std.proofs.lemmas.Bool.Decides.{nat_tests}
-use Rattle.std.proofs.lemmas.Nat.{and_mask, one_shl, pow-add, pow_pos, shr-shr}
+use Rattle.std.proofs.lemmas.Nat.{and_mask, pow_pos, shr-shr}
 use Rattle.std.proofs.lemmas.Nat.Bits.{bit_at-zero, bit_at_and, bit_at_ones, bit_at_cat_low, bit_at_cat_high, bit_at-lt}
 use Rattle.mapping_records.specs.declared.eid.Eid.{Eid}
 use Rattle.mapping_records.specs.declared.record.Locator.{Locator}
@@ -76,20 +76,3 @@ status-found journal learning i locator = by (bit_at (known_since learning.mappi
     by : (b : Bool) → cond b (bit_at (told_since learning.mapping.eid journal) i == 1) locator.reachable ≡ unwrap_or (cond b (Some (bit_at (told_since learning.mapping.eid journal) i == 1)) None) locator.reachable
     by true = refl
     by false = refl
-
--- 32 bits stay 32 bits
-pub low_bits-fits : (width bits n : ℕ) → width ≤ 32 → n < 2 ^ 32 → low_bits width bits n < 2 ^ 32
-low_bits-fits width bits n few fits =
-    let split : (32 - width) + width ≡ 32 = omega arith in
-    let whole : 2 ^ 32 ≡ 2 ^ (32 - width) * 2 ^ width = ap (λ k. 2 ^ k) (sym split) ∙ pow-add 2 (32 - width) width in
-    let quotient : n / 2 ^ width < 2 ^ (32 - width) = (div-lt_iff_lt-mul (pow_pos width)).1 (subst (λ k. n < k) whole fits) in
-    let product : (n / 2 ^ width + 1) * 2 ^ width ≤ 2 ^ (32 - width) * 2 ^ width = mul-le-mul_right (2 ^ width) (omega (arith, quotient)) in
-    let rest : bits % 2 ^ width < 2 ^ width = mod-lt bits (pow_pos width) in
-    omega (arith, product, rest, whole)
-
--- what shifts make of them
-pub low_bits-shifts : (width bits n : ℕ) → width ≤ 32 → n < 2 ^ 32 → n / 2 ^ width * 2 ^ width % 2 ^ 64 + bits % (1 * 2 ^ width % 2 ^ 64) ≡ low_bits width bits n
-low_bits-shifts width bits n few fits =
-    let less : n / 2 ^ width * 2 ^ width ≤ n = div-mul-le_self n (2 ^ width) in
-    let small : n / 2 ^ width * 2 ^ width < 2 ^ 64 = omega (arith, less) in
-    ap₂ (λ a b. a + bits % b) (mod-eq_of_lt small) (one_shl width 64 (omega arith))

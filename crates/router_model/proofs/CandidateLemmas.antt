@@ -3,11 +3,11 @@ use Rattle.std.proofs.Common.{◌≡◌, ◌⊎◌, ◌≤◌, true, false, List
 use Rattle.std.proofs.lemmas.List.Elements.{All-append, All-filter, All-map, All-nil}
 use Rattle.std.specs.List.{All, list_any}
 use Rattle.lisp_settings.specs.declared.settings.Settings.{Settings}
-use Rattle.locator_state.proofs.TurnsLemmas.{Ascends, HaveOneProbe, at_address, candidates-ascend, first-candidates, one-probe}
+use Rattle.locator_state.proofs.TurnsLemmas.{Ascends, HaveOneProbe, at_address, first-candidates, one-probe}
 use Rattle.locator_state.specs.Turns.{goes_before}
 use Rattle.locator_state.specs.declared.target.Target.{Target}
 use Rattle.router_model.specs.Mappings.{Held}
-use Rattle.router_model.specs.Tick.{candidates, is_probed, may_take, next_targets, target_of, targets, targets_of}
+use Rattle.router_model.specs.Tick.{is_probed, may_take, next_targets, target_of, targets, targets_of}
 use Rattle.router_model.specs.View.{View}
 
 module _ (settings : Settings) (v : View) where
@@ -27,9 +27,6 @@ module _ (settings : Settings) (v : View) where
 
   pub eligible-probes : HaveOneProbe eligible
   eligible-probes = one-probe v.last_probe eligible (All-filter (is_probed settings v.now) HasLast (targets v) (all-last v.mappings))
-
-  pub eligible-ascend : Ascends (candidates settings v)
-  eligible-ascend = candidates-ascend eligible
 
   -- the first ones in order are the next targets
   pub first-targets : (first : List Target) → Ascends first → length first ≤ 16

@@ -1,20 +1,16 @@
 -- Which changes a second makes, one after another, and a second that makes none.
-use Rattle.std.proofs.Common.{◌≡◌, ◌≤◌, ◌<◌, ℕ, suc, ◌+◌, nat_le, nat_lt, true, false, cond, List, [], ◌∷◌, drop, length, slice_get, Some, refl, ap, subst, ◌∙◌, arith}
+use Rattle.std.proofs.Common.{◌≡◌, ◌<◌, ℕ, suc, nat_le, nat_lt, true, false, cond, List, [], ◌∷◌, drop, slice_get, Some, refl, ap, subst, ◌∙◌, arith}
 use Rattle.std.proofs.lemmas.Bool.Decides.{nat_tests}
-use Rattle.std.proofs.lemmas.List.{drop_all}
 use Rattle.std.proofs.lemmas.Option.{get_or_from_slice_get, slice_get_within}
 use Rattle.std.proofs.Math.Seq.{drop-cons}
 use Rattle.lisp_settings.specs.declared.settings.Change.{Change as OwnChange}
 use Rattle.lisp_settings.specs.declared.settings.Settings.{Settings}
 use Rattle.router_log.specs.Moments.{seconds}
-use Rattle.router_log.specs.declared.entry.Entry.TheVariants.{Changed}
 use Rattle.router_model.specs.Changes.{Change, Ledger}
-use Rattle.router_model.specs.Parts.{Parts}
-use Rattle.router_model.specs.Proper.{AreInTurn, MayChange}
-use Rattle.router_model.specs.Site.{is_own, reaches_resolver}
-use Rattle.router_model.specs.Standing.{due_changes, may_change, without_ups}
+use Rattle.router_model.specs.Proper.{AreInTurn}
+use Rattle.router_model.specs.Site.{reaches_resolver}
+use Rattle.router_model.specs.Standing.{due_changes}
 use Rattle.router_model.specs.Tick.{after_changes, all_changed, all_probed, due_now, retried_where, ticked}
-use Rattle.router_model.proofs.OwnLemmas.{site-own}
 use Rattle.router_model.proofs.TickLemmas.{none-due, turns-drop}
 
 module _ (m : ℕ) (changes : List OwnChange) (n : ℕ) where
@@ -24,13 +20,6 @@ module _ (m : ℕ) (changes : List OwnChange) (n : ℕ) where
       drop-cons changes n change (slice_get_within changes n change is)
       ∙ ap (λ c. c ∷ drop (suc n) changes) (get_or_from_slice_get changes n change change is)
 
-  -- one that is due comes, and then those behind it
-  pub due-next : (change : OwnChange) → slice_get changes n ≡ Some change → nat_le (seconds change.at) m ≡ true → due_changes m (drop n changes) ≡ change ∷ due_changes m (drop (n + 1) changes)
-  due-next change is due =
-      ap (due_changes m) (split change is)
-      ∙ ap (λ b. cond b (change ∷ due_changes m (drop (suc n) changes)) (due_changes m (drop (suc n) changes))) due
-      ∙ ap (λ k. change ∷ due_changes m (drop k changes)) (let same : suc n ≡ n + 1 = omega arith in same)
-
   -- behind one that isn't none does
   pub due-later : (change : OwnChange) → AreInTurn changes → slice_get changes n ≡ Some change → nat_le (seconds change.at) m ≡ false → due_changes m (drop n changes) ≡ []
   due-later change turns is later =
@@ -39,20 +28,8 @@ module _ (m : ℕ) (changes : List OwnChange) (n : ℕ) where
       ∙ ap (λ b. cond b (change ∷ due_changes m (drop (suc n) changes)) (due_changes m (drop (suc n) changes))) later
       ∙ none-due m change.at (drop (suc n) changes) left.0 later
 
-  -- past the last there is none
-  pub due-past : length changes ≤ n → due_changes m (drop n changes) ≡ []
-  due-past past = ap (due_changes m) (drop_all n changes past)
-
 below : (n most : ℕ) → n < most → nat_lt n most ≡ true
 below n most less = grind (arith, nat_tests)
-
--- a table for the own locators of the settings may take their next change
-pub table-may : (settings : Settings) (parts : Parts) (m : ℕ) (change : OwnChange) → MayChange settings → without_ups parts.own ≡ without_ups settings.locators → slice_get settings.changes parts.steps ≡ Some change → may_change parts.own parts.steps (Changed m change.address change.up) ≡ true
-table-may settings parts m change may own is =
-    let within = slice_get_within settings.changes parts.steps change is in
-    let few = may.few_changes in
-    let there : is_own settings.locators change.address ≡ true = subst (λ (c : OwnChange). is_own settings.locators c.address ≡ true) (get_or_from_slice_get settings.changes parts.steps change change is) (may.own parts.steps change within) in
-    rw (site-own parts.own settings.locators change.address own, there, below parts.steps 256 (omega (arith, within, few))) refl
 
 -- ### a second
 

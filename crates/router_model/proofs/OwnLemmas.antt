@@ -1,10 +1,6 @@
 -- No entry changes for which own locators a table is, but for which of them are up.
-use Rattle.std.proofs.Common.{◌≡◌, ℕ, ◌||◌, Bool, true, false, cond, List, [], ◌∷◌, length, map, refl, sym, ap, ◌∙◌}
-use Rattle.std.proofs.lemmas.List.{length-map}
-use Rattle.ip_headers.specs.declared.addr.Addr.{Addr}
+use Rattle.std.proofs.Common.{◌≡◌, ℕ, Bool, true, false, cond, List, [], ◌∷◌, refl, ap, ◌∙◌}
 use Rattle.capture_io.specs.Frame.{Frame}
-use Rattle.mapping_records.specs.Eids.{same_address}
-use Rattle.lisp_settings.specs.declared.settings.OwnLocator.{OwnLocator}
 use Rattle.lisp_settings.specs.declared.settings.Settings.{Settings}
 use Rattle.capture_events.specs.Events.{Event, Tick, Arrival}
 use Rattle.router_log.specs.Moments.{seconds}
@@ -18,32 +14,10 @@ use Rattle.router_model.specs.Note.{noted}
 use Rattle.router_model.specs.Parts.{Parts, absorbed, admits, standing_in, table, with_entry}
 use Rattle.router_model.specs.Plain.{Router, after_decision, after_event, after_message}
 use Rattle.router_model.specs.Sides.{with_entries}
-use Rattle.router_model.specs.Site.{is_own}
 use Rattle.router_model.specs.Standing.{without_ups}
 use Rattle.router_model.specs.Tick.{ticked}
 use Rattle.router_model.proofs.GrowLemmas.{Grown, grown-each, grown-heard, grown-noted, grown-ticked}
 use Rattle.router_model.proofs.UpsLemmas.{changed-site}
-
--- which addresses are own ones doesn't depend on which are up
-is_own-site : (locators : List OwnLocator) (x : Addr) → is_own (without_ups locators) x ≡ is_own locators x
-is_own-site [] x = refl
-is_own-site (own ∷ others) x = ap (λ b. same_address own.addr x || b) (is_own-site others x)
-
-pub site-own : (one other : List OwnLocator) (x : Addr) → without_ups one ≡ without_ups other → is_own one x ≡ is_own other x
-site-own one other x same = sym (is_own-site one x) ∙ ap (λ l. is_own l x) same ∙ is_own-site other x
-
--- nor does how many there are, and their addresses
-pub site-length : (one other : List OwnLocator) → without_ups one ≡ without_ups other → length one ≡ length other
-site-length one other same =
-    sym (length-map one (λ (own : OwnLocator). record own { up = false })) ∙ ap (λ (l : List OwnLocator). length l) same
-    ∙ length-map other (λ (own : OwnLocator). record own { up = false })
-
-addresses-site : (locators : List OwnLocator) → map (λ (own : OwnLocator). own.addr) (without_ups locators) ≡ map (λ (own : OwnLocator). own.addr) locators
-addresses-site [] = refl
-addresses-site (own ∷ others) = ap (λ l. own.addr ∷ l) (addresses-site others)
-
-pub site-addresses : (one other : List OwnLocator) → without_ups one ≡ without_ups other → map (λ (own : OwnLocator). own.addr) one ≡ map (λ (own : OwnLocator). own.addr) other
-site-addresses one other same = sym (addresses-site one) ∙ ap (map (λ (own : OwnLocator). own.addr)) same ∙ addresses-site other
 
 -- ### a table
 

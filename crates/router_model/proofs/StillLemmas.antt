@@ -12,7 +12,7 @@ use Rattle.router_model.specs.Hear.{hear_by}
 use Rattle.router_model.specs.Journal.{Journal, changed, is_changed}
 use Rattle.router_model.specs.Lifting.{HearsStill, NotesStill}
 use Rattle.router_model.specs.Note.{noted}
-use Rattle.router_model.specs.Parts.{Parts, absorbed, admits, standing_in, table, with_entry}
+use Rattle.router_model.specs.Parts.{Parts, absorbed, admits, standing_in, with_entry}
 use Rattle.router_model.specs.Standing.{changed_by, own_after, standing, standing_with, own_in, standing_by}
 use Rattle.router_model.proofs.PartsLemmas.{count-more}
 use Rattle.router_model.proofs.StayLemmas.{stays-heard, stays-noted}
@@ -68,16 +68,6 @@ absorbed-still parts e is = by (admits parts e)
     by false = (refl, refl)
 
 module _ (parts : Parts) where
-  pub still-in : (by : Settings) (m : ℕ) (e : Entry) → is_changed e ≡ false → (change : Change Parts) → StillIn parts change → StillIn parts (entered table by m e change)
-  still-in by m e is change still =
-      let one = absorbed-still change.after e is in (one.0 ∙ still.0, one.1 ∙ still.1)
-
-  pub table-heard : (by : Settings) (m : ℕ) (frame : Frame) → StillIn parts (hear_by table by m frame (unchanged parts)).change
-  table-heard by m frame = stays-heard table by m (StillIn parts) (still-in by m) (λ (packet : Emit) c h. h) frame (unchanged parts) (refl, refl)
-
-  pub table-noted : (by : Settings) (m : ℕ) (one : Notice) (change : Change Parts) → StillIn parts change → StillIn parts (noted table by m one change)
-  table-noted by m one change still = stays-noted table by m (StillIn parts) (still-in by m) (λ (packet : Emit) c h. h) one change still
-
   -- so the same settings stand
   pub stands-in : (settings : Settings) (change : Change Parts) → StillIn parts change → standing_in settings change.after ≡ standing_in settings parts
   stands-in settings change still = ap₂ (λ (l : List OwnLocator) (n : ℕ). standing_by settings (own_in l n)) still.0 still.1

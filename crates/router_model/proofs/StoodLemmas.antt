@@ -10,7 +10,6 @@ use Rattle.lisp_settings.specs.Home.{home_of}
 use Rattle.lisp_settings.specs.Lawful.{IsLawfulDatabase}
 use Rattle.lisp_settings.specs.declared.settings.Database.{Database}
 use Rattle.router_model.specs.Emits.{database_address}
-use Rattle.router_model.specs.Hear.{answering}
 use Rattle.router_model.specs.Site.{database_of}
 use Rattle.router_model.specs.Standing.{stood, stood_version}
 use Rattle.router_model.proofs.StandingLemmas.{versions-step}
@@ -63,11 +62,6 @@ module _ (steps : ℕ) where
       by None h = h
       by (Some hit) h = ap (λ b. covers_eid hit.eid eid || b) h
 
-  pub answering-stood : (databases : List Database) (eids : List Eid) → answering (map (stood steps) databases) eids ≡ map (stood steps) (answering databases eids)
-  answering-stood databases eids =
-      (λ i. filter (λ (d : Database). hits-stood databases eids d.eid i) (map (stood steps) databases))
-      ∙ filter-stood (λ eid. list_any (λ (hit : Database). covers_eid hit.eid eid) (filter_map (database_of databases) eids)) databases
-
   -- the least address of an EID's instance and family
   pub address-stood : (databases : List Database) (eid : Eid) → database_address (map (stood steps) databases) eid ≡ database_address databases eid
   address-stood [] eid = refl
@@ -76,11 +70,6 @@ module _ (steps : ℕ) where
       by : (b : Bool) → database_address (map (stood steps) databases) eid ≡ database_address databases eid → cond b (Some d.eid.prefix.addr) (database_address (map (stood steps) databases) eid) ≡ cond b (Some d.eid.prefix.addr) (database_address databases eid)
       by true h = refl
       by false h = h
-
-  -- their EIDs
-  pub eids-stood : (databases : List Database) → map (λ (d : Database). d.eid) (map (stood steps) databases) ≡ map (λ (d : Database). d.eid) databases
-  eids-stood [] = refl
-  eids-stood (d ∷ databases) = ap (λ l. d.eid ∷ l) (eids-stood databases)
 
   -- versions keep their bits
   pub version-below : (version : ℕ) → version ≤ 4095 → stood_version steps version ≤ 4095

@@ -1,14 +1,11 @@
 -- Views that answer alike are equal, so what is decided by one is decided by the other.
 use Rattle.std.specs.Prelude.{◌≡◌, ℕ, false, true, None, Some, refl}
-use Rattle.std.proofs.Common.{ap}
 use Rattle.ip_headers.specs.declared.addr.Addr.{Addr}
-use Rattle.capture_io.specs.Frame.{Frame}
 use Rattle.mapping_records.specs.Eids.{same_address}
 use Rattle.lisp_settings.specs.declared.settings.Settings.{Settings}
 use Rattle.map_messages.specs.declared.message.MapReply.{MapReply}
 use Rattle.router_log.specs.declared.verdict.Reason.TheVariants.{Foreign, Unsolicited}
 use Rattle.router_model.specs.Changes.{Change, Ledger, seen}
-use Rattle.router_model.specs.Decide.{decide_by}
 use Rattle.router_model.specs.Hear.{drops, reply_heard}
 use Rattle.request_queue.specs.Queue.{with_nonce}
 use Rattle.router_model.specs.View.{Agrees, View}
@@ -31,9 +28,6 @@ agrees-equal a = λ i. record {
   may_solicit = λ rloc eid. a.may_solicit rloc eid i;
   drawn = a.drawn i;
 }
-
-pub decide_by-agrees : (settings : Settings) (v w : View) (frame : Frame) → Agrees v w → decide_by settings v frame ≡ decide_by settings w frame
-decide_by-agrees settings v w frame a = ap (λ v. decide_by settings v frame) (agrees-equal a)
 
 -- a reply to no open request is dropped, and nothing changes
 pub reply_heard-unsolicited : {S : Type 0} (ledger : Ledger S) (settings : Settings) (m : ℕ) (from : Addr) (reply : MapReply) (change : Change S) → reply.probe ≡ false → with_nonce (seen ledger settings m change).requests reply.nonce ≡ None → reply_heard ledger settings m from reply change ≡ drops Unsolicited change

@@ -30,7 +30,7 @@ use Rattle.router_model.specs.Sharing.{moment_after}
 use Rattle.router_model.proofs.RunLemmas.{length-events_of, second_later}
 use Rattle.forwarders.specs.Publication.{Publication}
 use Rattle.forwarders.specs.Batches.{batches_from, journal_of}
-use Rattle.forwarders.specs.Rounding.{begun_at, line_seen, packet_seen, GrewBy, IsRound}
+use Rattle.forwarders.specs.Rounding.{line_seen, packet_seen, GrewBy, IsRound}
 use Rattle.forwarders.proofs.StandLemmas.{journal-first}
 use Rattle.forwarders.specs.declared.round_done.Packet.{Packet as Sent}
 use Rattle.forwarders.specs.declared.round_done.RoundDone.{RoundDone}
@@ -99,17 +99,6 @@ round-events None (frame ∷ frames) some order =
     let rest = count-after frame.moment frames order.1.1 in
     let last : closing_moment (frame ∷ frames) ≡ last_of frame.moment frames = closing-last 0 frame frames in
     subst (λ (n : ℕ). 0 + length (events_after None (frame ∷ frames)) ≤ second_of n + length (frame ∷ frames)) (sym last) (omega (arith, rest))
-
--- what a round asks of its frames
-pub begun-order : (previous : Option ℕ) (frames : List Frame) → FramesInOrder (unwrap_or previous 0) frames → FramesInOrder (begun_at previous frames) frames
-begun-order (Some m) frames order = order
-begun-order None [] order = tt
-begun-order None (frame ∷ frames) order = (omega arith, order.1)
-
-pub begun-later : (now : ℕ) (previous : Option ℕ) (frames : List Frame) → FramesInOrder (unwrap_or previous 0) frames → now ≤ unwrap_or previous 0 → now ≤ begun_at previous frames
-begun-later now (Some m) frames order later = later
-begun-later now None [] order later = later
-begun-later now None (frame ∷ frames) order later = let first = order.0 in omega (arith, first, later)
 
 -- ### frames that are gathered
 
