@@ -6,7 +6,7 @@ use Rattle.lisp_settings.specs.declared.settings.Settings.{Settings}
 use Rattle.router_log.specs.declared.emit.Emit.{Emit}
 use Rattle.router_model.specs.Parts.{Parts}
 use Rattle.router_core.specs.Sendable.{IsSendable}
-use Rattle.router_core.specs.Steps.{AreSent, HasEntered, HasTaken, IsBegun, MayEnter, MayStep, MayTake}
+use Rattle.router_core.specs.Steps.{AreSent, HasTaken, IsBegun, MayEnter, MayStep, MayTake}
 use Rattle.router_core.specs.declared.step.Step.{Step}
 
 -- so many, in a step that begins
@@ -20,10 +20,6 @@ may-begin {most = most} {p = p} {s = s} begun may = record {
   emits = begun.emits;
   sendable = subst (All (IsSendable s.site.now)) (sym begun.no_emits) (All-nil (IsSendable s.site.now));
 }
-
--- a fact of the site and the moment holds at its beginning
-pub begun-at : {most m : ℕ} {site : Settings} {s : Step} (P : Settings → ℕ → Type 0) → IsBegun most site m s → P site m → P s.site.now s.m
-begun-at {m = m} {s = s} P begun holds = subst (P s.site.now) (sym begun.moment) (subst (λ (site : Settings). P site m) (sym begun.stands) holds)
 
 -- fewer than it may
 pub may-less : {most : ℕ} {p : Parts} {s : Step} (k : ℕ) → k ≤ most → MayTake most p s → MayTake k p s
@@ -93,7 +89,3 @@ begun-sent {site = site} {s = s} {t = t} emits begun taken same = record {
   where
     length_of : {a b : List Emit} → a ≡ b → length a ≡ length b
     length_of is = ap (λ (l : List Emit). length l) is
-
--- the entries that were applied
-pub begun-entered : {most n m : ℕ} {site : Settings} {p q r : Parts} {s t : Step} → IsBegun most site m s → HasTaken n q s r t → q ≡ p → HasEntered n m p r
-begun-entered {n = n} {m = m} {q = q} {r = r} begun taken same = subst (λ (p : Parts). HasEntered n m p r) same (subst (λ (m : ℕ). HasEntered n m q r) begun.moment taken.entered)
