@@ -1,12 +1,10 @@
 -- A round with forwarders, from what its call asks for.
-use Rattle.std.proofs.Common.{◌≡◌, ◌∙◌, ℕ, ◌+◌, ◌*◌, ◌^◌, ◌≤◌, ◌<◌, List, [], ◌∷◌, ◌++◌, length, take, Option, All, ap, sym, subst, arith}
-use Rattle.command_words.specs.Limits.{most_round_frames}
+use Rattle.std.proofs.Common.{◌≡◌, ◌∙◌, ℕ, ◌+◌, ◌*◌, ◌^◌, ◌≤◌, ◌<◌, List, [], ◌∷◌, ◌++◌, length, take, Option, ap, refl, sym, subst, arith}
 use Rattle.capture_io.specs.Frame.{Frame}
 use Rattle.lisp_settings.specs.declared.settings.Settings.{Settings}
 use Rattle.capture_events.specs.Events.{events_after}
 use Rattle.router_log.specs.declared.entry.Entry.{Entry}
 use Rattle.router_model.specs.Journal.{extended}
-use Rattle.router_model.specs.Lifting.{FramesInOrder}
 use Rattle.router_model.specs.Limits.{most_notices, most_ticked}
 use Rattle.router_model.specs.Parts.{Parts, Stands}
 use Rattle.router_model.specs.Proper.{IsProper}
@@ -19,21 +17,16 @@ use Rattle.forwarders.specs.Batches.{count_of, journal_of}
 use Rattle.forwarders.specs.Finishing.{Finishes, noted_of}
 use Rattle.forwarders.specs.Gathering.{IsWritten, left_in, round_writing}
 use Rattle.forwarders.specs.Publication.{Publication}
-use Rattle.forwarders.specs.Rounding.{RunsRound, begun_at}
+use Rattle.forwarders.specs.Rounding.{IsAtRest, MayRun, RunsRound, begun_at}
 use Rattle.forwarders.specs.Ruling.{AreRuled, HaveLooked}
 use Rattle.forwarders.proofs.BeginLemmas.{closing-early, may-begin, round-few}
 use Rattle.forwarders.proofs.PutLemmas.{left-data}
 use Rattle.forwarders.proofs.RoundLemmas.{notices-proper, places-few, published-stands, ruled-data, ruled-few, runs-round}
 
--- what a round is asked for
-pub record MayRun (settings : Settings) (previous : Option ℕ) (frames : List Frame) (parts : Parts) (before : List (List Entry)) : Type 0 where
-  pub stands : Stands settings parts (journal_of before)
-  pub some : 1 ≤ length frames
-  pub number : length frames ≤ most_round_frames
-  pub order : FramesInOrder (begun_at previous frames) frames
-  pub moments : All (λ (f : Frame). f.moment < 2 ^ 32 * 1000000000) frames
-  pub later : parts.now ≤ begun_at previous frames
-  pub room : parts.count < 2 ^ 60
+-- a publication is at rest behind the batches of its round
+pub rests-still : (settings : Settings) (old new : Publication) (more : List (List Entry)) → IsAtRest settings old → new ≡ record old { batches = old.batches ++ more; plan = old.batches ++ more } → IsProper settings (journal_of (old.batches ++ more)) → IsAtRest settings new
+rests-still settings old new more rest is proper =
+    subst (IsAtRest settings) (sym is) (record { settings_are = rest.settings_are; none = rest.none; plan = refl; proper = proper })
 
 module _ (settings : Settings) (previous : Option ℕ) (parts : Parts) (before : List (List Entry)) where
   none-run : MayRun settings previous [] parts before → ⊥

@@ -1,14 +1,18 @@
 -- A round with forwarders: its lines and packets, and what it leaves.
-use Rattle.std.specs.Prelude.{◌≡◌, ℕ, ◌*◌, ◌≤◌, List, [], ◌∷◌, length, map, All, Option, Some, None, IfNone, IfSome, false, true}
+use Rattle.std.specs.Prelude.{◌≡◌, ℕ, ◌*◌, ◌^◌, ◌<◌, ◌≤◌, List, [], ◌∷◌, length, map, All, Option, Some, None, IfNone, IfSome, false, true}
 use Rattle.std.specs.List.{AllZip}
+use Rattle.command_words.specs.Limits.{most_round_frames}
 use Rattle.capture_io.specs.Frame.{Frame}
 use Rattle.lisp_settings.specs.declared.settings.Settings.{Settings}
 use Rattle.capture_events.specs.Events as events
 use Rattle.capture_events.specs.Events.{events_after}
+use Rattle.router_log.specs.declared.entry.Entry.{Entry}
 use Rattle.router_core.specs.Steps.{HasTicked}
 use Rattle.router_model.specs.Course.{control}
+use Rattle.router_model.specs.Lifting.{FramesInOrder}
 use Rattle.router_model.specs.Limits.{most_entries, most_event_packets}
 use Rattle.router_model.specs.Parts.{Parts, Stands}
+use Rattle.router_model.specs.Proper.{IsProper}
 use Rattle.router_model.specs.Rounds as rounds
 use Rattle.router_model.specs.Rounds.{AreLawful, all_advanced, closing_moment, round}
 use Rattle.forwarders.specs.declared.round_done.Line.{Line}
@@ -25,6 +29,25 @@ abbrev pub begun_at : Option ℕ → List Frame → ℕ
 begun_at (Some moment) frames = moment
 begun_at None [] = 0
 begun_at None (frame ∷ frames) = frame.moment
+
+-- a round may be worked: the table stands for the published batches, there are frames, at most as many as a round may
+-- have, and they come in order behind the last entry
+pub record MayRun (settings : Settings) (previous : Option ℕ) (frames : List Frame) (parts : Parts) (before : List (List Entry)) : Type 0 where
+  pub stands : Stands settings parts (journal_of before)
+  pub some : 1 ≤ length frames
+  pub number : length frames ≤ most_round_frames
+  pub order : FramesInOrder (begun_at previous frames) frames
+  pub moments : All (λ frame. frame.moment < 2 ^ 32 * 1000000000) frames
+  pub later : parts.now ≤ begun_at previous frames
+  pub room : parts.count < 2 ^ 60
+
+-- a publication at rest: it is by these settings, all that is planned is published, no entry is pending, and the
+-- published batches make a proper journal
+pub record IsAtRest (settings : Settings) (p : Publication) : Type 0 where
+  pub settings_are : p.settings ≡ settings
+  pub none : p.pending ≡ []
+  pub plan : p.plan ≡ p.batches
+  pub proper : IsProper settings (journal_of p.batches)
 
 -- ### what comes out
 

@@ -12,7 +12,6 @@ mod shown;
 mod tally;
 mod view;
 
-pub(crate) use copies::copied_entry;
 pub use forwarder::Forwarder;
 pub use looks::{ForwardFault, Forwarded, Look};
 pub use opening::open_hall;

@@ -11,10 +11,9 @@ ghost use Rattle.forwarders.specs.Deciding.{AreAllDealt, AreWithin, HasSeen, Hav
 use crate::batches::publish_all;
 use crate::door::{Published, Tally};
 use crate::gate::Gate;
+use crate::round_begun::Round;
 use crate::workers::Worker;
 use crate::working::work_all;
-use capture_io::Frame;
-use lisp_settings::Settings;
 use octets::NoMemory;
 use router_log::Entries;
 use std::alloc::Global;
@@ -49,19 +48,16 @@ pub(crate) fn hired(
 
 /// Publishes the batches of a round while the workers decide its data packets.
 pub(crate) fn beside<R: Threads + Wait + Sync, G: Gate>(
-    rt: &R,
+    round: &Round<'_, R, G>,
     published: &mut Published,
     batches: &[Entries],
-    workers: &mut [Worker],
-    settings: &Settings,
-    frames: &[Frame],
     places: &[usize],
-    gate: &G,
+    workers: &mut [Worker],
 ) -> Result<(), NoMemory>
-    requires lawful { IsLawful settings.now }
-    requires places { AreWithin frames.now places.now }
+    requires lawful { IsLawful round.now.settings.now }
+    requires places { AreWithin round.now.frames.now places.now }
     requires number { (length workers.old ≤ most_workers) × (length places.now < 2 ^ 61) }
-    requires fresh { All (IsFresh settings.now) workers.old }
+    requires fresh { All (IsFresh round.now.settings.now) workers.old }
     requires none { published.old.pending ≡ [] }
     requires stands { IsProper published.old.settings (journal_of published.old.batches) }
     requires proper { IsProper published.old.settings
@@ -69,25 +65,27 @@ pub(crate) fn beside<R: Threads + Wait + Sync, G: Gate>(
     requires next { Begins (published.old.batches ++ batches.now) published.old.plan }
     ensures length { length workers.new ≡ length workers.old }
     ensures decided { (first plan : List (List EntryValue))
-        → All (HasSeen settings.now first plan) workers.old
-        → HaveAnswered settings.now first plan frames.now places.now workers.new }
+        → All (HasSeen round.now.settings.now first plan) workers.old
+        → HaveAnswered round.now.settings.now first plan round.now.frames.now places.now workers.new }
     ensures dealt { AreAllDealt workers.new }
     ensures published { OnOk result (published.new
         ≡ record published.old { batches = published.old.batches ++ batches.now }) }
 {
+    let rt = round.rt;
     let (_, done) = join_mut(
         rt,
         &mut ||
-            requires { IsSync R.row × IsLawful settings.now × AreWithin frames.now places.now
+            requires { IsSync R.row × IsLawful round.now.settings.now
+                × AreWithin round.now.frames.now places.now
                 × (length workers.now ≤ most_workers) × (length places.now < 2 ^ 61)
-                × All (IsFresh settings.now) workers.now }
+                × All (IsFresh round.now.settings.now) workers.now }
             ensures { (length workers.exit.now ≡ length workers.entry.now)
                 × ((first plan : List (List EntryValue))
-                → All (HasSeen settings.entry.now first plan) workers.entry.now
-                → HaveAnswered settings.entry.now first plan frames.entry.now places.entry.now
-                workers.exit.now)
+                → All (HasSeen round.entry.now.settings.now first plan) workers.entry.now
+                → HaveAnswered round.entry.now.settings.now first plan round.entry.now.frames.now
+                places.entry.now workers.exit.now)
                 × AreAllDealt workers.exit.now }
-        { work_all(rt, workers, settings, frames, places, gate) },
+        { work_all(round, places, workers) },
         &mut || publish_all(rt, published, batches),
     );
     done

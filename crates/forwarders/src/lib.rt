@@ -11,6 +11,7 @@ mod laws;
 mod notices;
 mod putting;
 mod round;
+mod round_begun;
 mod round_done;
 mod ruled;
 mod ruling;

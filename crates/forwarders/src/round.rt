@@ -7,16 +7,15 @@ ghost use Rattle.capture_events.specs.Events.{events_after};
 ghost use Rattle.router_core.specs.Steps.{HasTicked};
 ghost use Rattle.router_model.specs.Journal.{extended};
 ghost use Rattle.router_model.specs.Lifting.{FramesInOrder};
-ghost use Rattle.router_model.specs.Limits.{most_entries, most_notices};
+ghost use Rattle.router_model.specs.Limits.{most_entries};
 ghost use Rattle.router_model.specs.Parts.{Stands};
 ghost use Rattle.router_model.specs.Proper.{IsProper};
 ghost use Rattle.router_model.specs.Rounds.{closing_moment};
 ghost use Rattle.forwarders.specs.Batches.{count_of, journal_of};
 ghost use Rattle.forwarders.specs.Deciding.{AreWithin};
-ghost use Rattle.forwarders.specs.Given.{IsGiven};
-ghost use Rattle.forwarders.specs.Finishing.{Finishes, noted_of};
+ghost use Rattle.forwarders.specs.Finishing.{Finishes, MayNote, noted_of};
 ghost use Rattle.forwarders.specs.Gathering.{left_in};
-ghost use Rattle.forwarders.specs.Rounding.{AreWritable, GrewBy, HasCome, IsRound, RunsRound, begun_at, last_length};
+ghost use Rattle.forwarders.specs.Rounding.{AreWritable, GrewBy, HasCome, IsAtRest, IsRound, MayRun, RunsRound, begun_at, last_length};
 ghost use Rattle.forwarders.specs.Ruling.{AreRuled, HaveLooked};
 
 use crate::door::Published;
@@ -24,6 +23,7 @@ use crate::gate::Gate;
 use crate::gathering::Written;
 use crate::notices::note_round;
 use crate::putting::put_together;
+use crate::round_begun::Round;
 use crate::round_done::{Lines, Packets, RoundDone};
 use crate::ruled::Ruled;
 use crate::rulings::{publish_round, rule_all};
@@ -46,140 +46,94 @@ pub fn closing_moment(frames: &[Frame]) -> u64
     last.moment
 }
 
-// Publishes the batches of a round while at most `workers` workers decide its data packets. Returns
-// the ruling of each data packet.
+// Publishes the batches of a round while its workers decide its data packets; the first `from`
+// batches are those of the seconds before the first frame. Returns the ruling of each data packet.
 fn decide_round<R: Threads + Wait + Sync, G: Gate>(
-    rt: &R,
-    alloc: Global,
-    settings: &Settings,
+    round: &Round<'_, R, G>,
     table: &Table,
     published: &mut Published,
-    workers: u32,
-    frames: &[Frame],
     from: usize,
     written: &Written,
-    gate: &G,
 ) -> Result<Vec<Ruled>, NoMemory>
-    requires lawful { IsLawful settings.now }
-    requires settings { published.old.settings ≡ settings.now }
-    requires workers { workers ≤ most_workers }
-    requires places { AreWithin frames.now written.now.places }
+    requires lawful { IsLawful round.now.settings.now }
+    requires workers { round.now.workers ≤ most_workers }
+    requires places { AreWithin round.now.frames.now written.now.places }
     requires number { length written.now.places < 2 ^ 61 }
     requires from { from ≤ length written.now.batches }
-    requires none { published.old.pending ≡ [] }
-    requires plan { published.old.plan ≡ published.old.batches }
-    requires begins { IsProper settings.now (journal_of published.old.batches) }
-    requires stands { Stands settings.now table.now.parts
+    requires rest { IsAtRest round.now.settings.now published.old }
+    requires stands { Stands round.now.settings.now table.now.parts
         (journal_of (published.old.batches ++ written.now.batches)) }
     ensures published { OnOk result (published.new ≡ record published.old {
       batches = published.old.batches ++ written.now.batches;
       plan = published.old.batches ++ written.now.batches;
     }) }
-    ensures ruled { IfOk result (λ ruled. AreRuled settings.now
+    ensures ruled { IfOk result (λ ruled. AreRuled round.now.settings.now
         (published.old.batches ++ take from written.now.batches)
         (published.old.batches ++ written.now.batches)
-        frames.now written.now.places ruled.items) }
+        round.now.frames.now written.now.places ruled.items) }
     ensures looked { IfOk result (λ ruled. HaveLooked
         (count_of (published.old.batches ++ written.now.batches)) ruled.items) }
 {
     let batches = written.batches.as_slice();
     let places = written.places.as_slice();
     published.plan(batches);
-    let most = places.len().min(workers as usize);
-    let mut workers = publish_round(
-        rt, alloc, settings, published, batches, from, most, frames, places, gate,
-    )?;
-    rule_all(
-        alloc,
-        settings,
-        table,
-        published,
-        frames,
-        places,
-        workers.as_mut_slice(),
-    )
+    let mut workers = publish_round(round, published, batches, from, places)?;
+    rule_all(round, table, published, places, workers.as_mut_slice())
 }
 
 // Notes the notices of the data packets, and puts lines and packets together.
-fn finish_round<R: Wait>(
-    rt: &R,
-    alloc: Global,
-    settings: &Settings,
+fn finish_round<R: Wait, G>(
+    round: &Round<'_, R, G>,
     table: &mut Table,
     published: &mut Published,
-    moment: u64,
     ruled: Vec<Ruled>,
     written: &mut Written,
     done: &mut RoundDone,
 ) -> Result<(), NoMemory>
-    requires lawful { IsLawful settings.now }
-    requires settings { published.old.settings ≡ settings.now }
-    requires given { All (λ one. IsGiven one.decision) ruled.items }
+    requires lawful { IsLawful round.now.settings.now }
     requires left { left_in written.old.items.items ≡ length ruled.items }
-    requires later { table.old.parts.now ≤ moment }
-    requires count { table.old.parts.count + most_notices * length ruled.items < 2 ^ 61 }
-    requires moment { moment < 2 ^ 32 * 1000000000 }
-    requires none { published.old.pending ≡ [] }
-    requires plan { published.old.plan ≡ published.old.batches }
-    requires stands { IsProper settings.now (journal_of published.old.batches) }
-    requires proper { IsProper settings.now (extended (journal_of published.old.batches)
-        (noted_of settings.now moment table.old.parts ruled.items).entries) }
-    ensures finishes { OnOk result (Finishes settings.now moment ruled.items table.old.parts
-        published.old written.old done.old table.new.parts published.new done.new) }
+    requires may { MayNote round.now.closes table.old.parts ruled.items }
+    requires rest { IsAtRest round.now.settings.now published.old }
+    requires proper { IsProper round.now.settings.now (extended (journal_of published.old.batches)
+        (noted_of round.now.settings.now round.now.closes table.old.parts ruled.items).entries) }
+    ensures finishes { OnOk result (Finishes round.now.settings.now round.now.closes ruled.items
+        table.old.parts published.old written.old done.old
+        table.new.parts published.new done.new) }
 {
     note_round(
-        rt,
-        alloc,
-        settings,
+        round,
         table,
         published,
-        moment,
         ruled.as_slice(),
         &mut written.items,
     )?;
     let mut ruled = VecDeque::from_vec(ruled);
-    put_together(alloc, &mut written.items, &mut ruled, done)
+    put_together(round.alloc, &mut written.items, &mut ruled, done)
 }
 
 // Works a round of which no item is gathered, and no line or packet made.
 fn work_round<R: Threads + Wait + Sync, G: Gate>(
-    rt: &R,
-    alloc: Global,
-    settings: &Settings,
+    round: &Round<'_, R, G>,
     table: &mut Table,
     published: &mut Published,
-    workers: u32,
-    previous: Option<u64>,
-    frames: &[Frame],
-    gate: &G,
     written: &mut Written,
     done: &mut RoundDone,
 ) -> Result<(), NoMemory>
-    requires lawful { IsLawful settings.now }
-    requires settings { published.old.settings ≡ settings.now }
-    requires workers { workers ≤ most_workers }
-    requires stands { Stands settings.now table.old.parts (journal_of published.old.batches) }
-    requires none { published.old.pending ≡ [] }
-    requires plan { published.old.plan ≡ published.old.batches }
-    requires number { (1 ≤ length frames.now) × (length frames.now ≤ most_round_frames) }
-    requires order { FramesInOrder (begun_at previous frames.now) frames.now }
-    requires moments { All (λ frame. frame.moment < 2 ^ 32 * 1000000000) frames.now }
-    requires later { table.old.parts.now ≤ begun_at previous frames.now }
-    requires count { table.old.parts.count < 2 ^ 60 }
+    requires lawful { IsLawful round.now.settings.now }
+    requires workers { round.now.workers ≤ most_workers }
+    requires closes { round.now.closes ≡ closing_moment round.now.frames.now }
+    requires run { MayRun round.now.settings.now round.now.previous round.now.frames.now
+        table.old.parts published.old.batches }
+    requires rest { IsAtRest round.now.settings.now published.old }
     requires empty { (written.old.items.items ≡ []) × (written.old.batches ≡ [])
         × (written.old.places ≡ []) }
     requires undone { (done.old.lines ≡ []) × (done.old.written ≡ []) }
-    ensures { OnOk result (RunsRound settings.now previous frames.now
+    ensures { OnOk result (RunsRound round.now.settings.now round.now.previous round.now.frames.now
         published.old published.new table.old.parts table.new.parts done.new) }
 {
-    let from = write_round(alloc, settings, table, previous, frames, written)?;
-    let ruled = decide_round(
-        rt, alloc, settings, table, published, workers, frames, from, written, gate,
-    )?;
-    let moment = closing_moment(frames);
-    finish_round(
-        rt, alloc, settings, table, published, moment, ruled, written, done,
-    )
+    let from = write_round(round.settings, table, round.previous, round.frames, written)?;
+    let ruled = decide_round(round, table, published, from, written)?;
+    finish_round(round, table, published, ruled, written, done)
 }
 
 /// Works one round of a replay. The table takes its seconds and control messages first, in order,
@@ -226,23 +180,21 @@ pub fn run_round<R: Threads + Wait + Sync, G: Gate>(
     ensures packets { IfOk result (λ done.
         AreWritable (length (events_after previous frames.now)) done.written) }
 {
+    let round = Round {
+        rt,
+        gate,
+        workers,
+        alloc,
+        settings,
+        previous,
+        frames,
+        closes: closing_moment(frames),
+    };
     let mut written = Written::new(alloc);
     let mut done = RoundDone {
         lines: Lines::new(alloc),
         written: Packets::new(alloc),
     };
-    work_round(
-        rt,
-        alloc,
-        settings,
-        table,
-        published,
-        workers,
-        previous,
-        frames,
-        gate,
-        &mut written,
-        &mut done,
-    )?;
+    work_round(&round, table, published, &mut written, &mut done)?;
     Ok(done)
 }

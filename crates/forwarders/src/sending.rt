@@ -14,12 +14,10 @@ use octets::NoMemory;
 use router_core::emit_octets;
 use router_log::Emit;
 use router_model::Own;
-use std::alloc::Global;
 use std::collections::VecDeque;
 
 /// Gathers the packets of emits at a moment, by the own locators and versions as they then stand.
 pub(crate) fn push_emits(
-    alloc: Global,
     settings: &Settings,
     own: &Own,
     moment: u64,
@@ -34,14 +32,13 @@ pub(crate) fn push_emits(
     ensures fits { OnOk result (All IsFit items.old.items → All IsFit items.new.items) }
 {
     for emit in emits {
-        push_emit(alloc, settings, own, moment, emit, items)?;
+        push_emit(settings, own, moment, emit, items)?;
     }
     Ok(())
 }
 
 // Gathers the packet of an emit at a moment, by the own locators and versions as they then stand.
 fn push_emit(
-    alloc: Global,
     settings: &Settings,
     own: &Own,
     moment: u64,
@@ -58,7 +55,7 @@ fn push_emit(
         }) ∷ []) }
     ensures fits { OnOk result (All IsFit items.old.items → All IsFit items.new.items) }
 {
-    let octets = emit_octets(alloc, settings, own, emit)?;
+    let octets = emit_octets(*items.allocator(), settings, own, emit)?;
     items.push_back(Gathered::Packet(Packet { moment, octets }))?;
     Ok(())
 }

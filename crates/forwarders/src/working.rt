@@ -8,6 +8,7 @@ ghost use Rattle.forwarders.specs.Deciding.{AreAllDealt, AreDealt, AreWithin, De
 
 use crate::door::{Forwarded, Forwarder, Tally};
 use crate::gate::Gate;
+use crate::round_begun::Round;
 use crate::workers::{Answer, Worker};
 use capture_io::Frame;
 use lisp_settings::Settings;
@@ -38,29 +39,33 @@ fn answer(
 
 // Lets a worker decide the data packets from the one at `start` on, each `step` further. Stops
 // where memory for an answer is refused.
-fn work<G: Gate>(
-    worker: &mut Worker,
-    settings: &Settings,
-    frames: &[Frame],
+fn work<R, G: Gate>(
+    round: &Round<'_, R, G>,
     places: &[usize],
     start: usize,
     step: usize,
-    gate: &G,
+    worker: &mut Worker,
 )
-    requires lawful { IsLawful settings.now }
-    requires places { AreWithin frames.now places.now }
+    requires lawful { IsLawful round.now.settings.now }
+    requires places { AreWithin round.now.frames.now places.now }
     requires numbers { (start < most_workers) × (0 < step) × (step ≤ most_workers)
         × (length places.now < 2 ^ 61) }
-    requires fresh { IsFresh settings.now worker.old }
-    ensures decided { All (IsAnswer settings.now worker.old.forwarder.seen
-        worker.old.forwarder.plan frames.now places.now) worker.new.answers.items }
+    requires fresh { IsFresh round.now.settings.now worker.old }
+    ensures decided { All (IsAnswer round.now.settings.now worker.old.forwarder.seen
+        worker.old.forwarder.plan round.now.frames.now places.now) worker.new.answers.items }
     ensures dealt { AreDealt start step worker.new.answers.items }
 {
+    let frames = round.frames;
     let mut index = start;
     while index < places.len() {
         let frame = &frames[places[index]];
-        gate.before(start as u32, frame.number);
-        let forwarded = answer(&mut worker.forwarder, &mut worker.tally, settings, frame);
+        round.gate.before(start as u32, frame.number);
+        let forwarded = answer(
+            &mut worker.forwarder,
+            &mut worker.tally,
+            round.settings,
+            frame,
+        );
         if worker.answers.push(Answer { index, forwarded }).is_err() {
             return;
         }
@@ -70,38 +75,35 @@ fn work<G: Gate>(
 
 /// Lets the workers decide in threads of their own, each the data packets that fall to it in turn.
 pub(crate) fn work_all<R: Threads + Sync, G: Gate>(
-    rt: &R,
-    workers: &mut [Worker],
-    settings: &Settings,
-    frames: &[Frame],
+    round: &Round<'_, R, G>,
     places: &[usize],
-    gate: &G,
+    workers: &mut [Worker],
 )
-    requires lawful { IsLawful settings.now }
-    requires places { AreWithin frames.now places.now }
+    requires lawful { IsLawful round.now.settings.now }
+    requires places { AreWithin round.now.frames.now places.now }
     requires number { (length workers.old ≤ most_workers) × (length places.now < 2 ^ 61) }
-    requires fresh { All (IsFresh settings.now) workers.old }
+    requires fresh { All (IsFresh round.now.settings.now) workers.old }
     ensures length { length workers.new ≡ length workers.old }
     ensures decided { (first plan : List (List EntryValue))
-        → All (HasSeen settings.now first plan) workers.old
-        → HaveAnswered settings.now first plan frames.now places.now workers.new }
+        → All (HasSeen round.now.settings.now first plan) workers.old
+        → HaveAnswered round.now.settings.now first plan round.now.frames.now places.now workers.new }
     ensures dealt { AreAllDealt workers.new }
 {
     let step = workers.len();
     if step > 0 {
         for_each_mut(
-            rt,
+            round.rt,
             workers,
             step,
             &|start, worker|
-                requires { IsLawful settings.now × AreWithin frames.now places.now
+                requires { IsLawful round.now.settings.now × AreWithin round.now.frames.now places.now
                     × (start < most_workers) × (0 < step) × (step ≤ most_workers) × (length places.now < 2 ^ 61)
-                    × IsFresh settings.now worker.now }
-                ensures { All (IsAnswer settings.entry.now worker.entry.now.forwarder.seen
-                    worker.entry.now.forwarder.plan frames.entry.now places.entry.now)
+                    × IsFresh round.now.settings.now worker.now }
+                ensures { All (IsAnswer round.entry.now.settings.now worker.entry.now.forwarder.seen
+                    worker.entry.now.forwarder.plan round.entry.now.frames.now places.entry.now)
                     worker.exit.now.answers.items
                     × AreDealt start step worker.exit.now.answers.items }
-            { work(worker, settings, frames, places, start, step, gate) },
+            { work(round, places, start, step, worker) },
         );
     }
 }

@@ -25,7 +25,6 @@ use lisp_settings::Settings;
 use octets::{Items, NoMemory};
 use router_core::{Changed, Course, Heard, Table, course_of};
 use router_log::Entries;
-use std::alloc::Global;
 
 /// Adds a batch, if it has entries.
 pub(crate) fn keep_batch(batches: &mut Items<Entries>, entries: Entries) -> Result<(), NoMemory>
@@ -39,7 +38,6 @@ pub(crate) fn keep_batch(batches: &mut Items<Entries>, entries: Entries) -> Resu
 
 // Plays a second: gathers its packets, and keeps its entries as a batch.
 fn write_second(
-    alloc: Global,
     settings: &Settings,
     table: &mut Table,
     second: u32,
@@ -55,21 +53,13 @@ fn write_second(
     let Changed { entries, emits } = table.tick(settings, second)?;
     let own = table.own();
     let moment = u64::from(second) * 1_000_000_000;
-    push_emits(
-        alloc,
-        settings,
-        &own,
-        moment,
-        emits.as_slice(),
-        &mut written.items,
-    )?;
+    push_emits(settings, &own, moment, emits.as_slice(), &mut written.items)?;
     keep_batch(&mut written.batches, entries)
 }
 
 // Plays the seconds that begin after one moment, up to another one and with it; none before the
 // first frame.
 fn write_seconds(
-    alloc: Global,
     settings: &Settings,
     table: &mut Table,
     previous: Option<u64>,
@@ -92,7 +82,7 @@ fn write_seconds(
     let first = second_of(from) + 1;
     let end = second_of(moment) + 1;
     for second in first..end {
-        write_second(alloc, settings, table, second as u32, written)?;
+        write_second(settings, table, second as u32, written)?;
     }
     Ok(())
 }
@@ -106,7 +96,6 @@ fn second_of(moment: u64) -> u64
 
 // Takes a frame: hears a control message, leaves a data packet for later.
 fn write_frame(
-    alloc: Global,
     settings: &Settings,
     table: &mut Table,
     place: usize,
@@ -124,7 +113,7 @@ fn write_frame(
 {
     let course = course_of(settings, frame);
     if course.is_message() {
-        write_message(alloc, settings, table, frame, &course, written)
+        write_message(settings, table, frame, &course, written)
     } else {
         leave(place, frame, written)
     }
@@ -132,7 +121,6 @@ fn write_frame(
 
 // Hears a control message: gathers its line and its packets, and keeps its entries as a batch.
 fn write_message(
-    alloc: Global,
     settings: &Settings,
     table: &mut Table,
     frame: &Frame,
@@ -163,7 +151,6 @@ fn write_message(
         look: None,
     }))?;
     push_emits(
-        alloc,
         settings,
         &own,
         frame.moment,
@@ -189,7 +176,6 @@ fn leave(place: usize, frame: &Frame, written: &mut Written) -> Result<(), NoMem
 
 // Takes frames in order, each behind the seconds after the frame before it, from a moment on.
 fn write_frames(
-    alloc: Global,
     settings: &Settings,
     table: &mut Table,
     from: u64,
@@ -211,8 +197,8 @@ fn write_frames(
 {
     let mut last = from;
     for (place, frame) in frames.iter().enumerate() {
-        write_seconds(alloc, settings, table, Some(last), frame.moment, written)?;
-        write_frame(alloc, settings, table, place, frame, written)?;
+        write_seconds(settings, table, Some(last), frame.moment, written)?;
+        write_frame(settings, table, place, frame, written)?;
         last = frame.moment;
     }
     Ok(())
@@ -221,7 +207,6 @@ fn write_frames(
 /// Plays the seconds and hears the control messages of a round of which no item was gathered yet.
 /// Returns how many of the batches are those of the seconds before the first frame.
 pub(crate) fn write_round(
-    alloc: Global,
     settings: &Settings,
     table: &mut Table,
     previous: Option<u64>,
@@ -246,8 +231,8 @@ pub(crate) fn write_round(
         table.old.parts table.new.parts) }
 {
     let first = &frames[0];
-    write_seconds(alloc, settings, table, previous, first.moment, written)?;
+    write_seconds(settings, table, previous, first.moment, written)?;
     let from = written.batches.len();
-    write_frames(alloc, settings, table, first.moment, frames, written)?;
+    write_frames(settings, table, first.moment, frames, written)?;
     Ok(from)
 }

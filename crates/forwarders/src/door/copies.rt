@@ -7,7 +7,7 @@ use router_log::Entry;
 use std::alloc::Global;
 
 /// A copy of an entry.
-pub(crate) fn copied_entry(alloc: Global, entry: &Entry) -> Result<Entry, NoMemory>
+pub(super) fn copied_entry(alloc: Global, entry: &Entry) -> Result<Entry, NoMemory>
     ensures { IfOk result (λ copy. copy ≡ entry.now) }
 {
     match entry {

@@ -6,4 +6,4 @@ use Rattle.forwarders.specs.Ruling.{ruling_of}
 use Rattle.forwarders.proofs.notices.note_all.Given as goal
 
 abbrev pub invariant-loop-one : goal.invariant-loop-one
-invariant-loop-one l = Notes (standing_in l.settings l.fn.table.parts) l.moment (notices_of (map ruling_of (take l.one-index l.ruled))) l.fn.table.parts l.fn.entries l.fn.items.items l.table.parts l.entries l.items.items
+invariant-loop-one l = Notes (standing_in l.closing.settings.now l.fn.table.parts) l.closing.moment (notices_of (map ruling_of (take l.one-index l.ruled))) l.fn.table.parts l.fn.entries.items l.fn.items.items l.table.parts l.entries.items l.items.items

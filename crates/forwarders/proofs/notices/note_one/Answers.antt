@@ -1,4 +1,4 @@
-use Rattle.std.proofs.Common.{List, All, refl, sym, subst}
+use Rattle.std.proofs.Common.{rules, ◌≡◌, List, ◌++◌, All, refl, sym, subst}
 use Rattle.router_log.specs.declared.emit.Emit.{Emit}
 use Rattle.router_model.specs.Changes.{Change}
 use Rattle.router_model.specs.Parts.{Parts}
@@ -11,13 +11,14 @@ use Rattle.forwarders.proofs.notices.note_one.Goals as goal
 
 pub push_emits-requires-clause-sendable : goal.push_emits-requires-clause-sendable
 push_emits-requires-clause-sendable c =
-    subst (λ (t : Own × List Emit). All (IsSendable (standing_by c.args.settings.now t.0)) t.1) (λ i. (sym c.own-own.ensures i, sym c.as_slice-2.ensures i)) c.in_ok-more.ensures.sent.sendable
+    subst (λ (t : Own × List Emit). All (IsSendable (standing_by c.args.closing.now.settings.now t.0)) t.1) (λ i. (sym c.own-own.ensures i, sym c.as_slice.ensures i)) c.in_ok-more.ensures.sent.sendable
 
 pub returns : goal.returns
 returns c =
     let after : Parts = c.note_found.new.self.parts in
     let change : Change Parts = changed_seen after c.in_ok-more.field-0 in
-    notes-sent c.push_emits.result c.args.settings.now c.args.moment c.args.notice.now c.args.table.now.parts after c.own-own.result change c.as_slice-2.result.now c.as_slice.result.now
-    c.args.entries.now c.push_entries.new.entries c.args.items.now.items c.push_emits.new.items.items
-    c.in_ok-more.ensures.parts refl c.own-own.ensures c.as_slice.ensures c.as_slice-2.ensures c.in_ok-push_entries.ensures c.push_emits.ensures.items c.push_emits.ensures.fits
+    let added : c.append.new.self.items ≡ c.args.entries.now.items ++ change.entries = search rules in
+    notes-sent c.push_emits.result c.args.closing.now.settings.now c.args.closing.now.moment c.args.notice.now c.args.table.now.parts after c.own-own.result change c.as_slice.result.now change.entries
+    c.args.entries.now.items c.append.new.self.items c.args.items.now.items c.push_emits.new.items.items
+    c.in_ok-more.ensures.parts refl c.own-own.ensures refl c.as_slice.ensures added c.push_emits.ensures.items c.push_emits.ensures.fits
     c.in_ok-more.ensures.sent.few c.in_ok-more.ensures.step.entered

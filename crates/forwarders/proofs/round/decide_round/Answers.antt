@@ -17,7 +17,7 @@ returns-clause-ruled g c =
     let whole : c.plan.new.self.batches ++ given ≡ p.batches ++ batches = λ i. planned i ++ same i in
     let first : c.plan.new.self.batches ++ take from given ≡ p.batches ++ take from batches = λ i. planned i ++ take from (same i) in
     let last : q.batches ≡ p.batches ++ batches = ap (λ (t : Publication). t.batches) c.in_ok-workers.ensures.published ∙ whole in
-    answers-ruled c.rule_all.result c.args.settings.now c.args.frames.now (p.batches ++ take from batches) (p.batches ++ batches) (c.plan.new.self.batches ++ take from given) (c.plan.new.self.batches ++ given) q.batches
+    answers-ruled c.rule_all.result c.args.round.now.settings.now c.args.round.now.frames.now (p.batches ++ take from batches) (p.batches ++ batches) (c.plan.new.self.batches ++ take from given) (c.plan.new.self.batches ++ given) q.batches
     c.args.written.now.places c.as_slice-places.result.now c.in_ok-workers.workers.items c.as_mut_slice.result.now
     (drop from batches, append_assoc p.batches (take from batches) (drop from batches) ∙ ap (λ (l : List (List Entry)). p.batches ++ l) (take-append-drop from batches))
     first whole last c.as_slice-places.ensures c.as_mut_slice.ensures.value c.in_ok-workers.ensures.answered c.rule_all.ensures.ruled

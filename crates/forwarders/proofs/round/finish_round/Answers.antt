@@ -12,6 +12,6 @@ put_together-requires g c =
 
 pub returns : goal.returns
 returns g c = record {
-  finishes = finished c.put_together.result c.args.settings.now c.args.moment c.args.ruled.items c.as_slice.result.now c.from_vec-ruled.result.items c.args.table.now.parts c.note_round.new.table.parts c.args.published.now c.note_round.new.published c.args.written.now c.note_round.new.items.items c.args.done.now c.put_together.new.done
-      c.as_slice.ensures.value c.from_vec-ruled.ensures.items c.requires.given c.in_ok-note_round.ensures.notes c.in_ok-note_round.ensures.published c.put_together.ensures.lines c.put_together.ensures.packets;
+  finishes = finished c.put_together.result c.args.round.now.settings.now c.args.round.now.closes c.args.ruled.items c.as_slice.result.now c.from_vec-ruled.result.items c.args.table.now.parts c.note_round.new.table.parts c.args.published.now c.note_round.new.published c.args.written.now c.note_round.new.items.items c.args.done.now c.put_together.new.done
+      c.as_slice.ensures.value c.from_vec-ruled.ensures.items c.requires.may.given c.in_ok-note_round.ensures.notes c.in_ok-note_round.ensures.published c.put_together.ensures.lines c.put_together.ensures.packets;
 }

@@ -12,7 +12,7 @@ publish_all-requires-clause-proper g c =
     let p : Publication = c.args.published.now in
     let batches : List (List Entry) = c.args.batches.now in
     subst (λ (t : Publication × List (List Entry)). IsProper t.0.settings (journal_of (p.batches ++ t.1))) (λ i. (record p { settings = sym c.requires.settings i }, sym c.split_at.ensures.front i))
-    (front-stands c.args.settings.now p.batches batches c.args.from c.requires.stands c.requires.proper)
+    (front-stands c.args.round.now.settings.now p.batches batches c.args.from c.requires.stands c.requires.proper)
 
 pub publish_all-requires-clause-next : goal.publish_all-requires-clause-next
 publish_all-requires-clause-next g c =
@@ -32,4 +32,4 @@ publish_beside-requires-clause-stands g c = λ κs bounds.
     let is : record p { batches = p.batches ++ c.split_at.result.0.now } ≡ c.hired.new.published = sym (c.in_ok-workers.ensures.same ∙ c.in_ok-publish_all.ensures) in
     subst (λ (q : Publication). IsProper q.settings (journal_of q.batches)) is
     (subst (λ (t : Publication × List (List Entry)). IsProper t.0.settings (journal_of (p.batches ++ t.1))) (λ i. (record p { settings = sym c.requires.settings i }, sym c.split_at.ensures.front i))
-    (front-stands c.args.settings.now p.batches batches c.args.from c.requires.stands c.requires.proper))
+    (front-stands c.args.round.now.settings.now p.batches batches c.args.from c.requires.stands c.requires.proper))

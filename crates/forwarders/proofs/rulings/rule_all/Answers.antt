@@ -13,10 +13,10 @@ use Rattle.forwarders.proofs.TakeLemmas.{answers-push, given-of, zip-push}
 use Rattle.forwarders.proofs.rulings.rule_all.Goals as goal
 
 pub loop-index-preserved : goal.loop-index-preserved
-loop-index-preserved c =
-    let settings = c.args.settings.now in
+loop-index-preserved g c =
+    let settings = c.args.round.now.settings.now in
     let published : List (List Entry) = c.args.published.now.batches in
-    let frames : List Frame = c.args.frames.now in
+    let frames : List Frame = c.args.round.now.frames.now in
     let places : List ℕ = c.args.places.now in
     let index = c.loop-index.index in
     let inv = c.loop-index.invariant in

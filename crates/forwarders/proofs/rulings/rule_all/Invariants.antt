@@ -7,11 +7,11 @@ use Rattle.forwarders.specs.Ruling.{AreByAnswers, AreRuled, HaveLooked}
 use Rattle.forwarders.proofs.rulings.rule_all.Given as goal
 
 abbrev pub invariant-loop-index : goal.invariant-loop-index
-invariant-loop-index l = record {
+invariant-loop-index g l = record {
   dealt : AreAllDealt l.workers;
   number : length l.all.items ≡ l.index;
-  answered : (first plan : List (List Entry)) → HaveAnswered l.settings first plan l.frames l.places l.fn.workers → HaveAnswered l.settings first plan l.frames l.places l.workers;
-  ruled : (first : List (List Entry)) → Begins first l.published.batches → HaveAnswered l.settings first l.published.batches l.frames l.places l.fn.workers → AreRuled l.settings first l.published.batches l.frames (take l.index l.places) l.all.items;
+  answered : (first plan : List (List Entry)) → HaveAnswered l.round.settings.now first plan l.round.frames.now l.places l.fn.workers → HaveAnswered l.round.settings.now first plan l.round.frames.now l.places l.workers;
+  ruled : (first : List (List Entry)) → Begins first l.published.batches → HaveAnswered l.round.settings.now first l.published.batches l.round.frames.now l.places l.fn.workers → AreRuled l.round.settings.now first l.published.batches l.round.frames.now (take l.index l.places) l.all.items;
   left : (index : ℕ) (told : Option Forwarded) → l.index ≤ index → IsSoleOfAll index told l.workers → IsSoleOfAll index told l.fn.workers;
   answers : AreByAnswers (count_of l.published.batches) l.fn.workers l.all.items;
   looked : HaveLooked (count_of l.published.batches) l.all.items;

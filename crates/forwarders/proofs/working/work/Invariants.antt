@@ -7,7 +7,7 @@ abbrev pub invariant-loop-index : goal.invariant-loop-index
 invariant-loop-index g l = let first = l.fn.worker.forwarder in let now = l.worker.forwarder in
     (now.settings ≡ first.settings) × (now.plan ≡ first.plan)
     × Begins first.seen now.seen × (l.worker.tally ≤ l.index) × (l.index < 2 ^ 62)
-    × All (IsAnswer l.fn.settings first.seen first.plan l.fn.frames l.fn.places) l.worker.answers.items
+    × All (IsAnswer l.fn.round.settings.now first.seen first.plan l.fn.round.frames.now l.fn.places) l.worker.answers.items
     × (l.index ≡ length l.worker.answers.items * l.step + l.start) × AreDealt l.start l.step l.worker.answers.items
 
 abbrev pub decreases-loop-index : goal.decreases-loop-index
