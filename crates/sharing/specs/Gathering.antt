@@ -18,6 +18,7 @@ use Rattle.router_model.specs.Rounds.{AreLawful, Lawful, after_round, closing_mo
 use Rattle.router_model.specs.Sharing.{moment_after}
 use Rattle.forwarders.specs.Batches.{journal_of}
 use Rattle.forwarders.specs.Publication.{Publication}
+use Rattle.sharing.specs.declared.gathering.Gathering.{Gathering as Gatherer}
 
 -- a router in rounds: the size of a round, the router after the rounds before, the moment of the frame before this
 -- round, and the frames that came since
@@ -35,6 +36,10 @@ gathering_of settings batches size previous frames = record {
   previous = previous;
   frames = frames;
 }
+
+-- the state of a router that gathers frames
+abbrev pub state_of : Gatherer → Gathering
+state_of g = gathering_of g.settings.now g.published.batches g.size g.previous g.frames.items
 
 -- a router in rounds as it begins, with its static mappings and without a frame
 abbrev pub none_gathered : ℕ → Settings → Gathering
@@ -124,3 +129,7 @@ pub record MayGather (settings : Settings) (parts : Parts) (p : Publication) (g 
   pub reached : unwrap_or (moment_after g.previous g.frames) 0 ≤ unwrap_or progress.moment 0
   pub count : parts.count ≤ most_mappings + most_entries * worked_events progress.frames g
   pub packets : written ≤ most_entries * worked_events progress.frames g
+
+-- a router that gathers frames may go on with a play of which so many packets are written
+abbrev pub MayPlay : Gatherer → Progress → ℕ → Type 0
+MayPlay g progress written = MayGather g.settings.now g.table.parts g.published (state_of g) g.octets progress written

@@ -6,7 +6,7 @@ ghost use Rattle.playback.specs.Input.{beginning};
 ghost use Rattle.router_model.specs.Cut.{is_full};
 ghost use Rattle.router_model.specs.Lifting.{AreOctets};
 ghost use Rattle.forwarders.specs.Batches.{count_of};
-ghost use Rattle.sharing.specs.Gathering.{Gathering as GatheringValue, InRounds, MayGather, gathering_of, is_due, none_gathered};
+ghost use Rattle.sharing.specs.Gathering.{Gathering as GatheringValue, InRounds, MayPlay, is_due, none_gathered, state_of};
 
 use crate::crew::Crew;
 use crate::limits::MOST_ROUND_OCTETS;
@@ -38,15 +38,13 @@ pub(crate) struct Gathering<'a> {
 impl<'a> Machine for Gathering<'a> {
     ghost State = { GatheringValue };
 
-    ghost state = { λ g. gathering_of g.settings.now g.published.batches g.size g.previous g.frames.items };
+    ghost state = { state_of };
 
     ghost Does = { InRounds };
 
     ghost full = { is_due };
 
-    ghost IsReady = { λ progress written g. MayGather g.settings.now g.table.parts g.published
-        (gathering_of g.settings.now g.published.batches g.size g.previous g.frames.items)
-        g.octets progress written };
+    ghost IsReady = { λ progress written g. MayPlay g progress written };
 
     // A second changes nothing yet, because the seconds of a round are worked with the round.
     fn tick(
@@ -87,11 +85,8 @@ pub(crate) fn begun<'a, R: Threads + Wait + Sync, G: Gate>(
     requires workers { (1 ≤ crew.now.workers) × (crew.now.workers ≤ most_workers) }
     requires round { (1 ≤ crew.now.round) × (crew.now.round ≤ most_round_frames) }
     requires lawful { IsLawful settings.now }
-    ensures begins { IfOk result (λ g. gathering_of g.settings.now g.published.batches g.size g.previous g.frames.items
-        ≡ none_gathered crew.now.round settings.now) }
-    ensures ready { IfOk result (λ g. MayGather g.settings.now g.table.parts g.published
-        (gathering_of g.settings.now g.published.batches g.size g.previous g.frames.items)
-        g.octets beginning 0) }
+    ensures begins { IfOk result (λ g. state_of g ≡ none_gathered crew.now.round settings.now) }
+    ensures ready { IfOk result (λ g. MayPlay g beginning 0) }
 {
     let table = Table::new(alloc, settings)?;
     match open_hall(crew.rt, alloc, settings, &table, crew.workers) {

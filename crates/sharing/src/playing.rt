@@ -9,7 +9,7 @@ ghost use Rattle.playback.specs.Front.{CutRun};
 ghost use Rattle.playback.specs.Input.{beginning, left_in};
 ghost use Rattle.playback.specs.Limits.{most_frames};
 ghost use Rattle.playback.specs.Playing.{HasPlayed};
-ghost use Rattle.sharing.specs.Gathering.{InRounds, MayGather, gathering_of};
+ghost use Rattle.sharing.specs.Gathering.{InRounds, MayPlay, state_of};
 ghost use Rattle.sharing.specs.Sharing.{HasShared, HasSharedPart};
 
 use crate::crew::Crew;
@@ -64,7 +64,7 @@ pub fn play_rounds<R: Threads + Wait + Sync, D: Desk, G: Gate, I: FrameReader>(
         (IsErrOf result Failed) }
 {
     let mut router = begun(crew, alloc, settings)?;
-    let ended = play_on(crew, alloc, desk, &mut router, reader, file);
+    let ended = play_on(crew, desk, &mut router, reader, file);
     let entries = router.closed(crew.rt);
     let ending = ended?;
     Ok(RoundsEnding { ending, entries })
@@ -73,7 +73,6 @@ pub fn play_rounds<R: Threads + Wait + Sync, D: Desk, G: Gate, I: FrameReader>(
 // Plays the capture: works each round once it is full, and at the end the frames that are left.
 fn play_on<R: Threads + Wait + Sync, D: Desk, G: Gate, I: FrameReader>(
     crew: &Crew<'_, R, G>,
-    alloc: Global,
     desk: &mut D,
     router: &mut Gathering<'_>,
     reader: I,
@@ -84,30 +83,27 @@ fn play_on<R: Threads + Wait + Sync, D: Desk, G: Gate, I: FrameReader>(
     requires begins { I.progress reader ≡ beginning }
     requires few { I.most ≤ most_frames }
     requires none { router.old.frames.items ≡ [] }
-    requires ready { MayGather router.old.settings.now router.old.table.parts router.old.published
-        (gathering_of router.old.settings.now router.old.published.batches router.old.size router.old.previous router.old.frames.items)
-        router.old.octets beginning 0 }
+    requires ready { MayPlay router.old beginning 0 }
     ensures played { IfOk result (λ ending. IfSome (D.told desk.old) (λ w.
-        HasPlayed InRounds
-        (gathering_of router.old.settings.now router.old.published.batches router.old.size router.old.previous router.old.frames.items)
+        HasPlayed InRounds (state_of router.old)
         (Some file.number) (shown_of w) (left_in I.id I.run reader w) ending
-        (gathering_of router.new.settings.now router.new.published.batches router.new.size router.new.previous router.new.frames.items)
+        (state_of router.new)
         (D.told desk.new))) }
     ensures cut { OnErr result (IfSome (D.told desk.old) (λ w.
-        CutRun InRounds
-        (gathering_of router.old.settings.now router.old.published.batches router.old.size router.old.previous router.old.frames.items)
+        CutRun InRounds (state_of router.old)
         (Some file.number) (shown_of w) (left_in I.id I.run reader w) (D.told desk.new))) }
     ensures cause { HasCause (D.faults desk.old) (D.faults desk.new) result }
     ensures steady { StaysSteady (D.steady desk.old) (D.steady desk.new)
         (IsGiven (I.id reader) to_read (D.given desk.old) × IsGiven file.number to_write (D.given desk.old))
         (IsErrOf result Failed) }
 {
+    let alloc = *router.frames.allocator();
     let mut play = Play::new(alloc, reader, Some(file));
     loop {
         match play.on(alloc, desk, router)? {
-            Turn::Full => work_round(crew, alloc, router, play.progress, &mut play.output)?,
+            Turn::Full => work_round(crew, router, play.progress, &mut play.output)?,
             Turn::Ended(fault) => {
-                work_last(crew, alloc, router, play.progress, &mut play.output)?;
+                work_last(crew, router, play.progress, &mut play.output)?;
                 return play.end(alloc, desk, fault);
             }
         }

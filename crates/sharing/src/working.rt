@@ -6,7 +6,7 @@ ghost use Rattle.playback.specs.Playing.{GathersOne};
 ghost use Rattle.router_model.specs.Rounds.{lines_text};
 ghost use Rattle.forwarders.specs.Gathering.{IsWritable};
 ghost use Rattle.forwarders.specs.Rounding.{line_seen, packet_seen};
-ghost use Rattle.sharing.specs.Gathering.{ClosesRound, MayGather, WorksRound, gathering_of};
+ghost use Rattle.sharing.specs.Gathering.{ClosesRound, MayPlay, WorksRound, state_of};
 
 use crate::crew::Crew;
 use crate::gathering::Gathering;
@@ -14,7 +14,6 @@ use forwarders::{Gate, Line, Packet, closing_moment, run_round};
 use octets::{NoMemory, Octets};
 use playback::{Output, Progress};
 use router_log::push_frame_line;
-use std::alloc::Global;
 use std::sync::Wait;
 use std::thread::Threads;
 
@@ -22,25 +21,20 @@ use std::thread::Threads;
 /// and packets. The call starts threads, and waits for them.
 pub(crate) fn work_round<R: Threads + Wait + Sync, G: Gate>(
     crew: &Crew<'_, R, G>,
-    alloc: Global,
     router: &mut Gathering<'_>,
     progress: Progress,
     output: &mut Output,
 ) -> Result<(), NoMemory>
     requires workers { crew.now.workers ≤ most_workers }
     requires some { 1 ≤ length router.old.frames.items }
-    requires ready { MayGather router.old.settings.now router.old.table.parts router.old.published
-        (gathering_of router.old.settings.now router.old.published.batches router.old.size router.old.previous router.old.frames.items)
-        router.old.octets progress output.old.written }
+    requires ready { MayPlay router.old progress output.old.written }
     ensures gathers { OnOk result (GathersOne
-        (WorksRound (gathering_of router.old.settings.now router.old.published.batches router.old.size router.old.previous router.old.frames.items)
-        router.old.frames.items) output.old output.new
-        (gathering_of router.new.settings.now router.new.published.batches router.new.size router.new.previous router.new.frames.items)) }
-    ensures ready { OnOk result (MayGather router.new.settings.now router.new.table.parts router.new.published
-        (gathering_of router.new.settings.now router.new.published.batches router.new.size router.new.previous router.new.frames.items)
-        router.new.octets progress output.new.written) }
+        (WorksRound (state_of router.old) router.old.frames.items)
+        output.old output.new (state_of router.new)) }
+    ensures ready { OnOk result (MayPlay router.new progress output.new.written) }
     ensures none { OnOk result (router.new.frames.items ≡ []) }
 {
+    let alloc = *router.frames.allocator();
     let done = run_round(
         crew.rt,
         alloc,
@@ -62,24 +56,20 @@ pub(crate) fn work_round<R: Threads + Wait + Sync, G: Gate>(
 /// Works the round of the frames that are left at the end of a capture, if there are some.
 pub(crate) fn work_last<R: Threads + Wait + Sync, G: Gate>(
     crew: &Crew<'_, R, G>,
-    alloc: Global,
     router: &mut Gathering<'_>,
     progress: Progress,
     output: &mut Output,
 ) -> Result<(), NoMemory>
     requires workers { crew.now.workers ≤ most_workers }
-    requires ready { MayGather router.old.settings.now router.old.table.parts router.old.published
-        (gathering_of router.old.settings.now router.old.published.batches router.old.size router.old.previous router.old.frames.items)
-        router.old.octets progress output.old.written }
+    requires ready { MayPlay router.old progress output.old.written }
     ensures gathers { OnOk result (GathersOne
-        (ClosesRound router.old.frames.items (gathering_of router.old.settings.now router.old.published.batches router.old.size router.old.previous router.old.frames.items))
-        output.old output.new
-        (gathering_of router.new.settings.now router.new.published.batches router.new.size router.new.previous router.new.frames.items)) }
+        (ClosesRound router.old.frames.items (state_of router.old))
+        output.old output.new (state_of router.new)) }
 {
     if router.frames.is_empty() {
         return Ok(());
     }
-    work_round(crew, alloc, router, progress, output)
+    work_round(crew, router, progress, output)
 }
 
 // Gathers the lines of a round.

@@ -4,14 +4,10 @@ use Rattle.playback.specs.Input.{left_in}
 use Rattle.playback.specs.Passing.{file_of}
 use Rattle.playback.proofs.FrontLemmas.{on_err_always}
 use Rattle.playback.proofs.PassingLemmas.{cut_reading, ends-cut, ends-played, passing-first, passing-pause}
-use Rattle.sharing.specs.Gathering.{Gathering, InRounds, WorksRound, gathering_of}
-use Rattle.sharing.specs.declared.gathering.Gathering.{Gathering as Router}
+use Rattle.sharing.specs.Gathering.{InRounds, WorksRound, state_of}
 use Rattle.sharing.proofs.FrontLemmas.{over-cut}
 use Rattle.sharing.proofs.RoundLemmas.{gathers-as, none-due}
 use Rattle.sharing.proofs.playing.play_on.Goals as goal
-
-abbrev state_of : Router → Gathering
-state_of router = gathering_of router.settings.now router.published.batches router.size router.previous router.frames.items
 
 pub loop-play-init : goal.loop-play-init
 loop-play-init g c =

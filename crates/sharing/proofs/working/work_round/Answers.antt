@@ -4,21 +4,21 @@ use Rattle.forwarders.specs.declared.round_done.Line.{Line}
 use Rattle.forwarders.specs.declared.round_done.Packet.{Packet}
 use Rattle.capture_events.specs.Events.{records_of}
 use Rattle.router_model.specs.Rounds.{lines_text}
-use Rattle.sharing.specs.Gathering.{gathering_of}
+use Rattle.sharing.specs.Gathering.{state_of}
 use Rattle.sharing.proofs.RoundLemmas.{on_ok_three, ready-worked, round-gathers, round-left}
 use Rattle.sharing.proofs.working.work_round.Goals as goal
 
 pub run_round-requires-clause-count : goal.run_round-requires-clause-count
 run_round-requires-clause-count g c =
     let router = c.args.router.now in
-    let room = round-left router.settings.now router.table.parts router.published (gathering_of router.settings.now router.published.batches router.size router.previous router.frames.items)
+    let room = round-left router.settings.now router.table.parts router.published (state_of router)
     router.octets c.args.output.now.written c.args.progress c.requires.ready c.requires.some in
     omega (arith, room.0)
 
 pub push_packets-requires-clause-room : goal.push_packets-requires-clause-room
 push_packets-requires-clause-room g c =
     let router = c.args.router.now in
-    let room = round-left router.settings.now router.table.parts router.published (gathering_of router.settings.now router.published.batches router.size router.previous router.frames.items)
+    let room = round-left router.settings.now router.table.parts router.published (state_of router)
     router.octets c.args.output.now.written c.args.progress c.requires.ready c.requires.some in
     let few = rw c.as_slice.ensures.value at c.in_ok-done.ensures.packets.few in
     let number = ap (λ (l : List Packet). length l) c.as_slice-4.ensures in
