@@ -8,7 +8,7 @@ ghost use Rattle.capture_events.specs.Events.{events_of, steps_of};
 ghost use Rattle.capture_io.specs.declared.fault.CaptureFault.TheVariants.{Host};
 ghost use Rattle.capture_io.specs.Reading as reading;
 ghost use Rattle.audit.specs.declared.outcome.Outcome.TheVariants.{Same};
-ghost use Rattle.playback.specs.Input.{beginning};
+ghost use Rattle.playback.specs.Input.{beginning, behind};
 ghost use Rattle.playback.specs.Limits.{most_arrival_octets, most_frames};
 ghost use Rattle.auditing.specs.Auditing.{run_in};
 ghost use Rattle.auditing.specs.Coming.{IsFaultOf};
@@ -96,9 +96,7 @@ fn audit_frame<D: Desk, M: Machine>(
     requires size { length frame.octets ≤ most_arrival_octets }
     requires records { output.old.records ≡ [] }
     requires open { IsOpen holding.old }
-    ensures ready { OnOk result (M.IsReady
-        (record { frames = frame.number; moment = Some frame.moment })
-        output.new.written machine.new) }
+    ensures ready { OnOk result (M.IsReady (behind frame) output.new.written machine.new) }
     ensures records { OnOk result (output.new.records ≡ []) }
     ensures open { OnOk result (IsOpen holding.new) }
     ensures proceeds { Proceeds M.Does (M.state machine.old) (M.state machine.new)
@@ -113,7 +111,7 @@ fn audit_frame<D: Desk, M: Machine>(
     ensures steady { StaysSteady (D.steady desk.old) (D.steady desk.new)
         (IsGiven holding.old.sent.id to_read (D.given desk.old)) (IsErrOf result Host) }
 {
-    let before = audit_seconds(
+    audit_seconds(
         alloc,
         desk,
         machine,
@@ -122,6 +120,6 @@ fn audit_frame<D: Desk, M: Machine>(
         output,
         holding,
     )?;
-    machine.take(alloc, before, frame, output)?;
+    machine.take(frame, output)?;
     holding.expect_output(alloc, desk, output)
 }

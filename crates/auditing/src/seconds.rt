@@ -1,21 +1,22 @@
 // The seconds between the frames of a capture, played one after another, and the packets of each.
-ghost use Rattle.std.specs.Prelude.{◌≡◌, ◌≢◌, ◌<◌, ◌≤◌, ◌+◌, ◌*◌, ◌^◌, ◌∷◌, [], false, Some, Err, IfOk, IsErrOf, OnOk, unwrap_or};
+ghost use Rattle.std.specs.Prelude.{◌≡◌, ◌≢◌, ◌<◌, ◌≤◌, ◌*◌, ◌^◌, ◌∷◌, [], false, Err, IsErrOf, OnOk, unwrap_or};
 ghost use Rattle.octets.specs.Causes.{Rose};
 ghost use Rattle.desk.specs.Causes.{StaysSteady};
 ghost use Rattle.desk.specs.World.{to_read, shown, IsGiven};
-ghost use Rattle.capture_events.specs.Events.{second_of, steps_of, ticks, Happens, Tick};
+ghost use Rattle.capture_events.specs.Events.{steps_of, ticks, Happens, Tick};
 ghost use Rattle.capture_io.specs.declared.fault.CaptureFault.TheVariants.{Host};
 ghost use Rattle.playback.specs.Limits.{most_frames};
+ghost use Rattle.playback.specs.Machines.{IsReadyBy, MayTick, StaysReady};
 ghost use Rattle.auditing.specs.Holding.{IsOpen, Proceeds};
 
 use crate::holding::Holding;
+use capture_events::seconds_between;
 use capture_io::{CaptureFault, Desk};
 use playback::{Machine, Output, Progress};
 use std::alloc::Global;
 
 /// Plays the seconds that begin after the last event, up to the second of a moment (in nanoseconds)
 /// and including it, and compares the packets of each. None is played before the first frame.
-/// Returns how far the play has come.
 pub(crate) fn audit_seconds<D: Desk, M: Machine>(
     alloc: Global,
     desk: &mut D,
@@ -24,7 +25,7 @@ pub(crate) fn audit_seconds<D: Desk, M: Machine>(
     moment: u64,
     output: &mut Output,
     holding: &mut Holding,
-) -> Result<Progress, CaptureFault>
+) -> Result<(), CaptureFault>
     requires ready { M.IsReady progress output.old.written machine.old }
     requires not_full { (state : M.State) → M.full state ≡ false }
     requires later { unwrap_or progress.moment 0 ≤ moment }
@@ -32,9 +33,8 @@ pub(crate) fn audit_seconds<D: Desk, M: Machine>(
     requires moment { moment < 2 ^ 32 * 1000000000 }
     requires records { output.old.records ≡ [] }
     requires open { IsOpen holding.old }
-    ensures ready { IfOk result (λ reached. M.IsReady reached output.new.written machine.new) }
-    ensures frames { IfOk result (λ reached. reached.frames ≡ progress.frames) }
-    ensures later { IfOk result (λ reached. unwrap_or reached.moment 0 ≤ moment) }
+    ensures ready { OnOk result
+        (IsReadyBy M.IsReady progress.frames moment output.new.written machine.new) }
     ensures records { OnOk result (output.new.records ≡ []) }
     ensures open { OnOk result (IsOpen holding.new) }
     ensures proceeds { Proceeds M.Does (M.state machine.old) (M.state machine.new)
@@ -49,25 +49,10 @@ pub(crate) fn audit_seconds<D: Desk, M: Machine>(
     ensures steady { StaysSteady (D.steady desk.old) (D.steady desk.new)
         (IsGiven holding.old.sent.id to_read (D.given desk.old)) (IsErrOf result Host) }
 {
-    let Some(from) = progress.moment else {
-        return Ok(progress);
-    };
-    let mut reached = progress;
-    let first = second_of(from) + 1;
-    let end = second_of(moment) + 1;
-    for second in first..end {
-        audit_second(
-            alloc,
-            desk,
-            machine,
-            reached,
-            second as u32,
-            output,
-            holding,
-        )?;
-        reached.moment = Some(second * 1_000_000_000);
+    for second in seconds_between(progress.moment, moment) {
+        audit_second(alloc, desk, machine, second, output, holding)?;
     }
-    Ok(reached)
+    Ok(())
 }
 
 // Plays a second, and compares its packets.
@@ -75,20 +60,16 @@ fn audit_second<D: Desk, M: Machine>(
     alloc: Global,
     desk: &mut D,
     machine: &mut M,
-    progress: Progress,
     second: u32,
     output: &mut Output,
     holding: &mut Holding,
 ) -> Result<(), CaptureFault>
-    requires ready { M.IsReady progress output.old.written machine.old }
+    requires ready { MayTick M.IsReady second output.old.written machine.old }
     requires not_full { (state : M.State) → M.full state ≡ false }
-    requires later { unwrap_or progress.moment 0 < second * 1000000000 }
-    requires most { progress.frames ≤ most_frames }
     requires records { output.old.records ≡ [] }
     requires open { IsOpen holding.old }
-    ensures ready { OnOk result (M.IsReady
-        (record { frames = progress.frames; moment = Some (second * 1000000000) })
-        output.new.written machine.new) }
+    ensures ready { OnOk result
+        (StaysReady M.IsReady second output.old.written machine.old output.new.written machine.new) }
     ensures records { OnOk result (output.new.records ≡ []) }
     ensures open { OnOk result (IsOpen holding.new) }
     ensures proceeds { Proceeds M.Does (M.state machine.old) (M.state machine.new)
@@ -103,13 +84,6 @@ fn audit_second<D: Desk, M: Machine>(
     ensures steady { StaysSteady (D.steady desk.old) (D.steady desk.new)
         (IsGiven holding.old.sent.id to_read (D.given desk.old)) (IsErrOf result Host) }
 {
-    machine.tick(alloc, progress, second, output)?;
+    machine.tick(second, output)?;
     holding.expect_output(alloc, desk, output)
-}
-
-// The second in which a moment lies.
-fn second_of(moment: u64) -> u64
-    ensures { result ≡ second_of moment }
-{
-    moment / 1_000_000_000
 }

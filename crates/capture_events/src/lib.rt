@@ -3,5 +3,7 @@
 #![tactic(auto)]
 
 mod laws;
+mod seconds;
 
 pub use laws::events_keep_the_frames;
+pub use seconds::{Seconds, seconds_between};

@@ -11,7 +11,7 @@ use Rattle.router_model.specs.Sides.{notices_of}
 use Rattle.forwarders.specs.declared.gathering.Gathered.{Gathered}
 use Rattle.forwarders.specs.declared.gathering.Written.{Written}
 use Rattle.forwarders.specs.declared.round_done.RoundDone.{RoundDone}
-use Rattle.forwarders.specs.declared.ruled.Ruled.{Ruled}
+use Rattle.forwarders.specs.declared.ruling.Ruled.{Ruled}
 use Rattle.forwarders.specs.Finishing.{Finishes, noted_of, with_noted}
 use Rattle.forwarders.specs.Gathering.{IsFit, Notes, lines_in, packet_gathered, packets_in}
 use Rattle.forwarders.specs.Given.{IsGiven}

@@ -21,7 +21,7 @@ use Rattle.router_model.specs.declared.own.Own.{Own}
 use Rattle.router_core.specs.Steps.{HasEntered}
 use Rattle.router_core.proofs.NotingLemmas.{all-behind, behind}
 use Rattle.forwarders.specs.declared.gathering.Gathered.{Gathered}
-use Rattle.forwarders.specs.declared.ruled.Ruled.{Ruled}
+use Rattle.forwarders.specs.declared.ruling.Ruled.{Ruled}
 use Rattle.forwarders.specs.Gathering.{IsFit, Notes, packet_gathered}
 use Rattle.forwarders.specs.Given.{IsGiven}
 use Rattle.forwarders.specs.Ruling.{ruling_of}

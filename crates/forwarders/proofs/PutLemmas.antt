@@ -22,7 +22,7 @@ use Rattle.forwarders.specs.declared.gathering.Gathered.{Gathered}
 use Rattle.forwarders.specs.declared.gathering.Gathered.TheVariants as mark
 use Rattle.forwarders.specs.declared.round_done.Line.{Line}
 use Rattle.forwarders.specs.declared.round_done.Packet.{Packet}
-use Rattle.forwarders.specs.declared.ruled.Ruled.{Ruled}
+use Rattle.forwarders.specs.declared.ruling.Ruled.{Ruled}
 use Rattle.forwarders.specs.Given.{IsGiven}
 use Rattle.forwarders.specs.Gathering.{IsFit, IsWritable, all_gathered, left_in, left_of, lines_in, packet_gathered, packet_made, packets_in, sent_of}
 use Rattle.forwarders.specs.Rounding.{HasCome, line_seen, packet_seen}

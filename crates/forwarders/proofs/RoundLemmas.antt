@@ -27,7 +27,7 @@ use Rattle.forwarders.specs.declared.gathering.Written.{Written}
 use Rattle.forwarders.specs.declared.round_done.Line.{Line}
 use Rattle.forwarders.specs.declared.round_done.Packet.{Packet}
 use Rattle.forwarders.specs.declared.round_done.RoundDone.{RoundDone}
-use Rattle.forwarders.specs.declared.ruled.Ruled.{Ruled}
+use Rattle.forwarders.specs.declared.ruling.Ruled.{Ruled}
 use Rattle.forwarders.specs.Batches.{count_of, journal_of}
 use Rattle.forwarders.specs.Deciding.{IsDecided}
 use Rattle.forwarders.specs.Given.{IsGiven}
@@ -202,7 +202,7 @@ module _ (settings : Settings) (previous : Option ℕ) (frame : Frame) (frames :
           shared.stands.proper)
 
 -- all facts of a round's parts make the whole
-pub runs-round : (settings : Settings) (previous : Option ℕ) (frame : Frame) (frames : List Frame) (parts now after : Parts) (old middle new : Publication) (from : ℕ) (written : Written) (ruled : List Ruled) (moment : ℕ) (undone done : RoundDone)
+pub runs-round : (settings : Settings) (previous : Option ℕ) (frame : Frame) (frames : List Frame) (parts now after : Parts) (old middle new : Publication) (from : ℕ) (written : Written) (ruled : List Ruled) (undone done : RoundDone)
     → Stands settings parts (journal_of old.batches)
     → MayBegin settings (begun_at previous (frame ∷ frames)) (journal_of old.batches) (events_after previous (frame ∷ frames))
     → FramesInOrder (begun_at previous (frame ∷ frames)) (frame ∷ frames)
@@ -212,11 +212,10 @@ pub runs-round : (settings : Settings) (previous : Option ℕ) (frame : Frame) (
     → old.pending ≡ []
     → middle ≡ record old { batches = old.batches ++ written.batches; plan = old.batches ++ written.batches }
     → now ≡ (round_writing settings previous (frame ∷ frames) parts).after
-    → moment ≡ closing_moment (frame ∷ frames)
     → (undone.lines ≡ []) × (undone.written ≡ [])
-    → Finishes settings moment ruled now middle written undone after new done
+    → Finishes settings (closing_moment (frame ∷ frames)) ruled now middle written undone after new done
     → RunsRound settings previous (frame ∷ frames) old new parts after done
-runs-round settings previous frame frames parts now after old middle new from written ruled moment undone done stands may order is are looked none published wrote closes empty finishes =
+runs-round settings previous frame frames parts now after old middle new from written ruled undone done stands may order is are looked none published wrote empty finishes =
     let all : List Frame = frame ∷ frames in
     let evs : List Event = events_after previous all in
     let before : List (List Entry) = old.batches in
@@ -224,7 +223,7 @@ runs-round settings previous frame frames parts now after old middle new from wr
     let w : Writing Parts = round_writing settings previous all parts in
     let mid : Publication = record old { batches = before ++ written.batches; plan = before ++ written.batches } in
     let f : Finishes settings closing ruled w.after mid written undone after new done =
-    subst (λ (t : ℕ × Parts × Publication). Finishes settings t.0 ruled t.1 t.2 written undone after new done) (λ i. (closes i, wrote i, published i)) finishes in
+    subst (λ (t : Parts × Publication). Finishes settings closing ruled t.0 t.1 written undone after new done) (λ i. (wrote i, published i)) finishes in
     let change : Change Parts = noted_of settings closing w.after ruled in
     let more : List events.Packet = emit_packets (standing_in settings change.after) closing change.emits in
     let gathered : List Gathered = with_noted settings closing w.after ruled written.items.items in

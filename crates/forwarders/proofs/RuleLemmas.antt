@@ -14,7 +14,7 @@ use Rattle.forwarders.specs.declared.door.view.View.TheVariants.{Newcomer, Reads
 use Rattle.forwarders.specs.Batches.{Begins, batches_from, journal_of, parts_from}
 use Rattle.forwarders.specs.Keeping.{Agrees, AreAll, Enters, GoesOn, IsNew, IsNext, IsWriter, Keeps, Knows, Publishes, Starts}
 use Rattle.forwarders.specs.Publication.{Side}
-use Rattle.forwarders.specs.Views.{beginning, learnt, told_of}
+use Rattle.forwarders.specs.Views.{beginning, after_note, told_of}
 use Rattle.forwarders.proofs.BatchLemmas.{begins-more, begins-same, begins-self, journal-push}
 use Rattle.forwarders.proofs.StandLemmas.{journal-first, made-stand, parts-push}
 
@@ -263,51 +263,51 @@ forks seat v side views keeps at =
           (all-push (Knows a.settings list a.planned) others (told_of v) (all-set (Knows a.settings list a.planned) views seat v a.known k) (knows-told a.settings list a.planned v k)));
     }
 
-knows-learnt : (settings : Settings) (list planned : List (List Entry)) (v w : View) → Knows settings list planned v → Knows settings list planned w → Knows settings list planned (learnt v w)
-knows-learnt settings list planned Newcomer (Tells s one plan) k l = l
-knows-learnt settings list planned Newcomer Newcomer k l = k
-knows-learnt settings list planned Newcomer (Reads t seen' plan') k l = k
-knows-learnt settings list planned Newcomer (Writes t own' plan') k l = k
-knows-learnt settings list planned (Reads s seen plan) w k l = k
-knows-learnt settings list planned (Writes s own plan) w k l = k
-knows-learnt settings list planned (Tells s one plan) w k l = k
+knows-noted : (settings : Settings) (list planned : List (List Entry)) (v w : View) → Knows settings list planned v → Knows settings list planned w → Knows settings list planned (after_note v w)
+knows-noted settings list planned Newcomer (Tells s one plan) k l = l
+knows-noted settings list planned Newcomer Newcomer k l = k
+knows-noted settings list planned Newcomer (Reads t seen' plan') k l = k
+knows-noted settings list planned Newcomer (Writes t own' plan') k l = k
+knows-noted settings list planned (Reads s seen plan) w k l = k
+knows-noted settings list planned (Writes s own plan) w k l = k
+knows-noted settings list planned (Tells s one plan) w k l = k
 
-learnt-writes : (v w : View) → IsWriter (learnt v w) → IsWriter v
-learnt-writes Newcomer (Tells s one plan) p = p
-learnt-writes Newcomer Newcomer p = p
-learnt-writes Newcomer (Reads t seen' plan') p = p
-learnt-writes Newcomer (Writes t own' plan') p = p
-learnt-writes (Reads s seen plan) w p = p
-learnt-writes (Writes s own plan) w p = p
-learnt-writes (Tells s one plan) w p = p
+after_note-writes : (v w : View) → IsWriter (after_note v w) → IsWriter v
+after_note-writes Newcomer (Tells s one plan) p = p
+after_note-writes Newcomer Newcomer p = p
+after_note-writes Newcomer (Reads t seen' plan') p = p
+after_note-writes Newcomer (Writes t own' plan') p = p
+after_note-writes (Reads s seen plan) w p = p
+after_note-writes (Writes s own plan) w p = p
+after_note-writes (Tells s one plan) w p = p
 
-new-learnt : (v w : View) → IsNew v → IsNew w → IsNew (learnt v w)
-new-learnt Newcomer (Tells s one plan) new told = absurd told
-new-learnt Newcomer Newcomer new told = new
-new-learnt Newcomer (Reads t seen' plan') new told = new
-new-learnt Newcomer (Writes t own' plan') new told = new
-new-learnt (Reads s seen plan) w new told = new
-new-learnt (Writes s own plan) w new told = new
-new-learnt (Tells s one plan) w new told = new
+new-after_note : (v w : View) → IsNew v → IsNew w → IsNew (after_note v w)
+new-after_note Newcomer (Tells s one plan) new told = absurd told
+new-after_note Newcomer Newcomer new told = new
+new-after_note Newcomer (Reads t seen' plan') new told = new
+new-after_note Newcomer (Writes t own' plan') new told = new
+new-after_note (Reads s seen plan) w new told = new
+new-after_note (Writes s own plan) w new told = new
+new-after_note (Tells s one plan) w new told = new
 
 -- the other's view is still there
 there-still : (P : View → Type 0) (views : List View) (seat other : ℕ) (both w : View) → ¬ (other ≡ seat) → AreAll P views → get_elem? (set views seat both) other ≡ some w → P w
 there-still P views seat other both w apart all there =
     ⊎_elim (λ (t : (other ≡ seat) × (both ≡ w)). absurd (apart t.0)) (λ (t : (other ≢ seat) × (get_elem? views other ≡ some w)). all other w t.1) (at_set views seat other both w there)
 
-pub merges : (seat : ℕ) (v : View) (other : ℕ) (w : View) → Merges Keeps seat v other w (learnt v w) Newcomer
+pub merges : (seat : ℕ) (v : View) (other : ℕ) (w : View) → Merges Keeps seat v other w (after_note v w) Newcomer
 merges seat v other w side views keeps at apart there =
-    let both : View = learnt v w in
+    let both : View = after_note v w in
     let others : List View = set views seat both in record {
       before = λ o. (
           let new : AreAll IsNew views = keeps.before o in
           let told : IsNew w = there-still IsNew views seat other both w apart new there in
-          all-set IsNew others other Newcomer (all-set IsNew views seat both new (new-learnt v w (new seat v at) told)) tt);
+          all-set IsNew others other Newcomer (all-set IsNew views seat both new (new-after_note v w (new seat v at) told)) tt);
       since = λ o. (
           let a : Agrees side.parts views = keeps.since o in
           let K : View → Type 0 = Knows a.settings (batches_from a.settings a.behind) a.planned in
           let told : K w = there-still K views seat other both w apart a.known there in
           again side.parts views (set others other Newcomer) a
-          (back-on views others (set others other Newcomer) (back-set views seat v both at (learnt-writes v w)) (back-put others other Newcomer (λ p. p)))
-          (all-set K others other Newcomer (all-set K views seat both a.known (knows-learnt a.settings (batches_from a.settings a.behind) a.planned v w (a.known seat v at) told)) tt));
+          (back-on views others (set others other Newcomer) (back-set views seat v both at (after_note-writes v w)) (back-put others other Newcomer (λ p. p)))
+          (all-set K others other Newcomer (all-set K views seat both a.known (knows-noted a.settings (batches_from a.settings a.behind) a.planned v w (a.known seat v at) told)) tt));
     }

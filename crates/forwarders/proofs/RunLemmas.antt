@@ -12,7 +12,7 @@ use Rattle.router_model.specs.Rounds.{closing_moment}
 use Rattle.router_model.specs.Sharing.{MayBegin}
 use Rattle.forwarders.specs.declared.gathering.Written.{Written}
 use Rattle.forwarders.specs.declared.round_done.RoundDone.{RoundDone}
-use Rattle.forwarders.specs.declared.ruled.Ruled.{Ruled}
+use Rattle.forwarders.specs.declared.ruling.Ruled.{Ruled}
 use Rattle.forwarders.specs.Batches.{count_of, journal_of}
 use Rattle.forwarders.specs.Finishing.{Finishes, noted_of}
 use Rattle.forwarders.specs.Gathering.{IsWritten, left_in, round_writing}
@@ -35,9 +35,9 @@ module _ (settings : Settings) (previous : Option ℕ) (parts : Parts) (before :
   begins-of : (frame : Frame) (frames : List Frame) → MayRun settings previous (frame ∷ frames) parts before → MayBegin settings (begun_at previous (frame ∷ frames)) (journal_of before) (events_after previous (frame ∷ frames))
   begins-of frame frames may = may-begin settings previous frame frames parts (journal_of before) may.stands may.later may.room may.number may.order may.moments
 
-  pub closes-early : (frames : List Frame) (moment : ℕ) → MayRun settings previous frames parts before → moment ≡ closing_moment frames → moment < 2 ^ 32 * 1000000000
-  closes-early [] moment may is = absurd (none-run may)
-  closes-early (frame ∷ frames) moment may is = let early = closing-early frame frames may.moments in omega (arith, early, is)
+  pub closes-early : (frames : List Frame) → MayRun settings previous frames parts before → closing_moment frames < 2 ^ 32 * 1000000000
+  closes-early [] may = absurd (none-run may)
+  closes-early (frame ∷ frames) may = closing-early frame frames may.moments
 
   module _ (from : ℕ) (written : Written) where
     pub few-places : (frames : List Frame) → MayRun settings previous frames parts before → IsWritten settings previous frames parts from written → length written.places < 2 ^ 61
@@ -73,14 +73,13 @@ module _ (settings : Settings) (previous : Option ℕ) (parts : Parts) (before :
           let room = may.room in
           omega (arith, few, rulings, events_few, number, room)
 
-      pub notices-go : (frames : List Frame) (moment : ℕ) (after : Parts) → MayRun settings previous frames parts before → IsWritten settings previous frames parts from written → Ruling-of frames → moment ≡ closing_moment frames → after ≡ (round_writing settings previous frames parts).after
-          → IsProper settings (extended (journal_of (before ++ written.batches)) (noted_of settings moment after ruled).entries)
-      notices-go [] moment after may is are closes same = absurd (none-run may)
-      notices-go (frame ∷ frames) moment after may is are closes same =
-          subst (λ (m : ℕ). IsProper settings (extended (journal_of (before ++ written.batches)) (noted_of settings m after ruled).entries)) (sym closes)
-          (notices-proper settings previous frame frames parts before may.stands (begins-of frame frames may) from written is ruled are after same)
+      pub notices-go : (frames : List Frame) (after : Parts) → MayRun settings previous frames parts before → IsWritten settings previous frames parts from written → Ruling-of frames → after ≡ (round_writing settings previous frames parts).after
+          → IsProper settings (extended (journal_of (before ++ written.batches)) (noted_of settings (closing_moment frames) after ruled).entries)
+      notices-go [] after may is are same = absurd (none-run may)
+      notices-go (frame ∷ frames) after may is are same =
+          notices-proper settings previous frame frames parts before may.stands (begins-of frame frames may) from written is ruled are after same
 
-pub all-run : (settings : Settings) (previous : Option ℕ) (frames : List Frame) (parts now after : Parts) (old middle new : Publication) (from : ℕ) (written : Written) (ruled : List Ruled) (moment : ℕ) (undone done : RoundDone)
+pub all-run : (settings : Settings) (previous : Option ℕ) (frames : List Frame) (parts now after : Parts) (old middle new : Publication) (from : ℕ) (written : Written) (ruled : List Ruled) (undone done : RoundDone)
     → MayRun settings previous frames parts old.batches
     → IsWritten settings previous frames parts from written
     → AreRuled settings (old.batches ++ take from written.batches) (old.batches ++ written.batches) frames written.places ruled
@@ -88,11 +87,10 @@ pub all-run : (settings : Settings) (previous : Option ℕ) (frames : List Frame
     → old.pending ≡ []
     → middle ≡ record old { batches = old.batches ++ written.batches; plan = old.batches ++ written.batches }
     → now ≡ (round_writing settings previous frames parts).after
-    → moment ≡ closing_moment frames
     → (undone.lines ≡ []) × (undone.written ≡ [])
-    → Finishes settings moment ruled now middle written undone after new done
+    → Finishes settings (closing_moment frames) ruled now middle written undone after new done
     → RunsRound settings previous frames old new parts after done
-all-run settings previous [] parts now after old middle new from written ruled moment undone done may is are looked none published wrote closes empty finishes =
+all-run settings previous [] parts now after old middle new from written ruled undone done may is are looked none published wrote empty finishes =
     absurd (none-run settings previous parts old.batches may)
-all-run settings previous (frame ∷ frames) parts now after old middle new from written ruled moment undone done may is are looked none published wrote closes empty finishes =
-    runs-round settings previous frame frames parts now after old middle new from written ruled moment undone done may.stands (begins-of settings previous parts old.batches frame frames may) may.order is are looked none published wrote closes empty finishes
+all-run settings previous (frame ∷ frames) parts now after old middle new from written ruled undone done may is are looked none published wrote empty finishes =
+    runs-round settings previous frame frames parts now after old middle new from written ruled undone done may.stands (begins-of settings previous parts old.batches frame frames may) may.order is are looked none published wrote empty finishes

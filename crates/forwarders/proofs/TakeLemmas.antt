@@ -12,7 +12,7 @@ use Rattle.router_log.specs.declared.entry.Entry.{Entry}
 use Rattle.forwarders.specs.declared.door.looks.Forwarded.{Forwarded}
 use Rattle.forwarders.specs.declared.workers.Answer.{Answer}
 use Rattle.forwarders.specs.declared.workers.Worker.{Worker}
-use Rattle.forwarders.specs.declared.ruled.Ruled.{Ruled}
+use Rattle.forwarders.specs.declared.ruling.Ruled.{Ruled}
 use Rattle.forwarders.specs.Batches.{Begins}
 use Rattle.forwarders.specs.Deciding.{AreAllDealt, AreDealt, Decides, HaveAnswered, IsAnswer, IsSole, IsSoleOfAll, IsTaken, IsTakenOfAll}
 use Rattle.forwarders.specs.Given.{IsGiven}

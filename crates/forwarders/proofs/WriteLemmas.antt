@@ -5,7 +5,7 @@ use Rattle.std.specs.Result.{OnOk}
 use Rattle.std.proofs.lemmas.List.{append-nil, length-append, length-map, map-append}
 use Rattle.std.proofs.lemmas.List.Concat.{flat_map-append}
 use Rattle.std.proofs.lemmas.List.Elements.{All-push}
-use Rattle.std.proofs.lemmas.List.FromFn.{length-range_with_len, map-range_with_len_more}
+use Rattle.std.proofs.lemmas.List.FromFn.{length-map-range_with_len, length-range_with_len}
 use Rattle.capture_io.specs.Frame.{Frame}
 use Rattle.lisp_settings.specs.declared.settings.Settings.{Settings}
 use Rattle.capture_events.specs.Events.{Event, Tick, Arrival, second_of, ticks}
@@ -168,20 +168,12 @@ left-writes (Err e) settings frame place parts old new apart early items batches
 
 -- ### seconds
 
--- one second more
-pub writes-more : (settings : Settings) (frames : List Frame) (first n second : ℕ) (before middle after : Parts) (old mid new : Written) → first + n ≡ second
-    → Writes settings frames (map Tick (range_with_len first n)) before old middle mid → Writes settings frames (Tick second ∷ []) middle mid after new
-    → Writes settings frames (map Tick (range_with_len first (n + 1))) before old after new
-writes-more settings frames first n second before middle after old mid new place some one =
-    subst (λ (l : List Event). Writes settings frames l before old after new) (sym (map-range_with_len_more Tick first n second place))
-    (writes-both settings frames (map Tick (range_with_len first n)) (Tick second ∷ []) before middle after old mid new some one)
-
--- all that come between two moments
-pub writes-seconds : (settings : Settings) (frames : List Frame) (previous : Option ℕ) (from to first n : ℕ) (before after : Parts) (old new : Written) → previous ≡ Some from → first ≡ suc (second_of from) → n ≡ second_of to - second_of from
-    → Writes settings frames (map Tick (range_with_len first n)) before old after new → Writes settings frames (ticks previous to) before old after new
-writes-seconds settings frames previous from to first n before after old new is begins all writes =
-    subst (λ (l : List Event). Writes settings frames l before old after new)
-    (ap (λ (k : ℕ). map Tick (range_with_len k n)) begins ∙ (ap (λ (k : ℕ). map Tick (range_with_len (suc (second_of from)) k)) all ∙ sym (ap (λ (o : Option ℕ). ticks o to) is))) writes
+-- no more seconds begin up to a moment than its second tells
+pub ticks-few : (previous : Option ℕ) (to : ℕ) → length (ticks previous to) ≤ second_of to
+ticks-few None to = omega arith
+ticks-few (Some from) to =
+    let number = length-map-range_with_len Tick (suc (second_of from)) (second_of to - second_of from) in
+    omega (arith, number)
 
 -- how many entries seconds in a row may add
 pub seconds-count : (settings : Settings) (frames : List Frame) (first n : ℕ) (before after : Parts) (old new : Written) → Writes settings frames (map Tick (range_with_len first n)) before old after new → after.count ≤ before.count + most_ticked * n
@@ -206,13 +198,6 @@ seconds-rise m n later = grind (arith, later)
 
 pub seconds-end : (m : ℕ) → m < 2 ^ 32 * 1000000000 → second_of m < 2 ^ 32
 seconds-end m early = grind (arith, early)
-
--- a second's moment isn't past a moment in it or later
-pub second-within : (second moment : ℕ) → second ≤ second_of moment → second * 1000000000 ≤ moment
-second-within second moment within = grind (arith, within)
-
-pub second-behind : (from second : ℕ) → suc (second_of from) ≤ second → from < second * 1000000000
-second-behind from second later = grind (arith, later)
 
 -- ### settings
 

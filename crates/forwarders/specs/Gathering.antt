@@ -24,7 +24,7 @@ use Rattle.forwarders.specs.declared.gathering.Written.{Written}
 use Rattle.forwarders.specs.declared.round_done.Line.{Line}
 use Rattle.forwarders.specs.declared.round_done.Packet.{Packet}
 use Rattle.forwarders.specs.declared.round_done.RoundDone.{RoundDone}
-use Rattle.forwarders.specs.declared.ruled.Ruled.{Ruled}
+use Rattle.forwarders.specs.declared.ruling.Ruled.{Ruled}
 use Rattle.forwarders.specs.Deciding.{AreWithin}
 
 -- ### what is gathered

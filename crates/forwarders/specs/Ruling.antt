@@ -9,7 +9,7 @@ use Rattle.router_model.specs.Parts.{Parts, Stands, table}
 use Rattle.router_model.specs.Sharing.{IsRuled, MayBegin, filled, opening}
 use Rattle.router_model.specs.Sides.{Ruling, writing}
 use Rattle.forwarders.specs.declared.door.looks.Forwarded.{Forwarded}
-use Rattle.forwarders.specs.declared.ruled.Ruled.{Ruled}
+use Rattle.forwarders.specs.declared.ruling.Ruled.{Ruled}
 use Rattle.forwarders.specs.declared.workers.Worker.{Worker}
 use Rattle.forwarders.specs.Batches.{journal_of}
 use Rattle.forwarders.specs.Deciding.{IsDecided}

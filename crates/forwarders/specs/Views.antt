@@ -82,9 +82,9 @@ told_of (Writes settings own plan) = Tells settings own plan
 told_of v = Newcomer
 
 -- the view of a newcomer that takes a note, as a reader of its list and plan; any other view stays
-abbrev pub learnt : View → View → View
-learnt Newcomer (Tells settings one plan) = Reads settings one plan
-learnt v w = v
+abbrev pub after_note : View → View → View
+after_note Newcomer (Tells settings one plan) = Reads settings one plan
+after_note v w = v
 
 -- the writer's view with these batches behind its plan; any other view stays
 abbrev pub planning : List (List Entry) → View → View

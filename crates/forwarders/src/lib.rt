@@ -2,6 +2,7 @@
 //! the writer, each by looks of its own.
 #![tactic(auto)]
 
+mod answers;
 mod batches;
 mod door;
 mod gate;
@@ -13,11 +14,8 @@ mod putting;
 mod round;
 mod round_begun;
 mod round_done;
-mod ruled;
 mod ruling;
-mod rulings;
 mod sending;
-mod taking;
 mod workers;
 mod working;
 mod writing;
@@ -26,7 +24,8 @@ pub use door::{ForwardFault, Forwarded, Forwarder, Look, Published, Tally, open_
 pub use gate::{Gate, OpenGate};
 pub use laws::{batches_make_the_journal, decided_packets_are_ruled};
 pub use octets::NoMemory;
-pub use round::{closing_moment, run_round};
+pub use round::run_round;
+pub use round_begun::{Round, closing_moment};
 pub use round_done::{Line, Lines, Packet, Packets, RoundDone};
 pub use router_core::{Settings, Table};
 pub use router_log::{Decision, Entries, Entry, Verdict};

@@ -7,6 +7,7 @@ ghost use Rattle.router_model.specs.Journal.{extended};
 ghost use Rattle.router_model.specs.Lifting.{is_sound};
 ghost use Rattle.router_model.specs.Parts.{standing_in};
 ghost use Rattle.router_model.specs.Proper.{IsProper};
+ghost use Rattle.router_model.specs.Rounds.{closing_moment};
 ghost use Rattle.router_model.specs.Sides.{notices_of};
 ghost use Rattle.forwarders.specs.Batches.{journal_of};
 ghost use Rattle.forwarders.specs.Finishing.{MayNote, noted_of, with_published};
@@ -18,7 +19,7 @@ use crate::batches::publish_all;
 use crate::door::Published;
 use crate::gathering::Gathered;
 use crate::round_begun::Round;
-use crate::ruled::Ruled;
+use crate::ruling::Ruled;
 use crate::sending::push_emits;
 use crate::writing::keep_batch;
 use lisp_settings::Settings;
@@ -143,21 +144,22 @@ pub(crate) fn note_round<R: Wait, G>(
     items: &mut VecDeque<Gathered>,
 ) -> Result<(), NoMemory>
     requires lawful { IsLawful round.now.settings.now }
-    requires may { MayNote round.now.closes table.old.parts ruled.now }
+    requires some { 1 ≤ length round.now.frames.now }
+    requires may { MayNote (closing_moment round.now.frames.now) table.old.parts ruled.now }
     requires rest { IsAtRest round.now.settings.now published.old }
     requires proper { IsProper round.now.settings.now (extended (journal_of published.old.batches)
-        (noted_of round.now.settings.now round.now.closes table.old.parts ruled.now).entries) }
+        (noted_of round.now.settings.now (closing_moment round.now.frames.now) table.old.parts ruled.now).entries) }
     ensures notes { OnOk result (Notes (standing_in round.now.settings.now table.old.parts)
-        round.now.closes (notices_of (map ruling_of ruled.now)) table.old.parts [] items.old.items
+        (closing_moment round.now.frames.now) (notices_of (map ruling_of ruled.now)) table.old.parts [] items.old.items
         table.new.parts
-        (noted_of round.now.settings.now round.now.closes table.old.parts ruled.now).entries
+        (noted_of round.now.settings.now (closing_moment round.now.frames.now) table.old.parts ruled.now).entries
         items.new.items) }
     ensures published { OnOk result (published.new ≡ with_published published.old
-        (noted_of round.now.settings.now round.now.closes table.old.parts ruled.now).entries) }
+        (noted_of round.now.settings.now (closing_moment round.now.frames.now) table.old.parts ruled.now).entries) }
 {
     let closing = Closing {
         settings: round.settings,
-        moment: round.closes,
+        moment: round.closes(),
     };
     let mut entries = Vec::new(round.alloc);
     note_all(&closing, table, ruled, &mut entries, items)?;

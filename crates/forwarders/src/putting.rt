@@ -4,7 +4,7 @@ ghost use Rattle.forwarders.specs.Gathering.{Puts, left_in, left_of, line_ruled,
 
 use crate::gathering::Gathered;
 use crate::round_done::{Line, Packet, Packets, RoundDone};
-use crate::ruled::Ruled;
+use crate::ruling::Ruled;
 use octets::{NoMemory, Octets};
 use router_log::{Decision, Verdict};
 use std::alloc::Global;

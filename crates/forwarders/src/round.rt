@@ -21,30 +21,18 @@ ghost use Rattle.forwarders.specs.Ruling.{AreRuled, HaveLooked};
 use crate::door::Published;
 use crate::gate::Gate;
 use crate::gathering::Written;
+use crate::hiring::publish_round;
 use crate::notices::note_round;
 use crate::putting::put_together;
 use crate::round_begun::Round;
 use crate::round_done::{Lines, Packets, RoundDone};
-use crate::ruled::Ruled;
-use crate::rulings::{publish_round, rule_all};
+use crate::ruling::{Ruled, rule_all};
 use crate::writing::write_round;
-use capture_io::Frame;
-use lisp_settings::Settings;
 use octets::NoMemory;
 use router_core::Table;
-use std::alloc::Global;
 use std::collections::VecDeque;
 use std::sync::Wait;
 use std::thread::Threads;
-
-/// The moment of the last frame of a round, in nanoseconds: the round's notices are noted then.
-pub fn closing_moment(frames: &[Frame]) -> u64
-    requires { 1 ≤ length frames.now }
-    ensures { result ≡ closing_moment frames.now }
-{
-    let last = &frames[frames.len() - 1];
-    last.moment
-}
 
 // Publishes the batches of a round while its workers decide its data packets; the first `from`
 // batches are those of the seconds before the first frame. Returns the ruling of each data packet.
@@ -91,12 +79,13 @@ fn finish_round<R: Wait, G>(
     done: &mut RoundDone,
 ) -> Result<(), NoMemory>
     requires lawful { IsLawful round.now.settings.now }
+    requires some { 1 ≤ length round.now.frames.now }
     requires left { left_in written.old.items.items ≡ length ruled.items }
-    requires may { MayNote round.now.closes table.old.parts ruled.items }
+    requires may { MayNote (closing_moment round.now.frames.now) table.old.parts ruled.items }
     requires rest { IsAtRest round.now.settings.now published.old }
     requires proper { IsProper round.now.settings.now (extended (journal_of published.old.batches)
-        (noted_of round.now.settings.now round.now.closes table.old.parts ruled.items).entries) }
-    ensures finishes { OnOk result (Finishes round.now.settings.now round.now.closes ruled.items
+        (noted_of round.now.settings.now (closing_moment round.now.frames.now) table.old.parts ruled.items).entries) }
+    ensures finishes { OnOk result (Finishes round.now.settings.now (closing_moment round.now.frames.now) ruled.items
         table.old.parts published.old written.old done.old
         table.new.parts published.new done.new) }
 {
@@ -121,7 +110,6 @@ fn work_round<R: Threads + Wait + Sync, G: Gate>(
 ) -> Result<(), NoMemory>
     requires lawful { IsLawful round.now.settings.now }
     requires workers { round.now.workers ≤ most_workers }
-    requires closes { round.now.closes ≡ closing_moment round.now.frames.now }
     requires run { MayRun round.now.settings.now round.now.previous round.now.frames.now
         table.old.parts published.old.batches }
     requires rest { IsAtRest round.now.settings.now published.old }
@@ -142,59 +130,45 @@ fn work_round<R: Threads + Wait + Sync, G: Gate>(
 /// then; where no worker decided, the caller's table decides. The notices of the data packets are
 /// noted last, at the last frame's moment, and their entries are published as one batch.
 ///
-/// `previous` is the moment of the frame before the round, in nanoseconds, None before the first
-/// frame. The table stands for all that is published, before and after. With no worker, and in a
+/// The table stands for all that is published, before and after. With no worker, and in a
 /// round without data packets, no thread is made. After a refusal the table may have taken a part
 /// of the round, published or not; table and publication can then only be closed.
 pub fn run_round<R: Threads + Wait + Sync, G: Gate>(
-    rt: &R,
-    alloc: Global,
-    settings: &Settings,
+    round: &Round<'_, R, G>,
     table: &mut Table,
     published: &mut Published,
-    workers: u32,
-    previous: Option<u64>,
-    frames: &[Frame],
-    gate: &G,
 ) -> Result<RoundDone, NoMemory>
-    requires lawful { IsLawful settings.now }
-    requires settings { published.old.settings ≡ settings.now }
-    requires workers { workers ≤ most_workers }
-    requires stands { Stands settings.now table.old.parts (journal_of published.old.batches) }
+    requires lawful { IsLawful round.now.settings.now }
+    requires settings { published.old.settings ≡ round.now.settings.now }
+    requires workers { round.now.workers ≤ most_workers }
+    requires stands { Stands round.now.settings.now table.old.parts
+        (journal_of published.old.batches) }
     requires none { published.old.pending ≡ [] }
     requires plan { published.old.plan ≡ published.old.batches }
-    requires number { (1 ≤ length frames.now) × (length frames.now ≤ most_round_frames) }
-    requires order { FramesInOrder (begun_at previous frames.now) frames.now }
-    requires moments { All (λ frame. frame.moment < 2 ^ 32 * 1000000000) frames.now }
-    requires later { table.old.parts.now ≤ begun_at previous frames.now }
+    requires number { (1 ≤ length round.now.frames.now)
+        × (length round.now.frames.now ≤ most_round_frames) }
+    requires order { FramesInOrder (begun_at round.now.previous round.now.frames.now)
+        round.now.frames.now }
+    requires moments { All (λ frame. frame.moment < 2 ^ 32 * 1000000000) round.now.frames.now }
+    requires later { table.old.parts.now ≤ begun_at round.now.previous round.now.frames.now }
     requires count { table.old.parts.count < 2 ^ 60 }
-    ensures round { IfOk result (λ done. IsRound settings.now previous frames.now
-        published.old published.new table.new.parts done) }
+    ensures round { IfOk result (λ done. IsRound round.now.settings.now round.now.previous
+        round.now.frames.now published.old published.new table.new.parts done) }
     ensures published { OnOk result (GrewBy published.old published.new) }
-    ensures looks { IfOk result (λ done. AllZip
-        (HasCome settings.now (last_length settings.now previous frames.now published.old))
-        frames.now done.lines) }
+    ensures looks { IfOk result (λ done. AllZip (HasCome round.now.settings.now
+        (last_length round.now.settings.now round.now.previous round.now.frames.now published.old))
+        round.now.frames.now done.lines) }
     ensures entered { OnOk result (HasTicked
-        (most_entries * length (events_after previous frames.now)) (closing_moment frames.now)
-        table.old.parts table.new.parts) }
-    ensures packets { IfOk result (λ done.
-        AreWritable (length (events_after previous frames.now)) done.written) }
+        (most_entries * length (events_after round.now.previous round.now.frames.now))
+        (closing_moment round.now.frames.now) table.old.parts table.new.parts) }
+    ensures packets { IfOk result (λ done. AreWritable
+        (length (events_after round.now.previous round.now.frames.now)) done.written) }
 {
-    let round = Round {
-        rt,
-        gate,
-        workers,
-        alloc,
-        settings,
-        previous,
-        frames,
-        closes: closing_moment(frames),
-    };
-    let mut written = Written::new(alloc);
+    let mut written = Written::new(round.alloc);
     let mut done = RoundDone {
-        lines: Lines::new(alloc),
-        written: Packets::new(alloc),
+        lines: Lines::new(round.alloc),
+        written: Packets::new(round.alloc),
     };
-    work_round(&round, table, published, &mut written, &mut done)?;
+    work_round(round, table, published, &mut written, &mut done)?;
     Ok(done)
 }

@@ -20,6 +20,7 @@ ghost use Rattle.forwarders.specs.Rounding.{begun_at};
 use crate::gathering::{Gathered, Written};
 use crate::round_done::Line;
 use crate::sending::push_emits;
+use capture_events::seconds_between;
 use capture_io::Frame;
 use lisp_settings::Settings;
 use octets::{Items, NoMemory};
@@ -76,22 +77,10 @@ fn write_seconds(
         (ticks previous moment) table.old.parts written.old table.new.parts written.new) }
     ensures now { OnOk result (table.new.parts.now ≤ moment) }
 {
-    let Some(from) = previous else {
-        return Ok(());
-    };
-    let first = second_of(from) + 1;
-    let end = second_of(moment) + 1;
-    for second in first..end {
-        write_second(settings, table, second as u32, written)?;
+    for second in seconds_between(previous, moment) {
+        write_second(settings, table, second, written)?;
     }
     Ok(())
-}
-
-// The second in which a moment lies.
-fn second_of(moment: u64) -> u64
-    ensures { result ≡ second_of moment }
-{
-    moment / 1_000_000_000
 }
 
 // Takes a frame: hears a control message, leaves a data packet for later.

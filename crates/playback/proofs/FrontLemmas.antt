@@ -1,13 +1,11 @@
 -- What a play that is cut short leaves, from call to call.
-use Rattle.std.proofs.Common.{◌≡◌, ◌≤◌, ℕ, zero, suc, ◌+◌, ◌-◌, List, [], ◌∷◌, ◌++◌, map, take, drop, Option, Some, None, Result, Ok, Err, append_assoc, refl, sym, ap, ap₂, ◌∙◌, ◌⊎◌, subst, inl, inr, arith}
-use Rattle.std.specs.List.{range_with_len}
+use Rattle.std.proofs.Common.{◌≡◌, ℕ, List, [], ◌∷◌, ◌++◌, take, drop, Option, Some, None, Result, Ok, Err, append_assoc, refl, sym, ap, ap₂, ◌∙◌, ◌⊎◌, subst, inl, inr, arith}
 use Rattle.std.specs.Option.{option_map}
 use Rattle.std.specs.Result.{MatchResult, OnErr, OnOk}
 use Rattle.std.proofs.lemmas.List.{append-nil, length-append, map-append, take-append-drop}
-use Rattle.std.proofs.lemmas.List.FromFn.{map-range_with_len_more}
 use Rattle.desk.specs.World.{World, Shown, after_say, after_write, shown, shown_of}
 use Rattle.capture_io.specs.Frame.{Frame}
-use Rattle.capture_events.specs.Events.{Arrival, Event, Happens, Outcome, Played, Step, Tick, events_of, followed, idle, played, records_of, second_of, steps_of, ticks}
+use Rattle.capture_events.specs.Events.{Arrival, Event, Happens, Outcome, Played, Step, events_of, followed, idle, played, records_of, steps_of, ticks}
 use Rattle.playback.specs.Front.{Breaks, Cut, Hands, IsFront, Stands}
 use Rattle.playback.specs.Playing.{after_output, with_outcome, with_output, GathersOne}
 use Rattle.playback.specs.declared.output.Output.{Output}
@@ -44,6 +42,10 @@ module _ {X : Type 0} where
   pub front-same : (a b : List X) → a ≡ b → IsFront a b
   front-same a b same = ([], append-nil a ∙ same)
 
+-- the next one of what is due, with what was done, is the beginning of what is due
+pub due-front : {X : Type 0} (done : List X) (next : X) (rest all : List X) → done ++ next ∷ rest ≡ all → (past : List X) → IsFront ((past ++ done) ++ next ∷ []) (past ++ all)
+due-front {X} done next rest all due past = (rest, append_assoc (past ++ done) (next ∷ []) rest ∙ append_assoc past done (next ∷ rest) ∙ ap (λ (l : List X). past ++ l) due)
+
 -- what holds on any exit
 pub on_err_always : {T E P : Type 0} (r : Result T E) → P → OnErr r P
 on_err_always (Ok x) p = tt
@@ -54,59 +56,15 @@ pub either : {T E : Type 0} (P Q R : Type 0) (r : Result T E) → OnOk r P → O
 either P Q R (Ok x) p q goes = goes p
 either P Q R (Err e) p q goes = q
 
--- seconds in a row begin more of them
-pub front-seconds : (first n more : ℕ) → IsFront (map Tick (range_with_len first n)) (map Tick (range_with_len first (n + more)))
-front-seconds first n zero =
-    let same : n ≡ n + 0 = omega arith in
-    subst (λ (k : ℕ). IsFront (map Tick (range_with_len first n)) (map Tick (range_with_len first k))) same (front-all (map Tick (range_with_len first n)))
-front-seconds first n (suc more) =
-    let less = front-seconds first n more in
-    let grown : IsFront (map Tick (range_with_len first (n + more))) (map Tick (range_with_len first (n + more + 1))) =
-    (Tick (first + (n + more)) ∷ [], sym (map-range_with_len_more Tick first (n + more) (first + (n + more)) refl)) in
-    let same : n + more + 1 ≡ n + suc more = omega arith in
-    subst (λ (k : ℕ). IsFront (map Tick (range_with_len first n)) (map Tick (range_with_len first k))) same (front-front (map Tick (range_with_len first n)) (map Tick (range_with_len first (n + more))) (map Tick (range_with_len first (n + more + 1))) less grown)
-
 -- steps of events, and then of others
 pub steps-append : (first others : List Event) → steps_of (first ++ others) ≡ steps_of first ++ steps_of others
 steps-append first others = map-append Happens first others
-
--- the first of events begin them as steps, too
-front-steps : (first all : List Event) → IsFront first all → IsFront (steps_of first) (steps_of all)
-front-steps first all is = (steps_of is.0, sym (steps-append first is.0) ∙ ap steps_of is.1)
 
 -- a frame behind the seconds before it
 pub frame-steps : (past : List Step) (previous : Option ℕ) (frame : Frame) → (past ++ steps_of (ticks previous frame.moment)) ++ Happens (Arrival frame) ∷ [] ≡ past ++ steps_of (events_of previous frame)
 frame-steps past previous frame =
     append_assoc past (steps_of (ticks previous frame.moment)) (Happens (Arrival frame) ∷ [])
     ∙ ap (λ (l : List Step). past ++ l) (sym (steps-append (ticks previous frame.moment) (Arrival frame ∷ [])))
-
--- the steps of seconds in a row
-abbrev pub seconds_of : ℕ → ℕ → List Step
-seconds_of first n = steps_of (map Tick (range_with_len first n))
-
--- a second more
-pub seconds-more : (past : List Step) (first n second : ℕ) → first + n ≡ second
-    → (past ++ seconds_of first n) ++ Happens (Tick second) ∷ [] ≡ past ++ seconds_of first (n + 1)
-seconds-more past first n second place =
-    append_assoc past (seconds_of first n) (Happens (Tick second) ∷ [])
-    ∙ ap (λ (l : List Step). past ++ l) (sym (ap steps_of (map-range_with_len_more Tick first n second place) ∙ steps-append (map Tick (range_with_len first n)) (Tick second ∷ [])))
-
--- a second more, behind steps, begins them with all the seconds up to a moment
-pub front-second : (past : List Step) (from : Option ℕ) (at to first n second : ℕ) → from ≡ Some at → first ≡ suc (second_of at) → first + n ≡ second → second ≤ second_of to
-    → IsFront ((past ++ seconds_of first n) ++ Happens (Tick second) ∷ []) (past ++ steps_of (ticks from to))
-front-second past from at to first n second is begins place within =
-    let all = second_of to - second_of at in
-    let room : n + 1 + (all - (n + 1)) ≡ all = omega (arith, begins, place, within) in
-    let some : List Event = map Tick (range_with_len first (n + 1)) in
-    let front : IsFront some (map Tick (range_with_len first all)) = subst (λ (k : ℕ). IsFront some (map Tick (range_with_len first k))) room (front-seconds first (n + 1) (all - (n + 1))) in
-    let ends : past ++ seconds_of first all ≡ past ++ steps_of (ticks from to) = rw (is, begins) refl in
-    subst (λ (l : List Step). IsFront l (past ++ steps_of (ticks from to))) (sym (seconds-more past first n second place))
-    (front-behind past (steps_of some) (seconds_of first all) (past ++ steps_of (ticks from to)) ends (front-steps some (map Tick (range_with_len first all)) front))
-
--- all of them
-pub seconds-all : (past : List Step) (from : Option ℕ) (at to first n : ℕ) → from ≡ Some at → first ≡ suc (second_of at) → n ≡ second_of to - second_of at
-    → past ++ seconds_of first n ≡ past ++ steps_of (ticks from to)
-seconds-all past from at to first n is begins all = rw (is, begins, all) refl
 
 -- what others see after output
 shown-output : (file : Option ℕ) (lines octets : List ℕ) (told : Option World) (s : Shown) → shown told ≡ Some s

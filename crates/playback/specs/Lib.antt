@@ -3,6 +3,7 @@ pub mod Determined
 pub mod Front
 pub mod Input
 pub mod Limits
+pub mod Machines
 pub mod Passing
 pub mod Playing
 pub mod Written

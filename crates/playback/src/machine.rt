@@ -1,15 +1,15 @@
 // Machines, which handle the events of a capture.
-ghost use Rattle.std.specs.Prelude.{◌≡◌, ◌<◌, ◌≤◌, ◌+◌, ◌*◌, ◌^◌, ℕ, Bool, false, Some, length, unwrap_or, IfOk, OnOk};
+ghost use Rattle.std.specs.Prelude.{◌≡◌, ◌<◌, ◌≤◌, ◌*◌, ◌^◌, ℕ, Bool, false, length, IfOk, OnOk};
 ghost use Rattle.capture_events.specs.Events.{Arrival, Happens, Outcome, Step, Tick};
+ghost use Rattle.playback.specs.Input.{behind};
 ghost use Rattle.playback.specs.Limits.{most_arrival_octets, most_frames};
+ghost use Rattle.playback.specs.Machines.{MayTake, MayTick, StaysReady};
 ghost use Rattle.playback.specs.Playing.{GathersOne};
 ghost use Rattle.playback.specs.declared.progress.Progress.{Progress};
 
 use crate::Output;
-use crate::progress::Progress;
 use capture_io::Frame;
 use octets::{NoMemory, Octets};
-use std::alloc::Global;
 
 /// A machine, which handles the events of a capture one after another and gathers lines and packets
 /// for them. A machine may also gather events, and leave their work to its caller once it is full.
@@ -31,43 +31,24 @@ pub trait Machine {
 
     /// Begins a second, and gathers its lines and packets. Where memory is refused, a part of them
     /// may be gathered, and the machine mustn't be called again.
-    fn tick(
-        &mut self,
-        alloc: Global,
-        progress: Progress,
-        second: u32,
-        output: &mut Output,
-    ) -> Result<(), NoMemory>
-        requires ready { IsReady progress output.old.written self.old }
+    fn tick(&mut self, second: u32, output: &mut Output) -> Result<(), NoMemory>
+        requires ready { MayTick IsReady second output.old.written self.old }
         requires not_full { full (state self.old) ≡ false }
-        requires later { unwrap_or progress.moment 0 < second * 1000000000 }
-        requires most { progress.frames ≤ most_frames }
-        ensures ready { OnOk result (IsReady
-            (record { frames = progress.frames; moment = Some (second * 1000000000) })
-            output.new.written self.new) }
+        ensures ready { OnOk result
+            (StaysReady IsReady second output.old.written self.old output.new.written self.new) }
         ensures not_full { OnOk result (full (state self.new) ≡ false) }
         ensures gathers { OnOk result (GathersOne (Does (state self.old) (Happens (Tick second)))
             output.old output.new (state self.new)) };
 
     /// Takes a frame, and gathers its lines and packets. Returns whether the machine is full. Where
     /// memory is refused, a part of them may be gathered, and the machine mustn't be called again.
-    fn take(
-        &mut self,
-        alloc: Global,
-        progress: Progress,
-        frame: Frame,
-        output: &mut Output,
-    ) -> Result<bool, NoMemory>
-        requires ready { IsReady progress output.old.written self.old }
+    fn take(&mut self, frame: Frame, output: &mut Output) -> Result<bool, NoMemory>
+        requires ready { MayTake IsReady frame output.old.written self.old }
         requires not_full { full (state self.old) ≡ false }
-        requires next { frame.number ≡ progress.frames + 1 }
-        requires later { unwrap_or progress.moment 0 ≤ frame.moment }
         requires most { frame.number ≤ most_frames }
         requires moment { frame.moment < 2 ^ 32 * 1000000000 }
         requires size { length frame.octets ≤ most_arrival_octets }
-        ensures ready { OnOk result (IsReady
-            (record { frames = frame.number; moment = Some frame.moment })
-            output.new.written self.new) }
+        ensures ready { OnOk result (IsReady (behind frame) output.new.written self.new) }
         ensures full { IfOk result (λ is. is ≡ full (state self.new)) }
         ensures gathers { OnOk result (GathersOne (Does (state self.old) (Happens (Arrival frame)))
             output.old output.new (state self.new)) };

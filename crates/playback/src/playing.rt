@@ -1,11 +1,11 @@
 // The frames of a capture, one after another, through a machine.
-ghost use Rattle.std.specs.Prelude.{◌≡◌, ◌<◌, ◌≤◌, ◌+◌, ◌*◌, ◌^◌, Some, false, IfOk, IfSome, IsErrOf, OnErr, OnOk, length, option_map, unwrap_or};
+ghost use Rattle.std.specs.Prelude.{◌≡◌, ◌<◌, ◌≤◌, ◌+◌, ◌*◌, ◌^◌, false, IfOk, IfSome, IsErrOf, OnErr, OnOk, length, option_map, unwrap_or};
 ghost use Rattle.desk.specs.declared.fault.DeskFault.TheVariants.{Failed};
 ghost use Rattle.desk.specs.Causes.{HasCause, StaysSteady};
 ghost use Rattle.desk.specs.World.{to_read, shown_of, IsGiven};
 ghost use Rattle.capture_events.specs.Events.{events_of, idle, steps_of, End};
 ghost use Rattle.playback.specs.Front.{CutRun, Goes};
-ghost use Rattle.playback.specs.Input.{beginning, left_in};
+ghost use Rattle.playback.specs.Input.{beginning, behind, left_in};
 ghost use Rattle.playback.specs.Limits.{most_arrival_octets, most_frames};
 ghost use Rattle.playback.specs.Playing.{is_full, HasPlayed, KeepsReaders, MayWrite};
 
@@ -75,9 +75,7 @@ pub(crate) fn play_frame<D: Desk, M: Machine>(
     requires most { frame.number ≤ most_frames }
     requires moment { frame.moment < 2 ^ 32 * 1000000000 }
     requires size { length frame.octets ≤ most_arrival_octets }
-    ensures ready { OnOk result (M.IsReady
-        (record { frames = frame.number; moment = Some frame.moment })
-        output.new.written machine.new) }
+    ensures ready { OnOk result (M.IsReady (behind frame) output.new.written machine.new) }
     ensures full { IfOk result (λ is. is ≡ M.full (M.state machine.new)) }
     ensures goes { Goes M.Does (option_map (λ id. id.number) file)
         (M.state machine.old) (M.state machine.new) (steps_of (events_of progress.moment frame))
@@ -89,8 +87,8 @@ pub(crate) fn play_frame<D: Desk, M: Machine>(
     ensures steady { StaysSteady (D.steady desk.old) (D.steady desk.new)
         (MayWrite (option_map (λ id. id.number) file) (D.given desk.old)) (IsErrOf result Failed) }
 {
-    let before = play_seconds(alloc, desk, machine, file, progress, frame.moment, output)?;
-    let is_full = machine.take(alloc, before, frame, output)?;
+    play_seconds(alloc, desk, machine, file, progress, frame.moment, output)?;
+    let is_full = machine.take(frame, output)?;
     hand_on_full(alloc, desk, file, output)?;
     Ok(is_full)
 }

@@ -1,5 +1,5 @@
 -- What an audit reads of its two captures, and what it finds.
-use Rattle.std.proofs.Common.{◌≡◌, ◌≢◌, ℕ, true, false, eqb, List, [], ◌∷◌, ◌++◌, drop, Option, Some, None, Result, Ok, Err, refl, sym, ap, subst, ◌∙◌, inl, inr, arith, if◌then◌else◌}
+use Rattle.std.proofs.Common.{◌≡◌, ◌≢◌, ℕ, true, false, eqb, List, [], ◌∷◌, ◌++◌, drop, Option, Some, None, Result, Ok, Err, refl, sym, ap, ap₂, subst, ◌∙◌, inl, inr, arith, if◌then◌else◌}
 use Rattle.std.specs.Option.{option_map, unwrap_or, IfSome, IsSomeAnd}
 use Rattle.std.specs.Result.{IfOk}
 use Rattle.std.proofs.lemmas.Bool.{cases_Bool}
@@ -10,6 +10,7 @@ use Rattle.auditing.specs.declared.audited.Audited.{Audited}
 use Rattle.auditing.specs.declared.audited.Audited.TheVariants.{Compared, Played as BadPlayed, Sent as BadSent}
 use Rattle.capture_events.specs.Events.{Determined, Outcome, events, played}
 use Rattle.capture_io.specs.Frame.{Frame}
+use Rattle.capture_io.specs.Frames.{read_on}
 use Rattle.capture_io.specs.Reading.{Reading, beginning}
 use Rattle.capture_io.specs.Run.{Run}
 use Rattle.capture_io.specs.declared.fault.CaptureFault.{CaptureFault}
@@ -27,8 +28,8 @@ use Rattle.playback.specs.Input.{input_run}
 use Rattle.playback.specs.declared.fault.InputFault.{InputFault}
 use Rattle.playback.specs.declared.fault.InputFault.TheVariants as of
 use Rattle.replay.proofs.ArrivalLemmas.{arrived-replays}
-use Rattle.replay.specs.Audit.{AuditsAs, LiftsFrom, comparison, fault_in, found, refused, whole}
-use Rattle.replay.specs.Opening.{KeepsGiven, Opened, OpensClassic, opened}
+use Rattle.replay.specs.Audit.{AuditsAs, LiftsFrom, comparison, fault_in, found, found_in, refused, whole}
+use Rattle.replay.specs.Opening.{IsUnread, KeepsGiven, Opened, OpensClassic, opened}
 use Rattle.replay.specs.Taking.{router_of}
 use Rattle.replay.specs.declared.finding.Finding.TheVariants as finding
 use Rattle.replay.proofs.OpeningLemmas.{left-opened}
@@ -122,6 +123,40 @@ found-refused settings (Err own) fault = refl
 pub found-lifted-refused : (settings : Settings) (input : Result (List Frame) InputFault) (fault : InputFault) → found FromSent settings input (Err fault) ≡ refused input fault
 found-lifted-refused settings (Ok frames) fault = refl
 found-lifted-refused settings (Err own) fault = refl
+
+-- a capture that stops at a fault has that fault
+whole-stops : (run : Run CaptureFault) (fault : CaptureFault) → run.fault ≡ Some fault → whole (Ok (input_run of.Classic run)) ≡ Err (of.Classic fault)
+whole-stops run fault stops = rw stops refl
+
+-- what came of two captures is found
+found-audited : (settings : Settings) (input sent : Run CaptureFault) (audited : Audited) → AuditsAs settings input sent audited
+    → found_in (whole (Ok (input_run of.Classic input))) audited ≡ found FromSettings settings (whole (Ok (input_run of.Classic input))) (whole (Ok (input_run of.Classic sent)))
+found-audited settings input sent (Compared outcome) (ended, (ended-too, compares)) =
+    ap finding.Compared compares ∙ ap₂ (λ (a : Result (List Frame) InputFault) (b : Result (List Frame) InputFault). found FromSettings settings a b) (sym (whole-run input ended)) (sym (whole-run sent ended-too))
+found-audited settings input sent (BadPlayed fault) is =
+    ap (λ (a : Result (List Frame) InputFault). found FromSettings settings a (whole (Ok (input_run of.Classic sent)))) (sym (whole-stops input fault is))
+found-audited settings input sent (BadSent fault) is =
+    sym (found-refused settings (whole (Ok (input_run of.Classic input))) (of.Classic fault))
+    ∙ ap (λ (b : Result (List Frame) InputFault). found FromSettings settings (whole (Ok (input_run of.Classic input))) b) (sym (whole-stops sent fault is))
+
+-- what is left of a capture stays, as long as another one is opened
+still-opens : (name : List ℕ) (reader : Reading) (given now : List (ℕ × Direction)) (w v : World) → IsUnread name reader given (Some w) → KeepsGiven given (Some w) now (Some v)
+    → opened Classic (content name w.files) ≡ Ok (input_run of.Classic (run_in reader v))
+still-opens name reader given now w v unread keeps =
+    unread.opens ∙ ap (λ (left : List ℕ). Ok (input_run of.Classic (read_on reader.format reader.position left))) (sym (keeps.left reader.id unread.given))
+
+-- and what came of both is found
+pub found-opened : (settings : Settings) (input sent : List ℕ) (reader records : Reading) (audited : Audited) (given now : List (ℕ × Direction)) (old mid : Option World)
+    → IsUnread input reader given old → IfSome old (λ w. OpensClassic (opened Classic (content sent w.files)) (Ok records) mid) → KeepsGiven given old now mid
+    → IfSome mid (λ v. AuditsAs settings (run_in reader v) (run_in records v) audited)
+    → IfSome old (λ w. found_in (whole (opened Classic (content input w.files))) audited ≡ found FromSettings settings (whole (opened Classic (content input w.files))) (whole (opened Classic (content sent w.files))))
+found-opened settings input sent reader records audited given now None mid unread opens keeps audits = tt
+found-opened settings input sent reader records audited given now (Some w) None unread opens keeps audits = absurd opens
+found-opened settings input sent reader records audited given now (Some w) (Some v) unread opens keeps audits =
+    let whole_input = ap whole (still-opens input reader given now w v unread keeps) in
+    ap (λ (a : Result (List Frame) InputFault). found_in a audited) whole_input
+    ∙ found-audited settings (run_in reader v) (run_in records v) audited audits
+    ∙ ap₂ (λ (a : Result (List Frame) InputFault) (b : Result (List Frame) InputFault). found FromSettings settings a b) (sym whole_input) (sym (ap whole opens))
 
 -- nonces were lifted out of a capture that was opened
 pub lifts-from : (settings : Settings) (what : World → Opened) (r : Reading) (nonces : List ℕ) (old mid : Option World)

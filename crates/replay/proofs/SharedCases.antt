@@ -1,7 +1,6 @@
 -- The answer of a run with so many forwarders, case by case.
 use Rattle.std.proofs.Common.{◌≡◌, ◌≤◌, ◌∙◌, zero, suc, ℕ, false, List, [], Option, Some, None, Result, Ok, Err, arith, refl, sym, ap, subst}
 use Rattle.std.specs.Option.{option_map, IfSome, IsSomeAnd}
-use Rattle.std.specs.Result.{IfOk, OnOk}
 use Rattle.command_words.specs.Words.{words_of}
 use Rattle.command_words.specs.declared.words.Words.{Words}
 use Rattle.command_words.specs.declared.words.Words.TheVariants.{Replay, Show, Trial, Audit}
@@ -194,22 +193,8 @@ pub plain-with : (words : List (List ℕ)) (files : List NamedFile) (s : Status)
 unfolding answer answer_with
 plain-with words files s old new none gives = gives_as _ _ s old new (plain-words files gives.ns (words_of words) none) gives.gives
 
--- ### of a call's answers
-
--- where there is a value, what follows from it
-ok_then : {T E Q : Type 0} (r : Result T E) (P : T → Type 0) → IfOk r P → ((x : T) → P x → Q) → OnOk r Q
-ok_then (Ok x) P p goes = goes x p
-ok_then (Err e) P p goes = tt
-
--- the status is that of the plain router
-pub shared-status : {E : Type 0} (r : Result Status E) (words : List (List ℕ)) (told : Option World) (new : Option Shown)
-    → IfOk r (λ s. IfSome told (λ w. GivesWith words w.files s (shown_of w) new)) → IfOk r (λ s. IfSome told (λ w. s ≡ (answer words w.files).status))
-shared-status (Err e) words told new shared = tt
-shared-status (Ok s) words None new shared = tt
-shared-status (Ok s) words (Some w) new shared = status-with words w.files s (shown_of w) new shared
-
--- without forwarders all is left as by the plain router
-pub shared-left : {E : Type 0} (r : Result Status E) (words : List (List ℕ)) (told : Option World) (new : Option Shown) → has_workers (words_of words) ≡ false
-    → IfOk r (λ s. IfSome told (λ w. GivesWith words w.files s (shown_of w) new)) → OnOk r (IfSome told (λ w. IsSomeAnd new (Leaves (answer words w.files) (shown_of w))))
-shared-left r words None new none shared = ok_then r _ shared (λ s gives. tt)
-shared-left r words (Some w) new none shared = ok_then r _ shared (λ s gives. (plain-with words w.files s (shown_of w) new none gives).left)
+-- and so is what it leaves, as others see it
+pub shown-left : (words : List (List ℕ)) (told : Option World) (s : Status) (new : Option Shown) → has_workers (words_of words) ≡ false
+    → IfSome told (λ w. GivesWith words w.files s (shown_of w) new) → IfSome (shown told) (λ old. IsSomeAnd new (Leaves (answer words old.files) old))
+shown-left words None s new none gives = tt
+shown-left words (Some w) s new none gives = (plain-with words w.files s (shown_of w) new none gives).left

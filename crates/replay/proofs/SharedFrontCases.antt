@@ -274,8 +274,14 @@ ends_still words old new same =
     (λ pick. front_still (λ w. answer_with words w.files (pick w)) (λ w. part_with words w.files (pick w)) old new (λ w. with-zero words w.files (pick w)) same)
 
 -- without forwarders a beginning of the plain router's answer is left
-pub plain-ends : (words : List (List ℕ)) (files : List NamedFile) (old : Shown) (new : Option World) → has_workers (words_of words) ≡ false → EndsWith words files old new
+plain-ends : (words : List (List ℕ)) (files : List NamedFile) (old : Shown) (new : Option World) → has_workers (words_of words) ≡ false → EndsWith words files old new
     → EndsFront (answer words files) (part words files) old new
 unfolding answer answer_with part part_with
 plain-ends words files old new none ends =
     front_as _ _ _ _ old new (plain-words files ends.ns (words_of words) none) (plain-part-words files ends.ns (words_of words) none) ends.ends
+
+-- and so it is as others see it
+pub shown-ends : (words : List (List ℕ)) (told new : Option World) → has_workers (words_of words) ≡ false
+    → IfSome told (λ w. EndsWith words w.files (shown_of w) new) → IfSome (shown told) (λ old. EndsFront (answer words old.files) (part words old.files) old new)
+shown-ends words None new none ends = tt
+shown-ends words (Some w) new none ends = plain-ends words w.files (shown_of w) new none ends

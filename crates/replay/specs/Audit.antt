@@ -11,15 +11,20 @@ use Rattle.capture_events.specs.Events.{events, played}
 use Rattle.capture_io.specs.Frame.{Frame}
 use Rattle.capture_io.specs.Run.{Run}
 use Rattle.capture_io.specs.declared.fault.CaptureFault.{CaptureFault}
+use Rattle.command_words.specs.declared.intake.InputFormat.TheVariants.{Classic}
 use Rattle.command_words.specs.declared.nonce_source.NonceSource.{NonceSource}
 use Rattle.command_words.specs.declared.nonce_source.NonceSource.TheVariants.{Settings as FromSettings, Sent as FromSent}
+use Rattle.desk.specs.World.{content}
+use Rattle.desk.specs.declared.file.NamedFile.{NamedFile}
 use Rattle.lisp_settings.specs.declared.fault.SettingsFault.{SettingsFault}
 use Rattle.lisp_settings.specs.declared.fault.SettingsFault.TheVariants.{BadValue}
 use Rattle.lisp_settings.specs.declared.settings.Settings.{Settings}
 use Rattle.playback.specs.declared.fault.InputFault.{InputFault}
+use Rattle.playback.specs.declared.fault.InputFault.TheVariants as of
 use Rattle.router_model.specs.Plain.{plain, started}
 use Rattle.replay.specs.Lines.{comparison_line, fault_line, sent_line, settings_line}
-use Rattle.replay.specs.Opening.{Opened}
+use Rattle.replay.specs.Opening.{Opened, opened}
+use Rattle.replay.specs.declared.captures.AuditCaptures.{AuditCaptures}
 use Rattle.replay.specs.declared.finding.Finding.{Finding}
 use Rattle.replay.specs.declared.finding.Finding.TheVariants as finding
 use Rattle.replay.specs.declared.status.Status.{Status}
@@ -84,6 +89,16 @@ finding_status (finding.Compared outcome) = comparison_status outcome
 
 -- ### for contracts of parts alone
 
+-- the finding of an audit of these captures by its settings, at a desk with these files
+abbrev pub finding_at : AuditCaptures → List NamedFile → Result Settings SettingsFault → Finding
+finding_at captures files settings =
+    found_by captures.nonces settings (opened Classic (content captures.input.now files)) (opened Classic (content captures.sent.now files))
+
+-- and by lawful settings, with the nonces from that source
+abbrev pub finding_from : NonceSource → AuditCaptures → List NamedFile → Settings → Finding
+finding_from source captures files settings =
+    found source settings (whole (opened Classic (content captures.input.now files))) (whole (opened Classic (content captures.sent.now files)))
+
 -- the fault of a capture, if it has one
 abbrev pub fault_in : Result (List Frame) InputFault → Option InputFault
 fault_in (Ok frames) = None
@@ -93,6 +108,12 @@ fault_in (Err fault) = Some fault
 abbrev pub refused : Result (List Frame) InputFault → InputFault → Finding
 refused (Ok frames) fault = finding.Sent fault
 refused (Err own) fault = finding.Input own
+
+-- the finding of an audit by its input capture and by what came of both captures
+abbrev pub found_in : Result (List Frame) InputFault → Audited → Finding
+found_in input (Compared outcome) = finding.Compared outcome
+found_in input (BadPlayed fault) = finding.Input (of.Classic fault)
+found_in input (BadSent fault) = refused input (of.Classic fault)
 
 -- the result of lifting nonces from a sent capture: the nonces in its frames, or the capture's fault
 abbrev pub LiftsFrom : Settings → Result (List Frame) InputFault → Result (List ℕ) InputFault → Type 0

@@ -5,10 +5,11 @@ use Rattle.command_words.specs.declared.intake.InputFormat.{InputFormat}
 use Rattle.command_words.specs.declared.intake.InputFormat.TheVariants as format
 use Rattle.command_words.specs.declared.intake.Intake.{Intake}
 use Rattle.capture_io.specs.Capture.{header_rules}
-use Rattle.desk.specs.World.{World, Direction, left_of, to_read, IsGiven}
+use Rattle.desk.specs.World.{World, Direction, content, left_of, to_read, IsGiven}
+use Rattle.desk.specs.declared.file.NamedFile.{NamedFile}
 use Rattle.auditing.specs.Auditing.{run_in as classic_in}
 use Rattle.capture_io.specs.Frames.{capture, read_on}
-use Rattle.capture_io.specs.Reading.{Reading}
+use Rattle.capture_io.specs.Reading.{Reading, beginning}
 use Rattle.capture_io.specs.declared.fault.CaptureFault.{CaptureFault}
 use Rattle.capture_ng.specs.Frames.{read_on as ng_read_on}
 use Rattle.capture_ng.specs.Position.{begin}
@@ -18,6 +19,7 @@ use Rattle.playback.specs.declared.fault.InputFault.{InputFault}
 use Rattle.playback.specs.declared.fault.InputFault.TheVariants as fault
 use Rattle.playback.specs.declared.progress.Progress.{Progress}
 use Rattle.replay.specs.Splitting.{taken_run}
+use Rattle.replay.specs.declared.captures.ReplayCaptures.{ReplayCaptures}
 use Rattle.replay.specs.declared.input.Input.{Input}
 use Rattle.replay.specs.declared.input.Input.TheVariants as input
 
@@ -47,6 +49,10 @@ Arriving = Settings → Opened
 -- a capture as it comes to the router by an intake: its format, and whether large packets are split
 abbrev pub arriving : Intake → List ℕ → Arriving
 arriving intake file settings = taken intake.split settings (opened intake.format file)
+
+-- the input of a replay as it comes to the router, at a desk with these files
+abbrev pub arriving_at : ReplayCaptures → List NamedFile → Arriving
+arriving_at captures files = arriving captures.intake (content captures.input.now files)
 
 -- ### a capture that is read
 
@@ -84,6 +90,12 @@ Opens what (Err fault) now = what ≡ Err fault
 abbrev pub OpensClassic : Opened → Result Reading InputFault → Option World → Type 0
 OpensClassic what (Ok r) now = IsSomeAnd now (λ w. what ≡ Ok (input_run fault.Classic (classic_in r w)))
 OpensClassic what (Err f) now = what ≡ Err f
+
+-- a reader has read the header of the classic capture of that name, and no record
+pub record IsUnread (name : List ℕ) (reader : Reading) (ids : List (ℕ × Direction)) (told : Option World) : Type 0 where
+  pub begins : reader ≡ beginning reader.id reader.format
+  pub given : IsGiven reader.id to_read ids
+  pub opens : IfSome told (λ w. opened format.Classic (content name w.files) ≡ Ok (input_run fault.Classic (classic_in reader w)))
 
 -- ids that were given to read are so still, and as many octets are left of each
 pub record KeepsGiven (given : List (ℕ × Direction)) (old : Option World) (now : List (ℕ × Direction)) (new : Option World) : Type 0 where

@@ -1,5 +1,6 @@
 -- The answer of a run with forwarders, by its words, the files, and the numbers that its report shows.
-use Rattle.std.specs.Prelude.{◌≡◌, ℕ, zero, suc, Bool, true, false, List, [], Option, Some, Result, Ok, Err}
+use Rattle.std.specs.Prelude.{◌≡◌, ◌≤◌, ℕ, zero, suc, Bool, true, false, List, [], Option, Some, Result, Ok, Err}
+use Rattle.command_words.specs.Limits.{most_round_frames, most_workers}
 use Rattle.command_words.specs.Words.{words_of}
 use Rattle.command_words.specs.declared.words.Words.{Words}
 use Rattle.command_words.specs.declared.words.Words.TheVariants.{Replay}
@@ -101,3 +102,7 @@ are_some (suc workers) = true
 abbrev pub has_workers : Option Words → Bool
 has_workers (Some (Replay settings input output intake workers round)) = are_some workers
 has_workers words = false
+
+-- a crew is within the limits of the words: so many forwarders, and so many frames that make a round
+abbrev pub MayWork : ℕ → ℕ → Type 0
+MayWork workers round = (workers ≤ most_workers) × ((1 ≤ round) × (round ≤ most_round_frames))

@@ -1,19 +1,16 @@
 // Two captures compared: the packets that the plain router sends for the one, and the records of
 // the other.
-ghost use Rattle.std.specs.Prelude.{◌≡◌, ◌≢◌, Ok, IfOk, IfSome, IsErrOf, OnOk};
+ghost use Rattle.std.specs.Prelude.{◌≡◌, IfOk, IfSome, IsErrOf, OnOk};
 ghost use Rattle.desk.specs.declared.fault.DeskFault.TheVariants.{Failed};
 ghost use Rattle.desk.specs.Causes.{HasCause, StaysSteady};
-ghost use Rattle.desk.specs.World.{content, to_read, shown, IsGiven, IsThere};
-ghost use Rattle.capture_io.specs.Reading as reading;
+ghost use Rattle.desk.specs.World.{content, shown, IsThere};
 ghost use Rattle.command_words.specs.declared.intake.InputFormat.TheVariants.{Classic};
 ghost use Rattle.command_words.specs.declared.nonce_source.NonceSource.TheVariants.{Settings as FromSettings};
 ghost use Rattle.lisp_settings.specs.Lawful.{IsLawful};
-ghost use Rattle.auditing.specs.Auditing.{run_in};
-ghost use Rattle.playback.specs.Input.{input_run};
-ghost use Rattle.playback.specs.declared.fault.InputFault.TheVariants as of;
-ghost use Rattle.replay.specs.Audit.{fault_in, found, refused, whole, LiftsFrom};
-ghost use Rattle.replay.specs.Opening.{opened, KeepsGiven};
+ghost use Rattle.replay.specs.Audit.{fault_in, finding_from, found_in, refused, whole, LiftsFrom};
+ghost use Rattle.replay.specs.Opening.{opened, IsUnread, KeepsGiven};
 
+use crate::captures::AuditCaptures;
 use crate::finding::Finding;
 use crate::input::open_classic;
 use crate::plainly::audit_plainly;
@@ -24,65 +21,49 @@ use lisp_settings::{Nonces, Settings};
 use playback::InputFault;
 use std::alloc::Global;
 
-/// Compares the packets that the plain router sends for the capture in `reader`, which `input`
-/// names and which is open behind its header, with the records of the capture named by `sent`.
-/// Returns the finding.
+/// Compares the packets that the plain router sends for the input capture with the records of the
+/// sent one, and returns the finding. `reader` has read the header of the input capture.
 pub(crate) fn compare<D: Desk>(
     alloc: Global,
     desk: &mut D,
     settings: &Settings,
     reader: CaptureReader,
-    input: &str,
-    sent: &str,
+    captures: &AuditCaptures<'_>,
 ) -> Result<Finding, DeskFault>
     requires lawful { IsLawful settings.now }
-    requires begins { reader ≡ reading.beginning reader.id reader.format }
-    requires given { IsGiven reader.id to_read (D.given desk.old) }
-    requires opened { IfSome (D.told desk.old) (λ w.
-        opened Classic (content input.now w.files) ≡ Ok (input_run of.Classic (run_in reader w))) }
+    requires unread { IsUnread captures.now.input.now reader (D.given desk.old) (D.told desk.old) }
     ensures found { IfOk result (λ finding. IfSome (D.told desk.old) (λ w. finding
-        ≡ found FromSettings settings.now (whole (opened Classic (content input.now w.files)))
-        (whole (opened Classic (content sent.now w.files))))) }
+        ≡ finding_from FromSettings captures.now w.files settings.now)) }
     ensures shown { shown (D.told desk.new) ≡ shown (D.told desk.old) }
     ensures cause { HasCause (D.faults desk.old) (D.faults desk.new) result }
     ensures steady { StaysSteady (D.steady desk.old) (D.steady desk.new)
-        (IsThere input.now (D.told desk.old) × IsThere sent.now (D.told desk.old))
-        (IsErrOf result Failed) }
+        (IsThere captures.now.input.now (D.told desk.old)
+        × IsThere captures.now.sent.now (D.told desk.old)) (IsErrOf result Failed) }
 {
-    match open_classic(alloc, desk, sent)? {
-        Ok(records) => compare_with(alloc, desk, settings, reader, records, input),
-        Err(fault) => refuse_sent(alloc, desk, input, fault),
+    match open_classic(alloc, desk, captures.sent)? {
+        Ok(records) => {
+            let audited = audit_plainly(alloc, desk, settings, reader, records)?;
+            finding_of(alloc, desk, captures.input, audited)
+        }
+        Err(fault) => refuse_sent(alloc, desk, captures.input, fault),
     }
 }
 
-// Compares the packets that the plain router sends for the capture in `reader`, which `input`
-// names, with the records of the sent capture in `records`. Both are open behind their headers.
-// Returns the finding.
-fn compare_with<D: Desk>(
+// The finding of an audit of the input capture of that name, by what came of both captures.
+fn finding_of<D: Desk>(
     alloc: Global,
     desk: &mut D,
-    settings: &Settings,
-    reader: CaptureReader,
-    records: CaptureReader,
     input: &str,
+    audited: Audited,
 ) -> Result<Finding, DeskFault>
-    requires lawful { IsLawful settings.now }
-    requires begins { reader ≡ reading.beginning reader.id reader.format }
-    requires records { records ≡ reading.beginning records.id records.format }
-    requires apart { reader.id ≢ records.id }
-    requires opened { IfSome (D.told desk.old) (λ w.
-        opened Classic (content input.now w.files) ≡ Ok (input_run of.Classic (run_in reader w))) }
     ensures found { IfOk result (λ finding. IfSome (D.told desk.old) (λ w. finding
-        ≡ found FromSettings settings.now (whole (opened Classic (content input.now w.files)))
-        (whole (Ok (input_run of.Classic (run_in records w)))))) }
+        ≡ found_in (whole (opened Classic (content input.now w.files))) audited)) }
     ensures shown { shown (D.told desk.new) ≡ shown (D.told desk.old) }
     ensures cause { HasCause (D.faults desk.old) (D.faults desk.new) result }
     ensures steady { StaysSteady (D.steady desk.old) (D.steady desk.new)
-        (IsThere input.now (D.told desk.old)
-        × (IsGiven reader.id to_read (D.given desk.old) × IsGiven records.id to_read (D.given desk.old)))
-        (IsErrOf result Failed) }
+        (IsThere input.now (D.told desk.old)) (IsErrOf result Failed) }
 {
-    match audit_plainly(alloc, desk, settings, reader, records)? {
+    match audited {
         Audited::Compared(outcome) => Ok(Finding::Compared(outcome)),
         Audited::Played(fault) => Ok(Finding::Input(InputFault::Classic(fault))),
         Audited::Sent(fault) => refuse_sent(alloc, desk, input, InputFault::Classic(fault)),

@@ -2,12 +2,12 @@
 #![tactic(auto)]
 
 mod audits;
+mod captures;
 mod comparing;
 mod counts;
 mod finding;
 mod finding_lines;
 mod frame_text;
-mod in_rounds;
 mod input;
 mod last_lines;
 mod message_lines;

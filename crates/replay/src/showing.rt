@@ -19,12 +19,13 @@ use capture_io::Frame;
 use command_words::InputFormat;
 use desk::{Desk, DeskFault};
 use octets::{NoMemory, Octets};
-use playback::{Machine, Output, Progress, play};
+use playback::{Machine, Output, play};
 use std::alloc::Global;
 
 /// A machine that shows a capture, and keeps no more of a frame than its octets' list.
 #[derive(Drop)]
 struct Show {
+    alloc: Global,
     /// The octets' list of the frame that was taken last, for the reader to use again.
     spare: Option<Octets>,
 }
@@ -40,24 +41,12 @@ impl Machine for Show {
 
     ghost IsReady = { λ _ _ _. Unit {0} };
 
-    fn tick(
-        &mut self,
-        _alloc: Global,
-        _progress: Progress,
-        _second: u32,
-        _output: &mut Output,
-    ) -> Result<(), NoMemory> {
+    fn tick(&mut self, _second: u32, _output: &mut Output) -> Result<(), NoMemory> {
         Ok(())
     }
 
-    fn take(
-        &mut self,
-        alloc: Global,
-        _progress: Progress,
-        frame: Frame,
-        output: &mut Output,
-    ) -> Result<bool, NoMemory> {
-        push_shown(alloc, &frame, &mut output.lines)?;
+    fn take(&mut self, frame: Frame, output: &mut Output) -> Result<bool, NoMemory> {
+        push_shown(self.alloc, &frame, &mut output.lines)?;
         self.spare = Some(frame.octets);
         Ok(false)
     }
@@ -104,7 +93,7 @@ fn show_frames<D: Desk>(alloc: Global, desk: &mut D, reader: Input) -> Result<St
     ensures steady { StaysSteady (D.steady desk.old) (D.steady desk.new)
         (IsGiven (id_of reader) to_read (D.given desk.old)) (IsErrOf result Failed) }
 {
-    let mut show = Show { spare: None };
+    let mut show = Show { alloc, spare: None };
     let ending = play(alloc, desk, &mut show, reader, None)?;
     let line = count_line(alloc, ending.frames)?;
     close(alloc, desk, ending.fault, line.as_slice())

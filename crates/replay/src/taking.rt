@@ -1,6 +1,7 @@
 // The events of a capture, seconds and frames, taken by the plain router.
 ghost use Rattle.std.specs.Prelude.{◌≡◌, ◌<◌, ◌≤◌, ◌+◌, ◌*◌, ◌^◌, ◌∷◌, [], true, length, All, None, OnOk};
 ghost use Rattle.std.specs.List.{list_all};
+ghost use Rattle.capture_io.specs.Limits.{most_frame_octets};
 ghost use Rattle.lisp_settings.specs.Lawful.{IsLawful};
 ghost use Rattle.capture_events.specs.Events.{Arrival, Tick};
 ghost use Rattle.router_core.specs.Seen.{course_seen, IfLeaving};
@@ -22,12 +23,10 @@ use lisp_settings::Settings;
 use octets::{NoMemory, Octets};
 use playback::Output;
 use router_core::{Course, Decision, Own, Table, course_of, emit_octets};
-use router_log::{Emit, Notice, Verdict, push_frame_line};
-use std::alloc::Global;
+use router_log::{Emits, Notice, Verdict, push_frame_line};
 
 /// Plays a second on the table, and gathers the packets that are sent at it.
 pub(crate) fn take_second(
-    alloc: Global,
     settings: &Settings,
     memory: &mut Table,
     second: u32,
@@ -48,20 +47,12 @@ pub(crate) fn take_second(
     let changed = memory.tick(settings, second)?;
     let own = memory.own();
     let moment = u64::from(second) * 1_000_000_000;
-    push_emits(
-        alloc,
-        settings,
-        &own,
-        moment,
-        changed.emits.as_slice(),
-        output,
-    )
+    push_emits(settings, &own, moment, changed.emits, output)
 }
 
 /// Takes a frame: hears a control message or decides any other frame, and gathers its line and the
 /// packets that are sent for it.
 pub(crate) fn take_frame(
-    alloc: Global,
     settings: &Settings,
     memory: &mut Table,
     frame: &Frame,
@@ -82,15 +73,14 @@ pub(crate) fn take_frame(
 {
     let course = course_of(settings, frame);
     if course.is_message() {
-        hear(alloc, settings, memory, frame, &course, output)
+        hear(settings, memory, frame, &course, output)
     } else {
-        decide(alloc, settings, memory, frame, &course, output)
+        decide(settings, memory, frame, &course, output)
     }
 }
 
 // Hears a control message, and gathers its line and the packets that are sent for it.
 fn hear(
-    alloc: Global,
     settings: &Settings,
     memory: &mut Table,
     frame: &Frame,
@@ -121,20 +111,12 @@ fn hear(
         &heard.verdict,
         &mut output.lines,
     )?;
-    push_emits(
-        alloc,
-        settings,
-        &own,
-        frame.moment,
-        heard.emits.as_slice(),
-        output,
-    )
+    push_emits(settings, &own, frame.moment, heard.emits, output)
 }
 
 // Decides a frame that is no control message, and notes its notices. Gathers its line, its packet
 // and the packets of the notices.
 fn decide(
-    alloc: Global,
     settings: &Settings,
     memory: &mut Table,
     frame: &Frame,
@@ -168,13 +150,13 @@ fn decide(
         &mut output.lines,
     )?;
     push_sent(verdict, frame.moment, output)?;
+    let found = notices.found();
     note_all(
-        alloc,
         settings,
         memory,
         frame.moment,
         notices.as_slice(),
-        notices.found(),
+        found,
         output,
     )
 }
@@ -187,7 +169,7 @@ fn push_sent(verdict: Verdict, moment: u64, output: &mut Output) -> Result<(), N
     ensures { OnOk result (Sends (packets_of moment (packet_of verdict)) output.old output.new) }
 {
     match sent_packet(verdict) {
-        Some(packet) => output.push_packet(moment, packet.as_slice()),
+        Some(packet) => gather_packet(moment, packet.as_slice(), output),
         None => Ok(()),
     }
 }
@@ -207,7 +189,6 @@ fn sent_packet(verdict: Verdict) -> Option<Octets>
 // Notes the notices of a decision one after another, with the name under which the mapping in force
 // was found, and gathers the packets that are sent.
 fn note_all(
-    alloc: Global,
     settings: &Settings,
     memory: &mut Table,
     moment: u64,
@@ -236,55 +217,41 @@ fn note_all(
     };
     let changed = memory.note_found(settings, moment, notice, found)?;
     let own = memory.own();
-    push_emits(
-        alloc,
-        settings,
-        &own,
-        moment,
-        changed.emits.as_slice(),
-        output,
-    )?;
-    note_all(alloc, settings, memory, moment, others, found, output)
+    push_emits(settings, &own, moment, changed.emits, output)?;
+    note_all(settings, memory, moment, others, found, output)
 }
 
 // Gathers the packets of emits, by the own locators and versions as they stand.
 fn push_emits(
-    alloc: Global,
     settings: &Settings,
     own: &Own,
     moment: u64,
-    emits: &[Emit],
+    emits: Emits,
     output: &mut Output,
 ) -> Result<(), NoMemory>
     requires lawful { IsLawful settings.now }
-    requires sendable { All (IsSendable (standing_by settings.now own.now)) emits.now }
+    requires sendable { All (IsSendable (standing_by settings.now own.now)) emits }
     requires moment { moment < 2 ^ 32 * 1000000000 }
-    requires room { output.old.written + length emits.now < 2 ^ 50 }
-    ensures { OnOk result (Sends (emit_packets (standing_by settings.now own.now) moment emits.now)
+    requires room { output.old.written + length emits < 2 ^ 50 }
+    ensures { OnOk result (Sends (emit_packets (standing_by settings.now own.now) moment emits)
         output.old output.new) }
 {
-    for emit in emits {
-        push_emit(alloc, settings, own, moment, emit, output)?;
+    let items = emits.into_vec();
+    let alloc = *items.allocator();
+    for emit in items.as_slice() {
+        let packet = emit_octets(alloc, settings, own, emit)?;
+        gather_packet(moment, packet.as_slice(), output)?;
     }
     Ok(())
 }
 
-// Gathers the packet of an emit, by the own locators and versions as they stand.
-fn push_emit(
-    alloc: Global,
-    settings: &Settings,
-    own: &Own,
-    moment: u64,
-    emit: &Emit,
-    output: &mut Output,
-) -> Result<(), NoMemory>
-    requires lawful { IsLawful settings.now }
-    requires sendable { IsSendable (standing_by settings.now own.now) emit.now }
+// Gathers a packet.
+fn gather_packet(moment: u64, packet: &[u8], output: &mut Output) -> Result<(), NoMemory>
+    requires size { length packet.now ≤ most_frame_octets }
     requires moment { moment < 2 ^ 32 * 1000000000 }
     requires room { output.old.written < 2 ^ 50 }
-    ensures { OnOk result (Sends (emit_packets (standing_by settings.now own.now) moment (emit.now ∷ []))
+    ensures { OnOk result (Sends (record { moment = moment; octets = packet.now } ∷ [])
         output.old output.new) }
 {
-    let packet = emit_octets(alloc, settings, own, emit)?;
-    output.push_packet(moment, packet.as_slice())
+    output.push_packet(moment, packet)
 }

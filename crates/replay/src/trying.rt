@@ -15,6 +15,7 @@ ghost use Rattle.replay.specs.Trial.{hash_text, trial_file, trial_line, trial_te
 ghost use Rattle.command_words.specs.Limits.{most_trial_mappings};
 
 use crate::Status;
+use crate::captures::ReplayCaptures;
 use crate::counts::Counts;
 use crate::replaying::replay_file;
 use command_words::{InputFormat, Intake};
@@ -68,9 +69,13 @@ fn replay_trial<R: Threads + Wait + Sync, G: Gate>(
 {
     let settings = trial_settings(alloc, n)?;
     let mut desk = trial_desk(alloc, n)?;
-    let intake = Intake {
-        format: InputFormat::Classic,
-        split: false,
+    let captures = ReplayCaptures {
+        input: INPUT,
+        intake: Intake {
+            format: InputFormat::Classic,
+            split: false,
+        },
+        output: OUTPUT,
     };
     let crew = Crew {
         rt,
@@ -78,7 +83,7 @@ fn replay_trial<R: Threads + Wait + Sync, G: Gate>(
         workers: 0,
         round: 1,
     };
-    match replay_file(&crew, alloc, &mut desk, &settings, intake, INPUT, OUTPUT) {
+    match replay_file(&crew, alloc, &mut desk, &settings, &captures) {
         Ok(Ok(counts)) => {
             let Some(output) = desk.file(OUTPUT) else {
                 unreachable!()

@@ -10,7 +10,7 @@ ghost use Rattle.forwarders.specs.Batches.{journal_of};
 use crate::forwarding::{Meeting, SITE};
 use capture_io::{Frame, Link};
 use forwarders::{
-    Forwarded, Forwarder, Gate, Line, OpenGate, Published, Tally, open_hall, run_round,
+    Forwarded, Forwarder, Gate, Line, OpenGate, Published, Round, Tally, open_hall, run_round,
 };
 use lisp_settings::{Settings, read_settings};
 use octets::{NoMemory, Octets};
@@ -69,17 +69,16 @@ fn looks_of_round<R: Threads + Wait + Sync, G: Gate>(
 {
     let frames = [first, second];
     let mut published = open_hall(rt, alloc, settings, table, 2)?;
-    let done = run_round(
+    let round = Round {
         rt,
+        gate,
+        workers: 2,
         alloc,
         settings,
-        table,
-        &mut published,
-        2,
-        None,
-        &frames,
-        gate,
-    );
+        previous: None,
+        frames: &frames,
+    };
+    let done = run_round(&round, table, &mut published);
     published.close(rt);
     let done = done?;
     Ok(looks_in(done.lines.as_slice()))
@@ -156,18 +155,30 @@ fn looks_beside_a_reply<R: Threads + Wait + Sync>(
 {
     let (packets, replies) = ([packet], [reply]);
     let packet = &packets[0];
-    let gate = &OpenGate;
-    run_round(
-        rt, alloc, settings, table, published, 0, None, &packets, gate,
-    )?;
+    let first = Round {
+        rt,
+        gate: &OpenGate,
+        workers: 0,
+        alloc,
+        settings,
+        previous: None,
+        frames: &packets,
+    };
+    run_round(&first, table, published)?;
     let Some(mut early) = forwarder_of(published) else {
         return Ok([None; 4]);
     };
     let before = carried(&mut early, settings, packet);
-    let previous = Some(MOMENT);
-    run_round(
-        rt, alloc, settings, table, published, 0, previous, &replies, gate,
-    )?;
+    let second = Round {
+        rt,
+        gate: &OpenGate,
+        workers: 0,
+        alloc,
+        settings,
+        previous: Some(MOMENT),
+        frames: &replies,
+    };
+    run_round(&second, table, published)?;
     let Some(mut late) = forwarder_of(published) else {
         return Ok([None; 4]);
     };

@@ -14,7 +14,7 @@ use capture_io::Frame;
 use forwarders::{Gate, Published, open_hall};
 use lisp_settings::Settings;
 use octets::{NoMemory, Octets};
-use playback::{Machine, Output, Progress};
+use playback::{Machine, Output};
 use router_core::Table;
 use std::alloc::Global;
 use std::sync::Wait;
@@ -47,23 +47,11 @@ impl<'a> Machine for Gathering<'a> {
     ghost IsReady = { λ progress written g. MayPlay g progress written };
 
     // A second changes nothing yet, because the seconds of a round are worked with the round.
-    fn tick(
-        &mut self,
-        _alloc: Global,
-        _progress: Progress,
-        _second: u32,
-        _output: &mut Output,
-    ) -> Result<(), NoMemory> {
+    fn tick(&mut self, _second: u32, _output: &mut Output) -> Result<(), NoMemory> {
         Ok(())
     }
 
-    fn take(
-        &mut self,
-        _alloc: Global,
-        _progress: Progress,
-        frame: Frame,
-        _output: &mut Output,
-    ) -> Result<bool, NoMemory> {
+    fn take(&mut self, frame: Frame, _output: &mut Output) -> Result<bool, NoMemory> {
         fit(frame.octets.as_slice());
         self.octets += frame.octets.len();
         self.frames.push(frame)?;

@@ -10,7 +10,7 @@ ghost use Rattle.sharing.specs.Gathering.{ClosesRound, MayPlay, WorksRound, stat
 
 use crate::crew::Crew;
 use crate::gathering::Gathering;
-use forwarders::{Gate, Line, Packet, closing_moment, run_round};
+use forwarders::{Gate, Line, Packet, Round, closing_moment, run_round};
 use octets::{NoMemory, Octets};
 use playback::{Output, Progress};
 use router_log::push_frame_line;
@@ -35,17 +35,16 @@ pub(crate) fn work_round<R: Threads + Wait + Sync, G: Gate>(
     ensures none { OnOk result (router.new.frames.items ≡ []) }
 {
     let alloc = *router.frames.allocator();
-    let done = run_round(
-        crew.rt,
+    let round = Round {
+        rt: crew.rt,
+        gate: crew.gate,
+        workers: crew.workers,
         alloc,
-        router.settings,
-        &mut router.table,
-        &mut router.published,
-        crew.workers,
-        router.previous,
-        router.frames.as_slice(),
-        crew.gate,
-    )?;
+        settings: router.settings,
+        previous: router.previous,
+        frames: router.frames.as_slice(),
+    };
+    let done = run_round(&round, &mut router.table, &mut router.published)?;
     router.previous = Some(closing_moment(router.frames.as_slice()));
     router.frames.clear();
     router.octets = 0;

@@ -4,7 +4,7 @@ ghost use Rattle.router_log.specs.declared.entry.Entry.{Entry as EntryValue};
 ghost use Rattle.forwarders.specs.declared.door.view.View.{View as ViewValue};
 ghost use Rattle.forwarders.specs.declared.door.view.View.TheVariants.{Newcomer};
 ghost use Rattle.forwarders.specs.Keeping.{Enters, Keeps, Publishes, Starts};
-ghost use Rattle.forwarders.specs.Views.{changed, learnt, planning, told_of};
+ghost use Rattle.forwarders.specs.Views.{changed, after_note, planning, told_of};
 
 use super::change::Change;
 use super::shown::Shown;
@@ -122,7 +122,7 @@ impl Split<View> for Telling {
 pub struct Learning;
 
 impl Join<View> for Learning {
-    ghost both = { learnt };
+    ghost both = { after_note };
 
     ghost spent = { Newcomer };
 }

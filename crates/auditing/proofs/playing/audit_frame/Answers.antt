@@ -5,6 +5,12 @@ use Rattle.playback.proofs.FrontLemmas.{frame-steps}
 use Rattle.auditing.proofs.StepLemmas.{proceeds-on, step-proceeds}
 use Rattle.auditing.proofs.playing.audit_frame.Goals as goal
 
+pub take-requires-clause-ready : goal.take-requires-clause-ready
+take-requires-clause-ready g c =
+    let by = c.in_ok-audit_seconds.ensures.ready in
+    let moment : c.frame.inside.moment ≡ c.args.frame.moment = ap (λ (x : Frame). x.moment) c.frame.view_is in
+    record { progress = by.progress; ready = by.ready; next = rw by.frames_are c.requires.next; later = rw moment at by.later }
+
 pub returns-clause-proceeds : goal.returns-clause-proceeds
 returns-clause-proceeds g c =
     let does = g.M.Machine.Does in
@@ -20,6 +26,6 @@ returns-clause-proceeds g c =
     let then = g.D.Desk.told c.audit_seconds.new.desk in
     let now = g.D.Desk.told c.expect_output.new.desk in
     let held = step-proceeds does (Happens (Arrival frame)) mid after c.audit_seconds.new.output c.take.new.output c.audit_seconds.new.holding c.expect_output.new.self then now c.expect_output.result
-    c.in_ok-before.ensures.records c.in_ok-take.ensures.gathers c.expect_output.ensures.holds in
+    c.in_ok-audit_seconds.ensures.records c.in_ok-take.ensures.gathers c.expect_output.ensures.holds in
     proceeds-on does before mid after seconds one (steps_of (events_of at frame)) c.args.holding.now c.audit_seconds.new.holding c.expect_output.new.self told then now c.expect_output.result
-    (λ past. frame-steps past at frame) (rw moment at c.in_ok-before.ensures.proceeds) held
+    (λ past. frame-steps past at frame) (rw moment at c.in_ok-audit_seconds.ensures.proceeds) held

@@ -2,7 +2,7 @@ use Rattle.std.proofs.Common.{rules, ◌≡◌, ◌+◌, ◌++◌, List, map, ta
 use Rattle.router_log.specs.declared.notice.Notice.{Notice}
 use Rattle.router_model.specs.Parts.{standing_in}
 use Rattle.router_model.specs.Sides.{notices_of}
-use Rattle.forwarders.specs.declared.ruled.Ruled.{Ruled}
+use Rattle.forwarders.specs.declared.ruling.Ruled.{Ruled}
 use Rattle.forwarders.specs.Gathering.{Notes}
 use Rattle.forwarders.specs.Given.{IsGiven}
 use Rattle.forwarders.specs.Ruling.{ruling_of}

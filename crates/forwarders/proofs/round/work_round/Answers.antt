@@ -1,8 +1,9 @@
-use Rattle.std.proofs.Common.{◌∙◌, sym, ap, subst, arith}
+use Rattle.std.proofs.Common.{◌∙◌, sym, ap, subst}
 use Rattle.std.proofs.lemmas.Result.{on_ok_weaker}
 use Rattle.router_model.specs.Journal.{extended}
 use Rattle.router_model.specs.Parts.{Parts}
 use Rattle.router_model.specs.Proper.{IsProper}
+use Rattle.router_model.specs.Rounds.{closing_moment}
 use Rattle.router_model.specs.Standing.{without_ups}
 use Rattle.router_model.proofs.UpsLemmas.{own_after-site}
 use Rattle.forwarders.specs.Batches.{journal_of}
@@ -31,12 +32,11 @@ finish_round-requires-clause-left g c =
 pub finish_round-requires-clause-may : goal.finish_round-requires-clause-may
 finish_round-requires-clause-may g c =
     let now = c.in_ok-from.ensures.entered.now in
-    let is = c.requires.closes in
     record {
       given = all-given c.args.round.now.settings.now _ _ c.args.round.now.frames.now c.write_round.new.written.places c.in_ok-ruled.ruled.items c.in_ok-ruled.ensures.ruled;
-      later = omega (arith, now, is);
+      later = now;
       count = notices-room c.args.round.now.settings.now c.args.round.now.previous c.args.table.now.parts c.args.published.now.batches c.in_ok-from.from c.write_round.new.written c.in_ok-ruled.ruled.items c.args.round.now.frames.now c.write_round.new.table.parts c.requires.run c.in_ok-from.ensures.written c.in_ok-ruled.ensures.ruled c.in_ok-from.ensures.entered.count;
-      early = closes-early c.args.round.now.settings.now c.args.round.now.previous c.args.table.now.parts c.args.published.now.batches c.args.round.now.frames.now c.args.round.now.closes c.requires.run c.requires.closes;
+      early = closes-early c.args.round.now.settings.now c.args.round.now.previous c.args.table.now.parts c.args.published.now.batches c.args.round.now.frames.now c.requires.run;
     }
 
 pub finish_round-requires-clause-rest : goal.finish_round-requires-clause-rest
@@ -46,11 +46,11 @@ finish_round-requires-clause-rest g c =
 
 pub finish_round-requires-clause-proper : goal.finish_round-requires-clause-proper
 finish_round-requires-clause-proper g c =
-    subst (λ (p : Publication). IsProper c.args.round.now.settings.now (extended (journal_of p.batches) (noted_of c.args.round.now.settings.now c.args.round.now.closes c.write_round.new.table.parts c.in_ok-ruled.ruled.items).entries)) (sym c.in_ok-ruled.ensures.published)
-    (notices-go c.args.round.now.settings.now c.args.round.now.previous c.args.table.now.parts c.args.published.now.batches c.in_ok-from.from c.write_round.new.written c.in_ok-ruled.ruled.items c.args.round.now.frames.now c.args.round.now.closes c.write_round.new.table.parts c.requires.run c.in_ok-from.ensures.written c.in_ok-ruled.ensures.ruled c.requires.closes c.in_ok-from.ensures.table)
+    subst (λ (p : Publication). IsProper c.args.round.now.settings.now (extended (journal_of p.batches) (noted_of c.args.round.now.settings.now (closing_moment c.args.round.now.frames.now) c.write_round.new.table.parts c.in_ok-ruled.ruled.items).entries)) (sym c.in_ok-ruled.ensures.published)
+    (notices-go c.args.round.now.settings.now c.args.round.now.previous c.args.table.now.parts c.args.published.now.batches c.in_ok-from.from c.write_round.new.written c.in_ok-ruled.ruled.items c.args.round.now.frames.now c.write_round.new.table.parts c.requires.run c.in_ok-from.ensures.written c.in_ok-ruled.ensures.ruled c.in_ok-from.ensures.table)
 
 pub returns : goal.returns
 returns g c =
     on_ok_weaker c.finish_round.result (λ finishes.
-    all-run c.args.round.now.settings.now c.args.round.now.previous c.args.round.now.frames.now c.args.table.now.parts c.write_round.new.table.parts c.finish_round.new.table.parts c.args.published.now c.decide_round.new.published c.finish_round.new.published c.in_ok-from.from c.write_round.new.written c.in_ok-ruled.ruled.items c.args.round.now.closes c.args.done.now c.finish_round.new.done
-    c.requires.run c.in_ok-from.ensures.written c.in_ok-ruled.ensures.ruled c.in_ok-ruled.ensures.looked c.requires.rest.none c.in_ok-ruled.ensures.published c.in_ok-from.ensures.table c.requires.closes c.requires.undone finishes) c.finish_round.ensures.finishes
+    all-run c.args.round.now.settings.now c.args.round.now.previous c.args.round.now.frames.now c.args.table.now.parts c.write_round.new.table.parts c.finish_round.new.table.parts c.args.published.now c.decide_round.new.published c.finish_round.new.published c.in_ok-from.from c.write_round.new.written c.in_ok-ruled.ruled.items c.args.done.now c.finish_round.new.done
+    c.requires.run c.in_ok-from.ensures.written c.in_ok-ruled.ensures.ruled c.in_ok-ruled.ensures.looked c.requires.rest.none c.in_ok-ruled.ensures.published c.in_ok-from.ensures.table c.requires.undone finishes) c.finish_round.ensures.finishes

@@ -1,14 +1,13 @@
-use Rattle.std.proofs.Common.{◌≤◌, ◌<◌, ◌*◌, ◌-◌, List, map}
-use Rattle.std.specs.List.{range_with_len}
+use Rattle.std.proofs.Common.{◌≡◌, ◌≤◌, ℕ, ◌++◌, List, map}
 use Rattle.capture_io.specs.Frame.{Frame}
-use Rattle.capture_events.specs.Events.{Tick}
+use Rattle.capture_events.specs.Events.{Event, Tick, ticks}
+use Rattle.capture_events.specs.Seconds.{AreBetween}
 use Rattle.forwarders.specs.Gathering.{Writes}
 use Rattle.forwarders.proofs.writing.write_seconds.Given as goal
 
 abbrev pub invariant-loop-second : goal.invariant-loop-second
 invariant-loop-second l = record {
-  first : l.first ≤ l.second;
-  now : l.table.parts.now < l.second * 1000000000;
-  later : l.table.parts.now ≤ l.moment;
-  writes : (frames : List Frame) → Writes l.settings frames (map Tick (range_with_len l.first (l.second - l.first))) l.fn.table.parts l.fn.written l.table.parts l.written;
+  now : (reached : ℕ) × ((l.table.parts.now ≤ reached) × ((reached ≤ l.moment) × AreBetween reached l.moment l.second-iterator));
+  writes : (done : List Event) × ((done ++ map Tick l.second-iterator ≡ ticks l.fn.previous l.moment)
+      × ((frames : List Frame) → Writes l.settings frames done l.fn.table.parts l.fn.written l.table.parts l.written));
 }

@@ -10,5 +10,5 @@ returns-in-Ok-clause-steady g c =
       stays = λ was. c.find_opened.ensures.steady.stays (read.steady.stays was);
       done = λ was owed failed.
           c.find_opened.ensures.steady.done (read.steady.stays was)
-          (both-there c.args.input.now c.args.sent.now c.in-Ok.reader old (g.D.Desk.told c.open_classic.new.desk) read.shown (rw c.in-Ok.is at read.opened) (owed (sym c.lifts_echoes.ensures ∙ c.if-lifts_echoes.false))) failed;
+          (both-there c.args.captures.now.input.now c.args.captures.now.sent.now c.in-Ok.reader old (g.D.Desk.told c.open_classic.new.desk) read.shown (rw c.in-Ok.is at read.opened) (owed (sym c.lifts_echoes.ensures ∙ c.if-lifts_echoes.false))) failed;
     }

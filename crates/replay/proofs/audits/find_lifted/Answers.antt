@@ -18,7 +18,7 @@ returns-in-Err-clause-found g c =
     let settings = c.args.settings in
     let fault = c.in-Err.fault in
     IfOk-weaker c.refuse_sent.result _ _ (λ finding is.
-    let moved = shown_stays (λ (o : Shown). finding ≡ refused (whole (opened Classic (content c.args.input.now o.files))) fault) old (g.D.Desk.told c.lift_from.new.desk) c.in_ok-nonces.ensures.shown is in
+    let moved = shown_stays (λ (o : Shown). finding ≡ refused (whole (opened Classic (content c.args.captures.now.input.now o.files))) fault) old (g.D.Desk.told c.lift_from.new.desk) c.in_ok-nonces.ensures.shown is in
     IfSome_both old (rw c.in-Err.is at c.in_ok-nonces.ensures.lifted) moved (λ w stops same.
-    let input = whole (opened Classic (content c.args.input.now w.files)) in
+    let input = whole (opened Classic (content c.args.captures.now.input.now w.files)) in
     same ∙ sym (found-lifted-refused settings input fault) ∙ ap (λ (r : Result (List Frame) InputFault). found FromSent settings input r) (sym stops))) c.refuse_sent.ensures.found

@@ -16,8 +16,8 @@ use Rattle.replay.specs.Answer.{after_words}
 use Rattle.replay.specs.Front.{part_after_words}
 use Rattle.replay.proofs.FrontCases.{always, front_says, words-zero}
 use Rattle.replay.proofs.AnswerCases.{ok_both, said_line}
-use Rattle.replay.proofs.SharedCases.{gives_with, shared-left, shared-status}
-use Rattle.replay.proofs.SharedFrontCases.{ends_after, ends_still, ends_with, plain-ends}
+use Rattle.replay.proofs.SharedCases.{gives_with}
+use Rattle.replay.proofs.SharedFrontCases.{ends_after, ends_still, ends_with}
 use Rattle.replay.proofs.running.answer_words.Goals as goal
 
 pub returns-in-Ok-clause-shared : goal.returns-in-Ok-clause-shared
@@ -26,14 +26,6 @@ returns-in-Ok-clause-shared g c =
     let new = shown (g.D.Desk.told c.do_words.new.desk) in
     IfOk-weaker c.do_words.result _ _ (λ s answered. IfSome_then (g.D.Desk.told c.args.desk.now) answered (λ w gives.
     gives_with words w.files (Some c.in-Ok.words) s (shown_of w) new c.in-Ok.ensures.ok gives)) c.do_words.ensures.answer
-
-pub returns-in-Ok-clause-status : goal.returns-in-Ok-clause-status
-returns-in-Ok-clause-status g c =
-    shared-status c.do_words.result (map string_bytes c.args.words.now) (g.D.Desk.told c.args.desk.now) (shown (g.D.Desk.told c.do_words.new.desk)) (returns-in-Ok-clause-shared g c)
-
-pub returns-in-Ok-clause-left : goal.returns-in-Ok-clause-left
-returns-in-Ok-clause-left g c = λ none.
-    shared-left c.do_words.result (map string_bytes c.args.words.now) (g.D.Desk.told c.args.desk.now) (shown (g.D.Desk.told c.do_words.new.desk)) none (returns-in-Ok-clause-shared g c)
 
 pub returns-in-Ok-clause-steady : goal.returns-in-Ok-clause-steady
 returns-in-Ok-clause-steady g c =
@@ -51,27 +43,12 @@ returns-in-Err-Usage-clause-shared g c =
     subst (λ (x : Status). GivesWith words w.files x (shown_of w) (shown new)) (sym is)
     (gives_with words w.files None status.Usage (shown_of w) (shown new) none (record { ns = []; lawful = refl; gives = gives }))))
 
-pub returns-in-Err-Usage-clause-status : goal.returns-in-Err-Usage-clause-status
-returns-in-Err-Usage-clause-status g c =
-    shared-status c.refuse_words.result (map string_bytes c.args.words.now) (g.D.Desk.told c.args.desk.now) (shown (g.D.Desk.told c.refuse_words.new.desk)) (returns-in-Err-Usage-clause-shared g c)
-
-pub returns-in-Err-Usage-clause-left : goal.returns-in-Err-Usage-clause-left
-returns-in-Err-Usage-clause-left g c = λ none.
-    shared-left c.refuse_words.result (map string_bytes c.args.words.now) (g.D.Desk.told c.args.desk.now) (shown (g.D.Desk.told c.refuse_words.new.desk)) none (returns-in-Err-Usage-clause-shared g c)
-
 pub returns-in-Ok-clause-shared_front : goal.returns-in-Ok-clause-shared_front
 returns-in-Ok-clause-shared_front g c =
     let words = map string_bytes c.args.words.now in
     let new = g.D.Desk.told c.do_words.new.desk in
     on_err_weaker c.do_words.result (λ ends. IfSome_then (g.D.Desk.told c.args.desk.now) ends (λ w front.
     ends_with words w.files (Some c.in-Ok.words) (shown_of w) new c.in-Ok.ensures.ok front)) c.do_words.ensures.front
-
-pub returns-in-Ok-clause-front : goal.returns-in-Ok-clause-front
-returns-in-Ok-clause-front g c = λ none.
-    let words = map string_bytes c.args.words.now in
-    let new = g.D.Desk.told c.do_words.new.desk in
-    on_err_weaker c.do_words.result (λ ends. IfSome_then (g.D.Desk.told c.args.desk.now) ends (λ w front.
-    plain-ends words w.files (shown_of w) new none front)) (returns-in-Ok-clause-shared_front g c)
 
 pub returns-in-Err-Usage-clause-shared_front : goal.returns-in-Err-Usage-clause-shared_front
 returns-in-Err-Usage-clause-shared_front g c =
@@ -83,18 +60,6 @@ returns-in-Err-Usage-clause-shared_front g c =
     front_says (λ w. after_words w.files None) (λ w. part_after_words w.files None) (codes "usage\n") old old new (λ w. words-zero w.files None) refl (always old (λ w. refl)) (always old (λ w. refl)) says) (λ w ends.
     ends_with words w.files None (shown_of w) new none (ends_after w.files None (shown_of w) new refl refl ends))) c.refuse_words.ensures.part
 
-pub returns-in-Err-Usage-clause-front : goal.returns-in-Err-Usage-clause-front
-returns-in-Err-Usage-clause-front g c = λ plain.
-    let words = map string_bytes c.args.words.now in
-    let new = g.D.Desk.told c.refuse_words.new.desk in
-    on_err_weaker c.refuse_words.result (λ ends. IfSome_then (g.D.Desk.told c.args.desk.now) ends (λ w front.
-    plain-ends words w.files (shown_of w) new plain front)) (returns-in-Err-Usage-clause-shared_front g c)
-
 pub returns-in-Err-Memory-clause-shared_front : goal.returns-in-Err-Memory-clause-shared_front
 returns-in-Err-Memory-clause-shared_front g c =
     ends_still (map string_bytes c.args.words.now) (g.D.Desk.told c.args.desk.now) (g.D.Desk.told c.args.desk.now) refl
-
-pub returns-in-Err-Memory-clause-front : goal.returns-in-Err-Memory-clause-front
-returns-in-Err-Memory-clause-front g c = λ plain.
-    IfSome_then (g.D.Desk.told c.args.desk.now) (returns-in-Err-Memory-clause-shared_front g c) (λ w front.
-    plain-ends (map string_bytes c.args.words.now) w.files (shown_of w) (g.D.Desk.told c.args.desk.now) plain front)

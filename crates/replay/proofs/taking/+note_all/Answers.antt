@@ -3,7 +3,6 @@ use Rattle.std.proofs.lemmas.List.{length-append, length-map}
 use Rattle.std.proofs.lemmas.Result.{on_ok_weaker}
 use Rattle.std.specs.List.{list_all}
 use Rattle.lisp_settings.specs.declared.settings.Settings.{Settings}
-use Rattle.router_log.specs.declared.emit.Emit.{Emit}
 use Rattle.router_log.specs.declared.notice.Notice.{Notice}
 use Rattle.router_model.specs.Changes.{Change, each, unchanged}
 use Rattle.router_model.specs.Lifting.{is_sound}
@@ -19,13 +18,13 @@ use Rattle.replay.proofs.ReplayLemmas.{emits-more, first-left, on_ok_two, stands
 use Rattle.replay.proofs.taking.+note_all.Goals as goal
 
 -- the settings that stand stay behind the first of them
-stays : (t : ℕ) (c : goal.After-drop-changed-3 t) → standing_in c.args.settings.now c.note_found.new.self.parts ≡ standing_in c.args.settings.now c.args.memory.now.parts
+stays : (t : ℕ) (c : goal.After-drop-changed-2 t) → standing_in c.args.settings.now c.note_found.new.self.parts ≡ standing_in c.args.settings.now c.args.memory.now.parts
 stays t c =
     let first = c.in_ok-changed.ensures.step.entered in
     stands-kept c.args.settings.now c.args.memory.now.parts c.note_found.new.self.parts first.own first.steps
 
 -- all notices by the first of them, and those left
-noted-first : (t : ℕ) (c : goal.After-drop-changed-3 t) → all_noted c.args.settings.now c.args.memory.now.parts c.args.moment c.args.notices.now
+noted-first : (t : ℕ) (c : goal.After-drop-changed-2 t) → all_noted c.args.settings.now c.args.memory.now.parts c.args.moment c.args.notices.now
     ≡ behind c.in_ok-changed.changed.entries c.in_ok-changed.changed.emits (all_noted c.args.settings.now c.note_found.new.self.parts c.args.moment (take (length c.args.notices.now - 1) (drop 1 c.args.notices.now)))
 noted-first t c =
     let old = c.args.memory.now.parts in
@@ -56,8 +55,7 @@ note_all-requires t c =
     let split = ap (λ (l : List Notice). length l) whole in
     let first = c.in_ok-changed.ensures.step.entered in
     let one = c.in_ok-changed.ensures.sent.few in
-    let sends : Sends (emit_packets stands moment emits) c.args.output.now c.push_emits.new.output =
-    subst (λ (l : List Emit). Sends (emit_packets stands moment l) c.args.output.now c.push_emits.new.output) c.as_slice.ensures c.in_ok-push_emits.ensures in
+    let sends : Sends (emit_packets stands moment emits) c.args.output.now c.push_emits.new.output = c.in_ok-push_emits.ensures in
     let packets : length (emit_packets stands moment emits) ≡ length emits = length-map emits _ in (
       search rules,
       (
@@ -101,8 +99,7 @@ returns-clause-sends t c =
     let emits = c.in_ok-changed.changed.emits in
     let left : Change Parts = all_noted settings before moment (take (length notices - 1) (drop 1 notices)) in
     let first : Sends (emit_packets (standing_in settings before) moment emits) old mid =
-    subst (λ (own : Own). Sends (emit_packets (standing_by settings own) moment emits) old mid) c.own-own.ensures
-    (subst (λ (l : List Emit). Sends (emit_packets (standing_by settings c.own-own.result) moment l) old mid) c.as_slice.ensures c.in_ok-push_emits.ensures) in
+    subst (λ (own : Own). Sends (emit_packets (standing_by settings own) moment emits) old mid) c.own-own.ensures c.in_ok-push_emits.ensures in
     on_ok_two c.note_all.result c.note_all.ensures.sends c.note_all.ensures.entered (λ others entered.
     subst (λ (change : Change Parts). Sends (emit_packets (standing_in settings after) moment change.emits) old new) (sym (noted-first t c))
     (emits-more (standing_in settings after) moment emits left.emits old mid new

@@ -1,9 +1,8 @@
-use Rattle.std.proofs.Common.{◌≡◌, ◌∙◌, ◌++◌, ℕ, List, ap, refl, subst, sym}
+use Rattle.std.proofs.Common.{◌≡◌, ◌∙◌, ◌++◌, ℕ, ap, refl, subst, sym}
 use Rattle.std.proofs.lemmas.Result.{on_ok_weaker}
 use Rattle.capture_io.specs.Frame.{Frame}
 use Rattle.playback.specs.declared.output.Output.{Output}
 use Rattle.router_log.specs.Lines.{frame_line}
-use Rattle.router_log.specs.declared.emit.Emit.{Emit}
 use Rattle.router_model.specs.Changes.{unchanged}
 use Rattle.router_model.specs.Hear.{Heard, course_heard}
 use Rattle.router_model.specs.Limits.{most_heard}
@@ -48,7 +47,6 @@ returns-clause-gathers c =
     let stands = standing_in settings c.hear_course.new.self.parts in
     let sent : Sends (emit_packets stands frame.moment heard.change.emits) first new =
     subst (λ (m : ℕ). Sends (emit_packets stands m heard.change.emits) first new) now
-    (subst (λ (l : List Emit). Sends (emit_packets stands inside.moment l) first new) c.as_slice.ensures
-    (subst (λ (own : Own). Sends (emit_packets (standing_by settings own) inside.moment c.as_slice.result.now) first new) c.own-own.ensures sends)) in
+    (subst (λ (own : Own). Sends (emit_packets (standing_by settings own) inside.moment heard.change.emits) first new) c.own-own.ensures sends) in
     subst (λ (h : Heard Parts). GathersFew (after_message table (router_of settings parts) frame h) old new) is
     (message-gathers (router_of settings parts) frame heard old first new lines refl refl sent c.in_ok-heard.ensures.sent.few)) c.push_emits.ensures

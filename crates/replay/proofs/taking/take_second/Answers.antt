@@ -1,8 +1,7 @@
-use Rattle.std.proofs.Common.{◌*◌, ℕ, List, subst}
+use Rattle.std.proofs.Common.{◌*◌, ℕ, subst}
 use Rattle.std.proofs.lemmas.Result.{on_ok_weaker}
 use Rattle.playback.specs.declared.output.Output.{Output}
 use Rattle.router_log.specs.Moments.{seconds}
-use Rattle.router_log.specs.declared.emit.Emit.{Emit}
 use Rattle.router_model.specs.Changes.{Change}
 use Rattle.router_model.specs.Parts.{Parts, standing_in, table}
 use Rattle.router_model.specs.Plain.{after_tick, emit_packets}
@@ -25,7 +24,6 @@ returns-clause-gathers c =
     on_ok_weaker c.push_emits.result (λ sends.
     let sent : Sends (emit_packets (standing_in settings after) moment change.emits) old new =
     subst (λ (own : Own). Sends (emit_packets (standing_by settings own) moment change.emits) old new) c.own-own.ensures
-    (subst (λ (n : ℕ). Sends (emit_packets (standing_by settings c.own-own.result) (n * 1000000000) change.emits) old new) c.from-moment.ensures
-    (subst (λ (l : List Emit). Sends (emit_packets (standing_by settings c.own-own.result) (c.from-moment.result * 1000000000) l) old new) c.as_slice.ensures sends)) in
+    (subst (λ (n : ℕ). Sends (emit_packets (standing_by settings c.own-own.result) (n * 1000000000) change.emits) old new) c.from-moment.ensures sends) in
     subst (λ (change : Change Parts). GathersFew (after_tick table router moment change) old new) c.in_ok-changed.ensures.parts
     (second-gathers router moment change old new sent c.in_ok-changed.ensures.sent.few)) c.push_emits.ensures

@@ -8,25 +8,28 @@ use Rattle.replay.proofs.plainly.ReplayMachine.take.Goals as goal
 
 pub take_frame-requires-clause-count : goal.take_frame-requires-clause-count
 take_frame-requires-clause-count c =
-    let next = c.requires.next in
+    let by = c.requires.ready in
+    let next = by.next in
     let most = c.requires.most in
-    let later = c.requires.later in
+    let later = by.later in
     let early = c.requires.moment in
-    room-left c.args._progress.frames c.args.self.now.table.parts.count (unwrap_or c.args._progress.moment 0) (omega (arith, next, most)) (omega (arith, later, early)) c.requires.ready.1.1.1.0
+    room-left by.progress.frames c.args.self.now.table.parts.count (unwrap_or by.progress.moment 0) (omega (arith, next, most)) (omega (arith, later, early)) by.ready.1.1.1.0
 
 pub take_frame-requires-clause-room : goal.take_frame-requires-clause-room
 take_frame-requires-clause-room c =
-    let next = c.requires.next in
+    let by = c.requires.ready in
+    let next = by.next in
     let most = c.requires.most in
-    let later = c.requires.later in
+    let later = by.later in
     let early = c.requires.moment in
-    packets-left c.args._progress.frames c.args.output.now.written (unwrap_or c.args._progress.moment 0) (omega (arith, next, most)) (omega (arith, later, early)) c.requires.ready.1.1.1.1
+    packets-left by.progress.frames c.args.output.now.written (unwrap_or by.progress.moment 0) (omega (arith, next, most)) (omega (arith, later, early)) by.ready.1.1.1.1
 
 pub returns-clause-ready : goal.returns-clause-ready
 returns-clause-ready c =
-    let ready = c.requires.ready in
-    let frames = c.args._progress.frames in
-    let earlier = unwrap_or c.args._progress.moment 0 in
+    let by = c.requires.ready in
+    let ready = by.ready in
+    let frames = by.progress.frames in
+    let earlier = unwrap_or by.progress.moment 0 in
     let number = c.args.frame.number in
     let moment = c.args.frame.moment in
     let took = c.in_ok-take_frame.ensures in (
@@ -36,8 +39,8 @@ returns-clause-ready c =
         (
           took.entered.now,
           (
-            ready-more frames number _ _ earlier moment c.requires.next c.requires.later ready.1.1.1.0 took.entered.count,
-            packets-more frames number c.args.output.now.written _ _ earlier moment c.requires.next c.requires.later ready.1.1.1.1 took.gathers.few took.gathers.gathers.written,
+            ready-more frames number _ _ earlier moment by.next by.later ready.1.1.1.0 took.entered.count,
+            packets-more frames number c.args.output.now.written _ _ earlier moment by.next by.later ready.1.1.1.1 took.gathers.few took.gathers.gathers.written,
           ),
         ),
       ),

@@ -8,33 +8,32 @@ use Rattle.replay.proofs.plainly.ReplayMachine.tick.Goals as goal
 
 pub take_second-requires-clause-may : goal.take_second-requires-clause-may
 take_second-requires-clause-may c =
-    let ready = c.requires.ready in
-    let later = c.requires.later in
-    let room = room-left c.args._progress.frames c.args.self.now.table.parts.count (unwrap_or c.args._progress.moment 0) c.requires.most (omega (arith, later)) ready.1.1.1.0 in
+    let by = c.requires.ready in
+    let ready = by.ready in
+    let later = by.later in
+    let room = room-left by.progress.frames c.args.self.now.table.parts.count (unwrap_or by.progress.moment 0) by.few (omega (arith, later)) ready.1.1.1.0 in
     record { later = omega (arith, ready.1.1.0, later); count = omega (arith, room) }
 
 pub take_second-requires-clause-own : goal.take_second-requires-clause-own
-take_second-requires-clause-own c = own-stands c.args.self.now.settings.now c.args.self.now.table.parts c.requires.ready.1.0
+take_second-requires-clause-own c = own-stands c.args.self.now.settings.now c.args.self.now.table.parts c.requires.ready.ready.1.0
 
 pub take_second-requires-clause-room : goal.take_second-requires-clause-room
 take_second-requires-clause-room c =
-    let later = c.requires.later in
-    packets-left c.args._progress.frames c.args.output.now.written (unwrap_or c.args._progress.moment 0) c.requires.most (omega (arith, later)) c.requires.ready.1.1.1.1
+    let by = c.requires.ready in
+    let later = by.later in
+    packets-left by.progress.frames c.args.output.now.written (unwrap_or by.progress.moment 0) by.few (omega (arith, later)) by.ready.1.1.1.1
 
 pub returns-clause-ready : goal.returns-clause-ready
 returns-clause-ready c =
-    let ready = c.requires.ready in
-    let frames = c.args._progress.frames in
-    let earlier = unwrap_or c.args._progress.moment 0 in
-    on_ok_three c.take_second.result c.take_second.ensures.entered c.take_second.ensures.state c.take_second.ensures.gathers (λ entered state gathers. (
+    on_ok_three c.take_second.result c.take_second.ensures.entered c.take_second.ensures.state c.take_second.ensures.gathers (λ entered state gathers progress ready later. (
       ready.0,
       (
         own-kept c.args.self.now.settings.now c.args.self.now.table.parts c.take_second.new.memory.parts (Tick c.args.second) ready.1.0 state,
         (
           entered.now,
           (
-            ready-later frames _ _ earlier c.args.second c.requires.later ready.1.1.1.0 entered.count,
-            packets-later frames c.args.output.now.written _ _ earlier c.args.second c.requires.later ready.1.1.1.1 gathers.few gathers.gathers.written,
+            ready-later progress.frames _ _ (unwrap_or progress.moment 0) c.args.second later ready.1.1.1.0 entered.count,
+            packets-later progress.frames c.args.output.now.written _ _ (unwrap_or progress.moment 0) c.args.second later ready.1.1.1.1 gathers.few gathers.gathers.written,
           ),
         ),
       ),

@@ -5,7 +5,7 @@ use Rattle.router_model.specs.Proper.{IsProper}
 use Rattle.forwarders.specs.Batches.{journal_of}
 use Rattle.forwarders.specs.Publication.{Publication}
 use Rattle.forwarders.proofs.PlanLemmas.{front-stands}
-use Rattle.forwarders.proofs.rulings.publish_round.Goals as goal
+use Rattle.forwarders.proofs.hiring.publish_round.Goals as goal
 
 pub publish_all-requires-clause-proper : goal.publish_all-requires-clause-proper
 publish_all-requires-clause-proper g c =

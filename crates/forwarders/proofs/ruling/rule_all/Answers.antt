@@ -5,12 +5,12 @@ use Rattle.std.proofs.lemmas.List.Elements.{All-push}
 use Rattle.capture_io.specs.Frame.{Frame}
 use Rattle.router_log.specs.declared.entry.Entry.{Entry}
 use Rattle.forwarders.specs.declared.door.looks.Forwarded.{Forwarded}
-use Rattle.forwarders.specs.declared.ruled.Ruled.{Ruled}
+use Rattle.forwarders.specs.declared.ruling.Ruled.{Ruled}
 use Rattle.forwarders.specs.Batches.{count_of}
 use Rattle.forwarders.specs.Deciding.{Decides, IsDecided, IsSoleOfAll}
 use Rattle.forwarders.specs.Ruling.{AreByAnswers, HasLooked, IsRuledAt, ruling_of}
 use Rattle.forwarders.proofs.TakeLemmas.{answers-push, given-of, zip-push}
-use Rattle.forwarders.proofs.rulings.rule_all.Goals as goal
+use Rattle.forwarders.proofs.ruling.rule_all.Goals as goal
 
 pub loop-index-preserved : goal.loop-index-preserved
 loop-index-preserved g c =
@@ -22,7 +22,7 @@ loop-index-preserved g c =
     let inv = c.loop-index.invariant in
     let place : ℕ = slice_index places index in
     let frame : Frame = c.index-frames-place.result in
-    let one : Ruled = c.in_ok-ruled.field-0 in
+    let one : Ruled = c.in_ok-rule_one.field-0 in
     let old : List Ruled = c.loop-index.all.items in
     let items : c.push.new.self.items ≡ old ++ one ∷ [] = c.in_ok-push.ensures.items in
     let within : place < length frames = c.requires.places index 0 c.loop-index-test.true in
@@ -37,8 +37,8 @@ loop-index-preserved g c =
           let decides = (taken.answered settings first published frames places (inv.answered first published h)).1 in
           let here = subst (λ (f : Frame). IfSome told (Decides settings first published f)) (at frame) (decides frame) in
           let is : IsRuledAt settings first published frames place one = record {
-            decided = λ d. subst (λ (f : Frame). IsDecided settings first published f (ruling_of one)) (sym (at d)) (c.in_ok-ruled.ensures.decided first begins here);
-            given = c.in_ok-ruled.ensures.given (given-of settings first published frame told here);
+            decided = λ d. subst (λ (f : Frame). IsDecided settings first published f (ruling_of one)) (sym (at d)) (c.in_ok-rule_one.ensures.decided first begins here);
+            given = c.in_ok-rule_one.ensures.given (given-of settings first published frame told here);
           } in
           subst (λ (t : List ℕ × List Ruled). AllZip (IsRuledAt settings first published frames) t.0 t.1)
           (λ i. (sym (take_more places index 0 c.loop-index-test.true) i, sym items i))
@@ -47,6 +47,6 @@ loop-index-preserved g c =
       answers = subst (AreByAnswers (count_of published) c.args.workers.now) (sym items)
           (answers-push (count_of published) c.args.workers.now told old one
           (subst (λ (n : ℕ). IsSoleOfAll n told c.args.workers.now) (sym inv.number) (inv.left index told (omega arith) taken.found))
-          c.in_ok-ruled.ensures.answer inv.answers);
-      looked = subst (All (HasLooked (count_of published))) (sym items) (All-push (HasLooked (count_of published)) old one inv.looked c.in_ok-ruled.ensures.looked);
+          c.in_ok-rule_one.ensures.answer inv.answers);
+      looked = subst (All (HasLooked (count_of published))) (sym items) (All-push (HasLooked (count_of published)) old one inv.looked c.in_ok-rule_one.ensures.looked);
     }

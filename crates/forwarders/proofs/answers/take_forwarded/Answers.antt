@@ -1,6 +1,6 @@
 use Rattle.std.proofs.Common.{rules, ◌%◌, ◌/◌, ◌<◌, length, refl}
 use Rattle.forwarders.proofs.TakeLemmas.{taken-of-all}
-use Rattle.forwarders.proofs.taking.take_forwarded.Goals as goal
+use Rattle.forwarders.proofs.answers.take_forwarded.Goals as goal
 
 pub returns-clause-taken : goal.returns-clause-taken
 returns-clause-taken c =

@@ -1,7 +1,7 @@
 use Rattle.std.proofs.Common.{◌∙◌, ap, sym}
 use Rattle.capture_io.specs.Frame.{Frame}
 use Rattle.forwarders.proofs.FrameLemmas.{closing-last}
-use Rattle.forwarders.proofs.round.closing_moment.Goals as goal
+use Rattle.forwarders.proofs.round_begun.closing_moment.Goals as goal
 
 pub returns : goal.returns
 returns c =

@@ -4,7 +4,7 @@ use Rattle.forwarders.specs.declared.door.looks.Forwarded.{Forwarded}
 use Rattle.forwarders.specs.Batches.{Begins, count_of}
 use Rattle.forwarders.specs.Deciding.{AreAllDealt, HaveAnswered, IsSoleOfAll}
 use Rattle.forwarders.specs.Ruling.{AreByAnswers, AreRuled, HaveLooked}
-use Rattle.forwarders.proofs.rulings.rule_all.Given as goal
+use Rattle.forwarders.proofs.ruling.rule_all.Given as goal
 
 abbrev pub invariant-loop-index : goal.invariant-loop-index
 invariant-loop-index g l = record {
