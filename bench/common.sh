@@ -14,6 +14,9 @@ trap 'rm -rf "$folder"' EXIT
 program=${given:-$top/out/lispr}
 [ -n "${given:-}" ] || "$top/lispr" trial 1 >/dev/null
 
+# As the start script has it.
+export GLIBC_TUNABLES=glibc.malloc.hugetlb=1
+
 measured() {
     python3 "$top/bench/measured.py" "$@"
 }
