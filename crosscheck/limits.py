@@ -239,17 +239,28 @@ def longest_settings():
         Run(REPLAY.split(), more, 2, "settings too-long\n", None)])
 
 
+def no_text():
+    """Settings that are no UTF-8, which no file of rows can have."""
+    return Row("limits.py", "settings that are no UTF-8 are no TOML", "The octet ff is in no text, also behind a #.",
+               [refused(b"# \xff", "not-toml")])
+
+
+def refused(settings, fault):
+    """A run that ends by a fault of its settings."""
+    return Run(REPLAY.split(), {"settings": settings, "in": capture_of([])}, 2, f"settings {fault}\n", None)
+
+
 def most_listed():
-    """As many nonces as there may be; and one more of them, or of attachments, of which none is judged then."""
+    """As many items of a list as there may be, and one more; the first of them has a fault, which isn't judged then."""
     nonce = '"0102030405060708"'
-    full, more = (TEXTS["tenant"].replace(nonce, f"{nonce}," * count) for count in (MOST, MOST + 1))
-    attached = f'attachment = [{"{}," * (MOST + 1)}]\n[[locator]]\naddress = "192.0.2.1"\n'
     yield row("4,096 nonces", "As many as there may be.", [(0, shared("packet"), "n=0 drop 13 miss")],
-              [(0, shared("asked"))], 1, full)
-    captured = capture_of([(0, shared("packet"))])
-    yield Row("limits.py", "4,097 nonces, and 4,097 attachments", "One too many of each, before any is judged.", [
-        Run(REPLAY.split(), {"settings": text.encode(), "in": captured}, 2, f"settings too-many {key}\n", None)
-        for key, text in (("nonces", more), ("attachment", attached))])
+              [(0, shared("asked"))], 1, TEXTS["tenant"].replace(nonce, f"{nonce}," * MOST))
+    for key, item, most, fault in [
+            ("nonces", "'',", MOST, "bad-value nonces.0"), ("attachment", "{},", MOST, "missing attachment.0.vlan"),
+            ("mapping", "{},", MOST_MAPPINGS, "missing mapping.0.iid"), ("limit", "{},", MOST_LIMITS, "missing limit.0.iid")]:
+        full, more = (f"{key} = [{item * count}]\n[[locator]]\naddress = '192.0.2.1'\n".encode() for count in (most, most + 1))
+        yield Row("limits.py", f"{most:,} items of {key}, and one more", "One too many is refused before any is judged.",
+                  [refused(full, fault), refused(more, f"too-many {key}")])
 
 
 # Changes of own locators.
@@ -392,5 +403,5 @@ def rounds_by_halves():
 
 def rows():
     return [open_requests(), live_mappings(), requests_of_two(), *most_limits(), wanted_echoes(), solicited_peers(),
-            started_echoes(), longest_settings(), *most_listed(), most_changes(), most_told(), lifted_nonces(),
+            started_echoes(), longest_settings(), no_text(), *most_listed(), most_changes(), most_told(), lifted_nonces(),
             *rounds_by_size(), *rounds_by_octets(), *rounds_by_halves()]

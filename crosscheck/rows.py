@@ -130,10 +130,14 @@ def judged(judge, row):
     return len(row.runs) - len(able), "".join(differences(run, ended(judge, run)) for run in able)
 
 
+def file_text(name, octets):
+    return octets.decode(errors="backslashreplace") if name == "settings" else octets.hex()
+
+
 def run_text(run):
     """A run to be read: its words, its files and its end, octets in hexadecimal."""
     parts = [f"words {' '.join(run.words)}\n"]
-    parts += [f"-- {name}\n{octets.decode() if name == 'settings' else octets.hex()}\n" for name, octets in run.files.items()]
+    parts += [f"-- {name}\n{file_text(name, octets)}\n" for name, octets in run.files.items()]
     lines = "\n".join(output_lines(run.output))
     return "".join(parts) + f"-- report, status {run.status}\n{run.report}-- out\n{lines}\n"
 

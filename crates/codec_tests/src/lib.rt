@@ -1,20 +1,14 @@
-//! Tests of formats that are read and written: files, captures, packets, headers, records and
-//! messages.
+//! Tests of desks in memory, of checksums and prefixes, and of headers, records and messages that
+//! no run writes.
 #![tactic(auto)]
 
-#[cfg(test)]
-mod captures;
 #[cfg(test)]
 mod data_headers;
 #[cfg(test)]
 mod desk_files;
 #[cfg(test)]
-mod into_tunnels;
-#[cfg(test)]
 mod ip_packets;
 #[cfg(test)]
 mod messages;
-#[cfg(test)]
-mod out_of_tunnels;
 #[cfg(test)]
 mod records;

@@ -1,19 +1,11 @@
-// A worked Map-Reply, and messages that this router doesn't send.
+// Messages that this router reads and doesn't send.
 ghost use Rattle.std.specs.Prelude.{◌≤◌, length};
 
-use map_messages::{Addr, Eid, MapReply, Message, Prefix, read_message, write_message};
+use map_messages::{read_message, write_message};
 use octets::Octets;
 use std::alloc::Global;
 use std::process::Abort;
 use std::test::Fail;
-
-/// A Map-Reply with one record: 10.2.0.0/16 of instance 100 with the locator 198.51.100.7.
-const REPLY: [u8; 52] = [
-    0x20, 0x00, 0x00, 0x01, 0x01, 0x02, 0x03, 0x04, 0x05, 0x06, 0x07, 0x08, 0x00, 0x00, 0x00, 0x3c,
-    0x01, 0x10, 0x10, 0x00, 0x00, 0x00, 0x40, 0x03, 0x00, 0x00, 0x02, 0x00, 0x00, 0x0a, 0x00, 0x00,
-    0x00, 0x64, 0x00, 0x01, 0x0a, 0x02, 0x00, 0x00, 0x01, 0x64, 0xff, 0x00, 0x00, 0x01, 0x00, 0x01,
-    0xc6, 0x33, 0x64, 0x07,
-];
 
 /// An Encapsulated Control Message from 2001:db8::1 to 2001:db8::2, with an empty Map-Reply to a
 /// probe from octet 52 on. The UDP checksum was computed by another program.
@@ -47,26 +39,6 @@ fn assert_written(
     let out = written(alloc, octets)?;
     assert_eq!(rt; out.as_slice(), expected);
     Ok(())
-}
-
-fn assert_reply(rt: &impl Abort, reply: &MapReply) -> Result<(), Fail> {
-    assert_eq!(rt; (reply.probe, reply.nonce), (false, 0x0102_0304_0506_0708));
-    let mapping = reply.mappings.as_slice().first().ok_or("a record")?;
-    let prefix = Prefix::new(Addr::V4(0x0a02_0000), 16).ok_or("16 bits")?;
-    assert_eq!(rt; (mapping.ttl, mapping.eid), (60, Eid { iid: 100, prefix }));
-    assert_eq!(rt; (reply.mappings.len(), mapping.locators.len()), (1, 1));
-    Ok(())
-}
-
-#[test]
-fn a_worked_reply_is_read_and_written_again(rt: HostRuntime) -> Result<(), Fail> {
-    let (message, left) = read_message(rt.alloc(), &REPLY, 0).ok().ok_or("a message")?;
-    assert_eq!(rt; left, 0);
-    match &message {
-        Message::Reply(reply) => assert_reply(&rt, reply)?,
-        _ => return Err("a Map-Reply")?,
-    }
-    assert_written(&rt, rt.alloc(), &REPLY, &REPLY)
 }
 
 #[test]

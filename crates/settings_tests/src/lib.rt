@@ -1,13 +1,11 @@
-//! Tests of the settings: values that no run shows, the longest lists and texts, and settings that
-//! are written.
+//! Tests of the settings: what no run shows, shares of many instances, and settings that are
+//! written.
 #![tactic(auto)]
 
 #[cfg(test)]
-mod instances;
-#[cfg(test)]
-mod limits;
-#[cfg(test)]
 mod sameness;
+#[cfg(test)]
+mod shares;
 #[cfg(test)]
 mod texts;
 #[cfg(test)]

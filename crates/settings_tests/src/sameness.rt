@@ -1,32 +1,48 @@
 // Settings that are the same in every field.
 use lisp_settings::{Record, Settings};
-use std::process::Abort;
 
-/// Asserts that every field of the settings is the same.
-pub fn assert_same(rt: &impl Abort, again: &Settings, first: &Settings) {
-    assert_eq!(rt; again.seed, first.seed);
-    assert_eq!(rt; again.nonces.as_slice(), first.nonces.as_slice());
-    assert_eq!(rt; again.resolver, first.resolver);
-    assert_eq!(rt; again.ttl, first.ttl);
-    assert_eq!(rt; (again.probe, again.echo), (first.probe, first.echo));
-    assert_eq!(rt; again.locators.as_slice(), first.locators.as_slice());
-    assert_eq!(rt; again.attachments.as_slice(), first.attachments.as_slice());
-    assert_eq!(rt; again.databases.as_slice(), first.databases.as_slice());
-    assert_eq!(rt; again.mappings.len(), first.mappings.len());
-    let mappings = first.mappings.as_slice().iter();
-    for (again, first) in again.mappings.as_slice().iter().zip(mappings) {
-        assert_same_mapping(rt, again, first);
-    }
-    assert_eq!(rt; again.changes.as_slice(), first.changes.as_slice());
-    assert_eq!(rt; again.limits.as_slice(), first.limits.as_slice());
+/// Whether every field of the settings is the same.
+pub fn are_same(again: &Settings, first: &Settings) -> bool {
+    have_same_values(again, first)
+        && have_same_lists(again, first)
+        && have_same_mappings(again, first)
 }
 
-fn assert_same_mapping(rt: &impl Abort, again: &Record, first: &Record) {
-    assert_eq!(rt; again.eid, first.eid);
-    assert_eq!(rt; (again.ttl, again.version), (first.ttl, first.version));
-    assert_eq!(rt;
-        (again.action, again.authoritative),
-        (first.action, first.authoritative)
-    );
-    assert_eq!(rt; again.locators.as_slice(), first.locators.as_slice());
+fn have_same_values(again: &Settings, first: &Settings) -> bool {
+    again.seed == first.seed
+        && again.nonces.as_slice() == first.nonces.as_slice()
+        && again.resolver == first.resolver
+        && again.ttl == first.ttl
+        && again.probe == first.probe
+        && again.echo == first.echo
+}
+
+fn have_same_lists(again: &Settings, first: &Settings) -> bool {
+    again.locators.as_slice() == first.locators.as_slice()
+        && again.attachments.as_slice() == first.attachments.as_slice()
+        && again.databases.as_slice() == first.databases.as_slice()
+        && again.changes.as_slice() == first.changes.as_slice()
+        && again.limits.as_slice() == first.limits.as_slice()
+}
+
+fn have_same_mappings(again: &Settings, first: &Settings) -> bool {
+    if again.mappings.len() != first.mappings.len() {
+        return false;
+    }
+    let mappings = first.mappings.as_slice().iter();
+    for (again, first) in again.mappings.as_slice().iter().zip(mappings) {
+        if !is_same_mapping(again, first) {
+            return false;
+        }
+    }
+    true
+}
+
+fn is_same_mapping(again: &Record, first: &Record) -> bool {
+    again.eid == first.eid
+        && again.ttl == first.ttl
+        && again.version == first.version
+        && again.action == first.action
+        && again.authoritative == first.authoritative
+        && again.locators.as_slice() == first.locators.as_slice()
 }

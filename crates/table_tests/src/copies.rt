@@ -2,7 +2,7 @@
 // it is.
 ghost use Rattle.std.specs.Prelude.{◌≡◌, length};
 
-use crate::rows::{ATTACHED, cache, eid, locator, on_locators, queue, record, record_to};
+use crate::rows::{ATTACHED, cache, eid, locator, on_locators, on_state, queue, record, record_to};
 use ip_headers::Addr;
 use locator_state::LocatorState;
 use map_cache::{LearnFault, MapCache};
@@ -92,14 +92,18 @@ fn copied_locators_have_their_own_probes(rt: HostRuntime) -> Result<(), NoMemory
 
 fn own_probes(rt: &impl Abort, state: &mut LocatorState) -> Result<(), NoMemory> {
     state.probed(0, FIRST, 42)?;
-    let mut copy = state.copy()?;
-    answer_in_copy(rt, state, &mut copy);
-    Ok(())
+    let state = &*state;
+    on_state(state.copy()?, |copy| answer_in_copy(rt, state, copy))
 }
 
-fn answer_in_copy(rt: &impl Abort, state: &LocatorState, copy: &mut LocatorState) {
+fn answer_in_copy(
+    rt: &impl Abort,
+    state: &LocatorState,
+    copy: &mut LocatorState,
+) -> Result<(), NoMemory> {
     assert_eq!(rt; copy.probe_open(0, 42), Some(FIRST));
     copy.probe_answered(0, 42);
     assert_eq!(rt; copy.probe_open(0, 42), None);
     assert_eq!(rt; state.probe_open(0, 42), Some(FIRST));
+    Ok(())
 }

@@ -1,6 +1,5 @@
-//! Tests of the node store, the prefix table, the map-cache, the queue of requests, the state of
-//! locators (probes, echoes, SMRs) and the choice among them: times, limits, replacement, the
-//! longest match, shares, copies.
+//! Tests of the node store, the prefix table, the map-cache, the queue of requests and the state of
+//! locators, for what no run shows: copies, reads that are counted, limits that no run comes to.
 #![tactic(auto)]
 
 #[cfg(test)]
@@ -8,14 +7,10 @@ mod choices;
 #[cfg(test)]
 mod copies;
 #[cfg(test)]
-mod echoes;
-#[cfg(test)]
 mod mappings;
 #[cfg(test)]
 mod prefix_tables;
 #[cfg(test)]
 mod probes;
-#[cfg(test)]
-mod requests;
 #[cfg(test)]
 mod rows;

@@ -1,4 +1,4 @@
-// Times and limits of probes, by hand.
+// So many probes as no run makes, and the last one of a locator.
 use crate::rows::{SECOND, on_locators};
 use ip_headers::Addr;
 use locator_state::{LocatorState, MOST_PROBES, NoMemory};
@@ -7,32 +7,6 @@ use std::process::Abort;
 const FIRST: Addr = Addr::V4(0xc633_6401);
 
 const OTHER: Addr = Addr::V4(0xc633_6402);
-
-const THIRD: Addr = Addr::V6(0xc633_6402);
-
-#[test]
-fn an_answered_probe_is_closed_and_its_locator_up(rt: HostRuntime) -> Result<(), NoMemory> {
-    on_locators(rt.alloc(), |state| answered_is_closed(&rt, state))
-}
-
-fn answered_is_closed(rt: &impl Abort, state: &mut LocatorState) -> Result<(), NoMemory> {
-    state.probed(0, FIRST, 42)?;
-    state.probed(0, OTHER, 43)?;
-    assert_eq!(rt; state.probe_open(2 * SECOND, 42), Some(FIRST));
-    assert_eq!(rt; state.probe_count(2 * SECOND), 2);
-    state.probe_answered(2 * SECOND, 42);
-    assert_eq!(rt; state.probe_open(2 * SECOND, 42), None);
-    assert_eq!(rt; state.probe_open(2 * SECOND, 43), Some(OTHER));
-    assert!(rt; state.up(3 * SECOND, &FIRST));
-    assert!(rt; !state.up(3 * SECOND, &OTHER));
-    let rows = [(600 * SECOND - 1, Some(0), 2), (600 * SECOND, None, 0)];
-    for (moment, last, count) in rows {
-        assert_eq!(rt; state.last_probe(moment, &OTHER), last);
-        assert_eq!(rt; state.last_probe(moment, &THIRD), None);
-        assert_eq!(rt; state.probe_count(moment), count);
-    }
-    Ok(())
-}
 
 // Adds probes with the nonces from 0 on.
 fn fill(state: &mut LocatorState, moment: u64, probes: u64) -> Result<(), NoMemory> {
@@ -84,20 +58,5 @@ fn leads_to_the_last(rt: &impl Abort, state: &mut LocatorState) -> Result<(), No
     for (moment, place, last) in rows {
         assert_eq!(rt; state.last_probe_at(moment, place), last);
     }
-    Ok(())
-}
-
-#[test]
-fn a_probe_with_the_nonce_of_an_open_one_leaves_that_lost(rt: HostRuntime) -> Result<(), NoMemory> {
-    on_locators(rt.alloc(), |state| same_nonce_is_lost(&rt, state))
-}
-
-fn same_nonce_is_lost(rt: &impl Abort, state: &mut LocatorState) -> Result<(), NoMemory> {
-    state.probed(0, FIRST, 42)?;
-    state.probed(SECOND, OTHER, 42)?;
-    assert_eq!(rt; state.probe_open(SECOND, 42), Some(OTHER));
-    state.probe_answered(2 * SECOND, 42);
-    assert!(rt; state.up(4 * SECOND, &OTHER));
-    assert!(rt; !state.up(4 * SECOND, &FIRST));
     Ok(())
 }

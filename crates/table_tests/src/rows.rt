@@ -85,14 +85,22 @@ pub fn record_to(
     Ok(record_with(eid, ttl, Locators::from_vec(locators)))
 }
 
-/// Runs a test on an empty state of locators, and alone drops that state.
+/// Runs a test on a state of locators, and alone drops that state.
+pub fn on_state<F>(mut state: LocatorState, test: F) -> Result<(), NoMemory>
+where
+    F: FnOnce(&mut LocatorState) -> Result<(), NoMemory>,
+    requires { F.IsAlwaysCallable test }
+{
+    test(&mut state)
+}
+
+/// Runs a test on an empty state of locators.
 pub fn on_locators<F>(alloc: Global, test: F) -> Result<(), NoMemory>
 where
     F: FnOnce(&mut LocatorState) -> Result<(), NoMemory>,
     requires { F.IsAlwaysCallable test }
 {
-    let mut state = LocatorState::new(alloc);
-    test(&mut state)
+    on_state(LocatorState::new(alloc), test)
 }
 
 /// A cache without mappings, with the limits of settings that have these tables.
