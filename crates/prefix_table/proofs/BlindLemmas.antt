@@ -1,5 +1,5 @@
 -- A search on its way down past nodes whose keys it doesn't compare.
-use Rattle.std.proofs.Common.{◌≡◌, ◌⊎◌, ℕ, ◌+◌, ◌%◌, ◌<◌, ◌≤◌, ◌==◌, Bool, true, false, cond, Option, is_some, Some, None, inl, inr, subst, refl, sym, ap, ◌∙◌, arith}
+use Rattle.std.proofs.Common.{◌≡◌, ◌⊎◌, ℕ, ◌+◌, ◌%◌, ◌<◌, ◌≤◌, ◌==◌, Bool, true, false, Option, is_some, Some, None, inl, inr, subst, refl, sym, ap, ◌∙◌, arith}
 use Rattle.mapping_records.specs.declared.eid.Eid.{Eid}
 use Rattle.node_store.specs.Store.{Store, node_at}
 use Rattle.std.proofs.lemmas.Bool.{cases_Bool}
@@ -9,13 +9,16 @@ use Rattle.prefix_table.specs.Keys.{key_width, key_len, key_bits}
 use Rattle.prefix_table.specs.Tree.{Tree, side_bits}
 use Rattle.prefix_table.specs.Tree.Tree.{node}
 use Rattle.prefix_table.specs.Longest.{IsRefused, After}
-use Rattle.prefix_table.specs.Nodes.{linked, IsWayOf, IsContentOf}
+use Rattle.prefix_table.specs.Nodes.{linked, linked_sides, IsWayOf, IsContentOf}
+use Rattle.prefix_table.specs.Sides.{on_side}
 use Rattle.prefix_table.specs.declared.content.Content.{Content}
+use Rattle.prefix_table.specs.declared.node.Sides.{Sides}
 use Rattle.prefix_table.specs.declared.node.Way.{Way}
 use Rattle.prefix_table.proofs.AfterLemmas.{after_none}
 use Rattle.prefix_table.proofs.Bits.{covers_parts}
-use Rattle.prefix_table.proofs.LongestLemmas.{Each, Answers, none_covers, astray, longer_misses, parts_zero, parts_one}
-use Rattle.prefix_table.proofs.SearchLemmas.{Searching, opened, fits_top, key_len-most, step_low, step_high, end_equal}
+use Rattle.prefix_table.proofs.LongestLemmas.{Each, Misses, Answers, astray, longer_misses, parts}
+use Rattle.prefix_table.proofs.ForkLemmas.{fork}
+use Rattle.prefix_table.proofs.SearchLemmas.{Searching, known, none_left, goes_below, step, end_equal}
 
 module _ {V : Type 0} (answers : V → Bool → Type 0) (eid : Eid) where
   -- what is known behind a look at a node: its key covers the EID, and the best pair is the one after it; or it has no
@@ -38,95 +41,48 @@ module _ {V : Type 0} (answers : V → Bool → Type 0) (eid : Eid) where
 
 module _ {V : Type 0} (answers : V → Bool → Type 0) (eid : Eid) (store : Store (Node V)) (whole : Tree V) where
   -- a node whose key doesn't cover the EID is passed, on either side: nothing is found below it
-  astray_low : (at : Option ℕ) (name : ℕ) (best : Option (Eid × V)) (start reads now : ℕ) (top : Node V) → Searching answers eid store whole at best start reads → at ≡ Some name → node_at store name ≡ Some top → covers_eid top.eid eid ≡ false → now ≡ reads + 1 → Searching answers eid store whole top.zero best start now
-  astray_low at name best start reads now top s is found missed count =
-      let o = opened store s.rest name top (s.named ∙ is) s.spelled found in
-      let t = fits_top answers eid store whole at name best start reads s top o in
-      record {
-        rest = o.low;
-        bits = side_bits top.eid 0;
-        len = key_len top.eid + 1;
-        named = o.low_named;
-        spelled = o.low_spelled;
-        trie = t.1;
-        within = omega (arith, key_len-most top.eid);
-        counted = omega (arith, s.counted, t.0.longer, count);
-        rises = omega (arith, s.rises, count);
-        goes_on = λ result below. s.goes_on result (
-            subst (λ (tree : Tree V). Answers answers eid tree best result) (sym o.is)
-            (astray answers eid (node name top.eid top.value o.low o.high) o.low o.high top.eid top.value best result (parts_zero answers eid name top.eid top.value o.low o.high) (none_covers answers eid name top.eid top.value o.low o.high eid.iid (key_width eid) s.bits s.len t missed) below)
-            );
-      }
-
-  astray_high : (at : Option ℕ) (name : ℕ) (best : Option (Eid × V)) (start reads now : ℕ) (top : Node V) → Searching answers eid store whole at best start reads → at ≡ Some name → node_at store name ≡ Some top → covers_eid top.eid eid ≡ false → now ≡ reads + 1 → Searching answers eid store whole top.one best start now
-  astray_high at name best start reads now top s is found missed count =
-      let o = opened store s.rest name top (s.named ∙ is) s.spelled found in
-      let t = fits_top answers eid store whole at name best start reads s top o in
-      record {
-        rest = o.high;
-        bits = side_bits top.eid 1;
-        len = key_len top.eid + 1;
-        named = o.high_named;
-        spelled = o.high_spelled;
-        trie = t.2;
-        within = omega (arith, key_len-most top.eid);
-        counted = omega (arith, s.counted, t.0.longer, count);
-        rises = omega (arith, s.rises, count);
-        goes_on = λ result below. s.goes_on result (
-            subst (λ (tree : Tree V). Answers answers eid tree best result) (sym o.is)
-            (astray answers eid (node name top.eid top.value o.low o.high) o.high o.low top.eid top.value best result (parts_one answers eid name top.eid top.value o.low o.high) (none_covers answers eid name top.eid top.value o.low o.high eid.iid (key_width eid) s.bits s.len t missed) below)
-            );
-      }
+  astray_on : (at : Option ℕ) (name : ℕ) (best : Option (Eid × V)) (start reads now : ℕ) (top : Node V) (side : Bool) → Searching answers eid store whole at best start reads → at ≡ Some name → node_at store name ≡ Some top → covers_eid top.eid eid ≡ false → now ≡ reads + 1 → Searching answers eid store whole (on_side side top.next) best start now
+  astray_on at name best start reads now top side s is found missed count =
+      let k = known answers eid store whole at name best start reads top side s is found in
+      let misses = subst (λ (tree : Tree V). Each (Misses answers eid) tree) k.is (none_left answers eid store whole at name best start reads top s is found missed) in
+      goes_below answers eid store whole at best best start reads now name top side s k count (λ result below.
+      astray answers eid (fork side name top.eid top.value k.near k.far) k.near k.far top.eid top.value best result (parts answers eid side name top.eid top.value k.near k.far) misses below)
 
   -- the search goes on on the side of the next bit, also where it is blind
-  blind_low : (at : Option ℕ) (name : ℕ) (best next : Option (Eid × V)) (start reads now : ℕ) (top : Node V) → Searching answers eid store whole at best start reads → at ≡ Some name → node_at store name ≡ Some top → Looked answers eid best top next → key_len top.eid < key_len eid → (key_bits eid (key_len top.eid + 1) % 2 == 1) ≡ false → now ≡ reads + 1 → Searching answers eid store whole top.zero next start now
-  blind_low at name best next start reads now top s is found looked shorter bit count =
+  blind_on : (at : Option ℕ) (name : ℕ) (best next : Option (Eid × V)) (start reads now : ℕ) (top : Node V) (side : Bool) → Searching answers eid store whole at best start reads → at ≡ Some name → node_at store name ≡ Some top → Looked answers eid best top next → key_len top.eid < key_len eid → (key_bits eid (key_len top.eid + 1) % 2 == 1) ≡ side → now ≡ reads + 1 → Searching answers eid store whole (on_side side top.next) next start now
+  blind_on at name best next start reads now top side s is found looked shorter bit count =
       elim looked [
-        | inl met ↦ step_low answers eid store whole at name best next start reads now top s is found met.0 met.1 (λ same. absurd (omega (arith, same, shorter))) bit count
+        | inl met ↦ step answers eid store whole at name best next start reads now top side s is found met.0 met.1 shorter bit count
         | inr empty ↦
-            subst (λ (b : Option (Eid × V)). Searching answers eid store whole top.zero b start now) (sym empty.1)
+            subst (λ (b : Option (Eid × V)). Searching answers eid store whole (on_side side top.next) b start now) (sym empty.1)
             (elim (cases_Bool (covers_eid top.eid eid)) [
-              | inl covers ↦ step_low answers eid store whole at name best best start reads now top s is found covers (after_none answers best top.eid top.value empty.0) (λ same. absurd (omega (arith, same, shorter))) bit count
-              | inr missed ↦ astray_low at name best start reads now top s is found missed count
+              | inl covers ↦ step answers eid store whole at name best best start reads now top side s is found covers (after_none answers best top.eid top.value empty.0) shorter bit count
+              | inr missed ↦ astray_on at name best start reads now top side s is found missed count
             ])
       ]
 
-  blind_high : (at : Option ℕ) (name : ℕ) (best next : Option (Eid × V)) (start reads now : ℕ) (top : Node V) → Searching answers eid store whole at best start reads → at ≡ Some name → node_at store name ≡ Some top → Looked answers eid best top next → key_len top.eid < key_len eid → (key_bits eid (key_len top.eid + 1) % 2 == 1) ≡ true → now ≡ reads + 1 → Searching answers eid store whole top.one next start now
-  blind_high at name best next start reads now top s is found looked shorter bit count =
-      elim looked [
-        | inl met ↦ step_high answers eid store whole at name best next start reads now top s is found met.0 met.1 (λ same. absurd (omega (arith, same, shorter))) bit count
-        | inr empty ↦
-            subst (λ (b : Option (Eid × V)). Searching answers eid store whole top.one b start now) (sym empty.1)
-            (elim (cases_Bool (covers_eid top.eid eid)) [
-              | inl covers ↦ step_high answers eid store whole at name best best start reads now top s is found covers (after_none answers best top.eid top.value empty.0) (λ same. absurd (omega (arith, same, shorter))) bit count
-              | inr missed ↦ astray_high at name best start reads now top s is found missed count
-            ])
-      ]
-
-  pub blind : (at : Option ℕ) (name : ℕ) (best next : Option (Eid × V)) (start reads now : ℕ) (top : Node V) (way : Way) (side : Option ℕ) → Searching answers eid store whole at best start reads → at ≡ Some name → node_at store name ≡ Some top → Looked answers eid best top next → IsWayOf top way → way.len < key_len eid → side ≡ linked (cond (key_bits eid (way.len + 1) % 2 == 1) way.one way.zero) → now ≡ reads + 1 → Searching answers eid store whole side next start now
-  blind at name best next start reads now top way side s is found looked w shorter leads count =
-      let less : key_len top.eid < key_len eid = omega (arith, w.len, shorter) in
-      elim (cases_Bool (key_bits eid (way.len + 1) % 2 == 1)) [
-        | inl high ↦
-            subst (λ (n : Option ℕ). Searching answers eid store whole n next start now) (sym (leads ∙ ap (λ b. linked (cond b way.one way.zero)) high ∙ sym w.one))
-            (blind_high at name best next start reads now top s is found looked less (subst (λ n. (key_bits eid (n + 1) % 2 == 1) ≡ true) w.len high) count)
-        | inr low ↦
-            subst (λ (n : Option ℕ). Searching answers eid store whole n next start now) (sym (leads ∙ ap (λ b. linked (cond b way.one way.zero)) low ∙ sym w.zero))
-            (blind_low at name best next start reads now top s is found looked less (subst (λ n. (key_bits eid (n + 1) % 2 == 1) ≡ false) w.len low) count)
-      ]
+  pub blind : (at : Option ℕ) (name : ℕ) (best next : Option (Eid × V)) (start reads now : ℕ) (top : Node V) (way : Way) (below : Option ℕ) → Searching answers eid store whole at best start reads → at ≡ Some name → node_at store name ≡ Some top → Looked answers eid best top next → IsWayOf top way → way.len < key_len eid → below ≡ linked (on_side (key_bits eid (way.len + 1) % 2 == 1) way.next) → now ≡ reads + 1 → Searching answers eid store whole below next start now
+  blind at name best next start reads now top way below s is found looked w shorter leads count =
+      let side : Bool = key_bits eid (key_len top.eid + 1) % 2 == 1 in
+      let is_below : on_side side top.next ≡ below = ap (on_side side) w.next ∙ linked_on side way.next ∙ sym (leads ∙ ap (λ n. linked (on_side (key_bits eid (n + 1) % 2 == 1) way.next)) w.len) in
+      subst (λ (n : Option ℕ). Searching answers eid store whole n next start now) is_below
+      (blind_on at name best next start reads now top side s is found looked (omega (arith, w.len, shorter)) refl count)
+    where
+      linked_on : (side : Bool) (links : Sides ℕ) → on_side side (linked_sides links) ≡ linked (on_side side links)
+      linked_on false links = refl
+      linked_on true links = refl
 
   -- below a node without a value that is as long as the EID or longer, all is longer
   end_long : (at : Option ℕ) (name : ℕ) (best : Option (Eid × V)) (start reads : ℕ) (top : Node V) → Searching answers eid store whole at best start reads → at ≡ Some name → node_at store name ≡ Some top → top.value ≡ None → key_len eid ≤ key_len top.eid → Answers answers eid whole None best
   end_long at name best start reads top s is found empty long =
-      let o = opened store s.rest name top (s.named ∙ is) s.spelled found in
-      let t = fits_top answers eid store whole at name best start reads s top o in
-      let rest_is : s.rest ≡ node name top.eid None o.low o.high = o.is ∙ ap (λ v. node name top.eid v o.low o.high) empty in
+      let k = known answers eid store whole at name best start reads top false s is found in
+      let rest_is : s.rest ≡ node name top.eid None k.near k.far = k.is ∙ ap (λ v. node name top.eid v k.near k.far) empty in
       s.goes_on best (inl (
         refl,
         subst (Each (IsRefused answers eid)) (sym rest_is) (
           tt,
-          longer_misses answers eid o.low top.eid eid.iid (key_width eid) (side_bits top.eid 0) long t.1,
-          longer_misses answers eid o.high top.eid eid.iid (key_width eid) (side_bits top.eid 1) long t.2,
+          longer_misses answers eid k.near top.eid eid.iid (key_width eid) (side_bits top.eid 0) long (k.here).near_trie,
+          longer_misses answers eid k.far top.eid eid.iid (key_width eid) (side_bits top.eid 1) long (k.here).far_trie,
         ),
       ))
 

@@ -152,7 +152,7 @@ module _ {V : Type 0} (old new : Store (Node V)) (same : SameNodes old new) wher
 
   by_node : (below later : Option ℕ → Tree V) → ((name : Option ℕ) → later name ≡ below name) → (name : ℕ) (o : Option (Node V)) → grown later name o ≡ grown below name o
   by_node below later stays name None = refl
-  by_node below later stays name (Some top) = rw (stays top.zero, stays top.one) refl
+  by_node below later stays name (Some top) = rw (stays top.next.zero, stays top.next.one) refl
 
   within_same : (depth : ℕ) (name : Option ℕ) → tree_within depth new name ≡ tree_within depth old name
   unfolding tree_within

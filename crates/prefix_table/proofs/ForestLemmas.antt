@@ -13,7 +13,7 @@ use Rattle.prefix_table.specs.Keys.{key_width}
 use Rattle.prefix_table.specs.Tree.{Tree, pairs, size, Fits, IsTrie}
 use Rattle.prefix_table.specs.Tree.Tree.{none, node}
 use Rattle.prefix_table.specs.Spelled.{name_of, Spells, tree_of, IsRoot}
-use Rattle.prefix_table.specs.Grown.{Edited}
+use Rattle.prefix_table.specs.Edited.{Edited}
 use Rattle.prefix_table.specs.Table.{root_key, pairs_under, size_under, IsRootIn}
 use Rattle.prefix_table.proofs.NumberOrder.{is_below-numbers}
 use Rattle.prefix_table.proofs.LongestLemmas.{All-pairs, each_fits}
@@ -81,7 +81,7 @@ module _ {V : Type 0} where
       (under_after store roots eid (All-tail (IsRootIn store) root roots each) (All-tail (λ r. root_key eid < r.key) root roots upper))
 
   -- a trie was changed under the root of an EID
-  module _ (old new : Store (Node V)) (eid : Eid) (tree : Tree V) (at : Option ℕ) (spelled : Spells old tree) (trie : IsTrie eid.iid (key_width eid) 0 0 tree) (g : Edited old new eid.iid (key_width eid) 0 0 tree at) where
+  module _ (old new : Store (Node V)) (change : List (Eid × V) → List (Eid × V)) (eid : Eid) (tree : Tree V) (at : Option ℕ) (was : Option V) (spelled : Spells old tree) (trie : IsTrie eid.iid (key_width eid) 0 0 tree) (g : Edited old new change 0 0 eid tree at was) where
     stays : (root : Root) → IsRootIn old root → root.key ≢ root_key eid → Spells new (tree_of old (Some root.name))
     stays root r other =
         spells_kept old new (tree_of old (Some root.name)) r.spelled (λ n top used found. g.kept n top found (λ used_there.

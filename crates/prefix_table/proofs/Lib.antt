@@ -1,6 +1,7 @@
 pub mod Bits
 pub mod KeyLemmas
 pub mod HalfLemmas
+pub mod ForkLemmas
 pub mod LongestLemmas
 pub mod SearchLemmas
 pub mod BlindLemmas
@@ -8,8 +9,8 @@ pub mod AfterLemmas
 pub mod NumberOrder
 pub mod OrderLemmas
 pub mod TopLemmas
-pub mod GrowLemmas
-pub mod ShrinkLemmas
+pub mod EditLemmas
+pub mod StepLemmas
 pub mod CommonLemmas
 pub mod PutLemmas
 pub mod TakeLemmas

@@ -1,20 +1,26 @@
 -- Lookups in tries.
-use Rattle.std.proofs.Common.{◌≡◌, ◌⊎◌, ℕ, ◌+◌, ◌%◌, ◌<◌, ◌≤◌, Bool, true, false, [], ◌++◌, All, Contains, Option, Some, None, inl, inr, subst, refl, sym, ◌∙◌, arith}
-use Rattle.std.proofs.lemmas.Bool.{false≢true}
+use Rattle.std.proofs.Common.{◌≡◌, ◌⊎◌, ℕ, ◌+◌, ◌%◌, ◌<◌, ◌≤◌, ◌==◌, Bool, true, false, [], ◌++◌, All, Contains, Option, Some, None, inl, inr, subst, refl, sym, ◌∙◌, arith}
+use Rattle.std.proofs.lemmas.Bool.{false≢true, eqb-true, eqb-false}
 use Rattle.std.proofs.lemmas.List.Elements.{All-nil, All-cons, All-append, Contains-append_left, Contains-append_right}
-use native.Mathlib.Nat.{div-add-mod}
+use native.Mathlib.Nat.{div-add-mod, mod-lt}
 use Rattle.mapping_records.specs.declared.eid.Eid.{Eid}
 use Rattle.mapping_records.specs.Eids.{covers_eid}
 use Rattle.prefix_table.specs.Keys.{key_len, key_bits}
 use Rattle.prefix_table.specs.Tree.{Tree, pair_of, pairs, Fits, IsTrie, side_bits}
 use Rattle.prefix_table.specs.Tree.Tree.{none, node}
 use Rattle.prefix_table.specs.Longest.{IsRefused}
+use Rattle.prefix_table.specs.Sides.{bit_of}
 use Rattle.prefix_table.proofs.Bits.{Covers, key_bits-half, key_len-within, covers_parts, covers_from, below_covers, side_fits, fits_covers, covers_trans}
+use Rattle.prefix_table.proofs.ForkLemmas.{fork}
 
 -- the fact holds of a pair whose value is there
 abbrev pub OnPair : {V : Type 0} → (Eid × V → Type 0) → Eid → Option V → Type 0
 OnPair P key None = Unit {0}
 OnPair P key (Some value) = P (key, value)
+
+pub OnPair-all : {V : Type 0} (P : Eid × V → Type 0) (key : Eid) (value : Option V) → ((v : V) → P (key, v)) → OnPair P key value
+OnPair-all P key None of = tt
+OnPair-all P key (Some v) of = of v
 
 -- each pair of the tree
 abbrev pub Each : {V : Type 0} → (Eid × V → Type 0) → Tree V → Type 0
@@ -33,15 +39,11 @@ All-pairs P (node name key value zero one) h =
 -- a fact of each key that fits
 pub each_fits : {V : Type 0} (P : Eid × V → Type 0) (tree : Tree V) (iid width bits len : ℕ) → IsTrie iid width bits len tree → ((key : Eid) (value : V) → Fits iid width bits len key → P (key, value)) → Each P tree
 each_fits P none iid width bits len trie of = tt
-each_fits {V} P (node name key value zero one) iid width bits len trie of = (
-  on_pair value,
+each_fits P (node name key value zero one) iid width bits len trie of = (
+  OnPair-all P key value (λ v. of key v trie.0),
   each_fits P zero iid width (side_bits key 0) (key_len key + 1) trie.1 (λ k v inner. of k v (side_fits key k iid width bits len 0 (omega arith) trie.0 inner)),
   each_fits P one iid width (side_bits key 1) (key_len key + 1) trie.2 (λ k v inner. of k v (side_fits key k iid width bits len 1 (omega arith) trie.0 inner)),
 )
-  where
-    on_pair : (value : Option V) → OnPair P key value
-    on_pair None = tt
-    on_pair (Some v) = of key v trie.0
 
 -- one pair of the tree
 abbrev pub Has : {V : Type 0} → Eid × V → Tree V → Type 0
@@ -101,26 +103,20 @@ module _ {V : Type 0} (answers : V → Bool → Type 0) (eid : Eid) where
     pub near_has : (pair : Eid × V) → Has pair near → Has pair tree
     pub join : (P : Eid × V → Type 0) → OnPair P key value → Each P near → Each P far → Each P tree
 
-  pub parts_zero : (name : ℕ) (key : Eid) (value : Option V) (zero one : Tree V) → Parts (node name key value zero one) zero one key value
-  parts_zero name key value zero one = record {
+  pub parts : (side : Bool) (name : ℕ) (key : Eid) (value : Option V) (near far : Tree V) → Parts (fork side name key value near far) near far key value
+  parts false name key value near far = record {
     own = λ v is. inl (refl, is);
     near_has = λ pair h. inr (inl h);
-    join = λ P own near far. (own, near, far);
+    join = λ P own in_near in_far. (own, in_near, in_far);
   }
-
-  pub parts_one : (name : ℕ) (key : Eid) (value : Option V) (zero one : Tree V) → Parts (node name key value zero one) one zero key value
-  parts_one name key value zero one = record {
+  parts true name key value near far = record {
     own = λ v is. inl (refl, is);
     near_has = λ pair h. inr (inr h);
-    join = λ P own near far. (own, far, near);
+    join = λ P own in_near in_far. (own, in_far, in_near);
   }
 
   abbrev pub Misses : Eid × V → Type 0
   Misses pair = covers_eid pair.0 eid ≡ true → ⊥
-
-  pub OnPair-all : (P : Eid × V → Type 0) (key : Eid) (value : Option V) → ((v : V) → P (key, v)) → OnPair P key value
-  OnPair-all P key None of = tt
-  OnPair-all P key (Some v) of = of v
 
   -- what is found below is what is found
   found_below : (tree near far : Tree V) (key : Eid) (value : Option V) (pair : Eid × V) → Parts tree near far key value → Each (λ other. key_len key < key_len other.0) near → Each Misses far → IsFound near pair → IsFound tree pair
@@ -185,10 +181,6 @@ module _ {V : Type 0} (answers : V → Bool → Type 0) (eid : Eid) where
         each_fits Misses one iid width (side_bits key 1) (key_len key + 1) trie.2 (λ k v fits covers. none_below k 1 (omega arith) fits covers),
       )
 
-  pub top_misses : (tree : Tree V) (name : ℕ) (key : Eid) (value : Option V) (zero one : Tree V) (iid width bits len : ℕ) → tree ≡ node name key value zero one → IsTrie iid width bits len (node name key value zero one) → covers_eid key eid ≡ false → Each (IsRefused answers eid) tree
-  top_misses tree name key value zero one iid width bits len is trie off =
-      rw is (Each-weaker Misses (IsRefused answers eid) (node name key value zero one) (λ other miss covers. absurd (miss covers)) (none_covers name key value zero one iid width bits len trie off))
-
   -- a search of one side of a tree of which no key covers the EID finds nothing
   pub astray : (tree near far : Tree V) (key : Eid) (value : Option V) (best result : Option (Eid × V)) → Parts tree near far key value → Each Misses tree → Answers near best result → Answers tree best result
   astray tree near far key value best result parts misses below =
@@ -207,3 +199,9 @@ pub side_of : (key eid : Eid) (side : ℕ) → Covers key eid → key_len key < 
 side_of key eid side c shorter parity =
     let half = key_bits-half eid (key_len key) (omega (arith, shorter, key_len-within eid)) in
     omega (arith, half, c.front, parity, div-add-mod (key_bits eid (key_len key + 1)) 2)
+
+-- by the bit behind the key's length
+pub side_at : (key eid : Eid) (side : Bool) → Covers key eid → key_len key < key_len eid → (key_bits eid (key_len key + 1) % 2 == 1) ≡ side → key_bits eid (key_len key + 1) ≡ side_bits key (bit_of side)
+side_at key eid true c shorter bit = side_of key eid 1 c shorter (eqb-true _ _ bit)
+side_at key eid false c shorter bit =
+    side_of key eid 0 c shorter (omega (arith, eqb-false _ _ bit, mod-lt (key_bits eid (key_len key + 1)) {m = 2} (omega arith)))

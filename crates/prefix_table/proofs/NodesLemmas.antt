@@ -1,16 +1,18 @@
 -- Nodes: ways with their contents beside them, read and changed at one name.
-use Rattle.std.proofs.Common.{◌≡◌, ◌≢◌, ℕ, zero, suc, ◌^◌, ◌<◌, ◌≤◌, Bool, true, cond, List, [], ◌∷◌, length, get_or, set, slice_get, Option, Some, None, is_some, IfSome, count_by, inl, inr, refl, sym, ap, ◌∙◌, arith, subst}
+use Rattle.std.proofs.Common.{◌≡◌, ◌≢◌, ℕ, zero, suc, ◌^◌, ◌<◌, ◌≤◌, Bool, true, false, not, cond, List, [], ◌∷◌, length, get_or, set, slice_get, Option, Some, None, is_some, IfSome, count_by, inl, inr, refl, sym, ap, ◌∙◌, arith, subst}
 use Rattle.std.specs.Option.{option_map}
 use Rattle.std.proofs.lemmas.Bool.{cases_eq, cases_lt}
 use Rattle.std.proofs.lemmas.List.{length-set, get_or-set_same, get_or-set_other}
 use Rattle.std.proofs.lemmas.List.Sums.{sum_by-cons}
 use Rattle.std.proofs.lemmas.Option.{same_Some, slice_get_within, slice_get_read}
 use Rattle.node_store.specs.Store.{Store, node_at, IsLive, live, SameNodes, Changes, with_node}
-use Rattle.prefix_table.specs.Grown.{Becomes}
+use Rattle.prefix_table.specs.Edited.{Becomes}
 use Rattle.prefix_table.specs.Keys.{key_of}
-use Rattle.prefix_table.specs.Nodes.{no_node, linked, node_with, node_of, slots_with, whole, Suits, IsBeside, IsWhole, IsWayOf, IsContentOf}
+use Rattle.prefix_table.specs.Nodes.{no_node, linked, linked_sides, node_with, node_of, slots_with, whole, Suits, IsBeside, IsWhole, IsWayOf, IsContentOf}
+use Rattle.prefix_table.specs.Sides.{sides, on_side}
 use Rattle.prefix_table.specs.declared.content.Content.{Content}
 use Rattle.prefix_table.specs.declared.node.Node.{Node}
+use Rattle.prefix_table.specs.declared.node.Sides.{Sides}
 use Rattle.prefix_table.specs.declared.node.Way.{Way}
 use Rattle.prefix_table.proofs.KeyLemmas.{Given, given_of}
 
@@ -45,6 +47,11 @@ past_none : {X : Type 0} (slots : List (Option X)) (n : ℕ) → length slots �
 past_none [] n past = refl
 past_none (slot ∷ slots) zero past = absurd (omega (arith, past))
 past_none (slot ∷ slots) (suc n) past = past_none slots n (omega (arith, past))
+
+-- the names of links of which one is another
+pub linked-relinked : (side : Bool) (links : Sides ℕ) (link : ℕ) (below : Option ℕ) → linked link ≡ below → linked_sides (sides side link (on_side (not side) links)) ≡ sides side below (on_side (not side) (linked_sides links))
+linked-relinked false links link below is = ap (λ name. sides false name (linked links.one)) is
+linked-relinked true links link below is = ap (λ name. sides true name (linked links.zero)) is
 
 module _ {V : Type 0} where
   -- a slot with the content beside it
@@ -104,11 +111,11 @@ module _ {V : Type 0} where
     pub suits : Suits way content
 
   -- a node is what was read of it
-  pub read_is : (found : Option (Node V)) (top : Node V) (way : Way) (content : Content V) (low high : Option ℕ) → found ≡ Some top → IsWayOf top way → IsContentOf top content → low ≡ linked way.zero → high ≡ linked way.one → found ≡ Some (node_with content low high)
-  read_is found top way content low high is w c in_low in_high = rw (in_low, in_high, ← w.zero, ← w.one, c.eid, c.value) is
+  pub read_is : (found : Option (Node V)) (top : Node V) (way : Way) (content : Content V) (next : Sides (Option ℕ)) → found ≡ Some top → IsWayOf top way → IsContentOf top content → next ≡ linked_sides way.next → found ≡ Some (node_with content next)
+  read_is found top way content next is w c links = rw (links, ← w.next, c.eid, c.value) is
 
-  pub filled : (content : Content V) (way : Way) (top : Node V) → content.eid ≡ top.eid → content.value ≡ top.value → linked way.zero ≡ top.zero → linked way.one ≡ top.one → node_of content way ≡ top
-  filled content way top eid value low high = rw (eid, value, low, high) refl
+  pub filled : (content : Content V) (way : Way) (top : Node V) → content.eid ≡ top.eid → content.value ≡ top.value → linked_sides way.next ≡ top.next → node_of content way ≡ top
+  filled content way top eid value next = rw (eid, value, next) refl
 
   module _ (ways : Store Way) (contents : List (Content V)) where
     -- the node of a name has what is kept of its way, and the content beside it
@@ -170,7 +177,7 @@ module _ {V : Type 0} where
     pub way_at : (n : ℕ) (way : Way) → IsWhole ways contents → node_at ways n ≡ Some way → (top : Node V) → node_at (whole ways contents) n ≡ Some top → IsWayOf top way
     way_at n way is found top was =
         let parts = parts_at n way is found in
-        subst (λ top. IsWayOf top way) (same_Some _ top (sym (node_at-whole_some n way parts.content found parts.is) ∙ was)) (record { zero = refl; one = refl; len = (parts.suits).len; valued = (parts.suits).valued })
+        subst (λ top. IsWayOf top way) (same_Some _ top (sym (node_at-whole_some n way parts.content found parts.is) ∙ was)) (record { next = refl; len = (parts.suits).len; valued = (parts.suits).valued })
 
     pub content_at : (n : ℕ) (content : Content V) → slice_get contents n ≡ Some content → (top : Node V) → node_at (whole ways contents) n ≡ Some top → IsContentOf top content
     content_at n content beside top was =
@@ -234,7 +241,7 @@ module _ {V : Type 0} where
     edit_length = length-slots_with (with_node ways at later).slots news ∙ length-set ways.slots at (Some later) ∙ sym (length-slots_with ways.slots contents)
 
   module _ (ways : Store Way) (contents : List (Content V)) (at : ℕ) (way later : Way) (is : IsWhole ways contents) (found : node_at ways at ≡ Some way) where
-    -- a node gets another link
+    -- a node gets other links
     pub link_becomes : (made : Node V → Node V) → ((content : Content V) → made (node_of content way) ≡ node_of content later) → Becomes (whole ways contents) (whole (with_node ways at later) contents) at made
     link_becomes made is_made =
         let parts = parts_at ways contents at way is found in

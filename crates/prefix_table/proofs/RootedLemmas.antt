@@ -5,13 +5,12 @@ use Rattle.mapping_records.specs.declared.eid.Eid.{Eid}
 use Rattle.node_store.specs.Store.{Store}
 use Rattle.prefix_table.specs.declared.node.Node.{Node}
 use Rattle.prefix_table.specs.declared.node.Root.{Root}
-use Rattle.prefix_table.specs.Keys.{key_width, key_bits}
+use Rattle.prefix_table.specs.Keys.{key_bits}
 use Rattle.prefix_table.specs.Tree.{Tree}
 use Rattle.prefix_table.specs.Tree.Tree.{none}
-use Rattle.prefix_table.specs.Pairs.{without_pair, value_in}
+use Rattle.prefix_table.specs.Pairs.{with_pair, without_pair, value_in}
 use Rattle.prefix_table.specs.Spelled.{tree_of}
-use Rattle.prefix_table.specs.Grown.{Edited, Grown, Takes, Puts}
-use Rattle.prefix_table.specs.Shrunk.{Holds, Shrunk, Shrinks}
+use Rattle.prefix_table.specs.Edited.{Holds, Takes, Edited, Puts, Shrinks}
 use Rattle.prefix_table.specs.Roots.{IsAt, IsGapFor}
 use Rattle.prefix_table.specs.Under.{PutUnder, TakenUnder}
 use Rattle.prefix_table.specs.Table.{root_key, pairs_under, size_under, IsRootIn, IsForest}
@@ -20,39 +19,24 @@ use Rattle.prefix_table.proofs.ForestLemmas.{forest_edited, forest_gone}
 use Rattle.prefix_table.proofs.AroundLemmas.{AroundRoot, around_root, around_gap, value_around, with_around, without_around}
 
 module _ {V : Type 0} where
-  -- what the EID's root takes
-  pub takes_root : (store : Store (Node V)) (roots : List Root) (eid : Eid) (at : ℕ) (root : Root) → IsForest store roots → IsAt roots (root_key eid) at → root ≡ get_or roots at root → key_bits eid 0 ≡ 0 → (value_in eid (pairs_under store roots) ≡ None → 2 ≤ store.rooms) → Takes store (Some root.name) 0 eid
-  takes_root store roots eid at root forest found read bits room =
+  -- what the EID's root holds, and takes
+  abbrev pub holds_root : (store : Store (Node V)) (roots : List Root) (eid : Eid) (at : ℕ) (root : Root) → IsForest store roots → IsAt roots (root_key eid) at → root ≡ get_or roots at root → key_bits eid 0 ≡ 0 → Holds store (Some root.name) 0 eid
+  holds_root store roots eid at root forest found read bits =
       let a = around_root store roots eid at root forest found read in
       record {
         tree = tree_of store (Some root.name);
         bits = 0;
         is = record { named = (a.root_is).named; spelled = (a.root_is).spelled; trie = (a.root_is).trie };
         fits = record { same_iid = refl; same_width = refl; longer = omega arith; front = bits };
-        room = λ missing. room (value_around store roots eid (tree_of store (Some root.name)) a.around ∙ missing);
       }
 
-  abbrev edited_grown : (old new : Store (Node V)) (iid width bits len : ℕ) (eid : Eid) (value : V) (before : Tree V) (name : ℕ) (was : Option V) → Grown old new iid width bits len eid value before name was → Edited old new iid width bits len before (Some name)
-  edited_grown old new iid width bits len eid value before name was g = record {
-    tree = g.tree;
-    named = g.named;
-    spelled = g.spelled;
-    trie = g.trie;
-    kept = g.kept;
-    rooms = g.rooms;
-    slots = g.slots;
-  }
-
-  abbrev edited_shrunk : (old new : Store (Node V)) (iid width bits len : ℕ) (eid : Eid) (before : Tree V) (at : Option ℕ) (was : Option V) → Shrunk old new iid width bits len eid before at was → Edited old new iid width bits len before at
-  edited_shrunk old new iid width bits len eid before at was g = record {
-    tree = g.tree;
-    named = g.named;
-    spelled = g.spelled;
-    trie = g.trie;
-    kept = g.kept;
-    rooms = g.rooms;
-    slots = g.slots;
-  }
+  pub takes_root : (store : Store (Node V)) (roots : List Root) (eid : Eid) (at : ℕ) (root : Root) → IsForest store roots → IsAt roots (root_key eid) at → root ≡ get_or roots at root → key_bits eid 0 ≡ 0 → (value_in eid (pairs_under store roots) ≡ None → 2 ≤ store.rooms) → Takes store (Some root.name) 0 eid
+  takes_root store roots eid at root forest found read bits room =
+      let a = around_root store roots eid at root forest found read in
+      record {
+        holds = holds_root store roots eid at root forest found read bits;
+        room = λ missing. room (value_around store roots eid (tree_of store (Some root.name)) a.around ∙ missing);
+      }
 
   pub put_root : (old new : Store (Node V)) (roots : List Root) (eid : Eid) (value : V) (at : ℕ) (root : Root) (name : ℕ) (was : Option V) → IsForest old roots → IsAt roots (root_key eid) at → root ≡ get_or roots at root → key_bits eid 0 ≡ 0 → Puts old new (Some root.name) 0 eid value name was → PutUnder old new roots (set roots at (record { key = root.key; name = name })) eid value was
   put_root old new roots eid value at root name was forest found read bits puts =
@@ -61,7 +45,7 @@ module _ {V : Type 0} where
       let tree : Tree V = tree_of old (Some root.name) in
       let g = puts tree 0 (record { named = (ar.root_is).named; spelled = (ar.root_is).spelled; trie = (ar.root_is).trie }) (record { same_iid = refl; same_width = refl; longer = omega arith; front = bits }) in
       let made : Root = record { key = root.key; name = name } in
-      let e = forest_edited old new eid tree (Some name) a.spelled a.trie (edited_grown old new eid.iid (key_width eid) 0 0 eid value tree name was g) a.front a.back a.in_front a.in_back a.lower a.upper made ar.key_is refl in
+      let e = forest_edited old new (with_pair eid value) eid tree (Some name) was a.spelled a.trie g a.front a.back a.in_front a.in_back a.lower a.upper made ar.key_is refl in
       let set_is = ar.set_is made in
       record {
         forest = record {
@@ -79,23 +63,13 @@ module _ {V : Type 0} where
       let a = around_gap old roots eid at forest (subst (λ (k : ℕ). IsGapFor roots k at) key_is gap) in
       let g = puts none 0 (record { named = refl; spelled = tt; trie = tt }) (record { same_iid = refl; same_width = refl; longer = omega arith; front = bits }) in
       let made : Root = record { key = key; name = name } in
-      let e = forest_edited old new eid none (Some name) tt tt (edited_grown old new eid.iid (key_width eid) 0 0 eid value none name was g) a.front a.back a.in_front a.in_back a.lower a.upper made key_is refl in
+      let e = forest_edited old new (with_pair eid value) eid none (Some name) was tt tt g a.front a.back a.in_front a.in_back a.lower a.upper made key_is refl in
       record {
         forest = record { each = e.each; rise = rises_insert roots key at name forest.rise gap };
         pairs = e.pairs ∙ ap (λ l. pairs_under old a.front ++ (l ++ pairs_under old a.back)) g.list ∙ sym (with_around old roots eid value none a);
         found = g.found ∙ sym (value_around old roots eid none a);
         rooms = omega (arith, e.rooms, a.size_is);
         slots = g.slots;
-      }
-
-  pub holds_root : (store : Store (Node V)) (roots : List Root) (eid : Eid) (at : ℕ) (root : Root) → IsForest store roots → IsAt roots (root_key eid) at → root ≡ get_or roots at root → key_bits eid 0 ≡ 0 → Holds store (Some root.name) 0 eid
-  holds_root store roots eid at root forest found read bits =
-      let a = around_root store roots eid at root forest found read in
-      record {
-        tree = tree_of store (Some root.name);
-        bits = 0;
-        is = record { named = (a.root_is).named; spelled = (a.root_is).spelled; trie = (a.root_is).trie };
-        fits = record { same_iid = refl; same_width = refl; longer = omega arith; front = bits };
       }
 
   module _ (old new : Store (Node V)) (roots : List Root) (eid : Eid) (at : ℕ) (root : Root) (later : Option ℕ) (was : Option V) (forest : IsForest old roots) (found : IsAt roots (root_key eid) at) (read : root ≡ get_or roots at root) (bits : key_bits eid 0 ≡ 0) (shrinks : Shrinks old new (Some root.name) 0 eid later was) where
@@ -105,7 +79,7 @@ module _ {V : Type 0} where
     abbrev ar : AroundRoot old roots eid at root
     ar = around_root old roots eid at root forest found read
 
-    abbrev shrunk : Shrunk old new eid.iid (key_width eid) 0 0 eid before later was
+    abbrev shrunk : Edited old new (without_pair eid) 0 0 eid before later was
     shrunk = shrinks before 0 (record { named = (ar.root_is).named; spelled = (ar.root_is).spelled; trie = (ar.root_is).trie }) (record { same_iid = refl; same_width = refl; longer = omega arith; front = bits })
 
     -- something is left under the root
@@ -114,7 +88,7 @@ module _ {V : Type 0} where
         let a = ar.around in
         let g = shrunk in
         let made : Root = record { key = root.key; name = name } in
-        let e = forest_edited old new eid before later a.spelled a.trie (edited_shrunk old new eid.iid (key_width eid) 0 0 eid before later was g) a.front a.back a.in_front a.in_back a.lower a.upper made ar.key_is is in
+        let e = forest_edited old new (without_pair eid) eid before later was a.spelled a.trie g a.front a.back a.in_front a.in_back a.lower a.upper made ar.key_is is in
         let set_is = ar.set_is made in
         record {
           forest = record {
@@ -132,7 +106,7 @@ module _ {V : Type 0} where
     take_none is =
         let a = ar.around in
         let g = shrunk in
-        let e = forest_gone old new eid before later a.spelled a.trie (edited_shrunk old new eid.iid (key_width eid) 0 0 eid before later was g) a.front a.back a.in_front a.in_back a.lower a.upper is in
+        let e = forest_gone old new (without_pair eid) eid before later was a.spelled a.trie g a.front a.back a.in_front a.in_back a.lower a.upper is in
         let remove_is = ar.remove_is in
         record {
           forest = record {

@@ -11,11 +11,37 @@ use Rattle.prefix_table.specs.Tree.Tree.{none, node}
 use Rattle.prefix_table.specs.Spelled.{name_of, tree_of, tree_within, grown, Spells}
 use Rattle.prefix_table.specs.Stacked.{given, stacked, IsLong, IsUnder, AreUnder}
 use Rattle.prefix_table.specs.Table.{pairs_under, IsRootIn}
-use Rattle.prefix_table.proofs.SearchLemmas.{key_len-most, opened}
+use Rattle.prefix_table.proofs.SearchLemmas.{key_len-most}
 
 length-given : (names : List ℕ) (at : Option ℕ) → length (names ++ given at) ≤ length names + 1
 length-given names None = omega (arith, ap length (append-nil names))
 length-given names (Some name) = omega (arith, length-append names (name ∷ []))
+
+-- the tree under a name, whose node this is
+record Opened {V : Type 0} (store : Store (Node V)) (rest : Tree V) (name : ℕ) (top : Node V) : Type 0 where
+  pub low : Tree V
+  pub high : Tree V
+  pub is : rest ≡ node name top.eid top.value low high
+  pub low_named : name_of low ≡ top.next.zero
+  pub high_named : name_of high ≡ top.next.one
+  pub low_spelled : Spells store low
+  pub high_spelled : Spells store high
+
+opened : {V : Type 0} (store : Store (Node V)) (rest : Tree V) (name : ℕ) (top : Node V) → name_of rest ≡ Some name → Spells store rest → node_at store name ≡ Some top → Opened store rest name top
+opened store none name top named spelled found = absurd (cc (named))
+opened {V} store (node other key value low high) name top named spelled found =
+    let here : other ≡ name = same_Some other name named in
+    let made : Node V = record { eid = key; value = value; next = record { zero = name_of low; one = name_of high } } in
+    let same : made ≡ top = same_Some made top (sym spelled.0 ∙ ap (node_at store) here ∙ found) in
+    subst (λ (t : Node V). Opened store (node other key value low high) name t) same (record {
+      low = low;
+      high = high;
+      is = ap (λ n. node n key value low high) here;
+      low_named = refl;
+      high_named = refl;
+      low_spelled = spelled.1;
+      high_spelled = spelled.2;
+    })
 
 module _ {V : Type 0} where
   -- the keys of a trie are no shorter than its least length
@@ -76,24 +102,24 @@ module _ {V : Type 0} where
 
   -- a node under a name, and what is under it
   pub record Steps (store : Store (Node V)) (least name : ℕ) (top : Node V) : Type 0 where
-    pub pairs_are : pairs (tree_of store (Some name)) ≡ pair_of top.eid top.value ++ (pairs (tree_of store top.zero) ++ pairs (tree_of store top.one))
-    pub nodes : size (tree_of store (Some name)) ≡ 1 + size (tree_of store top.zero) + size (tree_of store top.one)
-    pub zero_under : IfSome top.zero (IsUnder store (least + 1))
-    pub one_under : IfSome top.one (IsUnder store (least + 1))
+    pub pairs_are : pairs (tree_of store (Some name)) ≡ pair_of top.eid top.value ++ (pairs (tree_of store top.next.zero) ++ pairs (tree_of store top.next.one))
+    pub nodes : size (tree_of store (Some name)) ≡ 1 + size (tree_of store top.next.zero) + size (tree_of store top.next.one)
+    pub zero_under : IfSome top.next.zero (IsUnder store (least + 1))
+    pub one_under : IfSome top.next.one (IsUnder store (least + 1))
 
   pub steps : (store : Store (Node V)) (least name : ℕ) (top : Node V) → IsUnder store least name → node_at store name ≡ Some top → Steps store least name top
   steps store least name top under found =
       let o = opened store (tree_of store (Some name)) name top under.named under.spelled found in
       let long = subst (IsLong least) o.is under.long in
-      let low = tree_of-long store o.low top.zero (key_len top.eid + 1) o.low_named o.low_spelled long.1 in
-      let high = tree_of-long store o.high top.one (key_len top.eid + 1) o.high_named o.high_spelled long.2 in
-      let whole : tree_of store (Some name) ≡ node name top.eid top.value (tree_of store top.zero) (tree_of store top.one) = o.is ∙ ap₂ (node name top.eid top.value) (sym low) (sym high) in
+      let low = tree_of-long store o.low top.next.zero (key_len top.eid + 1) o.low_named o.low_spelled long.1 in
+      let high = tree_of-long store o.high top.next.one (key_len top.eid + 1) o.high_named o.high_spelled long.2 in
+      let whole : tree_of store (Some name) ≡ node name top.eid top.value (tree_of store top.next.zero) (tree_of store top.next.one) = o.is ∙ ap₂ (node name top.eid top.value) (sym low) (sym high) in
       let within : least + 1 ≤ key_len top.eid + 1 = omega (arith, long.0) in
       record {
         pairs_are = ap pairs whole;
         nodes = ap size whole;
-        zero_under = IsUnder-less store (least + 1) (key_len top.eid + 1) top.zero within (under-tree store o.low top.zero (key_len top.eid + 1) o.low_named o.low_spelled long.1);
-        one_under = IsUnder-less store (least + 1) (key_len top.eid + 1) top.one within (under-tree store o.high top.one (key_len top.eid + 1) o.high_named o.high_spelled long.2);
+        zero_under = IsUnder-less store (least + 1) (key_len top.eid + 1) top.next.zero within (under-tree store o.low top.next.zero (key_len top.eid + 1) o.low_named o.low_spelled long.1);
+        one_under = IsUnder-less store (least + 1) (key_len top.eid + 1) top.next.one within (under-tree store o.high top.next.one (key_len top.eid + 1) o.high_named o.high_spelled long.2);
       }
 
   -- the node is there
@@ -160,35 +186,35 @@ module _ {V : Type 0} where
   -- ### a step: the last name is taken, and those below its node come in its place
 
   pub record IsStep (store : Store (Node V)) (before names middle after : List ℕ) (top : Node V) : Type 0 where
-    pub one_fits : IsSome top.one → length names < 129
-    pub zero_fits : IsSome top.zero → length middle < 129
+    pub one_fits : IsSome top.next.one → length names < 129
+    pub zero_fits : IsSome top.next.zero → length middle < 129
     pub under : AreUnder store 0 after
     pub pairs_are : stacked store before ≡ pair_of top.eid top.value ++ stacked store after
     pub fewer : nodes_under store after < nodes_under store before
 
-  pub step : (store : Store (Node V)) (before names middle after : List ℕ) (name : ℕ) (top : Node V) → AreUnder store 0 before → before ≡ names ++ name ∷ [] → node_at store name ≡ Some top → middle ≡ names ++ given top.one → after ≡ middle ++ given top.zero → IsStep store before names middle after top
+  pub step : (store : Store (Node V)) (before names middle after : List ℕ) (name : ℕ) (top : Node V) → AreUnder store 0 before → before ≡ names ++ name ∷ [] → node_at store name ≡ Some top → middle ≡ names ++ given top.next.one → after ≡ middle ++ given top.next.zero → IsStep store before names middle after top
   step store before names middle after name top all is found ones zeros =
       let split = under-split store 0 names name (subst (AreUnder store 0) is all) in
       let here = subst (λ n. IsUnder store n name) (zero-add (length names)) split.1 in
       let s = steps store (length names) name top here found in
-      let few : length middle ≤ length names + 1 = omega (arith, ap length ones, length-given names top.one) in
-      let mid : AreUnder store 0 middle = subst (AreUnder store 0) (sym ones) (under-given store 0 names top.one split.0 (IsUnder-less store (0 + length names) (length names + 1) top.one (omega arith) s.one_under)) in
+      let few : length middle ≤ length names + 1 = omega (arith, ap length ones, length-given names top.next.one) in
+      let mid : AreUnder store 0 middle = subst (AreUnder store 0) (sym ones) (under-given store 0 names top.next.one split.0 (IsUnder-less store (0 + length names) (length names + 1) top.next.one (omega arith) s.one_under)) in
       record {
-        one_fits = λ some. let most = under-most store (length names + 1) top.one s.one_under some in omega (arith, most);
-        zero_fits = λ some. let most = under-most store (length names + 1) top.zero s.zero_under some in omega (arith, most, few);
-        under = subst (AreUnder store 0) (sym zeros) (under-given store 0 middle top.zero mid (IsUnder-less store (0 + length middle) (length names + 1) top.zero (omega (arith, few)) s.zero_under));
+        one_fits = λ some. let most = under-most store (length names + 1) top.next.one s.one_under some in omega (arith, most);
+        zero_fits = λ some. let most = under-most store (length names + 1) top.next.zero s.zero_under some in omega (arith, most, few);
+        under = subst (AreUnder store 0) (sym zeros) (under-given store 0 middle top.next.zero mid (IsUnder-less store (0 + length middle) (length names + 1) top.next.zero (omega (arith, few)) s.zero_under));
         pairs_are =
             ap (stacked store) is
             ∙ stacked-one store names name
             ∙ ap (λ l. l ++ stacked store names) s.pairs_are
-            ∙ append_assoc (pair_of top.eid top.value) (pairs (tree_of store top.zero) ++ pairs (tree_of store top.one)) (stacked store names)
+            ∙ append_assoc (pair_of top.eid top.value) (pairs (tree_of store top.next.zero) ++ pairs (tree_of store top.next.one)) (stacked store names)
             ∙ ap (λ l. pair_of top.eid top.value ++ l) (
-            append_assoc (pairs (tree_of store top.zero)) (pairs (tree_of store top.one)) (stacked store names)
-            ∙ ap (λ l. pairs (tree_of store top.zero) ++ l) (sym (ap (stacked store) ones ∙ stacked-given store names top.one))
-            ∙ sym (ap (stacked store) zeros ∙ stacked-given store middle top.zero)
+            append_assoc (pairs (tree_of store top.next.zero)) (pairs (tree_of store top.next.one)) (stacked store names)
+            ∙ ap (λ l. pairs (tree_of store top.next.zero) ++ l) (sym (ap (stacked store) ones ∙ stacked-given store names top.next.one))
+            ∙ sym (ap (stacked store) zeros ∙ stacked-given store middle top.next.zero)
             );
         fewer =
-            omega (arith, ap (nodes_under store) is, nodes-one store names name, s.nodes, ap (nodes_under store) ones, nodes-given store names top.one, ap (nodes_under store) zeros, nodes-given store middle top.zero);
+            omega (arith, ap (nodes_under store) is, nodes-one store names name, s.nodes, ap (nodes_under store) ones, nodes-given store names top.next.one, ap (nodes_under store) zeros, nodes-given store middle top.next.zero);
       }
 
   -- ### a step to the next root

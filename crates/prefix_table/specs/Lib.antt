@@ -1,13 +1,13 @@
 pub mod Limits
 pub mod Keys
+pub mod Sides
 pub mod Nodes
 pub mod Tree
 pub mod Longest
 pub mod Spelled
 pub mod Pairs
 pub mod Common
-pub mod Grown
-pub mod Shrunk
+pub mod Edited
 pub mod Roots
 pub mod Table
 pub mod Under

@@ -5,6 +5,7 @@ use Rattle.node_store.specs.Store.{Store, node_at}
 use Rattle.prefix_table.specs.Keys.{key_of, key_len}
 use Rattle.prefix_table.specs.declared.content.Content.{Content}
 use Rattle.prefix_table.specs.declared.node.Node.{Node}
+use Rattle.prefix_table.specs.declared.node.Sides.{Sides}
 use Rattle.prefix_table.specs.declared.node.Way.{Way}
 
 -- the link on a side without a node: no node has this name
@@ -15,14 +16,18 @@ no_node = 4294967295
 abbrev pub linked : ℕ → Option ℕ
 linked link = if link == no_node then None else Some link
 
+-- the names of the nodes to which the links of a node lead
+abbrev pub linked_sides : Sides ℕ → Sides (Option ℕ)
+linked_sides links = record { zero = linked links.zero; one = linked links.one }
+
 module _ {V : Type 0} where
   -- a node with that content and the names of the nodes below it
-  abbrev pub node_with : Content V → Option ℕ → Option ℕ → Node V
-  node_with content zero one = record { eid = content.eid; value = content.value; zero = zero; one = one }
+  abbrev pub node_with : Content V → Sides (Option ℕ) → Node V
+  node_with content next = record { eid = content.eid; value = content.value; next = next }
 
   -- a node of its content and its way
   abbrev pub node_of : Content V → Way → Node V
-  node_of content way = node_with content (linked way.zero) (linked way.one)
+  node_of content way = node_with content (linked_sides way.next)
 
   -- each slot of a store, with the content beside it
   abbrev pub slots_with : List (Option Way) → List (Content V) → List (Option (Node V))
@@ -53,8 +58,7 @@ module _ {V : Type 0} where
 
   -- a way is that of the node
   pub record IsWayOf (top : Node V) (way : Way) : Type 0 where
-    pub zero : top.zero ≡ linked way.zero
-    pub one : top.one ≡ linked way.one
+    pub next : top.next ≡ linked_sides way.next
     pub len : way.len ≡ key_len top.eid
     pub valued : way.valued ≡ is_some top.value
 

@@ -3,13 +3,13 @@ ghost use Rattle.std.specs.Prelude.{◌≡◌, ◌≢◌, ◌<◌, ◌≤◌, �
 ghost use Rattle.node_store.specs.Store.{node_at, IsLive};
 ghost use Rattle.mapping_records.specs.Eids.{covers_eid};
 ghost use Rattle.prefix_table.specs.Keys.{key_bits, key_len, key_of, key_width};
-ghost use Rattle.prefix_table.specs.Grown.{Puts, Takes};
+ghost use Rattle.prefix_table.specs.Edited.{Puts, Takes};
 
 use crate::common::common;
 use crate::key::Key;
-use crate::node::Node;
+use crate::node::{Node, Sides};
 use crate::nodes::{NodeRef, Nodes};
-use crate::place::{link_one, link_zero, swap_value};
+use crate::place::{link, swap_value};
 use crate::search::next_bit;
 use mapping_records::Eid;
 use node_store::Reads;
@@ -51,7 +51,7 @@ fn put_under<V>(
         return put_leaf(store, eid, value);
     };
     let mut reads = Reads::new();
-    let NodeRef { content, zero, one } = store.read(at, &mut reads);
+    let NodeRef { content, next } = store.read(at, &mut reads);
     let len = content.key.len;
     if !content.key.covers(sought) {
         return put_apart(store, at, eid, value, least);
@@ -60,13 +60,9 @@ fn put_under<V>(
         swap_value(store, at, value);
         return at;
     }
-    if sought.next_bit(len) {
-        let name = put_under(store, one, eid, sought, value, len + 1);
-        link_one(store, at, Some(name));
-        return at;
-    }
-    let name = put_under(store, zero, eid, sought, value, len + 1);
-    link_zero(store, at, Some(name));
+    let side = sought.next_bit(len);
+    let name = put_under(store, next.on(side), eid, sought, value, len + 1);
+    link(store, at, side, Some(name));
     at
 }
 
@@ -79,8 +75,10 @@ fn put_leaf<V>(store: &mut Nodes<V>, eid: &Eid, value: &mut Option<V>) -> u32
     store.put(Node {
         eid: *eid,
         value: value.take(),
-        zero: None,
-        one: None,
+        next: Sides {
+            zero: None,
+            one: None,
+        },
     })
 }
 
@@ -110,19 +108,11 @@ fn put_above<V>(store: &mut Nodes<V>, at: u32, key: Eid, eid: Eid, value: Option
     ensures { (given : _) → value ≡ Some given
         → (least : _) → Puts store.old store.new (Some at) least eid given result None }
 {
-    if next_bit(key.prefix.addr, eid.prefix.len) {
-        return store.put(Node {
-            eid,
-            value,
-            zero: None,
-            one: Some(at),
-        });
-    }
+    let side = next_bit(key.prefix.addr, eid.prefix.len);
     store.put(Node {
         eid,
         value,
-        zero: Some(at),
-        one: None,
+        next: Sides::new(side, Some(at), None),
     })
 }
 
@@ -148,21 +138,15 @@ fn put_beside<V>(
     let leaf = store.put(Node {
         eid,
         value,
-        zero: None,
-        one: None,
+        next: Sides {
+            zero: None,
+            one: None,
+        },
     });
-    if next_bit(eid.prefix.addr, over.prefix.len) {
-        return store.put(Node {
-            eid: over,
-            value: None,
-            zero: Some(at),
-            one: Some(leaf),
-        });
-    }
+    let side = next_bit(eid.prefix.addr, over.prefix.len);
     store.put(Node {
         eid: over,
         value: None,
-        zero: Some(leaf),
-        one: Some(at),
+        next: Sides::new(side, Some(leaf), Some(at)),
     })
 }

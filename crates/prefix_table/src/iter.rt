@@ -80,9 +80,9 @@ fn next_of<'a, V>(store: &'a Nodes<V>, stack: &mut Stack) -> Option<(&'a Eid, &'
     ensures under { AreUnder store.now 0 stack.new }
 {
     let name = stack.pop()?;
-    let NodeRef { content, zero, one } = store.read(name, &mut Reads::new());
-    stack.push(one);
-    stack.push(zero);
+    let NodeRef { content, next } = store.read(name, &mut Reads::new());
+    stack.push(next.one);
+    stack.push(next.zero);
     match &content.value {
         Some(value) => Some((&content.eid, value)),
         None => next_of(store, stack),

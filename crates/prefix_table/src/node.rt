@@ -1,24 +1,56 @@
 // The nodes of the tries, and their roots.
 ghost use Rattle.std.specs.Prelude.{◌≡◌, ◌≢◌, Some};
 ghost use Rattle.prefix_table.specs.Nodes.{linked, no_node};
+ghost use Rattle.prefix_table.specs.Sides.{on_side, sides};
 
 use mapping_records::Eid;
+
+/// What a node has on its two sides, which the bit behind its length tells apart.
+#[derive(Clone, Copy, Drop)]
+pub(crate) struct Sides<T> {
+    pub(crate) zero: T,
+    pub(crate) one: T,
+}
+
+impl<T: Copy> Sides<T> {
+    /// Both sides: `near` is on that one, and `far` on the other.
+    pub(crate) fn new(side: bool, near: T, far: T) -> Sides<T>
+        ensures { result ≡ sides side near far }
+    {
+        if side {
+            return Sides {
+                zero: far,
+                one: near,
+            };
+        }
+        Sides {
+            zero: near,
+            one: far,
+        }
+    }
+
+    /// What is on that side.
+    pub(crate) fn on(self, side: bool) -> T
+        ensures { result ≡ on_side side self }
+    {
+        if side { self.one } else { self.zero }
+    }
+}
 
 /// A node of a trie. One without a value has nodes below it on both sides.
 #[derive(Drop)]
 pub(crate) struct Node<V> {
     pub(crate) eid: Eid,
     pub(crate) value: Option<V>,
-    pub(crate) zero: Option<u32>,
-    pub(crate) one: Option<u32>,
+    // The names of the nodes below it.
+    pub(crate) next: Sides<Option<u32>>,
 }
 
 /// What a way down reads of a node: 12 octets, so that nodes lie close together.
 #[derive(Clone, Copy, Drop)]
 pub(crate) struct Way {
-    // The links on the sides of the next bits 0 and 1.
-    pub(crate) zero: u32,
-    pub(crate) one: u32,
+    // The links to the nodes below it.
+    pub(crate) next: Sides<u32>,
     // The length of the node's EID.
     pub(crate) len: u8,
     pub(crate) valued: bool,

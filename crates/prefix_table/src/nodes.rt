@@ -1,13 +1,14 @@
 // Nodes, of which a way down reads little, and their contents beside them.
-ghost use Rattle.std.specs.Prelude.{◌≡◌, ◌+◌, ◌^◌, ◌<◌, ◌≤◌, [], max, length, OnOk, OnErr, Some, None, IfOk, IfSome, IsOk};
+ghost use Rattle.std.specs.Prelude.{Bool, ◌≡◌, ◌+◌, ◌^◌, ◌<◌, ◌≤◌, [], max, length, OnOk, OnErr, Some, None, IfOk, IfSome, IsOk};
 ghost use Rattle.std.specs.Fn.{FnReturnsAt};
 ghost use Rattle.node_store.specs.Copies.{MakesCopies};
 ghost use Rattle.node_store.specs.Store.{node_at, IsLive, live, SameNodes, Changes};
 ghost use Rattle.prefix_table.specs.Keys.{key_of};
 ghost use Rattle.prefix_table.specs.Nodes.{node_with, IsWayOf, IsContentOf};
+ghost use Rattle.prefix_table.specs.Sides.{on_side};
 
 use crate::content::{Content, add_contents, copied_contents, fill};
-use crate::node::{Node, Way, link_to, linked};
+use crate::node::{Node, Sides, Way, link_to, linked};
 use node_store::{NoMemory, NodeStore, Reads};
 use std::alloc::Global;
 use std::marker::Model;
@@ -23,8 +24,7 @@ pub(crate) struct Nodes<V> {
 /// A node as it is read: its content, and the names of the nodes below it.
 pub(crate) struct NodeRef<'a, V> {
     pub(crate) content: &'a Content<V>,
-    pub(crate) zero: Option<u32>,
-    pub(crate) one: Option<u32>,
+    pub(crate) next: Sides<Option<u32>>,
 }
 
 impl<V> Model for Nodes<V> {
@@ -103,31 +103,34 @@ impl<V> Nodes<V> {
         requires live { IsLive self.now name }
         requires counts { reads.old + 1 < 2 ^ 64 }
         ensures node { node_at self.now name
-            ≡ Some (node_with result.content.now result.zero result.one) }
+            ≡ Some (node_with result.content.now result.next) }
         ensures key { result.content.now.key ≡ key_of result.content.now.eid }
         ensures count { reads.new ≡ reads.old + 1 }
     {
         let way = self.way(name, reads);
         NodeRef {
             content: self.content(name),
-            zero: linked(way.zero),
-            one: linked(way.one),
+            next: Sides {
+                zero: linked(way.next.zero),
+                one: linked(way.next.one),
+            },
         }
     }
 
     /// Puts a node under a name that had none, and returns the name. Takes no memory.
     pub(crate) fn put(&mut self, node: Node<V>) -> u32
         requires rooms { 0 < self.old.rooms }
-        requires zero { IfSome node.zero (IsLive self.old) }
-        requires one { IfSome node.one (IsLive self.old) }
+        requires next { (side : Bool) → IfSome (on_side side node.next) (IsLive self.old) }
         ensures fresh { node_at self.old result ≡ None }
         ensures changes { Changes self.old self.new result (Some node) }
         ensures rooms { self.new.rooms + 1 ≡ self.old.rooms }
         ensures slots { length self.new.slots ≡ length self.old.slots }
     {
         let name = self.ways.put(Way {
-            zero: link_to(node.zero),
-            one: link_to(node.one),
+            next: Sides {
+                zero: link_to(node.next.zero),
+                one: link_to(node.next.one),
+            },
             len: node.eid.prefix.len,
             valued: node.value.is_some(),
         });

@@ -1,9 +1,10 @@
 // Writes of single nodes.
-ghost use Rattle.std.specs.Prelude.{◌≡◌, ◌+◌, length, Some, None, IfSome};
+ghost use Rattle.std.specs.Prelude.{◌≡◌, ◌+◌, not, length, Some, None, IfSome};
 ghost use Rattle.node_store.specs.Store.{node_at, IsLive, Changes};
-ghost use Rattle.prefix_table.specs.Grown.{Becomes};
+ghost use Rattle.prefix_table.specs.Edited.{Becomes};
+ghost use Rattle.prefix_table.specs.Sides.{on_side, sides};
 
-use crate::node::link_to;
+use crate::node::{Sides, link_to};
 use crate::nodes::Nodes;
 use std::mem;
 
@@ -20,28 +21,17 @@ pub(crate) fn swap_value<V>(store: &mut Nodes<V>, at: u32, value: &mut Option<V>
     mem::swap(&mut store.contents[at as usize].value, value);
 }
 
-/// Sets the name of the node below a node on the side of the next bit 0.
-pub(crate) fn link_zero<V>(store: &mut Nodes<V>, at: u32, below: Option<u32>)
+/// Sets the name of the node below a node on a side.
+pub(crate) fn link<V>(store: &mut Nodes<V>, at: u32, side: bool, below: Option<u32>)
     requires live { IsLive store.old at }
     requires below { IfSome below (IsLive store.old) }
-    ensures changes { Becomes store.old store.new at (λ top. record top { zero = below }) }
+    ensures changes { Becomes store.old store.new at
+        (λ top. record top { next = sides side below (on_side (not side) top.next) }) }
     ensures rooms { store.new.rooms ≡ store.old.rooms }
     ensures slots { length store.new.slots ≡ length store.old.slots }
 {
     let way = store.ways.edit(at);
-    way.zero = link_to(below);
-}
-
-/// Sets the name of the node below a node on the side of the next bit 1.
-pub(crate) fn link_one<V>(store: &mut Nodes<V>, at: u32, below: Option<u32>)
-    requires live { IsLive store.old at }
-    requires below { IfSome below (IsLive store.old) }
-    ensures changes { Becomes store.old store.new at (λ top. record top { one = below }) }
-    ensures rooms { store.new.rooms ≡ store.old.rooms }
-    ensures slots { length store.new.slots ≡ length store.old.slots }
-{
-    let way = store.ways.edit(at);
-    way.one = link_to(below);
+    way.next = Sides::new(side, link_to(below), way.next.on(!side));
 }
 
 /// Takes the value out of a node, which stays, and returns it.

@@ -1,12 +1,13 @@
 // Removal of a pair from a trie.
-ghost use Rattle.std.specs.Prelude.{◌≡◌, length, Some, IfSome, is_some};
-ghost use Rattle.node_store.specs.Store.{node_at, IsLive};
+ghost use Rattle.std.specs.Prelude.{◌≡◌, ◌+◌, ◌||◌, true, false, not, length, Some, None, IfSome, is_some, if◌then◌else◌};
+ghost use Rattle.node_store.specs.Store.{node_at, IsLive, Changes};
 ghost use Rattle.prefix_table.specs.Keys.{key_of};
-ghost use Rattle.prefix_table.specs.Shrunk.{Holds, Shrinks, StaysWhere, GoesWhere};
+ghost use Rattle.prefix_table.specs.Edited.{Becomes, Holds, Shrinks};
+ghost use Rattle.prefix_table.specs.Sides.{on_side, sides};
 
 use crate::key::Key;
 use crate::nodes::{NodeRef, Nodes};
-use crate::place::{clear_value, drop_value, link_one, link_zero};
+use crate::place::{clear_value, drop_value, link};
 use mapping_records::Eid;
 use node_store::Reads;
 
@@ -41,74 +42,45 @@ fn take_under<V>(
         return (None, None);
     };
     let mut reads = Reads::new();
-    let NodeRef { content, zero, one } = store.read(at, &mut reads);
+    let NodeRef { content, next } = store.read(at, &mut reads);
     let len = content.key.len;
     let valued = content.value.is_some();
     if !content.key.covers(sought) {
         return (Some(at), None);
     }
     if len == sought.len {
-        if zero.is_some() && one.is_some() {
+        if next.zero.is_some() && next.one.is_some() {
             return (Some(at), clear_value(store, at));
         }
-        return (zero.or(one), drop_value(store, at));
+        return (next.zero.or(next.one), drop_value(store, at));
     }
-    if sought.next_bit(len) {
-        let (below, was) = take_under(store, one, eid, sought, len + 1);
-        return (relink_one(store, at, valued, zero, below), was);
+    let side = sought.next_bit(len);
+    let (below, was) = take_under(store, next.on(side), eid, sought, len + 1);
+    if relink(store, at, side, valued, below) {
+        return (Some(at), was);
     }
-    let (below, was) = take_under(store, zero, eid, sought, len + 1);
-    (relink_zero(store, at, valued, one, below), was)
+    (next.on(!side), was)
 }
 
-// Sets the name of what is left below a node on the side of the next bit 0, or removes the node
-// where it has no value and no node is left there. Returns the trie's name then.
-fn relink_zero<V>(
-    store: &mut Nodes<V>,
-    at: u32,
-    valued: bool,
-    one: Option<u32>,
-    below: Option<u32>,
-) -> Option<u32>
+// Sets the name of what is left below a node on a side, or removes the node where it has no value
+// and no node is left there. Returns whether the node stays.
+fn relink<V>(store: &mut Nodes<V>, at: u32, side: bool, valued: bool, below: Option<u32>) -> bool
     requires live { IsLive store.old at }
     requires below { IfSome below (IsLive store.old) }
     requires valued { (top : _) → node_at store.old at ≡ Some top → valued ≡ is_some top.value }
-    ensures stays { StaysWhere store.old store.new at (λ top. record top { zero = below }) below result }
-    ensures goes { GoesWhere store.old store.new at one below result }
+    ensures left { result ≡ (valued || is_some below) }
+    ensures stays { result ≡ true → Becomes store.old store.new at
+        (λ top. record top { next = sides side below (on_side (not side) top.next) }) }
+    ensures goes { result ≡ false → Changes store.old store.new at None }
+    ensures rooms { store.new.rooms ≡ store.old.rooms + (if result then 0 else 1) }
     ensures slots { length store.new.slots ≡ length store.old.slots }
 {
     if valued || below.is_some() {
-        link_zero(store, at, below);
-        return Some(at);
+        link(store, at, side, below);
+        return true;
     }
     match drop_value(store, at) {
-        None => one,
-        Some(_) => unreachable!(),
-    }
-}
-
-// Sets the name of what is left below a node on the side of the next bit 1, or removes the node
-// where it has no value and no node is left there. Returns the trie's name then.
-fn relink_one<V>(
-    store: &mut Nodes<V>,
-    at: u32,
-    valued: bool,
-    zero: Option<u32>,
-    below: Option<u32>,
-) -> Option<u32>
-    requires live { IsLive store.old at }
-    requires below { IfSome below (IsLive store.old) }
-    requires valued { (top : _) → node_at store.old at ≡ Some top → valued ≡ is_some top.value }
-    ensures stays { StaysWhere store.old store.new at (λ top. record top { one = below }) below result }
-    ensures goes { GoesWhere store.old store.new at zero below result }
-    ensures slots { length store.new.slots ≡ length store.old.slots }
-{
-    if valued || below.is_some() {
-        link_one(store, at, below);
-        return Some(at);
-    }
-    match drop_value(store, at) {
-        None => zero,
+        None => false,
         Some(_) => unreachable!(),
     }
 }

@@ -1,11 +1,12 @@
 // Look-ups: down from a root, one read for each node.
-ghost use Rattle.std.specs.Prelude.{◌≡◌, ◌≤◌, ◌+◌, ◌^◌, ◌<◌, ◌%◌, ◌==◌, IsTrue, IsSome, All, MatchOption, Some, None, if◌then◌else◌};
+ghost use Rattle.std.specs.Prelude.{◌≡◌, ◌≤◌, ◌+◌, ◌^◌, ◌<◌, ◌%◌, ◌==◌, IsTrue, IsSome, All, MatchOption, Some, None};
 ghost use Rattle.std.specs.Fn.{FnReturnsAt};
 ghost use Rattle.std.specs.Option.{option_map};
 ghost use Rattle.ip_headers.specs.Addr.{first_bits, width};
 ghost use Rattle.prefix_table.specs.Keys.{key_of, key_width};
 ghost use Rattle.prefix_table.specs.Limits.{most_nodes};
 ghost use Rattle.prefix_table.specs.Nodes.{linked};
+ghost use Rattle.prefix_table.specs.Sides.{on_side};
 ghost use Rattle.prefix_table.specs.Tree.{pairs};
 ghost use Rattle.prefix_table.specs.Longest.{IsRefused, IsLongestWhere, After, seen};
 ghost use Rattle.prefix_table.specs.Spelled.{tree_of, IsRoot};
@@ -53,12 +54,11 @@ fn below(way: &Way, sought: &Key) -> Option<u32>
     requires len { way.now.len < sought.now.width }
     requires width { sought.now.width ≤ 128 }
     ensures { (eid : _) → sought.now ≡ key_of eid → result
-        ≡ linked (if first_bits eid.prefix.addr (way.now.len + 1) % 2 == 1
-        then way.now.one else way.now.zero) }
+        ≡ linked (on_side (first_bits eid.prefix.addr (way.now.len + 1) % 2 == 1) way.now.next) }
 {
     // Both links are read, so that there is no branch to predict.
-    let (zero, one) = (way.zero, way.one);
-    linked(if sought.next_bit(way.len) { one } else { zero })
+    let next = way.next;
+    linked(next.on(sought.next_bit(way.len)))
 }
 
 /// The longest pair of the trie that covers the EID and passes the test, or None. Each node on the

@@ -1,67 +1,56 @@
-use Rattle.std.proofs.Common.{rules, ◌<◌, ◌+◌, ◌-◌, arith, sym, ap, ◌∙◌, subst}
-use Rattle.prefix_table.specs.Grown.{Puts, Takes}
+use Rattle.std.proofs.Common.{rules, Option, Some, true, false, is_some, ◌||◌, ◌≡◌, ℕ, Bool, refl, sym, ap, ◌∙◌, subst}
+use Rattle.prefix_table.specs.Edited.{Puts}
 use Rattle.prefix_table.specs.Nodes.{node_with}
-use Rattle.prefix_table.specs.declared.key.Key.{Key}
-use Rattle.prefix_table.proofs.KeyLemmas.{given_of, same_len, other_len, bit_behind}
-use Rattle.prefix_table.proofs.PutLemmas.{puts_same, takes_low, takes_high, puts_low, puts_high, live_low, live_high, len_bounds, room_leaf}
+use Rattle.prefix_table.proofs.KeyLemmas.{given_of, same_len}
+use Rattle.prefix_table.proofs.PutLemmas.{puts_same, room_leaf}
+use Rattle.prefix_table.proofs.StepLemmas.{passes, takes_on, deeper, there_on, below_on, edits_on}
+use Rattle.prefix_table.proofs.TopLemmas.{with_pair-local}
 use Rattle.prefix_table.proofs.insert.+put_under.Goals as goal
+
+or_true : (b : Bool) → (b || true) ≡ true
+or_true true = refl
+or_true false = refl
 
 pub returns-then-len-sought : goal.returns-then-len-sought
 returns-then-len-sought g t c given is =
-    let top = node_with c.read-zero.result.content.now c.read-zero.result.zero c.read-zero.result.one in
+    let top = node_with c.read.result.content.now c.read.result.next in
     let made = c.swap_value.ensures in
-    subst (λ w. Puts c.args.store.now c.swap_value.new.store c.args.at c.args.least c.args.eid.now given c.in-Some.at w) (sym (made.was top c.read-zero.ensures.node))
-    (puts_same _ _ c.args.at c.in-Some.at top c.args.eid.now given c.args.least c.in-Some.is c.read-zero.ensures.node (sym (c.covers.ensures top.eid c.args.eid.now c.read-zero.ensures.key c.requires.key) ∙ c.if-not-covers.false) (same_len _ _ top.eid c.args.eid.now c.read-zero.ensures.key c.requires.key c.if-len-sought.true) (rw is at (made.changes top c.read-zero.ensures.node)) made.rooms made.slots)
+    subst (λ w. Puts c.args.store.now c.swap_value.new.store c.args.at c.args.least c.args.eid.now given c.in-Some.at w) (sym (made.was top c.read.ensures.node))
+    (puts_same _ _ c.args.at c.in-Some.at top c.args.eid.now given c.args.least c.in-Some.is c.read.ensures.node (sym (c.covers.ensures top.eid c.args.eid.now c.read.ensures.key c.requires.key) ∙ c.if-not-covers.false) (same_len _ _ top.eid c.args.eid.now c.read.ensures.key c.requires.key c.if-len-sought.true) (rw is at (made.changes top c.read.ensures.node)) made.rooms made.slots)
 
 pub put_under-name-requires : goal.put_under-name-requires
 put_under-name-requires g t c κs within =
-    let top = node_with c.read-zero.result.content.now c.read-zero.result.zero c.read-zero.result.one in
-    let bounds = len_bounds _ c.args.at c.in-Some.at top c.args.eid.now c.args.least c.requires.takes c.in-Some.is c.read-zero.ensures.node in
-    let len = ap (λ (k : Key). k.len) c.read-zero.ensures.key in
-    let smaller : 129 - (c.read-zero.result.content.now.key.len + 1) < 129 - c.args.least = omega (arith, bounds.0, bounds.1, len) in
-    (search (rules, smaller), (search rules, (subst (λ n. Takes c.args.store.now top.one (n + 1) c.args.eid.now) (sym len) (takes_high _ c.args.at c.in-Some.at top c.args.eid.now c.args.least c.requires.takes c.in-Some.is c.read-zero.ensures.node (sym (c.covers.ensures top.eid c.args.eid.now c.read-zero.ensures.key c.requires.key) ∙ c.if-not-covers.false) (other_len _ _ top.eid c.args.eid.now c.read-zero.ensures.key c.requires.key c.if-len-sought.false) (bit_behind _ _ top.eid c.args.eid.now c.read-zero.ensures.key c.requires.key _ (c.next_bit.ensures c.args.eid.now c.requires.key) ∙ c.if-next_bit.true)), (c.requires.key, c.requires.value))))
+    let top = node_with c.read.result.content.now c.read.result.next in
+    let w = passes c.args.store.now c.args.at c.in-Some.at top c.args.eid.now _ _ _ _ c.in-Some.is c.read.ensures.node c.read.ensures.key c.requires.key (sym (c.covers.ensures top.eid c.args.eid.now c.read.ensures.key c.requires.key) ∙ c.if-not-covers.false) c.if-len-sought.false (c.next_bit-side.ensures c.args.eid.now c.requires.key) c.on.ensures in
+    (search (rules, deeper w c.args.least (c.requires.takes).holds), (search rules, (takes_on w c.args.least c.requires.takes, (c.requires.key, c.requires.value))))
 
-pub link_one-requires-clause-live : goal.link_one-requires-clause-live
-link_one-requires-clause-live g t c =
+pub link-requires-clause-live : goal.link-requires-clause-live
+link-requires-clause-live g t c =
     let some = given_of c.args.value.now c.requires.value in
-    let top = node_with c.read-zero.result.content.now c.read-zero.result.zero c.read-zero.result.one in
-    (live_high _ _ c.args.at c.in-Some.at top c.args.eid.now some.value c.args.least c.put_under-name.result c.put_under-name.new.value c.requires.takes c.in-Some.is c.read-zero.ensures.node (sym (c.covers.ensures top.eid c.args.eid.now c.read-zero.ensures.key c.requires.key) ∙ c.if-not-covers.false) (other_len _ _ top.eid c.args.eid.now c.read-zero.ensures.key c.requires.key c.if-len-sought.false) (bit_behind _ _ top.eid c.args.eid.now c.read-zero.ensures.key c.requires.key _ (c.next_bit.ensures c.args.eid.now c.requires.key) ∙ c.if-next_bit.true) (subst (λ n. Puts c.args.store.now c.put_under-name.new.store top.one (n + 1) c.args.eid.now some.value c.put_under-name.result c.put_under-name.new.value) (ap (λ (k : Key). k.len) c.read-zero.ensures.key) (c.put_under-name.ensures some.value some.is))).0
+    let top = node_with c.read.result.content.now c.read.result.next in
+    let w = passes c.args.store.now c.args.at c.in-Some.at top c.args.eid.now _ _ _ _ c.in-Some.is c.read.ensures.node c.read.ensures.key c.requires.key (sym (c.covers.ensures top.eid c.args.eid.now c.read.ensures.key c.requires.key) ∙ c.if-not-covers.false) c.if-len-sought.false (c.next_bit-side.ensures c.args.eid.now c.requires.key) c.on.ensures in
+    ap is_some (there_on w _ _ _ _ (c.put_under-name.ensures some.value some.is) c.args.least (c.requires.takes).holds)
 
-pub link_one-requires-clause-below : goal.link_one-requires-clause-below
-link_one-requires-clause-below g t c =
+pub link-requires-clause-below : goal.link-requires-clause-below
+link-requires-clause-below g t c =
     let some = given_of c.args.value.now c.requires.value in
-    let top = node_with c.read-zero.result.content.now c.read-zero.result.zero c.read-zero.result.one in
-    (live_high _ _ c.args.at c.in-Some.at top c.args.eid.now some.value c.args.least c.put_under-name.result c.put_under-name.new.value c.requires.takes c.in-Some.is c.read-zero.ensures.node (sym (c.covers.ensures top.eid c.args.eid.now c.read-zero.ensures.key c.requires.key) ∙ c.if-not-covers.false) (other_len _ _ top.eid c.args.eid.now c.read-zero.ensures.key c.requires.key c.if-len-sought.false) (bit_behind _ _ top.eid c.args.eid.now c.read-zero.ensures.key c.requires.key _ (c.next_bit.ensures c.args.eid.now c.requires.key) ∙ c.if-next_bit.true) (subst (λ n. Puts c.args.store.now c.put_under-name.new.store top.one (n + 1) c.args.eid.now some.value c.put_under-name.result c.put_under-name.new.value) (ap (λ (k : Key). k.len) c.read-zero.ensures.key) (c.put_under-name.ensures some.value some.is))).1
-
-pub returns-then-next_bit : goal.returns-then-next_bit
-returns-then-next_bit g t c given is =
-    let top = node_with c.read-zero.result.content.now c.read-zero.result.zero c.read-zero.result.one in
-    puts_high _ _ _ c.args.at c.in-Some.at top c.args.eid.now given c.args.least c.put_under-name.result c.put_under-name.new.value c.in-Some.is c.read-zero.ensures.node (sym (c.covers.ensures top.eid c.args.eid.now c.read-zero.ensures.key c.requires.key) ∙ c.if-not-covers.false) (other_len _ _ top.eid c.args.eid.now c.read-zero.ensures.key c.requires.key c.if-len-sought.false) (bit_behind _ _ top.eid c.args.eid.now c.read-zero.ensures.key c.requires.key _ (c.next_bit.ensures c.args.eid.now c.requires.key) ∙ c.if-next_bit.true) (subst (λ n. Puts c.args.store.now c.put_under-name.new.store top.one (n + 1) c.args.eid.now given c.put_under-name.result c.put_under-name.new.value) (ap (λ (k : Key). k.len) c.read-zero.ensures.key) (c.put_under-name.ensures given is)) c.link_one.ensures.changes c.link_one.ensures.rooms c.link_one.ensures.slots
-
-pub put_under-name-requires-2 : goal.put_under-name-requires-2
-put_under-name-requires-2 g t c κs within =
-    let top = node_with c.read-zero.result.content.now c.read-zero.result.zero c.read-zero.result.one in
-    let bounds = len_bounds _ c.args.at c.in-Some.at top c.args.eid.now c.args.least c.requires.takes c.in-Some.is c.read-zero.ensures.node in
-    let len = ap (λ (k : Key). k.len) c.read-zero.ensures.key in
-    let smaller : 129 - (c.read-zero.result.content.now.key.len + 1) < 129 - c.args.least = omega (arith, bounds.0, bounds.1, len) in
-    (search (rules, smaller), (search rules, (subst (λ n. Takes c.args.store.now top.zero (n + 1) c.args.eid.now) (sym len) (takes_low _ c.args.at c.in-Some.at top c.args.eid.now c.args.least c.requires.takes c.in-Some.is c.read-zero.ensures.node (sym (c.covers.ensures top.eid c.args.eid.now c.read-zero.ensures.key c.requires.key) ∙ c.if-not-covers.false) (other_len _ _ top.eid c.args.eid.now c.read-zero.ensures.key c.requires.key c.if-len-sought.false) (bit_behind _ _ top.eid c.args.eid.now c.read-zero.ensures.key c.requires.key _ (c.next_bit.ensures c.args.eid.now c.requires.key) ∙ c.if-next_bit.false)), (c.requires.key, c.requires.value))))
-
-pub link_zero-requires-clause-live : goal.link_zero-requires-clause-live
-link_zero-requires-clause-live g t c =
-    let some = given_of c.args.value.now c.requires.value in
-    let top = node_with c.read-zero.result.content.now c.read-zero.result.zero c.read-zero.result.one in
-    (live_low _ _ c.args.at c.in-Some.at top c.args.eid.now some.value c.args.least c.put_under-name-2.result c.put_under-name-2.new.value c.requires.takes c.in-Some.is c.read-zero.ensures.node (sym (c.covers.ensures top.eid c.args.eid.now c.read-zero.ensures.key c.requires.key) ∙ c.if-not-covers.false) (other_len _ _ top.eid c.args.eid.now c.read-zero.ensures.key c.requires.key c.if-len-sought.false) (bit_behind _ _ top.eid c.args.eid.now c.read-zero.ensures.key c.requires.key _ (c.next_bit.ensures c.args.eid.now c.requires.key) ∙ c.if-next_bit.false) (subst (λ n. Puts c.args.store.now c.put_under-name-2.new.store top.zero (n + 1) c.args.eid.now some.value c.put_under-name-2.result c.put_under-name-2.new.value) (ap (λ (k : Key). k.len) c.read-zero.ensures.key) (c.put_under-name-2.ensures some.value some.is))).0
-
-pub link_zero-requires-clause-below : goal.link_zero-requires-clause-below
-link_zero-requires-clause-below g t c =
-    let some = given_of c.args.value.now c.requires.value in
-    let top = node_with c.read-zero.result.content.now c.read-zero.result.zero c.read-zero.result.one in
-    (live_low _ _ c.args.at c.in-Some.at top c.args.eid.now some.value c.args.least c.put_under-name-2.result c.put_under-name-2.new.value c.requires.takes c.in-Some.is c.read-zero.ensures.node (sym (c.covers.ensures top.eid c.args.eid.now c.read-zero.ensures.key c.requires.key) ∙ c.if-not-covers.false) (other_len _ _ top.eid c.args.eid.now c.read-zero.ensures.key c.requires.key c.if-len-sought.false) (bit_behind _ _ top.eid c.args.eid.now c.read-zero.ensures.key c.requires.key _ (c.next_bit.ensures c.args.eid.now c.requires.key) ∙ c.if-next_bit.false) (subst (λ n. Puts c.args.store.now c.put_under-name-2.new.store top.zero (n + 1) c.args.eid.now some.value c.put_under-name-2.result c.put_under-name-2.new.value) (ap (λ (k : Key). k.len) c.read-zero.ensures.key) (c.put_under-name-2.ensures some.value some.is))).1
+    let top = node_with c.read.result.content.now c.read.result.next in
+    let w = passes c.args.store.now c.args.at c.in-Some.at top c.args.eid.now _ _ _ _ c.in-Some.is c.read.ensures.node c.read.ensures.key c.requires.key (sym (c.covers.ensures top.eid c.args.eid.now c.read.ensures.key c.requires.key) ∙ c.if-not-covers.false) c.if-len-sought.false (c.next_bit-side.ensures c.args.eid.now c.requires.key) c.on.ensures in
+    below_on w _ _ (Some c.put_under-name.result) _ (c.put_under-name.ensures some.value some.is) c.args.least (c.requires.takes).holds
 
 pub returns : goal.returns
 returns g t c given is =
-    let top = node_with c.read-zero.result.content.now c.read-zero.result.zero c.read-zero.result.one in
-    puts_low _ _ _ c.args.at c.in-Some.at top c.args.eid.now given c.args.least c.put_under-name-2.result c.put_under-name-2.new.value c.in-Some.is c.read-zero.ensures.node (sym (c.covers.ensures top.eid c.args.eid.now c.read-zero.ensures.key c.requires.key) ∙ c.if-not-covers.false) (other_len _ _ top.eid c.args.eid.now c.read-zero.ensures.key c.requires.key c.if-len-sought.false) (bit_behind _ _ top.eid c.args.eid.now c.read-zero.ensures.key c.requires.key _ (c.next_bit.ensures c.args.eid.now c.requires.key) ∙ c.if-next_bit.false) (subst (λ n. Puts c.args.store.now c.put_under-name-2.new.store top.zero (n + 1) c.args.eid.now given c.put_under-name-2.result c.put_under-name-2.new.value) (ap (λ (k : Key). k.len) c.read-zero.ensures.key) (c.put_under-name-2.ensures given is)) c.link_zero.ensures.changes c.link_zero.ensures.rooms c.link_zero.ensures.slots
+    let top = node_with c.read.result.content.now c.read.result.next in
+    let w = passes c.args.store.now c.args.at c.in-Some.at top c.args.eid.now _ _ _ _ c.in-Some.is c.read.ensures.node c.read.ensures.key c.requires.key (sym (c.covers.ensures top.eid c.args.eid.now c.read.ensures.key c.requires.key) ∙ c.if-not-covers.false) c.if-len-sought.false (c.next_bit-side.ensures c.args.eid.now c.requires.key) c.on.ensures in
+    edits_on w _ _ _ _ (c.put_under-name.ensures given is) _ c.args.least (with_pair-local c.args.eid.now given) c.link.ensures.slots (or_true (is_some top.value)) c.link.ensures.changes c.link.ensures.rooms
+
+pub returns-in_default : goal.returns-in_default
+returns-in_default g t c given is =
+    subst (λ (at : Option ℕ). Puts c.args.store.now c.put_leaf.new.store at c.args.least c.args.eid.now given c.put_leaf.result c.put_leaf.new.value) (sym c.in_default.is) (c.put_leaf.ensures given is c.args.least)
+
+pub returns-then-not-covers : goal.returns-then-not-covers
+returns-then-not-covers g t c given is =
+    subst (λ (at : Option ℕ). Puts c.args.store.now c.put_apart.new.store at c.args.least c.args.eid.now given c.put_apart.result c.put_apart.new.value) (sym c.in-Some.is) (c.put_apart.ensures given is)
 
 pub put_leaf-requires : goal.put_leaf-requires
 put_leaf-requires g t c = room_leaf _ c.args.at c.args.eid.now c.args.least c.requires.takes c.in_default.is

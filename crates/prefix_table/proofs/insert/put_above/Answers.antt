@@ -1,11 +1,13 @@
-use Rattle.std.proofs.Common.{arith, true, false, sym, ◌∙◌}
+use Rattle.std.proofs.Common.{ℕ, Option, Some, None, IfSome, arith, sym}
+use Rattle.node_store.specs.Store.{IsLive}
+use Rattle.prefix_table.proofs.ForkLemmas.{on_each}
 use Rattle.prefix_table.proofs.PutLemmas.{puts_above}
 use Rattle.prefix_table.proofs.insert.put_above.Goals as goal
 
-pub returns-then-next_bit : goal.returns-then-next_bit
-returns-then-next_bit g c given is least =
-    puts_above _ _ c.args.at c.put.result c.args.key c.args.eid given least true c.requires.top c.requires.above c.requires.not_below (sym c.next_bit.ensures ∙ c.if-next_bit.true) c.put.ensures.fresh (rw is at c.put.ensures.changes) (omega (arith, c.put.ensures.rooms)) c.put.ensures.slots
+pub put-requires-clause-next : goal.put-requires-clause-next
+put-requires-clause-next g c side =
+    on_each (λ (n : Option ℕ). IfSome n (IsLive c.args.store.now)) c.next_bit-side.result side (Some c.args.at) None c.new.result c.new.ensures c.requires.live tt
 
 pub returns : goal.returns
 returns g c given is least =
-    puts_above _ _ c.args.at c.put-2.result c.args.key c.args.eid given least false c.requires.top c.requires.above c.requires.not_below (sym c.next_bit.ensures ∙ c.if-next_bit.false) c.put-2.ensures.fresh (rw is at c.put-2.ensures.changes) (omega (arith, c.put-2.ensures.rooms)) c.put-2.ensures.slots
+    puts_above _ c.args.at c.args.key c.args.eid given least c.requires.live c.requires.top _ c.put.result c.next_bit-side.result c.requires.above c.requires.not_below (sym c.next_bit-side.ensures) c.put.ensures.fresh (rw (is, c.new.ensures) at c.put.ensures.changes) (omega (arith, c.put.ensures.rooms)) c.put.ensures.slots

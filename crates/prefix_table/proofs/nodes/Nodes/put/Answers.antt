@@ -1,4 +1,4 @@
-use Rattle.std.proofs.Common.{arith, length, is_some, refl, sym, ap, ◌∙◌}
+use Rattle.std.proofs.Common.{arith, false, true, length, is_some, refl, sym, ap, ◌∙◌}
 use Rattle.std.proofs.lemmas.Option.{slice_get_read}
 use Rattle.prefix_table.specs.Keys.{key_len, key_of}
 use Rattle.prefix_table.specs.declared.node.Way.{Way}
@@ -6,10 +6,10 @@ use Rattle.prefix_table.proofs.NodesLemmas.{length-slots_with, can_link, node_at
 use Rattle.prefix_table.proofs.nodes.Nodes.put.Goals as goal
 
 pub link_to-requires : goal.link_to-requires
-link_to-requires g c = can_link c.self.inside.ways c.self.inside.contents.items c.args.node.zero c.self.invariant (rw (← c.self.view_is) at c.requires.zero)
+link_to-requires g c = can_link c.self.inside.ways c.self.inside.contents.items c.args.node.next.zero c.self.invariant (rw (← c.self.view_is) at (c.requires.next false))
 
 pub link_to-requires-2 : goal.link_to-requires-2
-link_to-requires-2 g c = can_link c.self.inside.ways c.self.inside.contents.items c.args.node.one c.self.invariant (rw (← c.self.view_is) at c.requires.one)
+link_to-requires-2 g c = can_link c.self.inside.ways c.self.inside.contents.items c.args.node.next.one c.self.invariant (rw (← c.self.view_is) at (c.requires.next true))
 
 pub index_mut-requires : goal.index_mut-requires
 index_mut-requires g c =
@@ -37,8 +37,8 @@ returns-clause-fresh g c =
 
 pub returns-clause-changes : goal.returns-clause-changes
 returns-clause-changes g c =
-    let way : Way = record { zero = c.link_to.result; one = c.link_to-2.result; len = c.args.node.eid.prefix.len; valued = c.is_some.result } in
-    let is = filled c.fill.new.content way c.args.node c.fill.ensures.eid c.fill.ensures.value c.link_to.ensures c.link_to-2.ensures in
+    let way : Way = record { next = record { zero = c.link_to.result; one = c.link_to-2.result }; len = c.args.node.eid.prefix.len; valued = c.is_some.result } in
+    let is = filled c.fill.new.content way c.args.node c.fill.ensures.eid c.fill.ensures.value (rw (c.link_to.ensures, c.link_to-2.ensures) refl) in
     rw (← c.self.view_is, ← is) (put_changes c.self.inside.ways c.put-name.new.self c.self.inside.contents.items c.put-name.result way c.fill.new.content c.self.invariant c.put-name.ensures.changes c.put-name.ensures.slots)
 
 pub returns-clause-slots : goal.returns-clause-slots

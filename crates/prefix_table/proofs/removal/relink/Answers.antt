@@ -1,5 +1,5 @@
 use Rattle.prefix_table.proofs.TakeLemmas.{never}
-use Rattle.prefix_table.proofs.removal.relink_one.Goals as goal
+use Rattle.prefix_table.proofs.removal.relink.Goals as goal
 
 pub unreachable-requires : goal.unreachable-requires
 unreachable-requires g c =
