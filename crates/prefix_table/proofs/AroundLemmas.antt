@@ -10,11 +10,12 @@ use Rattle.prefix_table.specs.declared.node.Root.{Root}
 use Rattle.prefix_table.specs.Keys.{key_width}
 use Rattle.prefix_table.specs.Tree.{Tree, pairs, size, IsTrie}
 use Rattle.prefix_table.specs.Tree.Tree.{none}
-use Rattle.prefix_table.specs.Pairs.{with_pair, without_pair, value_in}
+use Rattle.prefix_table.specs.Pairs.{value_in}
 use Rattle.prefix_table.specs.Spelled.{Spells, tree_of, IsRoot}
 use Rattle.prefix_table.specs.Roots.{IsAt, IsGapFor}
 use Rattle.prefix_table.specs.Table.{root_key, pairs_under, size_under, IsRootIn, IsForest}
-use Rattle.prefix_table.proofs.OrderLemmas.{with_pair-past, with_pair-before, without_pair-past, without_pair-before, value_in-past, value_in-before}
+use Rattle.prefix_table.proofs.OrderLemmas.{value_in-past, value_in-before}
+use Rattle.prefix_table.proofs.TopLemmas.{IsLocal}
 use Rattle.prefix_table.proofs.PlaceLemmas.{gap_lower, gap_upper}
 use Rattle.prefix_table.proofs.ForestLemmas.{under_before, under_after, size_under-append}
 use Rattle.prefix_table.proofs.TableLemmas.{pairs_under-append, All-split, cut_at, root_of, get_or_same}
@@ -41,17 +42,11 @@ module _ {V : Type 0} where
       ∙ value_in-before eid (pairs tree) (pairs_under store a.back) (under_after store a.back eid a.in_back a.upper)
 
   -- a change of the list at an EID is one of its trie's pairs
-  pub with_around : (store : Store (Node V)) (roots : List Root) (eid : Eid) (value : V) (tree : Tree V) (a : Around store roots eid tree) → with_pair eid value (pairs_under store roots) ≡ pairs_under store a.front ++ (with_pair eid value (pairs tree) ++ pairs_under store a.back)
-  with_around store roots eid value tree a =
-      ap (with_pair eid value) a.is
-      ∙ with_pair-past eid value (pairs_under store a.front) (pairs tree ++ pairs_under store a.back) (under_before store a.front eid a.in_front a.lower)
-      ∙ ap (λ l. pairs_under store a.front ++ l) (with_pair-before eid value (pairs tree) (pairs_under store a.back) (under_after store a.back eid a.in_back a.upper))
-
-  pub without_around : (store : Store (Node V)) (roots : List Root) (eid : Eid) (tree : Tree V) (a : Around store roots eid tree) → without_pair eid (pairs_under store roots) ≡ pairs_under store a.front ++ (without_pair eid (pairs tree) ++ pairs_under store a.back)
-  without_around store roots eid tree a =
-      ap (without_pair eid) a.is
-      ∙ without_pair-past eid (pairs_under store a.front) (pairs tree ++ pairs_under store a.back) (under_before store a.front eid a.in_front a.lower)
-      ∙ ap (λ l. pairs_under store a.front ++ l) (without_pair-before eid (pairs tree) (pairs_under store a.back) (under_after store a.back eid a.in_back a.upper))
+  pub change_around : (store : Store (Node V)) (roots : List Root) (change : List (Eid × V) → List (Eid × V)) (eid : Eid) (tree : Tree V) (a : Around store roots eid tree) → IsLocal eid change → change (pairs_under store roots) ≡ pairs_under store a.front ++ (change (pairs tree) ++ pairs_under store a.back)
+  change_around store roots change eid tree a leaves =
+      ap change a.is
+      ∙ leaves.past (pairs_under store a.front) (pairs tree ++ pairs_under store a.back) (under_before store a.front eid a.in_front a.lower)
+      ∙ ap (λ l. pairs_under store a.front ++ l) (leaves.ahead (pairs tree) (pairs_under store a.back) (under_after store a.back eid a.in_back a.upper))
 
   abbrev pub around_gap : (store : Store (Node V)) (roots : List Root) (eid : Eid) (at : ℕ) → IsForest store roots → IsGapFor roots (root_key eid) at → Around store roots eid none
   around_gap store roots eid at forest gap =

@@ -14,7 +14,7 @@ use Rattle.prefix_table.specs.Limits.{most_pairs}
 use Rattle.prefix_table.specs.Tree.{side_bits}
 use Rattle.prefix_table.specs.Pairs.{is_below, with_pair, without_pair, value_in}
 use Rattle.prefix_table.specs.Spelled.{name_of, Spells, tree_within, grown, tree_of}
-use Rattle.prefix_table.specs.Under.{PutUnder, TakenUnder}
+use Rattle.prefix_table.specs.Under.{EditedUnder}
 use Rattle.prefix_table.specs.Table.{pairs_under, size_under, IsRootIn, IsForest, IsTable, kept_in}
 use Rattle.prefix_table.proofs.TopLemmas.{spells_kept, something}
 
@@ -89,7 +89,7 @@ module _ {V : Type 0} where
       omega (arith, t.slots, t.rooms, most.1, t.counted)
 
   -- the fields after a new EID, and after a new value
-  pub table_new : (old new : Store (Node V)) (roots after : List Root) (eid : Eid) (value : V) (was : Option V) (spare len old_capacity capacity : ℕ) → IsTable old roots spare len old_capacity → PutUnder old new roots after eid value was → capacity ≡ old_capacity → is_some was ≡ false → 0 < spare → IsTable new after (spare - 1) (len + 1) capacity
+  pub table_new : (old new : Store (Node V)) (roots after : List Root) (eid : Eid) (value : V) (was : Option V) (spare len old_capacity capacity : ℕ) → IsTable old roots spare len old_capacity → EditedUnder old new roots after (with_pair eid value) eid was → capacity ≡ old_capacity → is_some was ≡ false → 0 < spare → IsTable new after (spare - 1) (len + 1) capacity
   table_new old new roots after eid value was spare len old_capacity capacity t u same missing some =
       let none_was : is_some (value_in eid (pairs_under old roots)) ≡ false = ap is_some (sym u.found) ∙ missing in
       let grows : length (with_pair eid value (pairs_under old roots)) ≡ length (pairs_under old roots) + 1 = length-with_pair eid value (pairs_under old roots) ∙ ap (λ b. length (pairs_under old roots) + cond b 0 1) none_was in
@@ -102,21 +102,25 @@ module _ {V : Type 0} where
         small = omega (arith, t.small, some);
       }
 
-  pub table_same : (old new : Store (Node V)) (roots after : List Root) (eid : Eid) (value : V) (was : Option V) (spare len old_capacity capacity : ℕ) → IsTable old roots spare len old_capacity → PutUnder old new roots after eid value was → capacity ≡ old_capacity → is_some was ≡ true → IsTable new after spare len capacity
+  -- after a change that leaves as many pairs
+  table_even : (old new : Store (Node V)) (roots after : List Root) (change : List (Eid × V) → List (Eid × V)) (eid : Eid) (was : Option V) (spare len old_capacity capacity : ℕ) → IsTable old roots spare len old_capacity → EditedUnder old new roots after change eid was → capacity ≡ old_capacity → length (change (pairs_under old roots)) ≡ length (pairs_under old roots) → IsTable new after spare len capacity
+  table_even old new roots after change eid was spare len old_capacity capacity t u same stays = record {
+    forest = u.forest;
+    counted = omega (arith, t.counted, ap length u.pairs, stays);
+    slots = omega (arith, t.slots, u.slots);
+    rooms = omega (arith, t.rooms, u.rooms, u.slots);
+    enough = omega (arith, t.enough, same);
+    small = t.small;
+  }
+
+  pub table_same : (old new : Store (Node V)) (roots after : List Root) (eid : Eid) (value : V) (was : Option V) (spare len old_capacity capacity : ℕ) → IsTable old roots spare len old_capacity → EditedUnder old new roots after (with_pair eid value) eid was → capacity ≡ old_capacity → is_some was ≡ true → IsTable new after spare len capacity
   table_same old new roots after eid value was spare len old_capacity capacity t u same there =
       let some_was : is_some (value_in eid (pairs_under old roots)) ≡ true = ap is_some (sym u.found) ∙ there in
       let stays : length (with_pair eid value (pairs_under old roots)) ≡ length (pairs_under old roots) + 0 = length-with_pair eid value (pairs_under old roots) ∙ ap (λ b. length (pairs_under old roots) + cond b 0 1) some_was in
-      record {
-        forest = u.forest;
-        counted = omega (arith, t.counted, ap length u.pairs, stays);
-        slots = omega (arith, t.slots, u.slots);
-        rooms = omega (arith, t.rooms, u.rooms, u.slots);
-        enough = omega (arith, t.enough, same);
-        small = t.small;
-      }
+      table_even old new roots after (with_pair eid value) eid was spare len old_capacity capacity t u same (omega (arith, stays))
 
   -- and after an EID is taken out, or none
-  pub table_taken : (old new : Store (Node V)) (roots after : List Root) (eid : Eid) (was : Option V) (spare len old_capacity capacity : ℕ) → IsTable old roots spare len old_capacity → TakenUnder old new roots after eid was → capacity ≡ old_capacity → is_some was ≡ true → IsTable new after (spare + 1) (len - 1) capacity
+  pub table_taken : (old new : Store (Node V)) (roots after : List Root) (eid : Eid) (was : Option V) (spare len old_capacity capacity : ℕ) → IsTable old roots spare len old_capacity → EditedUnder old new roots after (without_pair eid) eid was → capacity ≡ old_capacity → is_some was ≡ true → IsTable new after (spare + 1) (len - 1) capacity
   table_taken old new roots after eid was spare len old_capacity capacity t u same there =
       let some_was : is_some (value_in eid (pairs_under old roots)) ≡ true = ap is_some (sym u.found) ∙ there in
       let falls : length (without_pair eid (pairs_under old roots)) + 1 ≡ length (pairs_under old roots) = ap (λ b. length (without_pair eid (pairs_under old roots)) + cond b 1 0) (sym some_was) ∙ length-without_pair eid (pairs_under old roots) in
@@ -129,18 +133,11 @@ module _ {V : Type 0} where
         small = omega (arith, t.small, t.counted, falls);
       }
 
-  pub table_missed : (old new : Store (Node V)) (roots after : List Root) (eid : Eid) (was : Option V) (spare len old_capacity capacity : ℕ) → IsTable old roots spare len old_capacity → TakenUnder old new roots after eid was → capacity ≡ old_capacity → is_some was ≡ false → IsTable new after spare len capacity
+  pub table_missed : (old new : Store (Node V)) (roots after : List Root) (eid : Eid) (was : Option V) (spare len old_capacity capacity : ℕ) → IsTable old roots spare len old_capacity → EditedUnder old new roots after (without_pair eid) eid was → capacity ≡ old_capacity → is_some was ≡ false → IsTable new after spare len capacity
   table_missed old new roots after eid was spare len old_capacity capacity t u same missing =
       let none_was : is_some (value_in eid (pairs_under old roots)) ≡ false = ap is_some (sym u.found) ∙ missing in
       let stays : length (without_pair eid (pairs_under old roots)) + 0 ≡ length (pairs_under old roots) = ap (λ b. length (without_pair eid (pairs_under old roots)) + cond b 1 0) (sym none_was) ∙ length-without_pair eid (pairs_under old roots) in
-      record {
-        forest = u.forest;
-        counted = omega (arith, t.counted, ap length u.pairs, stays);
-        slots = omega (arith, t.slots, u.slots);
-        rooms = omega (arith, t.rooms, u.rooms, u.slots);
-        enough = omega (arith, t.enough, same);
-        small = t.small;
-      }
+      table_even old new roots after (without_pair eid) eid was spare len old_capacity capacity t u same (omega (arith, stays))
 
 pub none_from_test : {X : Type 0} (o : Option X) → is_some o ≡ false → o ≡ None
 none_from_test None is = refl

@@ -42,9 +42,9 @@ pub(crate) fn clear_value<V>(store: &mut Nodes<V>, at: u32) -> Option<V>
     ensures rooms { store.new.rooms ≡ store.old.rooms }
     ensures slots { length store.new.slots ≡ length store.old.slots }
 {
-    let way = store.ways.edit(at);
-    way.valued = false;
-    store.contents[at as usize].value.take()
+    let mut value = None;
+    swap_value(store, at, &mut value);
+    value
 }
 
 /// Removes a node, and returns its value.

@@ -1,10 +1,10 @@
 // Insertion and removal of a pair under the root of its instance and family.
 ghost use Rattle.std.specs.Prelude.{◌≡◌, ◌≤◌, ◌<◌, None, vec_len, vec_capacity};
 ghost use Rattle.ip_headers.specs.Addr.{first_bits};
-ghost use Rattle.prefix_table.specs.Pairs.{value_in};
+ghost use Rattle.prefix_table.specs.Pairs.{with_pair, without_pair, value_in};
 ghost use Rattle.prefix_table.specs.Roots.{IsAt, IsGapFor};
 ghost use Rattle.prefix_table.specs.Table.{IsForest, pairs_under, root_key};
-ghost use Rattle.prefix_table.specs.Under.{PutUnder, TakenUnder};
+ghost use Rattle.prefix_table.specs.Under.{EditedUnder};
 
 use crate::insert::put_below;
 use crate::node::Root;
@@ -41,7 +41,8 @@ pub(crate) fn put<V>(
         → 2 ≤ store.old.rooms }
     requires place { value_in eid (pairs_under store.old roots.old.items) ≡ None
         → vec_len roots.old < vec_capacity roots.old }
-    ensures put { PutUnder store.old store.new roots.old.items roots.new.items eid value result }
+    ensures put { EditedUnder store.old store.new roots.old.items roots.new.items
+        (with_pair eid value) eid result }
     ensures capacity { vec_capacity roots.new ≡ vec_capacity roots.old }
 {
     match find_root(roots, key) {
@@ -62,7 +63,8 @@ pub(crate) fn put_at<V>(
     requires at { IsAt roots.old.items (root_key eid) at }
     requires room { value_in eid (pairs_under store.old roots.old.items) ≡ None
         → 2 ≤ store.old.rooms }
-    ensures put { PutUnder store.old store.new roots.old.items roots.new.items eid value result }
+    ensures put { EditedUnder store.old store.new roots.old.items roots.new.items
+        (with_pair eid value) eid result }
     ensures capacity { vec_capacity roots.new ≡ vec_capacity roots.old }
 {
     no_more_bits(eid.prefix.addr);
@@ -89,7 +91,8 @@ pub(crate) fn put_new<V>(
     requires key { key ≡ root_key eid }
     requires room { 2 ≤ store.old.rooms }
     requires place { vec_len roots.old < vec_capacity roots.old }
-    ensures put { PutUnder store.old store.new roots.old.items roots.new.items eid value result }
+    ensures put { EditedUnder store.old store.new roots.old.items roots.new.items
+        (with_pair eid value) eid result }
     ensures capacity { vec_capacity roots.new ≡ vec_capacity roots.old }
 {
     no_more_bits(eid.prefix.addr);
@@ -105,7 +108,8 @@ pub(crate) fn put_new<V>(
 pub(crate) fn take<V>(store: &mut Nodes<V>, roots: &mut Vec<Root>, key: u64, eid: Eid) -> Option<V>
     requires forest { IsForest store.old roots.old.items }
     requires key { key ≡ root_key eid }
-    ensures taken { TakenUnder store.old store.new roots.old.items roots.new.items eid result }
+    ensures taken { EditedUnder store.old store.new roots.old.items roots.new.items
+        (without_pair eid) eid result }
     ensures capacity { vec_capacity roots.new ≡ vec_capacity roots.old }
 {
     match find_root(roots, key) {
@@ -124,7 +128,8 @@ pub(crate) fn take_at<V>(
 ) -> Option<V>
     requires forest { IsForest store.old roots.old.items }
     requires at { IsAt roots.old.items (root_key eid) at }
-    ensures taken { TakenUnder store.old store.new roots.old.items roots.new.items eid result }
+    ensures taken { EditedUnder store.old store.new roots.old.items roots.new.items
+        (without_pair eid) eid result }
     ensures capacity { vec_capacity roots.new ≡ vec_capacity roots.old }
 {
     no_more_bits(eid.prefix.addr);
