@@ -49,12 +49,12 @@ neither : (a b : Bool) → (a || b) ≡ false → (a ≡ false) × (b ≡ false)
 neither false b is = (refl, is)
 neither true b is = absurd (cc (is))
 
-none_from_test : {X : Type 0} (o : Option X) → is_some o ≡ false → o ≡ None
+pub none_from_test : {X : Type 0} (o : Option X) → is_some o ≡ false → o ≡ None
 none_from_test None is = refl
 none_from_test (Some x) is = absurd (cc (is))
 
 module _ {V : Type 0} where
-  nothing_named : (tree : Tree V) → name_of tree ≡ None → tree ≡ none
+  pub nothing_named : (tree : Tree V) → name_of tree ≡ None → tree ≡ none
   nothing_named none is = refl
   nothing_named (node name key value low high) is = absurd (cc (is))
 

@@ -139,10 +139,6 @@ module _ {V : Type 0} where
       let stays : length (without_pair eid (pairs_under old roots)) + 0 ≡ length (pairs_under old roots) = ap (λ b. length (without_pair eid (pairs_under old roots)) + cond b 1 0) (sym none_was) ∙ length-without_pair eid (pairs_under old roots) in
       table_even old new roots after (without_pair eid) eid was spare len old_capacity capacity t u same (omega (arith, stays))
 
-pub none_from_test : {X : Type 0} (o : Option X) → is_some o ≡ false → o ≡ None
-none_from_test None is = refl
-none_from_test (Some x) is = absurd (cc (is))
-
 module _ {V : Type 0} (old new : Store (Node V)) (same : SameNodes old new) where
   node_same : (n : ℕ) → node_at new n ≡ node_at old n
   node_same n = same n

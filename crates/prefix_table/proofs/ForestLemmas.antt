@@ -11,7 +11,7 @@ use Rattle.prefix_table.specs.declared.node.Node.{Node}
 use Rattle.prefix_table.specs.declared.node.Root.{Root}
 use Rattle.prefix_table.specs.Keys.{key_width}
 use Rattle.prefix_table.specs.Tree.{Tree, pairs, size, Fits, IsTrie}
-use Rattle.prefix_table.specs.Tree.Tree.{none, node}
+use Rattle.prefix_table.specs.Tree.Tree.{none}
 use Rattle.prefix_table.specs.Spelled.{name_of, Spells, tree_of, IsRoot}
 use Rattle.prefix_table.specs.Edited.{Edited}
 use Rattle.prefix_table.specs.Table.{root_key, pairs_under, size_under, IsRootIn}
@@ -20,6 +20,7 @@ use Rattle.prefix_table.proofs.LongestLemmas.{All-pairs, each_fits}
 use Rattle.prefix_table.proofs.SearchLemmas.{width-most}
 use Rattle.prefix_table.proofs.OrderLemmas.{Lt, IsBefore, IsAfter}
 use Rattle.prefix_table.proofs.TopLemmas.{used_at, spells_kept, tree_of-spelled}
+use Rattle.prefix_table.proofs.EditLemmas.{nothing_named}
 use Rattle.prefix_table.proofs.TableLemmas.{pairs_under-append}
 
 -- keys under a lesser root are below
@@ -51,11 +52,6 @@ pub record ForestEdited {V : Type 0} (old new : Store (Node V)) (front back afte
   pub each : All (IsRootIn new) after
   pub pairs : pairs_under new after ≡ pairs_under old front ++ (pairs now ++ pairs_under old back)
   pub rooms : new.rooms + size_under new after ≡ old.rooms + (size_under old front + (size before + size_under old back))
-
--- a tree with no name is nothing
-pub nameless : {V : Type 0} (tree : Tree V) → name_of tree ≡ None → tree ≡ none
-nameless none is = refl
-nameless (node name key value low high) is = absurd (cc (is))
 
 module _ {V : Type 0} where
   pub size_under-append : (store : Store (Node V)) (front back : List Root) → size_under store (front ++ back) ≡ size_under store front + size_under store back
@@ -159,7 +155,7 @@ module _ {V : Type 0} where
       -- nothing is left, and its root goes
       pub forest_gone : at ≡ None → ForestEdited old new front back (front ++ back) tree g.tree
       forest_gone is =
-          let nothing : g.tree ≡ none = nameless g.tree (g.named ∙ is) in
+          let nothing : g.tree ≡ none = nothing_named g.tree (g.named ∙ is) in
           let sizes = size_under-append new front back in
           let same_size : size g.tree ≡ 0 = ap size nothing in
           record {

@@ -69,7 +69,7 @@ module _ {V : Type 0} where
       ∙ ap (λ l. node name key value l (tree_within depth store (name_of high))) (within-long depth store low (key_len key + 1) spelled.1 long.1 (omega (arith, deep, long.0)))
       ∙ ap (λ h. node name key value low h) (within-long depth store high (key_len key + 1) spelled.2 long.2 (omega (arith, deep, long.0)))
 
-  tree_of-long : (store : Store (Node V)) (tree : Tree V) (at : Option ℕ) (len : ℕ) → name_of tree ≡ at → Spells store tree → IsLong len tree → tree_of store at ≡ tree
+  pub tree_of-long : (store : Store (Node V)) (tree : Tree V) (at : Option ℕ) (len : ℕ) → name_of tree ≡ at → Spells store tree → IsLong len tree → tree_of store at ≡ tree
   unfolding tree_of
   tree_of-long store tree at len named spelled long =
       ap (tree_within 130 store) (sym named) ∙ within-long 130 store tree len spelled long (omega arith)

@@ -1,5 +1,5 @@
 -- Tries in a store, and the node at their top.
-use Rattle.std.proofs.Common.{◌≡◌, ℕ, zero, suc, ◌+◌, ◌<◌, ◌≤◌, Bool, true, false, not, List, [], ◌∷◌, ◌++◌, All, Option, Some, None, inl, inr, refl, sym, ap, ◌∙◌, arith}
+use Rattle.std.proofs.Common.{◌≡◌, ℕ, ◌+◌, ◌<◌, Bool, true, false, not, List, [], ◌∷◌, ◌++◌, All, Option, Some, None, inl, inr, refl, sym, ap, ◌∙◌, arith}
 use Rattle.std.proofs.lemmas.Option.{same_Some}
 use Rattle.std.proofs.lemmas.Bool.{false≢true}
 use Rattle.std.proofs.lemmas.List.Elements.{All-nil, All-cons}
@@ -12,13 +12,13 @@ use Rattle.prefix_table.specs.Sides.{bit_of}
 use Rattle.prefix_table.specs.Tree.{Tree, pair_of, pairs, Fits, IsTrie, IsSomething, side_bits}
 use Rattle.prefix_table.specs.Tree.Tree.{none, node}
 use Rattle.prefix_table.specs.Pairs.{with_pair, without_pair, value_in}
-use Rattle.prefix_table.specs.Spelled.{name_of, Spells, tree_of, tree_within, grown}
+use Rattle.prefix_table.specs.Spelled.{name_of, Spells, tree_of}
 use Rattle.prefix_table.specs.Edited.{Uses}
 use Rattle.prefix_table.proofs.Bits.{Covers, covers_trans, below_covers, side_fits, covers_from}
 use Rattle.prefix_table.proofs.ForkLemmas.{spread, fork, pairs-fork, Top}
 use Rattle.prefix_table.proofs.LongestLemmas.{OnPair-all, All-pairs, each_fits}
 use Rattle.prefix_table.proofs.OrderLemmas.{Same, Lt-covers, Lt-bits, Same-covers, IsBefore, IsAfter, with_pair-past, with_pair-before, without_pair-past, without_pair-before, value_in-past, value_in-before, value_in-missing, covers-Same}
-use Rattle.prefix_table.proofs.SearchLemmas.{key_len-most}
+use Rattle.prefix_table.proofs.StackedLemmas.{IsLong-trie, tree_of-long}
 
 module _ {V : Type 0} where
   -- a tree's name has a node whose key fits
@@ -155,19 +155,7 @@ module _ {V : Type 0} where
   value_there key None ys after = value_in-first key ys after
   value_there key (Some v) ys after = let s = same_self key in rw (s.not_below) refl
 
-  -- what a trie's depth can be at most
-  pub tree_within-spelled : (depth : ℕ) (store : Store (Node V)) (tree : Tree V) (iid width bits len : ℕ) → Spells store tree → IsTrie iid width bits len tree → 130 ≤ depth + len → tree_within depth store (name_of tree) ≡ tree
-  unfolding tree_within
-  tree_within-spelled zero store none iid width bits len spelled trie deep = refl
-  tree_within-spelled (suc depth) store none iid width bits len spelled trie deep = refl
-  tree_within-spelled zero store (node name key value low high) iid width bits len spelled trie deep =
-      absurd (omega (arith, deep, (trie.0).longer, key_len-most key))
-  tree_within-spelled (suc depth) store (node name key value low high) iid width bits len spelled trie deep =
-      ap (grown (tree_within depth store) name) spelled.0
-      ∙ ap (λ l. node name key value l (tree_within depth store (name_of high))) (tree_within-spelled depth store low iid width (side_bits key 0) (key_len key + 1) spelled.1 trie.1 (omega (arith, deep, (trie.0).longer)))
-      ∙ ap (λ h. node name key value low h) (tree_within-spelled depth store high iid width (side_bits key 1) (key_len key + 1) spelled.2 trie.2 (omega (arith, deep, (trie.0).longer)))
-
+  -- a trie is the tree under its name
   pub tree_of-spelled : (store : Store (Node V)) (tree : Tree V) (root : Option ℕ) (iid width bits : ℕ) → name_of tree ≡ root → Spells store tree → IsTrie iid width bits 0 tree → tree_of store root ≡ tree
-  unfolding tree_of
   tree_of-spelled store tree root iid width bits named spelled trie =
-      ap (tree_within 130 store) (sym named) ∙ tree_within-spelled 130 store tree iid width bits 0 spelled trie (omega arith)
+      tree_of-long store tree root 0 named spelled (IsLong-trie tree iid width bits 0 trie)

@@ -1,5 +1,5 @@
 // The nodes of the tries, and their roots.
-ghost use Rattle.std.specs.Prelude.{◌≡◌, ◌≢◌, Some};
+ghost use Rattle.std.specs.Prelude.{◌≡◌, ◌≢◌, not, Some};
 ghost use Rattle.prefix_table.specs.Nodes.{linked, no_node};
 ghost use Rattle.prefix_table.specs.Sides.{on_side, sides};
 
@@ -29,11 +29,23 @@ impl<T: Copy> Sides<T> {
         }
     }
 
-    /// What is on that side.
-    pub(crate) fn on(self, side: bool) -> T
-        ensures { result ≡ on_side side self }
+    /// What is on that side. Both are read, so that there is no branch to predict.
+    pub(crate) fn on(&self, side: bool) -> T
+        ensures { result ≡ on_side side self.now }
     {
-        if side { self.one } else { self.zero }
+        let (zero, one) = (self.zero, self.one);
+        if side { one } else { zero }
+    }
+
+    /// Sets what is on that side.
+    pub(crate) fn set(&mut self, side: bool, item: T)
+        ensures { self.new ≡ sides side item (on_side (not side) self.old) }
+    {
+        if side {
+            self.one = item;
+            return;
+        }
+        self.zero = item;
     }
 }
 

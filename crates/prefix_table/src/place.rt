@@ -4,7 +4,7 @@ ghost use Rattle.node_store.specs.Store.{node_at, IsLive, Changes};
 ghost use Rattle.prefix_table.specs.Edited.{Becomes};
 ghost use Rattle.prefix_table.specs.Sides.{on_side, sides};
 
-use crate::node::{Sides, link_to};
+use crate::node::link_to;
 use crate::nodes::Nodes;
 use std::mem;
 
@@ -31,7 +31,7 @@ pub(crate) fn link<V>(store: &mut Nodes<V>, at: u32, side: bool, below: Option<u
     ensures slots { length store.new.slots ≡ length store.old.slots }
 {
     let way = store.ways.edit(at);
-    way.next = Sides::new(side, link_to(below), way.next.on(!side));
+    way.next.set(side, link_to(below));
 }
 
 /// Takes the value out of a node, which stays, and returns it.

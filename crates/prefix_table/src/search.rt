@@ -56,9 +56,7 @@ fn below(way: &Way, sought: &Key) -> Option<u32>
     ensures { (eid : _) → sought.now ≡ key_of eid → result
         ≡ linked (on_side (first_bits eid.prefix.addr (way.now.len + 1) % 2 == 1) way.now.next) }
 {
-    // Both links are read, so that there is no branch to predict.
-    let next = way.next;
-    linked(next.on(sought.next_bit(way.len)))
+    linked(way.next.on(sought.next_bit(way.len)))
 }
 
 /// The longest pair of the trie that covers the EID and passes the test, or None. Each node on the

@@ -14,13 +14,13 @@ link_to-requires g c =
 pub invariant_of-store : goal.invariant_of-store
 invariant_of-store g c =
     let way = c.edit-way.result.now in
-    link_whole c.store.inside.ways c.store.inside.contents.items c.args.at way (record way { next = c.new-way.result }) c.store.invariant c.edit-way.ensures.node refl refl
+    link_whole c.store.inside.ways c.store.inside.contents.items c.args.at way (record way { next = c.set.new.self }) c.store.invariant c.edit-way.ensures.node refl refl
 
 pub returns-clause-changes : goal.returns-clause-changes
 returns-clause-changes g c =
     let way = c.edit-way.result.now in
-    let next = ap linked_sides (c.new-way.ensures ∙ ap (sides c.args.side c.link_to.result) c.on.ensures) ∙ linked-relinked c.args.side way.next c.link_to.result c.args.below c.link_to.ensures in
-    rw (← c.store.view_is) (link_becomes c.store.inside.ways c.store.inside.contents.items c.args.at way (record way { next = c.new-way.result }) c.store.invariant c.edit-way.ensures.node (λ top. record top { next = sides c.args.side c.args.below (on_side (not c.args.side) top.next) }) (λ content. ap (node_with content) (sym next)))
+    let next = ap linked_sides c.set.ensures ∙ linked-relinked c.args.side way.next c.link_to.result c.args.below c.link_to.ensures in
+    rw (← c.store.view_is) (link_becomes c.store.inside.ways c.store.inside.contents.items c.args.at way (record way { next = c.set.new.self }) c.store.invariant c.edit-way.ensures.node (λ top. record top { next = sides c.args.side c.args.below (on_side (not c.args.side) top.next) }) (λ content. ap (node_with content) (sym next)))
 
 pub returns-clause-slots : goal.returns-clause-slots
 returns-clause-slots g c =

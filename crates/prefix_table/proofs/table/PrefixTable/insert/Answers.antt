@@ -1,5 +1,6 @@
 use Rattle.std.proofs.Common.{not, arith, sym, ◌∙◌, ap}
-use Rattle.prefix_table.proofs.FieldLemmas.{table_new, table_same, none_from_test, room_for}
+use Rattle.prefix_table.proofs.EditLemmas.{none_from_test}
+use Rattle.prefix_table.proofs.FieldLemmas.{table_new, table_same, room_for}
 use Rattle.prefix_table.proofs.table.PrefixTable.insert.Goals as goal
 
 pub invariant_of-self : goal.invariant_of-self
