@@ -128,7 +128,7 @@ module _ {V : Type 0} where
         changes.others n (λ same. unused (uses-own at top.eid top.value near far side n same))
         ∙ g.kept n nd found (λ in_near. unused (uses-near at top.eid top.value near far side n in_near))
 
-    -- and the node names what is there now
+    -- the node stays, and names the trie that is there now
     pub edited_on : Changes mid new at (Some (record top { next = sides side below (on_side (not side) top.next) })) → (is_some top.value || is_some below) ≡ true → new.rooms ≡ mid.rooms → length new.slots ≡ length mid.slots → Edited old new change bits len eid (fork side at top.eid top.value near far) (Some at) was
     edited_on changes stands rooms slots = record {
       tree = fork side at top.eid top.value g.tree far;
@@ -144,7 +144,7 @@ module _ {V : Type 0} where
       slots = slots ∙ g.slots;
     }
 
-    -- and the node goes, since no node is left there
+    -- the node goes, since it has no value and no node is left on that side
     pub edited_gone : Changes mid new at None → (is_some top.value || is_some below) ≡ false → new.rooms ≡ mid.rooms + 1 → length new.slots ≡ length mid.slots → Edited old new change bits len eid (fork side at top.eid top.value near far) (on_side (not side) top.next) was
     edited_gone changes falls rooms slots =
         let parts = neither (is_some top.value) (is_some below) falls in
@@ -190,7 +190,7 @@ module _ {V : Type 0} where
     others_kept made changes n nd found unused =
         changes.others n (λ same. unused (uses-own at top.eid top.value near far side n same)) ∙ found
 
-    -- it gets another value, or none
+    -- the node gets another value, or none
     pub edited_own : (change : List (Eid × V) → List (Eid × V)) (made : Option V) → ((v : Option V) (ys : List (Eid × V)) → All (IsAfter eid) ys → change (pair_of eid v ++ ys) ≡ pair_of eid made ++ ys) → Branches made near far → Changes old new at (Some (record top { value = made })) → new.rooms ≡ old.rooms → Edited old new change bits len eid (fork side at top.eid top.value near far) (Some at) top.value
     edited_own change made changed branches changes rooms =
         let stays = λ (next : Bool) (tree : Tree V) (spelled : Spells old tree) (trie : IsTrie eid.iid (key_width eid) (side_bits top.eid (bit_of next)) (key_len top.eid + 1) tree). side_stays old new at top eid.iid (key_width eid) (bit_of next) tree _ t.found spelled trie changes in
@@ -208,7 +208,7 @@ module _ {V : Type 0} where
           slots = slots;
         }
 
-    -- it goes, since no node is on a side
+    -- the node goes, since no node is on a side of it
     pub edited_dropped : on_side side top.next ≡ None → Changes old new at None → new.rooms ≡ old.rooms + 1 → Edited old new (without_pair eid) bits len eid (fork side at top.eid top.value near far) (on_side (not side) top.next) top.value
     edited_dropped empty changes rooms =
         let is : near ≡ none = nothing_named near (t.near_named ∙ empty) in
@@ -257,7 +257,7 @@ module _ {V : Type 0} where
           each_fits (IsAfter eid) high eid.iid (key_width eid) (side_bits top.eid 1) (key_len top.eid + 1) t.far_trie (λ k v fits. below k 1 (omega arith) fits),
         )
 
-    -- it is on a side of a key that covers its top
+    -- a trie is on a side of each key that covers its top
     moved : (over : Eid) (side : Bool) → Covers over top.eid → key_len over < key_len top.eid → (key_bits top.eid (key_len over + 1) % 2 == 1) ≡ side → IsTrie eid.iid (key_width eid) (side_bits over (bit_of side)) (key_len over + 1) whole
     moved over side c shorter bit = (
       record { same_iid = (t.fits).same_iid; same_width = (t.fits).same_width; longer = omega (arith, shorter); front = side_at over top.eid side c shorter bit },

@@ -29,7 +29,7 @@ pub record Passes {V : Type 0} (store : Store (Node V)) (at : Option ℕ) (name 
   pub next_is : next ≡ on_side side top.next
   pub more_is : more ≡ key_len top.eid + 1
 
--- as the keys tell
+-- the way leads past a node, where the comparisons of keys tell it
 pub passes : {V : Type 0} (store : Store (Node V)) (at : Option ℕ) (name : ℕ) (top : Node V) (eid : Eid) (side : Bool) (next : Option ℕ) (key sought : Key) → at ≡ Some name → node_at store name ≡ Some top → key ≡ key_of top.eid → sought ≡ key_of eid → covers_eid top.eid eid ≡ true → (key.len ≡ sought.len → ⊥) → side ≡ (key_bits eid (key.len + 1) % 2 == 1) → next ≡ on_side side top.next → Passes store at name top eid side next (key.len + 1)
 passes store at name top eid side next key sought is found key_is sought_is covers differ bit next_is =
     let c = covers_parts top.eid eid covers in
@@ -102,7 +102,7 @@ module _ {V : Type 0} {store : Store (Node V)} {at : Option ℕ} {name : ℕ} {t
         named_live mid g.tree below g.named g.spelled
 
     module _ (new : Store (Node V)) (len : ℕ) (leaves : IsLocal eid change) (slots : length new.slots ≡ length mid.slots) where
-      -- the node names what is there now
+      -- the node names the trie that is below it now
       pub edits_on : (is_some top.value || is_some below) ≡ true → Becomes mid new name (λ (t : Node V). record t { next = sides side below (on_side (not side) t.next) }) → new.rooms ≡ mid.rooms → Edits store new change at len eid (Some name) was
       edits_on stands links rooms tree bits i fits =
           let k = known_on bits len tree i in
@@ -111,7 +111,7 @@ module _ {V : Type 0} {store : Store (Node V)} {at : Option ℕ} {name : ℕ} {t
           subst (λ (r : Tree V). Edited store new change bits len eid r (Some name) was) (sym k.is)
           (edited_on store mid new change name top eid bits len side k.near k.far below was leaves k.here w.covers w.shorter w.on g (links top there) stands rooms slots)
 
-      -- or it goes, since no node is left there
+      -- the node goes, since no node is left below it
       pub edits_gone : (is_some top.value || is_some below) ≡ false → Changes mid new name None → new.rooms ≡ mid.rooms + 1 → Edits store new change at len eid (on_side (not side) top.next) was
       edits_gone falls changes rooms tree bits i fits =
           let k = known_on bits len tree i in

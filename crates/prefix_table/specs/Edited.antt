@@ -31,7 +31,7 @@ pub record Holds {V : Type 0} (store : Store (Node V)) (at : Option ℕ) (len : 
   pub is : IsTrieAt store at eid bits len tree
   pub fits : Fits eid.iid (key_width eid) bits len eid
 
--- and where the EID isn't there, there is room for two nodes
+-- under the name `at` is a trie that the EID fits, and where the EID isn't in it, there is room for two nodes
 pub record Takes {V : Type 0} (store : Store (Node V)) (at : Option ℕ) (len : ℕ) (eid : Eid) : Type 0 where
   pub holds : Holds store at len eid
   pub room : value_in eid (pairs holds.tree) ≡ None → 2 ≤ store.rooms
