@@ -53,7 +53,7 @@ module _ {V : Type 0} (answers : V → Bool → Type 0) (eid : Eid) (store : Sto
     pub rises : start ≤ reads
     pub goes_on : (result : Option (Eid × V)) → Answers answers eid rest best result → Answers answers eid whole None result
 
-  -- the node is there, and one more read is within the bound
+  -- the node is there
   pub live : (at : Option ℕ) (name : ℕ) (best : Option (Eid × V)) (start reads : ℕ) → Searching at best start reads → at ≡ Some name → IsLive store name
   live at name best start reads s is = top_live store s.rest name (s.named ∙ is) s.spelled
 
@@ -61,11 +61,6 @@ module _ {V : Type 0} (answers : V → Bool → Type 0) (eid : Eid) (store : Sto
   pub known : (at : Option ℕ) (name : ℕ) (best : Option (Eid × V)) (start reads : ℕ) (top : Node V) (side : Bool) → (s : Searching at best start reads) → at ≡ Some name → node_at store name ≡ Some top → Known store name top eid s.bits s.len side s.rest
   known at name best start reads top side s is found =
       known_at store at name top eid s.bits s.len side s.rest (record { named = s.named; spelled = s.spelled; trie = s.trie }) is found
-
-  pub within : (at : Option ℕ) (name : ℕ) (best : Option (Eid × V)) (start reads : ℕ) (top : Node V) → Searching at best start reads → at ≡ Some name → node_at store name ≡ Some top → reads + 1 ≤ start + most_nodes
-  within at name best start reads top s is found =
-      let t = (known at name best start reads top false s is found).here in
-      omega (arith, s.counted, (t.fits).longer, key_len-most top.eid)
 
   -- the node is of the instance and family of what is sought
   pub same_family : (at : Option ℕ) (name : ℕ) (best : Option (Eid × V)) (start reads : ℕ) (top : Node V) → Searching at best start reads → at ≡ Some name → node_at store name ≡ Some top → (top.eid.iid ≡ eid.iid) × (key_width top.eid ≡ key_width eid)
