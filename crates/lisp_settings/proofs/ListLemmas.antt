@@ -1,5 +1,5 @@
 -- Lists of items by their number.
-use Rattle.std.proofs.Common.{◌≡◌, ℕ, suc, ◌+◌, ◌<◌, ◌≤◌, ◌||◌, Bool, true, false, not, cond, List, [], ◌∷◌, ◌++◌, length, get_or, drop, Result, Ok, Err, Ordering, is_eq, refl, sym, ap, subst, ◌∙◌, arith, le-leb, eq-eqb, ne_eqb, drop-cons}
+use Rattle.std.proofs.Common.{◌≡◌, ℕ, suc, ◌+◌, ◌<◌, ◌≤◌, ◌||◌, Bool, true, false, cond, List, [], ◌∷◌, ◌++◌, length, get_or, drop, Option, Some, is_some, Result, Ok, Err, Ordering, is_eq, refl, sym, ap, subst, ◌∙◌, arith, le-leb, eq-eqb, ne_eqb, drop-cons}
 use Rattle.std.proofs.Math.Path.{fun_ext}
 use Rattle.std.proofs.lemmas.Bool.{lt-leb}
 use Rattle.std.proofs.lemmas.List.Folds.{list_any-append}
@@ -72,14 +72,10 @@ or_cond false false = refl
 pub list_any-push : {A : Type 0} (test : A → Bool) (items : List A) (next : A) (was now : Bool) → was ≡ list_any test items → now ≡ cond (test next) true was → now ≡ list_any test (items ++ next ∷ [])
 list_any-push test items next was now old is = is ∙ or_cond (test next) was ∙ ap (λ (b : Bool). b || (test next || false)) old ∙ sym (list_any-append test items (next ∷ []))
 
--- what was added wasn't there, and what wasn't added was
-pub was_there : (added was : Bool) → added ≡ not was → added ≡ false → was ≡ true
-was_there added true is kept = refl
-was_there added false is kept = cc
-
-pub was_not_there : (added was : Bool) → added ≡ not was → added ≡ true → was ≡ false
-was_not_there added true is put = cc
-was_not_there added false is put = refl
+-- whether there is one behind a change of one
+pub is_some-cond : {A : Type 0} (here : Bool) (next : A) (was : Option A) → is_some (cond here (Some next) was) ≡ cond here true (is_some was)
+is_some-cond true next was = refl
+is_some-cond false next was = refl
 
 -- orders that agree put items in one order
 pub ascending-order : {A K : Type 0} (key : A → K) (order other : K → K → Ordering) (items : List A) → ((a b : K) → order a b ≡ other a b) → ascending key order items ≡ ascending key other items

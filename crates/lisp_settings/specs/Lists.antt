@@ -47,6 +47,12 @@ module _ {A K : Type 0} (list : List ℕ) (read : Members → Result A SettingsF
     items ← distinct earlier next
     each items more
 
+  -- the items of an array, in ascending order of their keys, or the first fault
+  abbrev pub each_ascending : Items → Result (List A) SettingsFault
+  each_ascending items = do
+    all ← each [] items
+    Ok (ascending key order all)
+
   -- the items of a list of 0 to `most` tables, in the order of the file
   abbrev pub any_number : ℕ → Members → Result (List A) SettingsFault
   any_number most table = do
@@ -61,6 +67,12 @@ module _ {A K : Type 0} (list : List ℕ) (read : Members → Result A SettingsF
     some ← some_items list items
     few ← few_items list most some
     each [] few
+
+  -- the items of a list of 1 to `most` tables, in ascending order of their keys
+  abbrev pub some_ascending : ℕ → Members → Result (List A) SettingsFault
+  some_ascending most table = do
+    items ← one_or_more most table
+    Ok (ascending key order items)
 
   -- the items of a list of 0 to `most` tables, in ascending order of their keys
   abbrev pub any_ascending : ℕ → Members → Result (List A) SettingsFault

@@ -1,13 +1,13 @@
 // Lists of tables at the keys of a table.
 ghost use Rattle.std.specs.Prelude.{◌≡◌, ◌≢◌, ℕ, suc, IfOk, IfErr, OnOk, Result, Ok, Err, option_map, [], map};
-ghost use Rattle.std.specs.BTreeMap.{insert_entry};
-ghost use Rattle.std.specs.List.{All, IsDistinct};
-ghost use Rattle.std.specs.Ordering.{eq_by_cmp};
+ghost use Rattle.std.specs.List.{All, IsDistinct, list_any};
+ghost use Rattle.std.specs.Map.{values_of};
+ghost use Rattle.std.specs.Ordering.{eq_by_cmp, is_eq};
 ghost use Rattle.std.specs.declared.cmp.Ordering.{Ordering};
 ghost use Rattle.toml.specs.Data.{Members, as_table, get_member, no_items};
 ghost use Rattle.toml.specs.View.{view, array_view, items_view, table_view};
 ghost use Rattle.lisp_settings.specs.Fields.{if_ok, taken, value_or};
-ghost use Rattle.lisp_settings.specs.Lists.{any_ascending, any_number, ascending, each, few_items, one_or_more, some_items};
+ghost use Rattle.lisp_settings.specs.Lists.{any_ascending, any_number, each, each_ascending, few_items, some_ascending, some_items};
 ghost use Rattle.lisp_settings.specs.Places.{within};
 ghost use Rattle.lisp_settings.specs.Values.{tables};
 ghost use Rattle.lisp_settings.specs.Writing.{IsArrayOf, IsPlain};
@@ -18,7 +18,7 @@ use crate::fault::{Key, SettingsFault};
 use crate::{fields, places, values};
 use octets::{Items, NoMemory};
 use std::alloc::{AllocError, Global};
-use std::collections::{BTreeMap, BTreeSet};
+use std::collections::BTreeMap;
 use toml::{Table, Value};
 
 /// An item of a list in the settings: a table with a key that no other item of the list has.
@@ -76,16 +76,70 @@ fn read_items<T: Item>(
     ensures err { IfErr result (λ e. e ≢ fault.Memory
         → each list.now (T.reads known.now) T.key T.order [] (items_view tables.now) ≡ Err e) }
 {
-    let mut seen = BTreeSet::new(alloc);
-    let mut items = Vec::new(alloc);
+    let mut items = Vec::with_capacity(alloc, tables.len())?;
     for value in tables {
         let item: T = read_item(alloc, known, list, items.len(), value)?;
-        if !seen.insert(item.key())? {
+        if has_key(items.as_slice(), &item.key()) {
             let key = places::item_key(alloc, list, items.len())?;
             return Err(SettingsFault::Duplicate(key));
         }
         items.push(item)?;
     }
+    Ok(items)
+}
+
+/// Whether an item has this key.
+fn has_key<T: Item>(items: &[T], key: &T::Key) -> bool
+    ensures { result ≡ list_any (λ item. is_eq (T.order (T.key item) key.now)) items.now }
+{
+    let [item, more @ ..] = items else {
+        return false;
+    };
+    if is_key_of(item, key) {
+        return true;
+    }
+    has_key(more, key)
+}
+
+fn is_key_of<T: Item>(item: &T, key: &T::Key) -> bool
+    ensures { result ≡ is_eq (T.order (T.key item.now) key.now) }
+{
+    item.key().cmp(key).is_eq()
+}
+
+/// The items that an array of tables spells, in ascending order of their keys, or the first fault.
+fn read_ascending<T: Item>(
+    alloc: Global,
+    known: &T::Known,
+    list: &str,
+    tables: &[Value],
+) -> Result<Items<T>, SettingsFault>
+    ensures ok { IfOk result (λ items. each_ascending list.now (T.reads known.now) T.key T.order
+        (items_view tables.now) ≡ Ok items) }
+    ensures err { IfErr result (λ e. e ≢ fault.Memory
+        → each_ascending list.now (T.reads known.now) T.key T.order (items_view tables.now)
+        ≡ Err e) }
+{
+    let mut sorted = BTreeMap::new(alloc);
+    for value in tables {
+        let item: T = read_item(alloc, known, list, sorted.len(), value)?;
+        let earlier = sorted.insert(item.key(), item)?;
+        if earlier.is_some() {
+            let key = places::item_key(alloc, list, sorted.len())?;
+            return Err(SettingsFault::Duplicate(key));
+        }
+    }
+    let items = in_order(alloc, sorted)?;
+    Ok(Items::from_vec(items))
+}
+
+fn in_order<K: Ord + Drop, T: Drop>(
+    alloc: Global,
+    sorted: BTreeMap<K, T>,
+) -> Result<Vec<T>, AllocError>
+    ensures { IfOk result (λ items. items.items ≡ values_of sorted.entries) }
+{
+    let items = sorted.into_values().collect(alloc)?;
     Ok(items)
 }
 
@@ -113,25 +167,6 @@ fn read_item<T: Item>(
         Ok(item) => Ok(item),
         Err(inner) => Err(places::within(alloc, list, position, inner)?),
     }
-}
-
-/// These items, of different keys, in ascending order of their keys.
-pub fn ascending<T: Item>(alloc: Global, items: Vec<T>) -> Result<Items<T>, SettingsFault>
-    ensures ok { IfOk result (λ sorted. sorted ≡ ascending T.key T.order items.items) }
-    ensures err { IfErr result (λ e. e ≡ fault.Memory) }
-{
-    Ok(Items::from_vec(sorted(alloc, items)?))
-}
-
-fn sorted<T: Item>(alloc: Global, items: Vec<T>) -> Result<Vec<T>, AllocError>
-    ensures { IfOk result (λ sorted. sorted.items ≡ ascending T.key T.Key.cmp items.items) }
-{
-    let mut sorted = BTreeMap::new(alloc);
-    for item in items {
-        sorted.insert(item.key(), item)?;
-    }
-    let in_order = sorted.into_values().collect(alloc)?;
-    Ok(in_order)
 }
 
 /// The array of tables at the key of a list; empty without the key.
@@ -199,25 +234,25 @@ pub fn any_number<T: Item>(
     read_items(alloc, known, list, items)
 }
 
-/// The items of a list of 1 to `most` tables, in the order of the file.
-pub fn one_or_more<T: Item>(
+/// The items of a list of 1 to `most` tables, in ascending order of their keys.
+pub fn some_ascending<T: Item>(
     alloc: Global,
     known: &T::Known,
     table: &Table,
     list: &str,
     most: usize,
-) -> Result<Vec<T>, SettingsFault>
+) -> Result<Items<T>, SettingsFault>
     ensures ok { IfOk result (λ items.
-        one_or_more list.now (T.reads known.now) T.key T.order most (table_view table.now)
-        ≡ Ok items.items) }
+        some_ascending list.now (T.reads known.now) T.key T.order most (table_view table.now)
+        ≡ Ok items) }
     ensures err { IfErr result (λ e. e ≢ fault.Memory
-        → one_or_more list.now (T.reads known.now) T.key T.order most (table_view table.now)
+        → some_ascending list.now (T.reads known.now) T.key T.order most (table_view table.now)
         ≡ Err e) }
 {
     let items = tables_at(alloc, table, list)?;
     some_items(alloc, list, items)?;
     few_items(alloc, list, most, items)?;
-    read_items(alloc, known, list, items)
+    read_ascending(alloc, known, list, items)
 }
 
 /// The items of a list of 0 to `most` tables, in ascending order of their keys.
@@ -235,8 +270,9 @@ pub fn any_ascending<T: Item>(
         → any_ascending list.now (T.reads known.now) T.key T.order most (table_view table.now)
         ≡ Err e) }
 {
-    let items = any_number(alloc, known, table, list, most)?;
-    ascending(alloc, items)
+    let items = tables_at(alloc, table, list)?;
+    few_items(alloc, list, most, items)?;
+    read_ascending(alloc, known, list, items)
 }
 
 /// An array of tables that reads as these items, whose keys must differ.

@@ -16,11 +16,11 @@ use crate::limiting::only_within;
 use crate::limits::{
     MOST_ATTACHMENTS, MOST_CHANGES, MOST_DATABASES, MOST_LIMITS, MOST_TEXT_OCTETS,
 };
-use crate::lists::{any_ascending, ascending, one_or_more};
+use crate::lists::{any_ascending, some_ascending};
 use crate::nonces::nonces_at;
 use crate::resolver::{only_reachable, resolver_at};
 use crate::settings::{
-    Attachments, Changes, Databases, LimitItems, OwnLocator, OwnLocators, Records, Settings,
+    Attachments, Changes, Databases, LimitItems, OwnLocators, Records, Settings,
 };
 use crate::values;
 use ip_headers::Addr;
@@ -153,6 +153,5 @@ fn own_locators(alloc: Global, top: &Table) -> Result<OwnLocators, SettingsFault
     ensures ok { IfOk result (λ items. own_locators (table_view top.now) ≡ Ok items) }
     ensures err { IfErr result (λ e. e ≢ fault.Memory → own_locators (table_view top.now) ≡ Err e) }
 {
-    let locators = one_or_more::<OwnLocator>(alloc, &(), top, "locator", MOST_LOCATORS)?;
-    ascending(alloc, locators)
+    some_ascending(alloc, &(), top, "locator", MOST_LOCATORS)
 }
